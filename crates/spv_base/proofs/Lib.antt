@@ -1,3 +1,4 @@
+pub mod EntryLemmas
+pub mod Firsts
 pub mod PartLemmas
-pub mod OutsideLemmas
-pub mod SoundLemmas
+pub mod Writes

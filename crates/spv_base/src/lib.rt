@@ -1,25 +1,33 @@
-//! The plain types that all layers share: values and pointers, instructions, causes of refusals, and the outside.
+//! The plain types that all layers share: values and pointers, instructions, events, causes of refusals, and the outside.
 #![tactic(auto)]
 
 pub mod causes;
+pub mod cells;
 pub mod counter;
+pub mod entries;
 pub mod files;
-pub mod held;
-pub mod insts;
+pub mod happenings;
+pub mod instructions;
 pub mod lists;
 pub mod outside;
+pub mod probes;
 pub mod real;
+pub mod streams;
 pub mod values;
 
 pub use causes::{CmdRefusal, Fail, Failed, FileErr, MemErr, NoMemory, Refusal, SetupRefusal};
+pub use cells::Cell;
 pub use counter::Steps;
-pub use files::{FailingFiles, HeldFiles, RealFiles};
-pub use held::{FailingSink, FailingSource, HeldSink, HeldSource};
-pub use insts::{EndCause, Fault, Inst, Operand, RawInst, Status4};
+pub use entries::{find_entry, put_entry};
+pub use files::{FailingFiles, MemoryFiles};
+pub use happenings::{EndCause, Fault, Happening, Kind, Status4};
+pub use instructions::{Inst, Operand, RawInst};
 pub use lists::{Items, Path};
-pub use outside::{Files, Happening, Kind, Probe, Sink, Source, write_all};
-pub use real::{FromRead, ToWrite};
-pub use values::{Cell, Pointer, Root, Value, copy_all};
+pub use outside::{Files, Sink, Source, write_all};
+pub use probes::Probe;
+pub use real::{FromRead, RealFiles, ToWrite};
+pub use streams::{FailingSink, FailingSource, MemorySink, MemorySource};
+pub use values::{PassedEvent, Pointer, Root, Value, copy_all};
 
 /// Bytes.
 pub type Bytes = Items<u8>;
@@ -39,11 +47,11 @@ pub type Cells = Items<Cell>;
 /// Operands of an instruction.
 pub type Operands = Items<Operand>;
 
-/// Ids or numbers of words.
+/// Ids, or numbers of words.
 pub type Places = Items<u32>;
 
 /// Pointers.
 pub type Pointers = Items<Pointer>;
 
-/// Pairs of a SpecId and its value.
-pub type Overrides = Items<(u32, u32)>;
+/// Pairs of a SpecId and the value for it, from -2^63 to 2^64 - 1.
+pub type Overrides = Items<(u32, i128)>;

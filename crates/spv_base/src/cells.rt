@@ -1,0 +1,24 @@
+//! Scalars with their marks.
+use std::marker::Model;
+
+/// A scalar of `width` bits, or an undefined one, whose bits are 0.
+///
+/// The width is 8, 16, 32 or 64 for an integer and 1 for a Boolean; the bits are below 2 ^ width.
+#[derive(Clone, Copy, Debug, PartialEq, Eq)]
+pub struct Cell {
+    pub bits: u64,
+    pub width: u8,
+    pub defined: bool,
+}
+
+impl Model for Cell {
+    ghost use Rattle.spv_base.specs.Lane.{Lane, IsLane};
+
+    ghost Value = { Lane };
+
+    ghost view = { λ c. record { bits = c.bits; width = c.width; defined = c.defined } };
+
+    ghost invariant = { λ c. IsLane (record { bits = c.bits; width = c.width; defined = c.defined }) };
+
+    ghost inverse = { λ l. record { bits = l.bits; width = l.width; defined = l.defined } };
+}
