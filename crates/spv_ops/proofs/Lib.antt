@@ -1,0 +1,3 @@
+pub mod StringLoop
+pub mod OperandLoop
+pub mod InstLoop

@@ -1,0 +1,6 @@
+use Rattle.std.proofs.Common.{◌≡◌, ◌++◌, map, take}
+use Rattle.spv_base.specs.declared.instructions.Operand.TheVariants.{Id}
+use Rattle.spv_ops.proofs.rests.push_ids.Given as goal
+
+abbrev pub invariant-loop-word : goal.invariant-loop-word
+invariant-loop-word l = l.operands ≡ l.fn.operands ++ map Id (take l.word-index l.words)

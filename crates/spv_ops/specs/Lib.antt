@@ -1,0 +1,5 @@
+pub mod Forms
+pub mod Steps
+pub mod Strings
+pub mod Rests
+pub mod Reading

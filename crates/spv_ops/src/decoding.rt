@@ -1,0 +1,74 @@
+//! The instruction that an opcode and words are.
+ghost use Rattle.std.specs.Prelude.{◌≡◌};
+ghost use Rattle.spv_base.specs.Answers.{Answers};
+ghost use Rattle.spv_ops.specs.Reading.{inst_by, inst_of, insts_of};
+ghost use Rattle.spv_ops.specs.Steps.{seen};
+
+use crate::forms::Opcode;
+use crate::opcodes::opcode_of;
+use crate::reading::{WrongForm, head_at, operands_of};
+use spv_base::{Fail, Inst, RawInst, Refusal};
+use std::alloc::Global;
+
+/// The code of the refusal of an opcode that is not in the table.
+pub const UNKNOWN_OPCODE: u8 = 6;
+
+/// The code of the refusal of words that no instruction with the opcode has.
+pub const WRONG_FORM: u8 = 7;
+
+/// An instruction has at most this many words, with its first (SPIR-V 1.6, section 2.3).
+pub const MOST_WORDS: usize = 65535;
+
+#[tactic(auto, unfolding(crate::specs::Reading::inst_by))]
+fn inst_by(alloc: Global, opcode: Opcode, raw: &RawInst) -> Result<Inst, Fail<WrongForm>>
+    ensures { Answers (inst_by (opcode.entry.0, opcode.entry.1.now, opcode.entry.2, opcode.entry.3.now, opcode.entry.4) raw.now) result }
+{
+    let (_, _, head, parts, rest) = opcode;
+    let (ty, id, words) = head_at(head, raw.rest.as_slice())?;
+    let operands = operands_of(alloc, parts, rest, words)?;
+    Ok(Inst {
+        word: raw.word,
+        op: raw.op,
+        ty,
+        id,
+        operands,
+    })
+}
+
+/// The instruction that an opcode and the words after the first are. Refuses an opcode that is not in the table, and
+/// words that no instruction has.
+#[tactic(auto, unfolding(crate::specs::Reading::inst_of))]
+pub fn decode(alloc: Global, r: &RawInst) -> Result<Inst, Fail<Refusal>>
+    ensures { Answers (inst_of r.now) result }
+{
+    let word = r.word;
+    let Some(opcode) = opcode_of(r.op) else {
+        return Err(Fail::Refused(Refusal {
+            code: UNKNOWN_OPCODE,
+            word,
+        }));
+    };
+    let wrong_form = Refusal {
+        code: WRONG_FORM,
+        word,
+    };
+    if r.rest.len() >= MOST_WORDS {
+        return Err(Fail::Refused(wrong_form));
+    }
+    match inst_by(alloc, opcode, r) {
+        Ok(inst) => Ok(inst),
+        Err(Fail::Refused(WrongForm)) => Err(Fail::Refused(wrong_form)),
+        Err(Fail::NoMemory) => Err(Fail::NoMemory),
+    }
+}
+
+/// All instructions, or the refusal of the first that has one.
+pub fn decode_all(alloc: Global, raws: &[RawInst]) -> Result<Vec<Inst>, Fail<Refusal>>
+    ensures { Answers (insts_of raws.now) (seen (λ insts. insts.items) result) }
+{
+    let mut insts = Vec::new(alloc);
+    for raw in raws {
+        insts.push(decode(alloc, raw)?)?;
+    }
+    Ok(insts)
+}

@@ -1,0 +1,12 @@
+//! Instructions and their words: reading and writing by the forms of the opcodes (SPIR-V 1.6, section 3.52).
+#![tactic(auto)]
+
+mod decoding;
+mod forms;
+mod opcodes;
+mod reading;
+mod rests;
+
+pub use decoding::{decode, decode_all};
+pub use forms::{Head, Opcode, Part, Rest};
+pub use opcodes::{OPCODES, opcode_of};

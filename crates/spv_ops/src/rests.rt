@@ -1,0 +1,110 @@
+//! The words after the parts of a form, up to the end of the instruction.
+ghost use Rattle.std.specs.Prelude.{◌≡◌, ◌++◌, map, OnOk};
+ghost use Rattle.spv_base.specs.declared.instructions.Operand.TheVariants.{Id, Lit};
+ghost use Rattle.spv_ops.specs.Rests.{has_one_literal, is_decorated_by, is_rest, rest_operands};
+
+use crate::forms::Rest;
+use spv_base::{NoMemory, Operand, Operands};
+
+// Decorations (SPIR-V 1.6, section 3.20).
+pub const SPEC_ID: u32 = 1;
+
+pub const BLOCK: u32 = 2;
+
+pub const ARRAY_STRIDE: u32 = 6;
+
+pub const BUILT_IN: u32 = 11;
+
+pub const BINDING: u32 = 33;
+
+pub const DESCRIPTOR_SET: u32 = 34;
+
+pub const OFFSET: u32 = 35;
+
+// Execution modes (SPIR-V 1.6, section 3.6).
+pub const LOCAL_SIZE: u32 = 17;
+
+pub const LOCAL_SIZE_ID: u32 = 38;
+
+fn has_one_literal(decoration: u32) -> bool
+    ensures { result ≡ has_one_literal decoration }
+{
+    decoration == SPEC_ID
+        || decoration == ARRAY_STRIDE
+        || decoration == BUILT_IN
+        || decoration == BINDING
+        || decoration == DESCRIPTOR_SET
+        || decoration == OFFSET
+}
+
+fn is_decorated_by(decoration: u32, count: usize) -> bool
+    ensures { result ≡ is_decorated_by decoration count }
+{
+    if decoration == BLOCK {
+        count == 0
+    } else if has_one_literal(decoration) {
+        count == 1
+    } else {
+        true
+    }
+}
+
+/// Whether these words may stand there.
+pub fn is_rest(rest: Rest, words: &[u32]) -> bool
+    ensures { result ≡ is_rest rest words.now }
+{
+    match (rest, words) {
+        (Rest::Nothing, _) => words.is_empty(),
+        (Rest::Ids | Rest::Literals, _) => true,
+        (Rest::IdPairs, _) => words.len() % 2 == 0,
+        (Rest::LoopControl, [mask, literals @ ..]) => {
+            *mask < 512 && literals.len() == (*mask / 8).count_ones() as usize
+        }
+        (Rest::Decoration, [decoration, literals @ ..]) => {
+            is_decorated_by(*decoration, literals.len())
+        }
+        (Rest::ExecutionMode, [mode, literals @ ..]) => *mode != LOCAL_SIZE || literals.len() == 3,
+        (Rest::ExecutionModeIds, [mode, ids @ ..]) => *mode != LOCAL_SIZE_ID || ids.len() == 3,
+        (_, []) => false,
+    }
+}
+
+fn push_ids(operands: &mut Operands, words: &[u32]) -> Result<(), NoMemory>
+    ensures { OnOk result (operands.new ≡ operands.old ++ map Id words.now) }
+{
+    for word in words {
+        operands.push(Operand::Id(*word))?;
+    }
+    Ok(())
+}
+
+fn push_literals(operands: &mut Operands, words: &[u32]) -> Result<(), NoMemory>
+    ensures { OnOk result (operands.new ≡ operands.old ++ map Lit words.now) }
+{
+    for word in words {
+        operands.push(Operand::Lit(*word))?;
+    }
+    Ok(())
+}
+
+/// Adds these words as operands.
+pub fn push_rest(operands: &mut Operands, rest: Rest, words: &[u32]) -> Result<(), NoMemory>
+    ensures { OnOk result (operands.new ≡ operands.old ++ rest_operands rest words.now) }
+{
+    match (rest, words) {
+        (Rest::Ids | Rest::IdPairs, _) => push_ids(operands, words),
+        (Rest::ExecutionModeIds, []) => Ok(()),
+        (Rest::ExecutionModeIds, [mode, ids @ ..]) => {
+            operands.push(Operand::Lit(*mode))?;
+            push_ids(operands, ids)
+        }
+        (
+            Rest::Nothing
+            | Rest::Literals
+            | Rest::LoopControl
+            | Rest::Decoration
+            | Rest::ExecutionMode,
+            _,
+        ) => push_literals(operands, words),
+    }
+}
