@@ -1,0 +1,4 @@
+pub mod BitNumbers
+pub mod Quotients
+pub mod Remainders
+pub mod Widths

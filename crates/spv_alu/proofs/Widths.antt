@@ -1,0 +1,116 @@
+-- Laws of the low-order bits of numbers and integers.
+use Rattle.std.proofs.Common.{◌≡◌, ℕ, ◌+◌, ◌-◌, ◌*◌, ◌/◌, ◌%◌, ◌^◌, ◌<◌, ◌≤◌, ℤ, pos, negsuc, ◌+ℤ◌, ◌-ℤ◌, refl, sym, ap, ◌∙◌, subst, arith, to_z, of_z, Bool, true, inl, inr}
+use Rattle.std.proofs.Math.Nat.{mul_comm, div-lt_iff_lt-mul}
+use Rattle.std.proofs.Math.Pow.{pow_mono}
+use Rattle.std.proofs.lemmas.Bool.{lt-ltb, le-ltb, cases_lt}
+use Rattle.spv_base.specs.Lane.{Lane}
+use Rattle.spv_alu.specs.Results.{defined_if}
+use Rattle.std.specs.Prelude.{unsigned_abs, suc, FitsSigned}
+use Rattle.std.specs.Int.{int_div_euclid, cast_unsigned, w64}
+use Rattle.std.specs.Int.Signed.{mag, mag_shr, shr_z}
+use Rattle.std.proofs.lemmas.Int.{int_rem_euclid_is, ints, to_z-of_z}
+use Rattle.std.proofs.lemmas.Nat.{pow_pos, pow-add}
+use Rattle.std.proofs.lemmas.Nat.Bits.{ones_shr}
+use Rattle.std.proofs.Math.Pow.{mod-mod-pow}
+use Rattle.spv_alu.specs.Integers.{low_bits, signed}
+
+-- the greatest number of a width, as a shift of the greatest of 64 bits
+pub greatest_shifted : (w : ℕ) → w ≤ 64 → 18446744073709551615 / 2 ^ (64 - w) ≡ 2 ^ w - 1
+greatest_shifted w h =
+    let bound : 64 - w ≤ 64 = omega arith in
+    let back : 64 - (64 - w) ≡ w = omega arith in
+    ones_shr 64 (64 - w) bound ∙ ap (λ k. 2 ^ k - 1) back
+
+-- the low-order bits of a number modulo 2 ^ 64
+pub low_of_64 : (n w : ℕ) → w ≤ 64 → n % 2 ^ 64 % 2 ^ w ≡ n % 2 ^ w
+low_of_64 n w h =
+    let whole : (64 - w) + w ≡ 64 = omega arith in
+    let P : ℕ → Type 0 = λ k. n % 2 ^ k % 2 ^ w ≡ n % 2 ^ w in
+    subst P whole (mod-mod-pow n (64 - w) w)
+
+-- the low-order bits of an integer are those of the number that is a multiple of 2 ^ w away
+pub low_bits_at : (w : ℕ) (z : ℤ) (k m : ℕ) → z +ℤ pos (k * 2 ^ w) ≡ pos m → low_bits w z ≡ m % 2 ^ w
+low_bits_at w z k m h = ap unsigned_abs (int_rem_euclid_is z (pos (2 ^ w)) (2 ^ w) k m (pow_pos w) refl h)
+
+-- 2 ^ 64 as a multiple of 2 ^ w
+pub whole_64 : (w : ℕ) → w ≤ 64 → 2 ^ (64 - w) * 2 ^ w ≡ 2 ^ 64
+whole_64 w h =
+    let whole : (64 - w) + w ≡ 64 = omega arith in
+    sym (pow-add 2 (64 - w) w) ∙ ap (λ k. 2 ^ k) whole
+
+-- the low-order bits of an integer from those of the number 2 ^ 64 above
+pub low_bits_from_64 : (w : ℕ) (z : ℤ) (m : ℕ) → w ≤ 64 → z +ℤ pos (2 ^ 64) ≡ pos m → low_bits w z ≡ m % 2 ^ w
+low_bits_from_64 w z m h e =
+    let P : ℕ → Type 0 = λ n. z +ℤ pos n ≡ pos m in
+    low_bits_at w z (2 ^ (64 - w)) m (subst P (sym (whole_64 w h)) e)
+
+pub low_bits_of_difference : (w x y : ℕ) → w ≤ 64 → y < 2 ^ 64 → (x + (2 ^ 64 - y)) % 2 ^ 64 % 2 ^ w ≡ low_bits w (pos x -ℤ pos y)
+low_bits_of_difference w x y h k =
+    low_of_64 (x + (2 ^ 64 - y)) w h ∙ sym (low_bits_from_64 w (pos x -ℤ pos y) (x + (2 ^ 64 - y)) h (omega (arith, ints)))
+
+-- the low-order bits of a signed integer of 64 bits are those of its bits
+pub low_bits_of_signed : (w : ℕ) (z : ℤ) → w ≤ 64 → FitsSigned w64 z → cast_unsigned w64 z % 2 ^ w ≡ low_bits w z
+low_bits_of_signed w (pos n) h f = refl
+low_bits_of_signed w (negsuc n) h f =
+    let small : n < 2 ^ 63 = f.sfits in
+    sym (low_bits_from_64 w (negsuc n) (2 ^ 64 - suc n) h (omega (arith, ints)))
+
+-- ---- readings as signed
+
+pub signed_low : (w n : ℕ) → 2 * n < 2 ^ w → signed w n ≡ pos n
+unfolding signed
+signed_low w n h = rw (lt-ltb (2 * n) (2 ^ w) h) refl
+
+pub signed_high : (w n : ℕ) → 2 ^ w ≤ 2 * n → signed w n ≡ negsuc (2 ^ w - 1 - n)
+unfolding signed
+signed_high w n h = rw (le-ltb (2 * n) (2 ^ w) h) refl
+
+-- a number from 2 ^ 63 on, read as a signed integer of 64 bits
+pub to_z_high : (m : ℕ) → 2 ^ 63 ≤ m → to_z w64 m ≡ negsuc (2 ^ 64 - suc m)
+to_z_high m h = rw (le-ltb m (2 ^ 63) h) refl
+
+pub pow_64 : (w : ℕ) → w ≤ 64 → 2 ^ w ≤ 2 ^ 64
+pow_64 w h = pow_mono h
+
+-- a power of two as twice the one before
+pub twice : (w : ℕ) → 0 < w → 2 ^ w ≡ 2 * 2 ^ (w - 1)
+twice w h =
+    let next : (w - 1) + 1 ≡ w = omega arith in
+    sym (ap (λ k. 2 ^ k) next) ∙ (pow-add 2 (w - 1) 1 ∙ mul_comm (2 ^ (w - 1)) 2)
+
+pub low_half : (w n : ℕ) → 0 < w → n / 2 ^ (w - 1) ≡ 0 → 2 * n < 2 ^ w
+low_half w n h e =
+    let whole : 2 ^ w ≡ 2 * 2 ^ (w - 1) = twice w h in
+    let below : n / 2 ^ (w - 1) < 1 = omega arith in
+    let bound : n < 1 * 2 ^ (w - 1) = (div-lt_iff_lt-mul (pow_pos (w - 1))).0 below in
+    omega arith
+
+pub high_half : (w n : ℕ) → 0 < w → ¬ (n / 2 ^ (w - 1) ≡ 0) → 2 ^ w ≤ 2 * n
+high_half w n h e =
+    let whole : 2 ^ w ≡ 2 * 2 ^ (w - 1) = twice w h in
+    elim (cases_lt n (1 * 2 ^ (w - 1))) [
+      | inl below ↦ absurd (e (let small : n / 2 ^ (w - 1) < 1 = (div-lt_iff_lt-mul (pow_pos (w - 1))).1 below in omega arith))
+      | inr above ↦ omega arith
+    ]
+
+-- ---- results
+
+pub defined_if_true : (t : Bool) (l : Lane) → t ≡ true → defined_if t l ≡ l
+defined_if_true t l h = rw h refl
+
+-- ---- shifts of signed integers
+
+shift_fits : (z : ℤ) (m : ℕ) → FitsSigned w64 z → FitsSigned w64 (shr_z z m)
+shift_fits z m f =
+    let small : mag z < 2 ^ 63 = f.sfits in
+    let less : mag (shr_z z m) ≤ mag z = mag_shr z m in
+    record { sfits = omega arith }
+
+shift_is : (z : ℤ) (m : ℕ) → shr_z z m ≡ int_div_euclid z (pos m)
+shift_is (pos n) m = refl
+shift_is (negsuc n) m = refl
+
+-- the code's shift of an integer of 64 bits
+pub shifted_signed : (z x : ℤ) (m : ℕ) → FitsSigned w64 z → z ≡ x → to_z w64 (of_z w64 (shr_z (to_z w64 (of_z w64 z)) m)) ≡ int_div_euclid x (pos m)
+shifted_signed z x m f e =
+    simp to_z-of_z (to_z-of_z w64 (shr_z z m) (shift_fits z m f) ∙ (shift_is z m ∙ ap (λ y. int_div_euclid y (pos m)) e))

@@ -1,0 +1,16 @@
+-- What an operation gives on one lane: an integer, a Boolean, or nothing defined.
+use Rattle.std.specs.Prelude.{ℕ, Bool, if◌then◌else◌, ℤ}
+use Rattle.spv_base.specs.Lane.{Lane, defined_lane, undefined_lane}
+use Rattle.spv_alu.specs.Integers.{low_bits}
+
+-- the low-order bits of an integer
+abbrev pub integer : ℕ → ℤ → Lane
+integer w z = defined_lane w (low_bits w z)
+
+-- a Boolean: 1 or 0 of width 1
+abbrev pub truth : Bool → Lane
+truth b = defined_lane 1 (if b then 1 else 0)
+
+-- a lane that is defined only where a test holds
+abbrev pub defined_if : Bool → Lane → Lane
+defined_if test l = if test then l else undefined_lane l.width

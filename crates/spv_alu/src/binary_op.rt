@@ -1,0 +1,131 @@
+//! The binary operations.
+ghost use Rattle.std.specs.Prelude.{◌≡◌, ◌^◌, ◌<◌};
+ghost use Rattle.spv_alu.specs.Binary.{binary_row, BinaryWidths, binary_width, binary_result, binary_lane, binary_op};
+
+use crate::integers::signed;
+use crate::results::{integer, truth};
+use crate::{arithmetic, division, results, shifts};
+use spv_base::{Cell, find_entry};
+
+/// A binary operation on lanes.
+#[derive(Clone, Copy, Debug, PartialEq, Eq)]
+pub enum BinaryOp {
+    IAdd,
+    ISub,
+    IMul,
+    UDiv,
+    SDiv,
+    UMod,
+    SRem,
+    SMod,
+    LogicalEqual,
+    LogicalNotEqual,
+    LogicalOr,
+    LogicalAnd,
+    IEqual,
+    INotEqual,
+    UGreaterThan,
+    SGreaterThan,
+    UGreaterThanEqual,
+    SGreaterThanEqual,
+    ULessThan,
+    SLessThan,
+    ULessThanEqual,
+    SLessThanEqual,
+    ShiftRightLogical,
+    ShiftRightArithmetic,
+    ShiftLeftLogical,
+    BitwiseOr,
+    BitwiseXor,
+    BitwiseAnd,
+}
+
+/// Each binary operation under its opcode.
+pub const BINARY_OPCODES: [(u32, BinaryOp); 28] = [
+    (128, BinaryOp::IAdd),
+    (130, BinaryOp::ISub),
+    (132, BinaryOp::IMul),
+    (134, BinaryOp::UDiv),
+    (135, BinaryOp::SDiv),
+    (137, BinaryOp::UMod),
+    (138, BinaryOp::SRem),
+    (139, BinaryOp::SMod),
+    (164, BinaryOp::LogicalEqual),
+    (165, BinaryOp::LogicalNotEqual),
+    (166, BinaryOp::LogicalOr),
+    (167, BinaryOp::LogicalAnd),
+    (170, BinaryOp::IEqual),
+    (171, BinaryOp::INotEqual),
+    (172, BinaryOp::UGreaterThan),
+    (173, BinaryOp::SGreaterThan),
+    (174, BinaryOp::UGreaterThanEqual),
+    (175, BinaryOp::SGreaterThanEqual),
+    (176, BinaryOp::ULessThan),
+    (177, BinaryOp::SLessThan),
+    (178, BinaryOp::ULessThanEqual),
+    (179, BinaryOp::SLessThanEqual),
+    (194, BinaryOp::ShiftRightLogical),
+    (195, BinaryOp::ShiftRightArithmetic),
+    (196, BinaryOp::ShiftLeftLogical),
+    (197, BinaryOp::BitwiseOr),
+    (198, BinaryOp::BitwiseXor),
+    (199, BinaryOp::BitwiseAnd),
+];
+
+impl BinaryOp {
+    /// The operation of an opcode, if it is one of these.
+    #[tactic(auto, unfolding(crate::specs::Binary::binary_op))]
+    pub fn of(opcode: u16) -> Option<BinaryOp>
+        ensures { result ≡ binary_op opcode }
+    {
+        find_entry(&BINARY_OPCODES, opcode as u32).copied()
+    }
+
+    /// The lane of the operation.
+    pub fn apply(self, a: Cell, b: Cell) -> Cell
+        requires { BinaryWidths (binary_row self) a.width b.width }
+        ensures lane { result ≡ binary_lane self a b }
+        ensures width { result.width ≡ binary_width (binary_row self) a.width }
+    {
+        results::defined_if(a.defined && b.defined, self.result(a, b))
+    }
+
+    /// The result at the bits of the operands.
+    #[tactic(auto, unfolding(crate::specs::Binary::binary_row))]
+    fn result(self, a: Cell, b: Cell) -> Cell
+        requires { BinaryWidths (binary_row self) a.width b.width }
+        ensures lane { result ≡ binary_result (binary_row self) a.width a.bits b.bits }
+        ensures width { result.width ≡ binary_width (binary_row self) a.width }
+    {
+        let Cell { bits: x, width, .. } = a;
+        let y = b.bits;
+        match self {
+            BinaryOp::IAdd => arithmetic::sum(x, y, width),
+            BinaryOp::ISub => arithmetic::difference(x, y, width),
+            BinaryOp::IMul => arithmetic::product(x, y, width),
+            BinaryOp::UDiv => division::quotient(x, y, width),
+            BinaryOp::SDiv => division::signed_quotient(x, y, width),
+            BinaryOp::UMod => division::remainder(x, y, width),
+            BinaryOp::SRem => division::signed_remainder(x, y, width),
+            BinaryOp::SMod => division::signed_modulus(x, y, width),
+            BinaryOp::LogicalEqual | BinaryOp::IEqual => truth(x == y),
+            BinaryOp::LogicalNotEqual | BinaryOp::INotEqual => truth(x != y),
+            BinaryOp::LogicalOr => truth(x == 1 || y == 1),
+            BinaryOp::LogicalAnd => truth(x == 1 && y == 1),
+            BinaryOp::UGreaterThan => truth(x > y),
+            BinaryOp::SGreaterThan => truth(signed(x, width) > signed(y, width)),
+            BinaryOp::UGreaterThanEqual => truth(x >= y),
+            BinaryOp::SGreaterThanEqual => truth(signed(x, width) >= signed(y, width)),
+            BinaryOp::ULessThan => truth(x < y),
+            BinaryOp::SLessThan => truth(signed(x, width) < signed(y, width)),
+            BinaryOp::ULessThanEqual => truth(x <= y),
+            BinaryOp::SLessThanEqual => truth(signed(x, width) <= signed(y, width)),
+            BinaryOp::ShiftRightLogical => shifts::right_logical(x, y, width),
+            BinaryOp::ShiftRightArithmetic => shifts::right_arithmetic(x, y, width),
+            BinaryOp::ShiftLeftLogical => shifts::left_logical(x, y, width),
+            BinaryOp::BitwiseOr => integer(x | y, width),
+            BinaryOp::BitwiseXor => integer(x ^ y, width),
+            BinaryOp::BitwiseAnd => integer(x & y, width),
+        }
+    }
+}

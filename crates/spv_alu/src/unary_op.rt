@@ -1,0 +1,67 @@
+//! The unary operations.
+ghost use Rattle.std.specs.Prelude.{◌≡◌, ◌^◌, ◌<◌};
+ghost use Rattle.spv_alu.specs.Unary.{unary_row, UnaryWidths, unary_result, unary_lane, unary_op};
+
+use crate::{arithmetic, bits, integers, results};
+use spv_base::{Cell, find_entry};
+
+/// A unary operation on lanes.
+#[derive(Clone, Copy, Debug, PartialEq, Eq)]
+pub enum UnaryOp {
+    UConvert,
+    SConvert,
+    SNegate,
+    LogicalNot,
+    Not,
+    BitReverse,
+    BitCount,
+}
+
+/// Each unary operation under its opcode.
+pub const UNARY_OPCODES: [(u32, UnaryOp); 7] = [
+    (113, UnaryOp::UConvert),
+    (114, UnaryOp::SConvert),
+    (126, UnaryOp::SNegate),
+    (168, UnaryOp::LogicalNot),
+    (200, UnaryOp::Not),
+    (204, UnaryOp::BitReverse),
+    (205, UnaryOp::BitCount),
+];
+
+impl UnaryOp {
+    /// The operation of an opcode, if it is one of these.
+    #[tactic(auto, unfolding(crate::specs::Unary::unary_op))]
+    pub fn of(opcode: u16) -> Option<UnaryOp>
+        ensures { result ≡ unary_op opcode }
+    {
+        find_entry(&UNARY_OPCODES, opcode as u32).copied()
+    }
+
+    /// The lane of the operation, with a result of this width.
+    pub fn apply(self, a: Cell, width: u8) -> Cell
+        requires { UnaryWidths (unary_row self) a.width width }
+        ensures lane { result ≡ unary_lane self a width }
+        ensures width { result.width ≡ width }
+    {
+        results::defined_if(a.defined, self.result(a.width, a.bits, width))
+    }
+
+    /// The result at an operand of a width with these bits.
+    #[tactic(auto, unfolding(crate::specs::Unary::unary_row))]
+    fn result(self, from: u8, x: u64, width: u8) -> Cell
+        requires widths { UnaryWidths (unary_row self) from width }
+        requires fits { x < 2 ^ from }
+        ensures lane { result ≡ unary_result (unary_row self) from x width }
+        ensures width { result.width ≡ width }
+    {
+        match self {
+            UnaryOp::UConvert => results::integer(x, width),
+            UnaryOp::SConvert => results::signed_integer(integers::signed(x, from), width),
+            UnaryOp::SNegate => arithmetic::difference(0, x, width),
+            UnaryOp::LogicalNot => results::truth(x != 1),
+            UnaryOp::Not => bits::complement(x, width),
+            UnaryOp::BitReverse => bits::reversed(x, width),
+            UnaryOp::BitCount => bits::count(x, width),
+        }
+    }
+}
