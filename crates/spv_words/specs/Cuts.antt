@@ -1,0 +1,46 @@
+-- The instructions of a module as words, cut by their word counts (SPIR-V 1.6 section 2.3).
+use Rattle.std.specs.Prelude.{◌≡◌, ◌<◌, ℕ, zero, suc, ◌+◌, ◌-◌, ◌*◌, ◌/◌, ◌%◌, ◌==◌, nat_lt, ◌||◌, if◌then◌else◌, List, [], ◌∷◌, length, take, drop, Result, Ok, Err}
+use Rattle.std.specs.List.{flat_map}
+use Rattle.spv_base.specs.declared.causes.Refusal.{Refusal}
+use Rattle.spv_base.specs.declared.instructions.RawInst.{RawInst}
+
+-- an instruction's first word has its word count in the high 16 bits, and its opcode in the low ones
+abbrev pub count_of : ℕ → ℕ
+count_of first = first / 65536
+
+abbrev pub opcode_of : ℕ → ℕ
+opcode_of first = first % 65536
+
+-- an instruction before others, where they are cut
+abbrev pub before : RawInst → Result (List RawInst) Refusal → Result (List RawInst) Refusal
+before inst (Ok insts) = Ok (inst ∷ insts)
+before inst (Err refusal) = Err refusal
+
+-- The instructions of the words from a place on, of which so many still belong to the instruction before.
+-- A word count of 0, or of more words than are left, is refused at its place with code 5.
+abbrev pub cut : ℕ → ℕ → List ℕ → Result (List RawInst) Refusal
+cut place left [] = Ok []
+cut place (suc left) (word ∷ words) = cut (suc place) left words
+cut place zero (first ∷ words) =
+    let count = count_of first in
+    if (count == 0) || nat_lt (suc (length words)) count
+    then Err (record { code = 5; word = place })
+    else before (record { word = place; op = opcode_of first; rest = take (count - 1) words }) (cut (suc place) (count - 1) words)
+
+-- the instructions of a module's words: they begin at word 5
+unfoldable pub raw_of : List ℕ → Result (List RawInst) Refusal
+raw_of words = cut 5 0 (drop 5 words)
+
+-- an instruction's words
+abbrev pub words_in : RawInst → List ℕ
+words_in inst = (65536 * suc (length inst.rest) + inst.op) ∷ inst.rest
+
+-- each instruction stands where the one before ends, and its numbers fit a first word
+abbrev pub StandFrom : ℕ → List RawInst → Type 0
+StandFrom place [] = Unit {0}
+StandFrom place (inst ∷ insts) = (inst.word ≡ place) × (inst.op < 65536) × (length inst.rest < 65535) × StandFrom (place + suc (length inst.rest)) insts
+
+-- the instructions, joined, are the words from word 5 on
+pub record AreCutFrom (words : List ℕ) (insts : List RawInst) : Type 0 where
+  pub joined : flat_map words_in insts ≡ drop 5 words
+  pub stand : StandFrom 5 insts

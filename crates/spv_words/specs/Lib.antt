@@ -1,0 +1,3 @@
+pub mod Words
+pub mod Header
+pub mod Cuts

@@ -1,0 +1,32 @@
+-- The words of a module's bytes, in the byte order that the magic number shows (SPIR-V 1.6 section 2.3).
+use Rattle.std.specs.Prelude.{ℕ, ◌+◌, ◌*◌, Bool, true, false, List, [], ◌∷◌, length, slice_index, Result}
+use Rattle.spv_base.specs.declared.causes.Refusal.{Refusal}
+use Rattle.spv_words.specs.Header.{is_magic, breaches, accepted_unless}
+
+-- a module's words, and whether the highest of a word's bytes stands first
+pub record ModuleWords : Type 0 where
+  pub big : Bool
+  pub items : List ℕ
+
+-- the number that four bytes stand for, the highest first or the lowest first
+abbrev pub word_of : Bool → ℕ → ℕ → ℕ → ℕ → ℕ
+word_of true a b c d = 16777216 * a + 65536 * b + 256 * c + d
+word_of false a b c d = a + 256 * b + 65536 * c + 16777216 * d
+
+-- the words of the groups of four bytes
+abbrev pub group_words : Bool → List ℕ → List ℕ
+group_words big (a ∷ b ∷ c ∷ d ∷ rest) = word_of big a b c d ∷ group_words big rest
+group_words big rest = []
+
+-- the order in which the first word is the magic number; the lowest byte first where it is in neither
+abbrev pub is_big : List ℕ → Bool
+is_big bytes = is_magic (slice_index (group_words true bytes) 0)
+
+abbrev pub read_in : Bool → List ℕ → ModuleWords
+read_in big bytes = record { big = big; items = group_words big bytes }
+
+-- a module's words, or the first rule of its size and header that is broken
+unfoldable pub words_of : List ℕ → Result ModuleWords Refusal
+words_of bytes =
+    let module_words = read_in (is_big bytes) bytes in
+    accepted_unless (breaches (length bytes) module_words.items) module_words
