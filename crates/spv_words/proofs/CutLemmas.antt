@@ -1,7 +1,7 @@
 -- The cuts of a module's words, one after the other.
 use Rattle.std.proofs.Common.{◌≡◌, ℕ, zero, suc, ◌+◌, ◌-◌, ◌<◌, ◌≤◌, ◌==◌, nat_lt, ◌||◌, false, true, List, [], ◌∷◌, ◌++◌, length, take, drop, slice_index, refl, sym, ap, ◌⊎◌, inl, inr, arith, Result, Ok, Err, length-drop, append_assoc}
 use Rattle.std.proofs.Math.Seq.{drop-cons}
-use Rattle.std.proofs.lemmas.List.{drop-drop}
+use Rattle.std.proofs.lemmas.List.{append-nil, drop-drop}
 use Rattle.std.specs.Result.{result_map_both}
 use Rattle.spv_base.specs.declared.causes.Refusal.{Refusal}
 use Rattle.spv_base.specs.declared.instructions.RawInst.{RawInst}
@@ -16,13 +16,13 @@ cut-left place (suc left) (word ∷ words) h =
     rw same (cut-left (suc place) left words (omega (arith, h)))
 
 -- the instruction at the head of the words
-cut-cons : (place first : ℕ) (words : List ℕ) → 1 ≤ count_of first → count_of first ≤ suc (length words)
+pub cut-cons : (place first : ℕ) (words : List ℕ) → 1 ≤ count_of first → count_of first ≤ suc (length words)
     → cut place 0 (first ∷ words) ≡ before (record { word = place; op = opcode_of first; rest = take (count_of first - 1) words }) (cut (suc place) (count_of first - 1) words)
 cut-cons place first words some inside =
     let kept : ((count_of first == 0) || nat_lt (suc (length words)) (count_of first)) ≡ false = grind arith in
     rw kept refl
 
-cut-cons_refused : (place first : ℕ) (words : List ℕ) → (count_of first ≡ 0) ⊎ (suc (length words) < count_of first)
+pub cut-cons_refused : (place first : ℕ) (words : List ℕ) → (count_of first ≡ 0) ⊎ (suc (length words) < count_of first)
     → cut place 0 (first ∷ words) ≡ Err (record { code = 5; word = place })
 cut-cons_refused place first words broken =
     let refused : ((count_of first == 0) || nat_lt (suc (length words)) (count_of first)) ≡ true = grind arith in
@@ -61,3 +61,6 @@ behind-before insts inst (Err refusal) = refl
 pub behind-nothing : (rest : Result (List RawInst) Refusal) → rest ≡ behind [] rest
 behind-nothing (Ok rest) = refl
 behind-nothing (Err refusal) = refl
+
+pub behind-all : (insts : List RawInst) → behind insts (Ok []) ≡ Ok insts
+behind-all insts = ap Ok (append-nil insts)

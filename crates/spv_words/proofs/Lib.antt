@@ -1,3 +1,4 @@
 pub mod CutLemmas
 pub mod HeaderLemmas
 pub mod WordLemmas
+pub mod CutLaws

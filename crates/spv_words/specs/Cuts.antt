@@ -1,6 +1,6 @@
 -- The instructions of a module as words, cut by their word counts (SPIR-V 1.6 section 2.3).
-use Rattle.std.specs.Prelude.{◌≡◌, ◌<◌, ℕ, zero, suc, ◌+◌, ◌-◌, ◌*◌, ◌/◌, ◌%◌, ◌==◌, nat_lt, ◌||◌, if◌then◌else◌, List, [], ◌∷◌, length, take, drop, Result, Ok, Err}
-use Rattle.std.specs.List.{flat_map}
+use Rattle.std.specs.Prelude.{◌≡◌, ◌⊎◌, ◌<◌, ℕ, zero, suc, ◌+◌, ◌-◌, ◌*◌, ◌/◌, ◌%◌, ◌==◌, nat_lt, ◌||◌, if◌then◌else◌, List, [], ◌∷◌, ◌++◌, length, take, drop, Result, Ok, Err}
+use Rattle.std.specs.List.{flat_map, AllByRecursion}
 use Rattle.spv_base.specs.declared.causes.Refusal.{Refusal}
 use Rattle.spv_base.specs.declared.instructions.RawInst.{RawInst}
 
@@ -35,12 +35,29 @@ raw_of words = cut 5 0 (drop 5 words)
 abbrev pub words_in : RawInst → List ℕ
 words_in inst = (65536 * suc (length inst.rest) + inst.op) ∷ inst.rest
 
--- each instruction stands where the one before ends, and its numbers fit a first word
+-- each instruction stands where the one before ends, and its opcode and word count have at most 16 bits
 abbrev pub StandFrom : ℕ → List RawInst → Type 0
 StandFrom place [] = Unit {0}
 StandFrom place (inst ∷ insts) = (inst.word ≡ place) × (inst.op < 65536) × (length inst.rest < 65535) × StandFrom (place + suc (length inst.rest)) insts
 
--- the instructions, joined, are the words from word 5 on
-pub record AreCutFrom (words : List ℕ) (insts : List RawInst) : Type 0 where
-  pub joined : flat_map words_in insts ≡ drop 5 words
-  pub stand : StandFrom 5 insts
+-- each instruction's word is below those of the instructions after it
+abbrev pub Ascend : List RawInst → Type 0
+Ascend [] = Unit {0}
+Ascend (inst ∷ insts) = AllByRecursion (λ later. inst.word < later.word) insts × Ascend insts
+
+-- the instructions, joined, are these words, which begin at a place
+pub record AreCutFrom (place : ℕ) (words : List ℕ) (insts : List RawInst) : Type 0 where
+  pub joined : flat_map words_in insts ≡ words
+  pub stand : StandFrom place insts
+  pub ascend : Ascend insts
+
+-- behind whole instructions, one has a word count of 0 or of more words than are left
+pub record BreaksOff (place : ℕ) (words : List ℕ) (refusal : Refusal) : Type 0 where
+  pub insts : List RawInst
+  pub first : ℕ
+  pub behind : List ℕ
+  pub joined : flat_map words_in insts ++ first ∷ behind ≡ words
+  pub stand : StandFrom place insts
+  pub count : (count_of first ≡ 0) ⊎ (suc (length behind) < count_of first)
+  pub word : refusal.word ≡ place + length (flat_map words_in insts)
+  pub code : refusal.code ≡ 5

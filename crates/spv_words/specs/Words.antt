@@ -1,5 +1,5 @@
 -- The words of a module's bytes, in the byte order that the magic number shows (SPIR-V 1.6 section 2.3).
-use Rattle.std.specs.Prelude.{ℕ, ◌+◌, ◌*◌, Bool, true, false, List, [], ◌∷◌, length, slice_index, Result}
+use Rattle.std.specs.Prelude.{ℕ, ◌+◌, ◌*◌, ◌^◌, ◌<◌, Bool, true, false, List, [], ◌∷◌, length, slice_index, Result}
 use Rattle.spv_base.specs.declared.causes.Refusal.{Refusal}
 use Rattle.spv_words.specs.Header.{is_magic, breaches, accepted_unless}
 
@@ -30,3 +30,7 @@ unfoldable pub words_of : List ℕ → Result ModuleWords Refusal
 words_of bytes =
     let module_words = read_in (is_big bytes) bytes in
     accepted_unless (breaches (length bytes) module_words.items) module_words
+
+-- each is a word of 32 bits
+abbrev pub Fit32 : List ℕ → Type 0
+Fit32 words = (k : ℕ) → slice_index words k < 2 ^ 32

@@ -1,8 +1,11 @@
 //! A module's instructions as words.
-ghost use Rattle.std.specs.Prelude.{◌≡◌, ◌<◌, ◌≤◌, ◌+◌, ◌-◌, ℕ, List, [], ◌∷◌, suc, length, drop, take, slice_index, IfOk, IfErr};
+ghost use Rattle.std.specs.Prelude.{◌≡◌, ◌<◌, ◌≤◌, ◌+◌, ◌-◌, ℕ, List, suc, length, drop, take, slice_index, IfOk, IfErr};
 ghost use Rattle.std.specs.Result.{result_map_both};
 ghost use Rattle.spv_base.specs.Answers.{Answers};
-ghost use Rattle.spv_words.specs.Cuts.{count_of, opcode_of, cut, raw_of};
+ghost use Rattle.spv_base.specs.declared.causes.Refusal.{Refusal};
+ghost use Rattle.spv_base.specs.declared.instructions.RawInst.{RawInst};
+ghost use Rattle.spv_words.specs.Cuts.{count_of, opcode_of, cut, raw_of, AreCutFrom, BreaksOff};
+ghost use Rattle.spv_words.specs.Words.{Fit32};
 
 use crate::list::WordList;
 use spv_base::{Fail, Items, NoMemory, RawInst, Refusal};
@@ -11,12 +14,34 @@ use std::alloc::Global;
 /// Where the instructions begin, behind the five words of the header.
 const FIRST: usize = 5;
 
-/// The instructions of a module's words: they begin at word 5, and the first word of each says how many words it has.
-/// Refused with code 5 at the first instruction whose word count is 0 or reaches past the end (SPIR-V 1.6 section 2.3).
+/// The instructions of a module's words: they begin at word 5, and the first word of each says how many words it has
+/// (SPIR-V 1.6 section 2.3).
+///
+/// The first instruction whose word count is 0 or reaches past the end is refused, with code 5 at its first word.
 pub fn raw(alloc: Global, list: &WordList) -> Result<Vec<RawInst>, Fail<Refusal>>
-    ensures { Answers (raw_of list.now.items) (result_map_both (λ insts. insts.items) (λ e. e) result) }
+    ensures due { Answers (raw_of list.now.items) (result_map_both (λ insts. insts.items) (λ fail. fail) result) }
+    ensures cut { IfOk result (λ insts. AreCutFrom 5 (drop 5 list.now.items) insts.items) }
 {
     let words = list.items();
+    cut_words(alloc, words)
+}
+
+/// A law, with nothing to run: the instructions that are due are the ones that, joined, are the words from word 5 on, each in
+/// its place, and a refusal stands at the first one that is not whole.
+pub fn instructions_are_cut()
+    ensures joined { (words : List ℕ) (insts : List RawInst) → Fit32 words → raw_of words ≡ Ok insts → AreCutFrom 5 (drop 5 words) insts }
+    ensures only { (words : List ℕ) (insts : List RawInst) → AreCutFrom 5 (drop 5 words) insts → raw_of words ≡ Ok insts }
+    ensures refused { (words : List ℕ) (refusal : Refusal) → Fit32 words → raw_of words ≡ Err refusal → BreaksOff 5 (drop 5 words) refusal }
+{}
+
+/// The instructions of these words.
+fn cut_words(alloc: Global, words: &[u32]) -> Result<Vec<RawInst>, Fail<Refusal>>
+    requires long { 5 ≤ length words.now }
+    requires short { length words.now ≤ 1048576 }
+    requires fits { Fit32 words.now }
+    ensures due { Answers (raw_of words.now) (result_map_both (λ insts. insts.items) (λ fail. fail) result) }
+    ensures cut { IfOk result (λ insts. AreCutFrom 5 (drop 5 words.now) insts.items) }
+{
     let mut insts = Vec::with_capacity(alloc, inst_count(words)?)?;
     let mut place = FIRST;
     'cuts: while place < words.len() {

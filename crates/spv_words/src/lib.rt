@@ -1,8 +1,10 @@
-//! The words of a module's bytes, in either byte order, and its instructions as words.
+//! The words of a module's bytes, in either byte order, and its instructions as words (SPIR-V 1.6 section 2.3).
 #![tactic(auto)]
 
 pub mod cuts;
 pub mod list;
+#[cfg(test)]
+mod tests;
 
-pub use cuts::raw;
+pub use cuts::{instructions_are_cut, raw};
 pub use list::{WordList, bytes_of, words};

@@ -1,7 +1,7 @@
 use Rattle.std.proofs.Common.{◌≡◌, ◌-◌, ◌≤◌, length, drop}
 use Rattle.spv_words.proofs.CutLemmas.{behind}
 use Rattle.spv_words.specs.Cuts.{cut, raw_of}
-use Rattle.spv_words.proofs.cuts.raw.Given as goal
+use Rattle.spv_words.proofs.cuts.cut_words.Given as goal
 
 -- the instructions so far, and the cuts of what is behind
 abbrev pub invariant-cuts : goal.invariant-cuts
