@@ -2,4 +2,5 @@ pub mod Forms
 pub mod Steps
 pub mod Strings
 pub mod Rests
+pub mod Encoding
 pub mod Reading

@@ -1,6 +1,8 @@
 //! The instruction that an opcode and words are.
-ghost use Rattle.std.specs.Prelude.{◌≡◌};
+ghost use Rattle.std.specs.Prelude.{◌≡◌, ◌<◌, ◌^◌, Ok, IfOk, IfErr};
+ghost use Rattle.std.specs.List.{AllByRecursion};
 ghost use Rattle.spv_base.specs.Answers.{Answers};
+ghost use Rattle.spv_ops.specs.Encoding.{HasBytes, IsInst, IsRefused, raw_of};
 ghost use Rattle.spv_ops.specs.Reading.{inst_by, inst_of, insts_of};
 ghost use Rattle.spv_ops.specs.Steps.{seen};
 
@@ -20,29 +22,33 @@ pub const WRONG_FORM: u8 = 7;
 pub const MOST_WORDS: usize = 65535;
 
 #[tactic(auto, unfolding(crate::specs::Reading::inst_by))]
-fn inst_by(alloc: Global, opcode: Opcode, raw: &RawInst) -> Result<Inst, Fail<WrongForm>>
-    ensures { Answers (inst_by (opcode.entry.0, opcode.entry.1.now, opcode.entry.2, opcode.entry.3.now, opcode.entry.4) raw.now) result }
+fn inst_by(
+    alloc: Global,
+    opcode: Opcode,
+    word: u32,
+    op: u16,
+    words: &[u32],
+) -> Result<Inst, Fail<WrongForm>>
+    ensures { Answers (inst_by (opcode.entry.0, opcode.entry.1.now, opcode.entry.2, opcode.entry.3.now, opcode.entry.4) (record { word = word; op = op; rest = words.now })) result }
 {
     let (_, _, head, parts, rest) = opcode;
-    let (ty, id, words) = head_at(head, raw.rest.as_slice())?;
+    let (ty, id, words) = head_at(head, words)?;
     let operands = operands_of(alloc, parts, rest, words)?;
     Ok(Inst {
-        word: raw.word,
-        op: raw.op,
+        word,
+        op,
         ty,
         id,
         operands,
     })
 }
 
-/// The instruction that an opcode and the words after the first are. Refuses an opcode that is not in the table, and
-/// words that no instruction has.
 #[tactic(auto, unfolding(crate::specs::Reading::inst_of))]
-pub fn decode(alloc: Global, r: &RawInst) -> Result<Inst, Fail<Refusal>>
-    ensures { Answers (inst_of r.now) result }
+fn inst_at(alloc: Global, word: u32, op: u16, words: &[u32]) -> Result<Inst, Fail<Refusal>>
+    ensures answers { Answers (inst_of (record { word = word; op = op; rest = words.now })) result }
+    ensures encodes { IfOk result (λ i. IsInst i × (raw_of i ≡ record { word = word; op = op; rest = words.now })) }
 {
-    let word = r.word;
-    let Some(opcode) = opcode_of(r.op) else {
+    let Some(opcode) = opcode_of(op) else {
         return Err(Fail::Refused(Refusal {
             code: UNKNOWN_OPCODE,
             word,
@@ -52,15 +58,35 @@ pub fn decode(alloc: Global, r: &RawInst) -> Result<Inst, Fail<Refusal>>
         code: WRONG_FORM,
         word,
     };
-    if r.rest.len() >= MOST_WORDS {
+    if words.len() >= MOST_WORDS {
         return Err(Fail::Refused(wrong_form));
     }
-    match inst_by(alloc, opcode, r) {
+    match inst_by(alloc, opcode, word, op, words) {
         Ok(inst) => Ok(inst),
         Err(Fail::Refused(WrongForm)) => Err(Fail::Refused(wrong_form)),
         Err(Fail::NoMemory) => Err(Fail::NoMemory),
     }
 }
+
+/// The instruction that an opcode and the words after the first are. Refuses an opcode that is not in the table, and
+/// words that no instruction with the opcode has, each at the place of the instruction.
+pub fn decode(alloc: Global, r: &RawInst) -> Result<Inst, Fail<Refusal>>
+    ensures answers { Answers (inst_of r.now) result }
+    // What is read is an instruction with these words.
+    ensures encodes { IfOk result (λ i. IsInst i × (raw_of i ≡ r.now)) }
+    // The instruction with these words is read, unless memory runs out.
+    ensures only { (i : Inst) → IsInst i → AllByRecursion HasBytes i.operands → raw_of i ≡ r.now → Answers (Ok i) result }
+    ensures refused { IfErr result (IsRefused r.now) }
+{
+    inst_at(alloc, r.word, r.op, r.rest.as_slice())
+}
+
+/// Words are read as the one instruction that has them, and only as that.
+pub fn one_reading()
+    ensures reads { (i : Inst) → IsInst i → AllByRecursion HasBytes i.operands → inst_of (raw_of i) ≡ Ok i }
+    ensures read { (r : RawInst) (i : Inst) → AllByRecursion (λ w. w < 2 ^ 32) r.rest → inst_of r ≡ Ok i
+        → IsInst i × AllByRecursion HasBytes i.operands × (raw_of i ≡ r) }
+{}
 
 /// All instructions, or the refusal of the first that has one.
 pub fn decode_all(alloc: Global, raws: &[RawInst]) -> Result<Vec<Inst>, Fail<Refusal>>

@@ -2,11 +2,13 @@
 #![tactic(auto)]
 
 mod decoding;
+mod encoding;
 mod forms;
 mod opcodes;
 mod reading;
 mod rests;
 
-pub use decoding::{decode, decode_all};
+pub use decoding::{decode, decode_all, one_reading};
+pub use encoding::encode;
 pub use forms::{Head, Opcode, Part, Rest};
 pub use opcodes::{OPCODES, opcode_of};

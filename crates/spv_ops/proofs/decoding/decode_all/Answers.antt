@@ -6,12 +6,12 @@ pub returns-in_err-decode : goal.returns-in_err-decode
 returns-in_err-decode c =
     let p = err_from_is_err_and c.from_residual.result c.from_residual.ensures.1 in
     rw (p.1, p.2) (ends c.in_err-decode.field-0.0 c.loop-raw.insts.items c.args.raws.now c.loop-raw.raw-index c.raw-item.result _ c.loop-raw-test.true
-    c.raw-item.is c.in_err-decode.ensures c.loop-raw.invariant)
+    c.raw-item.is c.in_err-decode.ensures.answers c.loop-raw.invariant)
 
 pub loop-raw-preserved : goal.loop-raw-preserved
 loop-raw-preserved c =
     rw c.in_ok-push.ensures.items (goes_on c.loop-raw.insts.items c.args.raws.now c.loop-raw.raw-index c.raw-item.result c.in_ok-decode.field-0 _ c.loop-raw-test.true
-    c.raw-item.is c.in_ok-decode.ensures c.loop-raw.invariant)
+    c.raw-item.is c.in_ok-decode.ensures.answers c.loop-raw.invariant)
 
 pub returns : goal.returns
 returns c = is_done c.loop-raw.insts.items c.args.raws.now c.loop-raw.raw-index _ c.loop-raw-test.false c.loop-raw.invariant

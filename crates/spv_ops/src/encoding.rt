@@ -1,0 +1,96 @@
+//! The words of an instruction.
+ghost use Rattle.std.specs.Prelude.{◌≡◌, [], ◌∷◌, ◌++◌, ◌<◌, length, Ok, IfOk, OnOk};
+ghost use Rattle.std.specs.List.{AllByRecursion};
+ghost use Rattle.spv_ops.specs.Strings.{words_of_text};
+ghost use Rattle.spv_ops.specs.Reading.{inst_of};
+ghost use Rattle.spv_ops.specs.Forms.{row_of};
+ghost use Rattle.spv_ops.specs.Encoding.{head_of, words_of_head, words_of_operand, words_of_operands, HasBytes, IsInst, raw_of};
+
+use crate::forms::Head;
+use crate::opcodes::opcode_of;
+use spv_base::{Inst, NoMemory, Operand, RawInst, Words};
+use std::alloc::Global;
+
+/// The word that ends a string, with the bytes that no other word has.
+fn last_word(bytes: &[u8]) -> u32
+    requires { length bytes.now < 4 }
+    ensures { words_of_text bytes.now ≡ result ∷ [] }
+{
+    match bytes {
+        [] => 0,
+        [a] => u32::from_le_bytes([*a, 0, 0, 0]),
+        [a, b] => u32::from_le_bytes([*a, *b, 0, 0]),
+        [a, b, c, ..] => u32::from_le_bytes([*a, *b, *c, 0]),
+    }
+}
+
+/// Adds the words of a string: its bytes and a zero byte, four to a word, the first in the lowest-order byte, padded
+/// with zero bytes.
+fn push_text(words: &mut Words, bytes: &[u8]) -> Result<(), NoMemory>
+    ensures { OnOk result ((words.new ≡ words.old ++ words_of_text bytes.now) × AllByRecursion (λ byte. byte < 256) bytes.now) }
+{
+    let mut rest = bytes;
+    while let [a, b, c, d, more @ ..] = rest {
+        words.push(u32::from_le_bytes([*a, *b, *c, *d]))?;
+        rest = more;
+    }
+    words.push(last_word(rest))?;
+    Ok(())
+}
+
+fn push_operand(words: &mut Words, operand: &Operand) -> Result<(), NoMemory>
+    ensures { OnOk result ((words.new ≡ words.old ++ words_of_operand operand.now) × HasBytes operand.now) }
+{
+    match operand {
+        Operand::Id(id) => words.push(*id),
+        Operand::Lit(literal) => words.push(*literal),
+        Operand::Text(bytes) => push_text(words, bytes.as_slice()),
+    }
+}
+
+fn push_operands(words: &mut Words, operands: &[Operand]) -> Result<(), NoMemory>
+    ensures { OnOk result ((words.new ≡ words.old ++ words_of_operands operands.now) × AllByRecursion HasBytes operands.now) }
+{
+    for operand in operands {
+        push_operand(words, operand)?;
+    }
+    Ok(())
+}
+
+fn push_head(words: &mut Words, head: Head, ty: u32, id: u32) -> Result<(), NoMemory>
+    ensures { OnOk result (words.new ≡ words.old ++ words_of_head head ty id) }
+{
+    match head {
+        Head::Plain => Ok(()),
+        Head::Result => words.push(id),
+        Head::TypedResult => {
+            words.push(ty)?;
+            words.push(id)
+        }
+    }
+}
+
+fn head_of(op: u16) -> Head
+    ensures { result ≡ head_of (row_of op) }
+{
+    match opcode_of(op) {
+        Some((_, _, head, _, _)) => head,
+        None => Head::Plain,
+    }
+}
+
+/// The words of an instruction, which are read as that instruction again.
+pub fn encode(alloc: Global, i: &Inst) -> Result<RawInst, NoMemory>
+    requires { IsInst i.now }
+    ensures raw { IfOk result (λ r. r ≡ raw_of i.now) }
+    ensures again { IfOk result (λ r. inst_of r ≡ Ok i.now) }
+{
+    let mut rest = Words::new(alloc);
+    push_head(&mut rest, head_of(i.op), i.ty, i.id)?;
+    push_operands(&mut rest, i.operands.as_slice())?;
+    Ok(RawInst {
+        word: i.word,
+        op: i.op,
+        rest,
+    })
+}
