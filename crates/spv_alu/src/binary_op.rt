@@ -1,8 +1,8 @@
 //! The binary operations.
-ghost use Rattle.std.specs.Prelude.{◌≡◌, ◌^◌, ◌<◌};
+ghost use Rattle.std.specs.Prelude.{◌≡◌, ◌^◌, ◌<◌, ◌↔◌, IsTrue};
 ghost use Rattle.spv_alu.specs.Binary.{binary_row, BinaryWidths, binary_width, binary_result, binary_lane, binary_op};
 
-use crate::integers::signed;
+use crate::integers::{is_width, signed};
 use crate::results::{integer, truth};
 use crate::{arithmetic, division, results, shifts};
 use spv_base::{Cell, find_entry};
@@ -79,6 +79,43 @@ impl BinaryOp {
         ensures { result ≡ binary_op opcode }
     {
         find_entry(&BINARY_OPCODES, opcode as u32).copied()
+    }
+
+    /// Whether operands may have these widths.
+    #[tactic(auto, unfolding(crate::specs::Binary::binary_row))]
+    pub fn takes(self, first: u8, second: u8) -> bool
+        ensures { IsTrue result ↔ BinaryWidths (binary_row self) first second }
+    {
+        match self {
+            BinaryOp::LogicalEqual
+            | BinaryOp::LogicalNotEqual
+            | BinaryOp::LogicalOr
+            | BinaryOp::LogicalAnd => first == 1 && second == 1,
+            BinaryOp::ShiftRightLogical
+            | BinaryOp::ShiftRightArithmetic
+            | BinaryOp::ShiftLeftLogical => is_width(first) && is_width(second),
+            BinaryOp::IAdd
+            | BinaryOp::ISub
+            | BinaryOp::IMul
+            | BinaryOp::UDiv
+            | BinaryOp::SDiv
+            | BinaryOp::UMod
+            | BinaryOp::SRem
+            | BinaryOp::SMod
+            | BinaryOp::IEqual
+            | BinaryOp::INotEqual
+            | BinaryOp::UGreaterThan
+            | BinaryOp::SGreaterThan
+            | BinaryOp::UGreaterThanEqual
+            | BinaryOp::SGreaterThanEqual
+            | BinaryOp::ULessThan
+            | BinaryOp::SLessThan
+            | BinaryOp::ULessThanEqual
+            | BinaryOp::SLessThanEqual
+            | BinaryOp::BitwiseOr
+            | BinaryOp::BitwiseXor
+            | BinaryOp::BitwiseAnd => is_width(first) && second == first,
+        }
     }
 
     /// The lane of the operation.

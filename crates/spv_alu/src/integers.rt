@@ -1,6 +1,13 @@
 //! Integers as bits: their reading as signed, and the bits of a width.
-ghost use Rattle.std.specs.Prelude.{◌≡◌, ◌-◌, ◌^◌, ◌<◌};
+ghost use Rattle.std.specs.Prelude.{◌≡◌, ◌-◌, ◌^◌, ◌<◌, ◌↔◌, IsTrue};
 ghost use Rattle.spv_alu.specs.Integers.{IsWidth, signed};
+
+/// Whether an integer or a Boolean may have this width.
+pub fn is_width(width: u8) -> bool
+    ensures { IsTrue result ↔ IsWidth width }
+{
+    0 < width && width <= 64
+}
 
 /// The greatest number of a width, of which each bit is 1.
 pub fn greatest(width: u8) -> u64

@@ -13,6 +13,8 @@ pub mod division;
 pub mod integers;
 pub mod results;
 pub mod shifts;
+#[cfg(test)]
+mod tests;
 pub mod unary_op;
 
 pub use binary_op::BinaryOp;

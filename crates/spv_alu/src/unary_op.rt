@@ -1,7 +1,8 @@
 //! The unary operations.
-ghost use Rattle.std.specs.Prelude.{◌≡◌, ◌^◌, ◌<◌};
+ghost use Rattle.std.specs.Prelude.{◌≡◌, ◌^◌, ◌<◌, ◌↔◌, IsTrue};
 ghost use Rattle.spv_alu.specs.Unary.{unary_row, UnaryWidths, unary_result, unary_lane, unary_op};
 
+use crate::integers::is_width;
 use crate::{arithmetic, bits, integers, results};
 use spv_base::{Cell, find_entry};
 
@@ -35,6 +36,20 @@ impl UnaryOp {
         ensures { result ≡ unary_op opcode }
     {
         find_entry(&UNARY_OPCODES, opcode as u32).copied()
+    }
+
+    /// Whether the operand and the result may have these widths.
+    #[tactic(auto, unfolding(crate::specs::Unary::unary_row))]
+    pub fn takes(self, from: u8, to: u8) -> bool
+        ensures { IsTrue result ↔ UnaryWidths (unary_row self) from to }
+    {
+        match self {
+            UnaryOp::UConvert | UnaryOp::SConvert => is_width(from) && is_width(to),
+            UnaryOp::SNegate | UnaryOp::Not | UnaryOp::BitReverse | UnaryOp::BitCount => {
+                is_width(from) && to == from
+            }
+            UnaryOp::LogicalNot => from == 1 && to == 1,
+        }
     }
 
     /// The lane of the operation, with a result of this width.
