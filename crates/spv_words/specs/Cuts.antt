@@ -4,20 +4,21 @@ use Rattle.std.specs.List.{flat_map, AllByRecursion}
 use Rattle.spv_base.specs.declared.causes.Refusal.{Refusal}
 use Rattle.spv_base.specs.declared.instructions.RawInst.{RawInst}
 
--- an instruction's first word has its word count in the high 16 bits, and its opcode in the low ones
+-- the word count of an instruction, in the high 16 bits of its first word; it counts that word too
 abbrev pub count_of : ℕ → ℕ
 count_of first = first / 65536
 
+-- the opcode, in the low 16 bits
 abbrev pub opcode_of : ℕ → ℕ
 opcode_of first = first % 65536
 
--- an instruction before others, where they are cut
+-- an instruction in front of others, unless these are refused
 abbrev pub before : RawInst → Result (List RawInst) Refusal → Result (List RawInst) Refusal
 before inst (Ok insts) = Ok (inst ∷ insts)
 before inst (Err refusal) = Err refusal
 
--- The instructions of the words from a place on, of which so many still belong to the instruction before.
--- A word count of 0, or of more words than are left, is refused at its place with code 5.
+-- The instructions of some words that begin at a place. The first ones, as many as left says, still belong to the instruction before.
+-- A word count of 0, or of more words than there are, is refused with code 5, at the place of the instruction.
 abbrev pub cut : ℕ → ℕ → List ℕ → Result (List RawInst) Refusal
 cut place left [] = Ok []
 cut place (suc left) (word ∷ words) = cut (suc place) left words
@@ -45,13 +46,13 @@ abbrev pub Ascend : List RawInst → Type 0
 Ascend [] = Unit {0}
 Ascend (inst ∷ insts) = AllByRecursion (λ later. inst.word < later.word) insts × Ascend insts
 
--- the instructions, joined, are these words, which begin at a place
+-- the instructions, joined, are these words, of which the first stands at a place
 pub record AreCutFrom (place : ℕ) (words : List ℕ) (insts : List RawInst) : Type 0 where
   pub joined : flat_map words_in insts ≡ words
   pub stand : StandFrom place insts
   pub ascend : Ascend insts
 
--- behind whole instructions, one has a word count of 0 or of more words than are left
+-- behind whole instructions, the refused one has a word count of 0 or of more words than are left
 pub record BreaksOff (place : ℕ) (words : List ℕ) (refusal : Refusal) : Type 0 where
   pub insts : List RawInst
   pub first : ℕ

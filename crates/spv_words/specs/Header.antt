@@ -3,7 +3,7 @@ use Rattle.std.specs.Prelude.{ℕ, ◌%◌, ◌≡◌, ◌≤◌, ◌==◌, nat_
 use Rattle.std.specs.List.{list_any}
 use Rattle.spv_base.specs.declared.causes.Refusal.{Refusal}
 
--- five words of header, whole words, and at most 4 MiB
+-- at least the five words of a header, whole words, and at most 4 MiB
 abbrev pub is_size : ℕ → Bool
 is_size bytes = nat_le 20 bytes && (bytes % 4 == 0) && nat_le bytes 4194304
 
@@ -15,11 +15,11 @@ is_magic word = word == 0x07230203
 abbrev pub is_version : ℕ → Bool
 is_version word = list_any (λ version. word == version) (0x00010300 ∷ 0x00010400 ∷ 0x00010500 ∷ 0x00010600 ∷ [])
 
--- ids are below the bound, and there is room for one
+-- the bound of ids: every id is above 0 and below it
 abbrev pub is_bound : ℕ → Bool
 is_bound word = nat_le 1 word && nat_le word 1048576
 
--- the rule with this code, which stands at this word, where it is not kept
+-- the rule with this code, which stands at this word, unless it is kept
 abbrev pub broken_unless : Bool → ℕ → ℕ → List Refusal
 broken_unless kept code word = if kept then [] else record { code = code; word = word } ∷ []
 

@@ -8,24 +8,25 @@ pub record ModuleWords : Type 0 where
   pub big : Bool
   pub items : List ℕ
 
--- the number that four bytes stand for, the highest first or the lowest first
+-- the number that four bytes are, with the highest first or with the lowest first
 abbrev pub word_of : Bool → ℕ → ℕ → ℕ → ℕ → ℕ
 word_of true a b c d = 16777216 * a + 65536 * b + 256 * c + d
-word_of false a b c d = a + 256 * b + 65536 * c + 16777216 * d
+word_of false a b c d = 16777216 * d + 65536 * c + 256 * b + a
 
--- the words of the groups of four bytes
+-- the words of bytes, four bytes a word
 abbrev pub group_words : Bool → List ℕ → List ℕ
 group_words big (a ∷ b ∷ c ∷ d ∷ rest) = word_of big a b c d ∷ group_words big rest
 group_words big rest = []
 
--- the order in which the first word is the magic number; the lowest byte first where it is in neither
+-- whether the first word is the magic number with the highest byte first
 abbrev pub is_big : List ℕ → Bool
 is_big bytes = is_magic (slice_index (group_words true bytes) 0)
 
+-- the words in one order
 abbrev pub read_in : Bool → List ℕ → ModuleWords
 read_in big bytes = record { big = big; items = group_words big bytes }
 
--- a module's words, or the first rule of its size and header that is broken
+-- a module's words, or the first rule of its size and header that is broken: the order is the one in which the first word is the magic number
 unfoldable pub words_of : List ℕ → Result ModuleWords Refusal
 words_of bytes =
     let module_words = read_in (is_big bytes) bytes in
