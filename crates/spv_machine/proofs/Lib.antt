@@ -1,0 +1,9 @@
+pub mod Ordered
+pub mod Linked
+pub mod Valid
+pub mod Changes
+pub mod Standing
+pub mod Operands
+pub mod Keeps
+pub mod Table
+pub mod Outcomes

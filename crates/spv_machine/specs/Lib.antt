@@ -1,0 +1,12 @@
+pub mod Opcode
+pub mod Action
+pub mod Form
+pub mod Known
+pub mod Program
+pub mod Valid
+pub mod Held
+pub mod Places
+pub mod Effect
+pub mod Step
+pub mod Does
+pub mod Sound
