@@ -1,0 +1,26 @@
+-- The leaves before a part, where they fit 64 bits.
+use Rattle.std.proofs.Common.{◌≡◌, ℕ, ◌+◌, ◌-◌, ◌^◌, List, ◌∷◌, Option, Some, None, refl, ap}
+use Rattle.std.specs.Prelude.{min}
+use Rattle.std.specs.Option.{option_map, option_and_then}
+use Rattle.spv_types.specs.declared.forms.Form.{Form}
+use Rattle.spv_types.specs.Types.{Types, form_of}
+use Rattle.spv_types.specs.Cells.{cells_of}
+use Rattle.spv_types.proofs.Cuts.{cut-add}
+use Rattle.spv_types.specs.Cuts.{cut, cut_first}
+use Rattle.spv_types.specs.Leaves.{leaf_of, part_of}
+use Rattle.spv_types.proofs.CellLemmas.{some_pair, pair}
+
+pub leaf_cut : (ts : Types) (id i before part within : ℕ) (path : List ℕ) (f : Form) → Some f ≡ form_of ts id → some_pair before part ≡ option_map cut_first (part_of (cells_of ts) f i) → Some within ≡ option_map cut (leaf_of ts part path) → Some (min (before + within) (2 ^ 64 - 1)) ≡ option_map cut (leaf_of ts id (i ∷ path))
+unfolding leaf_of
+leaf_cut ts id i before part within path f g h k = rw (← g) (step ts before part within path (part_of (cells_of ts) f i) h k)
+  where
+    last : (n before within : ℕ) (o : Option ℕ) → before ≡ cut n → Some within ≡ option_map cut o → Some (min (before + within) (2 ^ 64 - 1)) ≡ option_map cut (option_map (λ m. n + m) o)
+    last n before within None e k = cc
+    last n before within (Some m) e k = let f : within ≡ cut m = cc in rw (e, f, cut-add n m) refl
+
+    step : (ts : Types) (before part within : ℕ) (path : List ℕ) (p : Option (ℕ × ℕ)) → some_pair before part ≡ option_map cut_first p → Some within ≡ option_map cut (leaf_of ts part path) → Some (min (before + within) (2 ^ 64 - 1)) ≡ option_map cut (option_and_then (λ p. option_map (λ n. p.0 + n) (leaf_of ts p.1 path)) p)
+    step ts before part within path None h k = cc
+    step ts before part within path (Some p) h k =
+        let q : pair before part ≡ cut_first p = cc in
+        let e = ap (λ (x : ℕ × ℕ). x.0) q in let f = ap (λ (x : ℕ × ℕ). x.1) q in
+        rw (← f) (last p.0 before within (leaf_of ts part path) e k)

@@ -1,0 +1,10 @@
+pub mod TypeLemmas
+pub mod CellLemmas
+pub mod Cuts
+pub mod LeafLemmas
+pub mod PlaceLemmas
+pub mod TableLemmas
+pub mod FactLemmas
+pub mod TypingLemmas
+pub mod RuleLemmas
+pub mod BuildLemmas

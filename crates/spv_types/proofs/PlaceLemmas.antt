@@ -1,0 +1,107 @@
+-- The place of a leaf is that of its form, and the rows and members that it lies in.
+use Rattle.std.proofs.Common.{◌≡◌, ◌∙◌, ℕ, ◌+◌, ◌-◌, ◌*◌, ◌/◌, ◌%◌, ◌^◌, ◌<◌, ◌≤◌, List, [], ◌∷◌, length, true, false, Option, Some, None, inl, inr, zero, suc, refl, sym, ap, drop, get_or, arith}
+use Rattle.std.specs.Option.{option_map, option_map_or, option_and_then, unwrap_or}
+use Rattle.std.specs.Prelude.{min, nat_lt, if◌then◌else◌}
+use Rattle.std.proofs.Math.Nat.{div-eq_of_lt, mod-eq_of_lt}
+use Rattle.std.proofs.lemmas.Bool.{cases_lt}
+use Rattle.spv_types.specs.declared.forms.Member.{Member}
+use Rattle.spv_types.specs.declared.forms.Form.{Form}
+use Rattle.spv_types.specs.Types.{Types, found_among, in_first}
+use Rattle.spv_types.specs.Cuts.{cut}
+use Rattle.spv_types.specs.Places.{place_among, place_step, place_in_members, place_in_elements, place_in_row, row_number}
+use Rattle.spv_types.specs.Cells.{cells_of}
+use Rattle.spv_types.proofs.TypeLemmas.{in_first-is}
+
+-- the place of a leaf in a type that is found, or none
+abbrev pub found_place : Types → Option (ℕ × Form) → ℕ → Option ℕ
+found_place ts None leaf = None
+found_place ts (Some f) leaf = place_step ts (place_among ts f.0) f.1 leaf
+
+pub place_among_is : (ts : Types) (n id leaf : ℕ) → place_among ts n id leaf ≡ found_place ts (found_among ts n id) leaf
+unfolding place_among
+place_among_is ts n id leaf = ap (λ (f : ℕ → Option ℕ). f leaf) (in_first-is {A = ℕ → Option ℕ} (λ leaf. None) (place_step ts) ts n id) ∙ found (found_among ts n id)
+  where
+    found : (o : Option (ℕ × Form)) → option_map_or {U = ℕ → Option ℕ} (λ (f : ℕ × Form). place_step ts (in_first (λ leaf. None) (place_step ts) ts f.0) f.1) o (λ leaf. None) leaf ≡ found_place ts o leaf
+    found None = refl
+    found (Some f) = refl
+
+less : (m n : ℕ) → m < n → nat_lt m n ≡ true
+less m n l = grind arith
+
+not_less : (m n : ℕ) → n ≤ m → nat_lt m n ≡ false
+not_less m n l = grind arith
+
+pub none_through : (s : ℕ) (o : Option ℕ) → None ≡ option_map cut o → None ≡ option_map cut (option_map (λ n. s + n) o)
+none_through s None h = refl
+none_through s (Some n) h = cc
+
+pub plus_cut : (s w : ℕ) (o : Option ℕ) → Some w ≡ option_map cut o → Some (min (s + w) (2 ^ 64 - 1)) ≡ option_map cut (option_map (λ n. s + n) o)
+plus_cut s w None h = cc
+plus_cut s w (Some n) h = let e : w ≡ cut n = cc in let f : min (s + w) (2 ^ 64 - 1) ≡ cut (s + n) = omega arith in ap Some f
+
+pub div_cut : (leaf w : ℕ) → leaf < 67108864 → leaf / cut w ≡ leaf / w
+div_cut leaf w l = elim (cases_lt w (2 ^ 64)) [
+  | inl less ↦ let e : cut w ≡ w = omega arith in rw e refl
+  | inr more ↦ let e : cut w ≡ 18446744073709551615 = omega arith in rw (e, div-eq_of_lt {n = leaf} {m = 18446744073709551615} (omega arith), div-eq_of_lt {n = leaf} {m = w} (omega arith)) refl
+]
+
+pub rem_cut : (leaf w : ℕ) → leaf < 67108864 → leaf % cut w ≡ leaf % w
+rem_cut leaf w l = elim (cases_lt w (2 ^ 64)) [
+  | inl less ↦ let e : cut w ≡ w = omega arith in rw e refl
+  | inr more ↦ let e : cut w ≡ 18446744073709551615 = omega arith in rw (e, mod-eq_of_lt {n = leaf} {m = 18446744073709551615} (omega arith), mod-eq_of_lt {n = leaf} {m = w} (omega arith)) refl
+]
+
+here : (o : Option ℕ) (left k : ℕ) (x : Option ℕ) (f : ℕ → Option ℕ) → option_map cut o ≡ Some k → left < k → option_and_then (λ n. if nat_lt left n then x else f n) o ≡ x
+here None left k x f h l = cc
+here (Some n) left k x f h l = let e : cut n ≡ k = cc in let t : nat_lt left n ≡ true = less left n (omega arith) in rw t refl
+
+later : (o : Option ℕ) (left k : ℕ) (x : Option ℕ) (f : ℕ → Option ℕ) → left < 67108864 → option_map cut o ≡ Some k → k ≤ left → option_and_then (λ n. if nat_lt left n then x else f n) o ≡ f k
+later None left k x f b h l = cc
+later (Some n) left k x f b h l = let e : cut n ≡ k = cc in let s : n ≡ k = omega arith in let t : nat_lt left n ≡ false = not_less left n (omega arith) in rw (t, s) refl
+
+module _ (cells : ℕ → Option ℕ) (place : ℕ → ℕ → Option ℕ) where
+  pub in_members_end : (leaf : ℕ) → place_in_members cells place [] leaf ≡ None
+  unfolding place_in_members
+  in_members_end leaf = refl
+
+  pub in_members_unknown : (ms : List Member) (i left : ℕ) (d : Member) → i < length ms → cells (get_or ms i d).ty ≡ None → place_in_members cells place (drop i ms) left ≡ None
+  unfolding place_in_members
+  in_members_unknown [] i left d l h = absurd (omega arith)
+  in_members_unknown (m ∷ ms) zero left d l h = rw h refl
+  in_members_unknown (m ∷ ms) (suc i) left d l h = in_members_unknown ms i left d (omega arith) h
+
+  pub in_members_here : (ms : List Member) (i left k : ℕ) (d : Member) → i < length ms → option_map cut (cells (get_or ms i d).ty) ≡ Some k → left < k → place_in_members cells place (drop i ms) left ≡ option_map (λ b. unwrap_or (get_or ms i d).offset 0 + b) (place (get_or ms i d).ty left)
+  unfolding place_in_members
+  in_members_here [] i left k d l h b = absurd (omega arith)
+  in_members_here (m ∷ ms) zero left k d l h b = here (cells m.ty) left k _ (λ n. place_in_members cells place ms (left - n)) h b
+  in_members_here (m ∷ ms) (suc i) left k d l h b = in_members_here ms i left k d (omega arith) h b
+
+  pub in_members_later : (ms : List Member) (i left k : ℕ) (d : Member) → i < length ms → left < 67108864 → option_map cut (cells (get_or ms i d).ty) ≡ Some k → k ≤ left → place_in_members cells place (drop i ms) left ≡ place_in_members cells place (drop (i + 1) ms) (left - k)
+  unfolding place_in_members
+  in_members_later [] i left k d l n h b = absurd (omega arith)
+  in_members_later (m ∷ ms) zero left k d l n h b = later (cells m.ty) left k _ (λ n. place_in_members cells place ms (left - n)) n h b
+  in_members_later (m ∷ ms) (suc i) left k d l n h b = let e : suc i + 1 ≡ suc (i + 1) = omega arith in rw e (in_members_later ms i left k d (omega arith) n h b)
+
+pub elements_at : (ts : Types) (place : ℕ → ℕ → Option ℕ) (element : ℕ) (count : Option ℕ) (stride leaf k w : ℕ) → leaf < 67108864 → Some w ≡ option_map cut (cells_of ts element) → Some k ≡ row_number w count leaf
+    → place_in_elements ts place element count stride leaf ≡ option_map (λ n. k * stride + n) (place element (leaf % w))
+elements_at ts place element count stride leaf k w l h e = row (cells_of ts element) (place element) count stride leaf k w l h e
+  where
+    row : (o : Option ℕ) (place : ℕ → Option ℕ) (count : Option ℕ) (stride leaf k w : ℕ) → leaf < 67108864 → Some w ≡ option_map cut o → Some k ≡ row_number w count leaf
+        → option_and_then (λ cells. place_in_row cells count stride place leaf) o ≡ option_map (λ n. k * stride + n) (place (leaf % w))
+    row None place count stride leaf k w l h e = cc
+    row (Some c) place count stride leaf k w l h e =
+        let same : w ≡ cut c = cc in
+        let d = div_cut leaf c l in
+        let r = rem_cut leaf c l in
+        let z : nat_lt 0 (cut c) ≡ nat_lt 0 c = above_zero c in
+        let f : row_number w count leaf ≡ row_number c count leaf = rw (same, d, z) refl in
+        let g : row_number c count leaf ≡ Some k = cc in
+        rw (g, same, r) refl
+      where
+        above_zero : (c : ℕ) → nat_lt 0 (cut c) ≡ nat_lt 0 c
+        above_zero zero = refl
+        above_zero (suc c) = less 0 (cut (suc c)) (omega arith) ∙ sym (less 0 (suc c) (omega arith))
+
+pub none_of_cut : (o : Option ℕ) → None ≡ option_map cut o → o ≡ None
+none_of_cut None h = refl
+none_of_cut (Some n) h = cc

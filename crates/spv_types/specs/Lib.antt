@@ -1,0 +1,10 @@
+pub mod Types
+pub mod Cells
+pub mod Cuts
+pub mod Leaves
+pub mod Places
+pub mod Operands
+pub mod Facts
+pub mod Typing
+pub mod Rules
+pub mod Build

@@ -1,0 +1,63 @@
+-- The byte places of the leaves of a block: by the Offset of each member, the ArrayStride of each array, and the bytes of
+-- the components of each vector.
+use Rattle.std.specs.Prelude.{ℕ, ◌+◌, ◌-◌, ◌*◌, ◌/◌, ◌%◌, ◌==◌, ◌&&◌, true, nat_lt, if◌then◌else◌, List, [], ◌∷◌, length, Option, Some, None, unwrap_or}
+use Rattle.std.specs.Option.{option_map, option_map_or, option_and_then}
+use Rattle.spv_types.specs.declared.forms.Form.{Form}
+use Rattle.spv_types.specs.declared.forms.Form.TheVariants.{Void, Bool as Boolean, Int, Vector, Array, Runtime, Struct, Pointer, Function}
+use Rattle.spv_types.specs.declared.forms.Member.{Member}
+use Rattle.spv_types.specs.Types.{Types, form_of, in_first}
+use Rattle.spv_types.specs.Cells.{cells_of}
+
+-- the bytes of a scalar; a Boolean has none in a block
+abbrev pub scalar_bytes : Option Form → ℕ
+scalar_bytes None = 0
+scalar_bytes (Some Void) = 0
+scalar_bytes (Some Boolean) = 0
+scalar_bytes (Some (Int width sign)) = width / 8
+scalar_bytes (Some (Vector component count)) = 0
+scalar_bytes (Some (Array element length stride)) = 0
+scalar_bytes (Some (Runtime element stride)) = 0
+scalar_bytes (Some (Struct members block)) = 0
+scalar_bytes (Some (Pointer class target)) = 0
+scalar_bytes (Some (Function returns parameters)) = 0
+
+-- a scalar has one leaf, at its first byte
+abbrev pub place_in_scalar : ℕ → Option ℕ
+place_in_scalar leaf = if leaf == 0 then Some 0 else None
+
+-- the number of the element in which a leaf lies, where elements have so many leaves and there are count, or any number
+abbrev pub row_number : ℕ → Option ℕ → ℕ → Option ℕ
+row_number cells count leaf = if nat_lt 0 cells && option_map_or (nat_lt (leaf / cells)) count true then Some (leaf / cells) else None
+
+-- a leaf of a row of elements of so many leaves each, which begin a stride apart
+abbrev pub place_in_row : ℕ → Option ℕ → ℕ → (ℕ → Option ℕ) → ℕ → Option ℕ
+place_in_row cells count stride place leaf = option_and_then (λ k. option_map (λ n. k * stride + n) (place (leaf % cells))) (row_number cells count leaf)
+
+-- a leaf of some members, each at its offset
+unfoldable pub place_in_members : (ℕ → Option ℕ) → (ℕ → ℕ → Option ℕ) → List Member → ℕ → Option ℕ
+place_in_members cells place [] leaf = None
+place_in_members cells place (m ∷ ms) leaf = option_and_then (λ n. if nat_lt leaf n then option_map (λ b. unwrap_or m.offset 0 + b) (place m.ty leaf) else place_in_members cells place ms (leaf - n)) (cells m.ty)
+
+-- a leaf of a row of elements of the type with an id
+abbrev pub place_in_elements : Types → (ℕ → ℕ → Option ℕ) → ℕ → Option ℕ → ℕ → ℕ → Option ℕ
+place_in_elements ts place element count stride leaf = option_and_then (λ cells. place_in_row cells count stride (place element) leaf) (cells_of ts element)
+
+-- a leaf of a form, where place gives those of its parts
+abbrev pub place_step : Types → (ℕ → ℕ → Option ℕ) → Form → ℕ → Option ℕ
+place_step ts place Void leaf = None
+place_step ts place Boolean leaf = place_in_scalar leaf
+place_step ts place (Int width sign) leaf = place_in_scalar leaf
+place_step ts place (Vector component count) leaf = place_in_elements ts place component (Some count) (scalar_bytes (form_of ts component)) leaf
+place_step ts place (Array element length stride) leaf = option_and_then (λ n. place_in_elements ts place element (Some n) (unwrap_or stride 0) leaf) length
+place_step ts place (Runtime element stride) leaf = place_in_elements ts place element None (unwrap_or stride 0) leaf
+place_step ts place (Struct members block) leaf = place_in_members (cells_of ts) place members leaf
+place_step ts place (Pointer class target) leaf = place_in_scalar leaf
+place_step ts place (Function returns parameters) leaf = None
+
+-- the byte place of a leaf of the type with an id, where it is among the first n types
+unfoldable pub place_among : Types → ℕ → ℕ → ℕ → Option ℕ
+place_among ts = in_first (λ leaf. None) (place_step ts) ts
+
+-- the byte place of a leaf of the type with an id; none where it has no such leaf
+unfoldable pub place_of : Types → ℕ → ℕ → Option ℕ
+place_of ts id leaf = place_among ts (length ts) id leaf

@@ -1,0 +1,52 @@
+//! The types of a module.
+ghost use Rattle.std.specs.Prelude.{◌≡◌, ◌≤◌, length, take};
+ghost use Rattle.spv_base.specs.Answers.{Answers};
+ghost use Rattle.spv_types.specs.Typing.{before_functions};
+ghost use Rattle.spv_types.specs.Build.{types_of};
+
+use crate::facts::Facts;
+use crate::opcodes::FUNCTION;
+use crate::table::TypeTable;
+use crate::typing::defined_form;
+use spv_base::{Fail, Inst, Refusal};
+use std::alloc::Global;
+
+/// The code of the rules of types.
+const TYPE_CODE: u8 = 12;
+
+/// The number of instructions before the functions.
+fn functions_start(insts: &[Inst]) -> usize
+    ensures within { result ≤ length insts.now }
+    ensures before { take result insts.now ≡ before_functions insts.now }
+{
+    for (n, inst) in insts.iter().enumerate() {
+        if inst.op == FUNCTION {
+            return n;
+        }
+    }
+    insts.len()
+}
+
+impl TypeTable {
+    /// The types of a module, by the instructions before its functions.
+    ///
+    /// Refuses M12, at the first instruction that breaks a rule of types, module variables or undefined values.
+    pub fn build(alloc: Global, insts: &[Inst]) -> Result<TypeTable, Fail<Refusal>>
+        ensures { Answers (types_of insts.now) result }
+    {
+        let facts = Facts::of(alloc, insts)?;
+        let module = &insts[..functions_start(insts)];
+        let mut table = TypeTable::new(alloc);
+        for inst in module {
+            let form = defined_form(alloc, &facts, inst)?;
+            if !table.keeps_rules(&facts, inst, &form) {
+                return Err(Fail::Refused(Refusal {
+                    code: TYPE_CODE,
+                    word: inst.word,
+                }));
+            }
+            table.add_form(inst.id, form)?;
+        }
+        Ok(table)
+    }
+}

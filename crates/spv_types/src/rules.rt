@@ -1,0 +1,231 @@
+//! The rules of types, module variables and undefined values.
+ghost use Rattle.std.specs.Prelude.{◌≡◌, ◌==◌};
+ghost use Rattle.spv_types.specs.Types.{form_of};
+ghost use Rattle.spv_types.specs.Rules.{
+  form_has_runtime,
+  has_runtime,
+  is_block,
+  is_class,
+  is_data,
+  is_input,
+  is_runtime,
+  is_scalar,
+  is_sized_data,
+  is_three_words,
+  is_width,
+  is_word,
+  keep_members,
+  keeps_form,
+  keeps_member,
+  keeps_initializer,
+  keeps_other,
+  keeps_pointer,
+  keeps_rules,
+  keeps_target,
+  last_type,
+};
+
+use crate::facts::Facts;
+use crate::forms::{Form, Member};
+use crate::opcodes::{
+    BUILT_IN, FUNCTION_CLASS, GLOBAL_INVOCATION_ID, INPUT, LOCAL_INVOCATION_ID,
+    LOCAL_INVOCATION_INDEX, NUM_WORKGROUPS, PRIVATE, PUSH_CONSTANT, STORAGE_BUFFER, UNDEF, UNIFORM,
+    VARIABLE, WORKGROUP, WORKGROUP_ID,
+};
+use crate::operands::{id_at, lit_at};
+use crate::table::TypeTable;
+use spv_base::Inst;
+
+fn is_width(n: u32) -> bool
+    ensures { result ≡ is_width n }
+{
+    matches!(n, 8 | 16 | 32 | 64)
+}
+
+fn is_class(n: u32) -> bool
+    ensures { result ≡ is_class n }
+{
+    matches!(
+        n,
+        INPUT | UNIFORM | WORKGROUP | PRIVATE | FUNCTION_CLASS | PUSH_CONSTANT | STORAGE_BUFFER
+    )
+}
+
+/// The type of the last member, or 0.
+fn last_type(members: &[Member]) -> u32
+    ensures { result ≡ last_type members.now }
+{
+    match members.last() {
+        Some(member) => member.ty,
+        None => 0,
+    }
+}
+
+impl TypeTable {
+    fn is_scalar(&self, ty: u32) -> bool
+        ensures { result ≡ is_scalar (form_of self.now ty) }
+    {
+        matches!(self.form(ty), Some(Form::Bool | Form::Int { .. }))
+    }
+
+    /// Whether a type is of data: not void, a pointer or a function.
+    fn is_data(&self, ty: u32) -> bool
+        ensures { result ≡ is_data (form_of self.now ty) }
+    {
+        match self.form(ty) {
+            None | Some(Form::Void | Form::Pointer { .. } | Form::Function { .. }) => false,
+            _ => true,
+        }
+    }
+
+    fn is_runtime(&self, ty: u32) -> bool
+        ensures { result ≡ is_runtime (form_of self.now ty) }
+    {
+        matches!(self.form(ty), Some(Form::Runtime { .. }))
+    }
+
+    fn is_block(&self, ty: u32) -> bool
+        ensures { result ≡ is_block (form_of self.now ty) }
+    {
+        matches!(self.form(ty), Some(Form::Struct { block: true, .. }))
+    }
+
+    /// Whether a type is an integer of 32 bits.
+    fn is_word(&self, ty: u32) -> bool
+        ensures { result ≡ is_word (form_of self.now ty) }
+    {
+        match self.form(ty) {
+            Some(Form::Int { width, .. }) => *width == 32,
+            _ => false,
+        }
+    }
+
+    /// Whether a type is a vector of three integers of 32 bits.
+    fn is_three_words(&self, ty: u32) -> bool
+        ensures { result ≡ is_three_words self.now (form_of self.now ty) }
+    {
+        match self.form(ty) {
+            Some(Form::Vector { component, count }) => *count == 3 && self.is_word(*component),
+            _ => false,
+        }
+    }
+
+    /// Whether a type is a runtime array or has one as its last member.
+    fn has_runtime(&self, ty: u32) -> bool
+        ensures { result ≡ has_runtime self.now ty }
+    {
+        match self.form(ty) {
+            Some(Form::Runtime { .. }) => true,
+            Some(Form::Struct { members, .. }) => self.is_runtime(last_type(members.as_slice())),
+            _ => false,
+        }
+    }
+
+    /// Whether a type is of data without a runtime array.
+    fn is_sized_data(&self, ty: u32) -> bool
+        ensures { result ≡ is_sized_data self.now ty }
+    {
+        self.is_data(ty) && !self.has_runtime(ty)
+    }
+
+    /// Whether a member is sized data, or, as the last of a Block struct, a runtime array.
+    fn keeps_member(&self, block: bool, last: bool, ty: u32) -> bool
+        ensures { result ≡ keeps_member self.now block last ty }
+    {
+        self.is_sized_data(ty) || last && block && self.is_runtime(ty)
+    }
+
+    /// Whether members keep their rules.
+    fn keep_members(&self, block: bool, members: &[Member]) -> bool
+        ensures { result ≡ keep_members self.now block members.now }
+    {
+        for (n, member) in members.iter().enumerate() {
+            if !self.keeps_member(block, n + 1 == members.len(), member.ty) {
+                return false;
+            }
+        }
+        true
+    }
+
+    /// Whether a form keeps the rules of types, where its parts are in the table.
+    fn keeps_form(&self, form: &Form) -> bool
+        ensures { result ≡ keeps_form self.now form.now }
+    {
+        match form {
+            Form::Void | Form::Bool | Form::Function { .. } => true,
+            Form::Int { width, sign } => is_width(*width) && *sign <= 1,
+            Form::Vector { component, count } => self.is_scalar(*component)
+                && *count >= 2
+                && *count <= 4,
+            Form::Array { element, .. } | Form::Runtime { element, .. } => self.is_sized_data(
+                *element,
+            ),
+            Form::Struct { members, block } => self.keep_members(*block, members.as_slice()),
+            Form::Pointer { class, target } => is_class(*class) && self.is_data(*target),
+        }
+    }
+
+    /// Whether an Input variable has a built-in, and the built-in's type.
+    fn is_input(&self, built_in: Option<u32>, target: u32) -> bool
+        ensures { result ≡ is_input self.now built_in target }
+    {
+        match built_in {
+            Some(NUM_WORKGROUPS | WORKGROUP_ID | LOCAL_INVOCATION_ID | GLOBAL_INVOCATION_ID) =>
+                self.is_three_words(target),
+            Some(LOCAL_INVOCATION_INDEX) => self.is_word(target),
+            _ => false,
+        }
+    }
+
+    /// Whether a variable before the functions keeps the rules of its class.
+    fn keeps_target(&self, facts: &Facts, inst: &Inst, class: u32, target: u32) -> bool
+        ensures { result ≡ keeps_target facts.now self.now inst.now class target }
+    {
+        if class == FUNCTION_CLASS || self.has_runtime(target) && class != STORAGE_BUFFER {
+            return false;
+        }
+        if matches!(class, STORAGE_BUFFER | UNIFORM | PUSH_CONSTANT) && !self.is_block(target) {
+            return false;
+        }
+        if class == INPUT && !self.is_input(facts.decoration(inst.id, BUILT_IN), target) {
+            return false;
+        }
+        keeps_initializer(facts, class, target, inst)
+    }
+
+    /// Whether a variable before the functions keeps the rules.
+    fn keeps_variable(&self, facts: &Facts, inst: &Inst) -> bool
+        ensures { result ≡ keeps_pointer facts.now self.now inst.now (form_of self.now inst.now.ty) }
+    {
+        match self.form(inst.ty) {
+            Some(Form::Pointer { class, target }) => {
+                lit_at(inst, 0) == *class && self.keeps_target(facts, inst, *class, *target)
+            }
+            _ => false,
+        }
+    }
+
+    /// Whether an instruction before the functions keeps the rules, where it defines a form or none.
+    pub(crate) fn keeps_rules(&self, facts: &Facts, inst: &Inst, form: &Option<Form>) -> bool
+        ensures { result ≡ keeps_other facts.now self.now inst.now form.now }
+    {
+        match form {
+            Some(form) => self.keeps_form(form),
+            None => match inst.op {
+                VARIABLE => self.keeps_variable(facts, inst),
+                UNDEF => self.is_sized_data(inst.ty),
+                _ => true,
+            },
+        }
+    }
+}
+
+/// Whether an initializer is a constant of the target type of a Private variable.
+fn keeps_initializer(facts: &Facts, class: u32, target: u32, inst: &Inst) -> bool
+    ensures { result ≡ keeps_initializer facts.now class target inst.now.operands }
+{
+    if inst.operands.len() <= 1 {
+        return true;
+    }
+    class == PRIVATE && facts.constant_type(id_at(inst, 1)) == Some(target)
+}

@@ -1,0 +1,185 @@
+//! Types and blocks, built from instructions.
+use crate::opcodes::{
+    ARRAY_STRIDE, BLOCK, CONSTANT, DECORATE, FUNCTION, MEMBER_DECORATE, OFFSET, TYPE_ARRAY,
+    TYPE_BOOL, TYPE_INT, TYPE_POINTER, TYPE_RUNTIME_ARRAY, TYPE_STRUCT, TYPE_VECTOR, TYPE_VOID,
+    UNDEF, VARIABLE,
+};
+use crate::table::TypeTable;
+use spv_base::{Fail as Failure, Inst, Items, NoMemory, Operand, Refusal};
+use std::alloc::Global;
+use std::test::Fail;
+
+/// An operand of a test's instruction.
+#[derive(Clone, Copy)]
+enum Word {
+    Id(u32),
+    Lit(u32),
+}
+
+use Word::{Id, Lit};
+
+/// Adds an instruction, whose word is its place.
+fn add(
+    alloc: Global,
+    insts: &mut Vec<Inst>,
+    op: u16,
+    ty: u32,
+    id: u32,
+    words: &[Word],
+) -> Result<(), NoMemory> {
+    let mut operands = Items::new(alloc);
+    for word in words {
+        operands.push(match *word {
+            Id(id) => Operand::Id(id),
+            Lit(word) => Operand::Lit(word),
+        })?;
+    }
+    let word = u32::try_from(insts.len()).unwrap_or(u32::MAX);
+    insts.push(Inst {
+        word,
+        op,
+        ty,
+        id,
+        operands,
+    })?;
+    Ok(())
+}
+
+/// A block: a uint at offset 0, and at offset 16 an array of two-component uint vectors with stride 16.
+fn block(alloc: Global) -> Result<Vec<Inst>, NoMemory> {
+    let mut insts = Vec::new(alloc);
+    add(alloc, &mut insts, DECORATE, 0, 0, &[Id(4), Lit(BLOCK)])?;
+    add(
+        alloc,
+        &mut insts,
+        MEMBER_DECORATE,
+        0,
+        0,
+        &[Id(4), Lit(0), Lit(OFFSET), Lit(0)],
+    )?;
+    add(
+        alloc,
+        &mut insts,
+        MEMBER_DECORATE,
+        0,
+        0,
+        &[Id(4), Lit(1), Lit(OFFSET), Lit(16)],
+    )?;
+    add(
+        alloc,
+        &mut insts,
+        DECORATE,
+        0,
+        0,
+        &[Id(3), Lit(ARRAY_STRIDE), Lit(16)],
+    )?;
+    add(alloc, &mut insts, TYPE_INT, 0, 1, &[Lit(32), Lit(0)])?;
+    add(alloc, &mut insts, TYPE_VECTOR, 0, 2, &[Id(1), Lit(2)])?;
+    add(alloc, &mut insts, TYPE_ARRAY, 0, 3, &[Id(2), Id(9)])?;
+    add(alloc, &mut insts, TYPE_STRUCT, 0, 4, &[Id(1), Id(3)])?;
+    Ok(insts)
+}
+
+#[test]
+fn leaves_and_places_of_a_block(rt: HostRuntime) -> Result<(), Fail> {
+    let alloc = rt.alloc();
+    let insts = block(alloc)?;
+    let Ok(mut table) = TypeTable::build(alloc, insts.as_slice()) else {
+        return Err(Fail::new("refused"));
+    };
+    assert!(rt; table.cells(4).is_none());
+    assert!(rt; table.is_unset(3));
+    if table.is_unset(3) {
+        table.set_length(3, 3);
+    }
+    let copy = table.copy(alloc)?;
+    for table in [&table, &copy] {
+        assert!(rt; table.cells(4) == Some(7));
+        assert!(rt; table.leaf(4, &[1, 2, 1]) == Some(6));
+        assert!(rt; table.leaf(4, &[1, 3]).is_none());
+        assert!(rt; table.place(4, 6) == Some(52));
+        assert!(rt; table.place(4, 1) == Some(16));
+        assert!(rt; table.place(4, 7).is_none());
+    }
+    Ok(())
+}
+
+/// A module of types, and one more instruction.
+fn with_one(alloc: Global, op: u16, ty: u32, words: &[Word]) -> Result<Vec<Inst>, NoMemory> {
+    let mut insts = Vec::new(alloc);
+    add(alloc, &mut insts, DECORATE, 0, 0, &[Id(7), Lit(BLOCK)])?;
+    add(alloc, &mut insts, TYPE_INT, 0, 1, &[Lit(32), Lit(0)])?;
+    add(alloc, &mut insts, TYPE_BOOL, 0, 2, &[])?;
+    add(alloc, &mut insts, TYPE_VOID, 0, 3, &[])?;
+    add(alloc, &mut insts, TYPE_VECTOR, 0, 4, &[Id(1), Lit(2)])?;
+    add(alloc, &mut insts, TYPE_POINTER, 0, 5, &[Lit(12), Id(1)])?;
+    add(alloc, &mut insts, TYPE_RUNTIME_ARRAY, 0, 6, &[Id(1)])?;
+    add(alloc, &mut insts, TYPE_STRUCT, 0, 7, &[Id(1), Id(6)])?;
+    add(alloc, &mut insts, TYPE_POINTER, 0, 8, &[Lit(12), Id(7)])?;
+    add(alloc, &mut insts, TYPE_POINTER, 0, 9, &[Lit(6), Id(1)])?;
+    add(alloc, &mut insts, CONSTANT, 1, 10, &[Lit(3)])?;
+    add(alloc, &mut insts, op, ty, 11, words)?;
+    add(alloc, &mut insts, FUNCTION, 3, 12, &[])?;
+    add(alloc, &mut insts, VARIABLE, 9, 13, &[Lit(7)])?;
+    Ok(insts)
+}
+
+#[test]
+fn each_rule_of_types_broken_once(rt: HostRuntime) -> Result<(), Fail> {
+    let alloc = rt.alloc();
+    let refusal = Failure::Refused(Refusal { code: 12, word: 11 });
+    let kept: [(u16, u32, &[Word]); 15] = [
+        (TYPE_INT, 0, &[Lit(64), Lit(1)]),
+        (TYPE_VECTOR, 0, &[Id(2), Lit(4)]),
+        (TYPE_ARRAY, 0, &[Id(4), Id(10)]),
+        (TYPE_RUNTIME_ARRAY, 0, &[Id(1)]),
+        (TYPE_STRUCT, 0, &[Id(1), Id(4)]),
+        (TYPE_STRUCT, 0, &[]),
+        (TYPE_POINTER, 0, &[Lit(6), Id(1)]),
+        (TYPE_POINTER, 0, &[Lit(12), Id(6)]),
+        (UNDEF, 1, &[]),
+        (VARIABLE, 8, &[Lit(12)]),
+        (VARIABLE, 9, &[Lit(6)]),
+        (VARIABLE, 9, &[Lit(6), Id(10)]),
+        (CONSTANT, 3, &[]),
+        (TYPE_VOID, 0, &[]),
+        (TYPE_BOOL, 0, &[]),
+    ];
+    for (op, ty, words) in kept {
+        let insts = with_one(alloc, op, ty, words)?;
+        assert!(rt; TypeTable::build(alloc, insts.as_slice()).is_ok());
+    }
+    let broken: [(u16, u32, &[Word]); 26] = [
+        (TYPE_INT, 0, &[Lit(24), Lit(0)]),
+        (TYPE_INT, 0, &[Lit(8), Lit(2)]),
+        (TYPE_VECTOR, 0, &[Id(1), Lit(5)]),
+        (TYPE_VECTOR, 0, &[Id(1), Lit(1)]),
+        (TYPE_VECTOR, 0, &[Id(4), Lit(2)]),
+        (TYPE_ARRAY, 0, &[Id(3), Id(10)]),
+        (TYPE_ARRAY, 0, &[Id(5), Id(10)]),
+        (TYPE_ARRAY, 0, &[Id(6), Id(10)]),
+        (TYPE_ARRAY, 0, &[Id(7), Id(10)]),
+        (TYPE_RUNTIME_ARRAY, 0, &[Id(6)]),
+        (TYPE_STRUCT, 0, &[Id(1), Id(6)]),
+        (TYPE_STRUCT, 0, &[Id(6), Id(1)]),
+        (TYPE_STRUCT, 0, &[Id(7)]),
+        (TYPE_STRUCT, 0, &[Id(5)]),
+        (TYPE_POINTER, 0, &[Lit(5), Id(1)]),
+        (TYPE_POINTER, 0, &[Lit(12), Id(3)]),
+        (TYPE_POINTER, 0, &[Lit(12), Id(5)]),
+        (UNDEF, 3, &[]),
+        (UNDEF, 5, &[]),
+        (UNDEF, 6, &[]),
+        (UNDEF, 7, &[]),
+        (VARIABLE, 5, &[Lit(12)]),
+        (VARIABLE, 8, &[Lit(2)]),
+        (VARIABLE, 1, &[Lit(12)]),
+        (VARIABLE, 8, &[Lit(12), Id(10)]),
+        (VARIABLE, 9, &[Lit(6), Id(1)]),
+    ];
+    for (op, ty, words) in broken {
+        let insts = with_one(alloc, op, ty, words)?;
+        assert!(rt; TypeTable::build(alloc, insts.as_slice()).err() == Some(refusal));
+    }
+    Ok(())
+}
