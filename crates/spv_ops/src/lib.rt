@@ -12,3 +12,6 @@ pub use decoding::{decode, decode_all, one_reading};
 pub use encoding::encode;
 pub use forms::{Head, Opcode, Part, Rest};
 pub use opcodes::{OPCODES, opcode_of};
+
+#[cfg(test)]
+mod tests;
