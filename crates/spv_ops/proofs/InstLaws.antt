@@ -14,7 +14,8 @@ use Rattle.spv_base.specs.declared.instructions.RawInst.{RawInst}
 use Rattle.spv_ops.specs.declared.forms.Head.{Head}
 use Rattle.spv_ops.specs.declared.forms.Head.TheVariants as head
 use Rattle.spv_ops.specs.declared.reading.WrongForm.{WrongForm}
-use Rattle.spv_ops.specs.Forms.{Row, row_of}
+use Rattle.spv_ops.specs.Opcodes.{Row}
+use Rattle.spv_ops.specs.Forms.{row_of}
 use Rattle.spv_ops.specs.Steps.{◌>>=◌}
 use Rattle.spv_ops.specs.Reading.{head_at, operands_of, inst_by, inst_in, inst_of, or_wrong_form, unknown_opcode, wrong_form}
 use Rattle.spv_ops.specs.Encoding.{words_of_head, words_of_operands, words_after_first, raw_of, words_of_raw, HasHead, HasNoZero, HasBytes, IsInst, IsRefused}

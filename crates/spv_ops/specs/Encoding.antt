@@ -1,4 +1,4 @@
--- What an instruction is, and the words that it has (SPIR-V 1.6, section 2.3), apart from how they are read or written.
+-- What an instruction is, and the words that it has (SPIR-V 1.6 section 2.3), apart from how they are read or written.
 use Rattle.std.specs.Prelude.{◌≡◌, ◌≢◌, ℕ, ◌+◌, ◌*◌, ◌<◌, ◌≤◌, ◌⊎◌, IsTrue, IsSome, bit_and, List, [], ◌∷◌, ◌++◌, length, Option, Some, None}
 use Rattle.std.specs.List.{AllByRecursion}
 use Rattle.spv_base.specs.declared.causes.Fail.{Fail}
@@ -13,7 +13,8 @@ use Rattle.spv_ops.specs.declared.forms.Head.TheVariants as head
 use Rattle.spv_ops.specs.declared.forms.Part.{Part}
 use Rattle.spv_ops.specs.declared.forms.Part.TheVariants as part
 use Rattle.spv_ops.specs.declared.forms.Rest.{Rest}
-use Rattle.spv_ops.specs.Forms.{Row, row_of}
+use Rattle.spv_ops.specs.Opcodes.{Row}
+use Rattle.spv_ops.specs.Forms.{row_of}
 use Rattle.spv_ops.specs.Reading.{unknown_opcode, wrong_form}
 use Rattle.spv_ops.specs.Rests.{is_rest, rest_operands}
 use Rattle.spv_ops.specs.Strings.{words_of_text}

@@ -1,3 +1,4 @@
+pub mod Opcodes
 pub mod Forms
 pub mod Steps
 pub mod Strings

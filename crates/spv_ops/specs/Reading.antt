@@ -1,4 +1,4 @@
--- Reading an instruction by the form of its opcode (SPIR-V 1.6, sections 2.3 and 3.52).
+-- Reading an instruction by the form of its opcode (SPIR-V 1.6 section 2.3).
 use Rattle.std.specs.Prelude.{ℕ, ◌==◌, nat_lt, bit_and, Bool, false, List, [], ◌∷◌, length, Option, Some, None, Result, Ok, Err, if◌then◌else◌}
 use Rattle.spv_base.specs.declared.causes.Refusal.{Refusal}
 use Rattle.spv_base.specs.declared.instructions.Inst.{Inst}
@@ -11,7 +11,8 @@ use Rattle.spv_ops.specs.declared.forms.Part.{Part}
 use Rattle.spv_ops.specs.declared.forms.Part.TheVariants as part
 use Rattle.spv_ops.specs.declared.forms.Rest.{Rest}
 use Rattle.spv_ops.specs.declared.reading.WrongForm.{WrongForm}
-use Rattle.spv_ops.specs.Forms.{Row, row_of}
+use Rattle.spv_ops.specs.Opcodes.{Row}
+use Rattle.spv_ops.specs.Forms.{row_of}
 use Rattle.spv_ops.specs.Rests.{is_rest, rest_operands}
 use Rattle.spv_ops.specs.Steps.{◌>>=◌, before}
 use Rattle.spv_ops.specs.Strings.{text_at}

@@ -1,4 +1,4 @@
--- Strings in words (SPIR-V 1.6, section 2.2.1): the bytes and a zero byte, four to a word, the first in the lowest-order byte, padded with zero bytes.
+-- Strings in words (SPIR-V 1.6 section 2.2.1): the bytes and a zero byte, four to a word, the first in the lowest-order byte, padded with zero bytes.
 use Rattle.std.specs.Prelude.{ℕ, ◌+◌, ◌*◌, ◌/◌, ◌%◌, ◌==◌, Bool, List, [], ◌∷◌, ◌++◌, take, drop, Result, Ok, Err, if◌then◌else◌}
 use Rattle.std.specs.List.{list_all}
 use Rattle.std.specs.Int.{w32, to_le_bytes}

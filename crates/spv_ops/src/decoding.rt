@@ -18,7 +18,7 @@ pub const UNKNOWN_OPCODE: u8 = 6;
 /// The code of the refusal of words that no instruction with the opcode has.
 pub const WRONG_FORM: u8 = 7;
 
-/// An instruction has at most this many words, with its first (SPIR-V 1.6, section 2.3).
+/// An instruction has at most this many words, with its first (SPIR-V 1.6 section 2.3).
 pub const MOST_WORDS: usize = 65535;
 
 #[tactic(auto, unfolding(crate::specs::Reading::inst_by))]

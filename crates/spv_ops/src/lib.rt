@@ -1,4 +1,4 @@
-//! Instructions and their words: reading and writing by the forms of the opcodes (SPIR-V 1.6, section 3.52).
+//! Instructions and their words: reading and writing by the forms of the opcodes (SPIR-V 1.6 section 3, Instructions).
 #![tactic(auto)]
 
 mod decoding;

@@ -1,4 +1,5 @@
-//! The opcodes that are read, each with its form (SPIR-V 1.6, section 3.52). Nothing else lists opcodes.
+//! The opcodes that are read, each with its form (SPIR-V 1.6 section 3, Instructions): the table of `specs/Opcodes.antt`,
+//! which it is proved to be.
 ghost use Rattle.std.specs.Prelude.{◌≡◌, map};
 ghost use Rattle.std.specs.Option.{option_map};
 ghost use Rattle.spv_ops.specs.Forms.{row_with, row_of};

@@ -6,25 +6,28 @@ ghost use Rattle.spv_ops.specs.Rests.{has_one_literal, is_decorated_by, is_rest,
 use crate::forms::Rest;
 use spv_base::{NoMemory, Operand, Operands};
 
-// Decorations (SPIR-V 1.6, section 3.20).
-pub const SPEC_ID: u32 = 1;
+// Decorations (SPIR-V 1.6 section 3, Decoration).
+const SPEC_ID: u32 = 1;
 
-pub const BLOCK: u32 = 2;
+const BLOCK: u32 = 2;
 
-pub const ARRAY_STRIDE: u32 = 6;
+const ARRAY_STRIDE: u32 = 6;
 
-pub const BUILT_IN: u32 = 11;
+const BUILT_IN: u32 = 11;
 
-pub const BINDING: u32 = 33;
+const BINDING: u32 = 33;
 
-pub const DESCRIPTOR_SET: u32 = 34;
+const DESCRIPTOR_SET: u32 = 34;
 
-pub const OFFSET: u32 = 35;
+const OFFSET: u32 = 35;
 
-// Execution modes (SPIR-V 1.6, section 3.6).
-pub const LOCAL_SIZE: u32 = 17;
+// Execution modes (SPIR-V 1.6 section 3, Execution Mode).
+const LOCAL_SIZE: u32 = 17;
 
-pub const LOCAL_SIZE_ID: u32 = 38;
+const LOCAL_SIZE_ID: u32 = 38;
+
+// A loop control has the bits below this one; from 8 on each has a literal (SPIR-V 1.6 section 3, Loop Control).
+const LOOP_CONTROLS: u32 = 512;
 
 fn has_one_literal(decoration: u32) -> bool
     ensures { result ≡ has_one_literal decoration }
@@ -58,7 +61,7 @@ pub fn is_rest(rest: Rest, words: &[u32]) -> bool
         (Rest::Ids | Rest::Literals, _) => true,
         (Rest::IdPairs, _) => words.len() % 2 == 0,
         (Rest::LoopControl, [mask, literals @ ..]) => {
-            *mask < 512 && literals.len() == (*mask / 8).count_ones() as usize
+            *mask < LOOP_CONTROLS && literals.len() == (*mask / 8).count_ones() as usize
         }
         (Rest::Decoration, [decoration, literals @ ..]) => {
             is_decorated_by(*decoration, literals.len())

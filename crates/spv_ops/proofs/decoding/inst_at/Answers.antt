@@ -1,6 +1,6 @@
 use Rattle.std.proofs.Common.{sym, arith}
 use Rattle.spv_base.specs.declared.instructions.RawInst.{RawInst}
-use Rattle.spv_ops.specs.Forms.{Row}
+use Rattle.spv_ops.specs.Opcodes.{Row}
 use Rattle.spv_ops.proofs.InstLaws.{by_takes}
 use Rattle.spv_ops.proofs.decoding.inst_at.Goals as goal
 
