@@ -28,7 +28,7 @@ pub data BinaryRow : Type 0 where
   -- an integer of the first operand's width, from that width, that operand and a number of places; not defined from the width on
   shift : (ℕ → ℕ → ℕ → ℤ) → BinaryRow
 
--- THE TABLE
+-- the table: a row for each operation
 unfoldable pub binary_row : BinaryOp → BinaryRow
 binary_row IAdd = arithmetic (λ a b. pos a +ℤ pos b)
 binary_row ISub = arithmetic (λ a b. pos a -ℤ pos b)

@@ -1,4 +1,4 @@
--- Integers as bits: two's complement (SPIR-V 1.6, section "Universal Limits" on widths and the rules of the arithmetic instructions).
+-- Integers as bits in two's complement, as the instructions on integers read and give them (SPIR-V 1.6, section "Arithmetic Instructions").
 use Rattle.std.specs.Prelude.{ℕ, zero, suc, ◌+◌, ◌-◌, ◌*◌, ◌^◌, ◌<◌, ◌≤◌, nat_lt, if◌then◌else◌, ℤ, pos, negsuc, neg_ℤ, unsigned_abs}
 use Rattle.std.specs.Int.{int_rem_euclid}
 

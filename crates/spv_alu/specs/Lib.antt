@@ -3,3 +3,7 @@ pub mod Results
 pub mod Unary
 pub mod Binary
 pub mod Select
+pub mod Extended
+pub mod Fields
+pub mod Glsl
+pub mod Vectors

@@ -1,4 +1,5 @@
 -- What an operation gives on one lane: an integer, a Boolean, or nothing defined.
+-- Where the standard leaves a result or the behaviour undefined, the lane is marked as not defined, and execution goes on.
 use Rattle.std.specs.Prelude.{ℕ, Bool, if◌then◌else◌, ℤ}
 use Rattle.spv_base.specs.Lane.{Lane, defined_lane, undefined_lane}
 use Rattle.spv_alu.specs.Integers.{low_bits}

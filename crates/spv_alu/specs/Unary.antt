@@ -20,7 +20,7 @@ pub data UnaryRow : Type 0 where
   -- a Boolean from a Boolean
   logical : (Bool → Bool) → UnaryRow
 
--- THE TABLE
+-- the table: a row for each operation
 unfoldable pub unary_row : UnaryOp → UnaryRow
 unary_row UConvert = conversion (λ w n. pos n)
 unary_row SConvert = conversion signed

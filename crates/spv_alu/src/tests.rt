@@ -3,9 +3,12 @@ use crate::binary_op::BINARY_OPCODES;
 use crate::integers::is_width;
 use crate::results::{integer, truth, undefined};
 use crate::unary_op::UNARY_OPCODES;
-use crate::{BinaryOp, UnaryOp, binary, select, unary};
+use crate::{BinaryOp, UnaryOp, any_all, binary, bitcast, extended, field, glsl, select, unary};
 use spv_base::Cell;
 
+mod extended_integers;
+mod field_integers;
+mod glsl_integers;
 mod unary_integers;
 mod width_16;
 mod width_32;
@@ -229,4 +232,112 @@ fn selects_objects(rt: HostRuntime) {
         assert!(rt; !select(condition, a, undefined(16)).defined);
     }
     assert_eq!(rt; select(undefined(1), a, b), undefined(16));
+}
+
+#[test]
+fn operations_that_give_two_integers(rt: HostRuntime) {
+    for (op, width, x, y, low, high) in &extended_integers::RESULTS {
+        if is_width(*width) {
+            let (a, b) = (integer(*x, *width), integer(*y, *width));
+            let (got_low, got_high) = op.apply(a, b);
+            assert_eq!(rt; got_low, integer(*low, *width), "{op:?} {x} {y}");
+            assert_eq!(rt; got_high, integer(*high, *width), "{op:?} {x} {y}");
+            for (a, b) in [(a, undefined(*width)), (undefined(*width), b)] {
+                let (low, high) = op.apply(a, b);
+                assert!(rt; !low.defined && !high.defined, "{op:?}");
+            }
+        }
+    }
+    let (low, high) = extended(149, integer(0xFFFF_FFFF, 32), integer(1, 32));
+    assert_eq!(rt; (low.bits, high.bits), (0, 1));
+    let (low, high) = extended(150, integer(0, 32), integer(1, 32));
+    assert_eq!(rt; (low.bits, high.bits), (0xFFFF_FFFF, 1));
+    let (low, high) = extended(151, integer(0xFFFF_FFFF, 32), integer(0xFFFF_FFFF, 32));
+    assert_eq!(rt; (low.bits, high.bits), (1, 0xFFFF_FFFE));
+    let (low, high) = extended(152, integer(0xFFFF_FFFF, 32), integer(2, 32));
+    assert_eq!(rt; (low.bits, high.bits), (0xFFFF_FFFE, 0xFFFF_FFFF));
+}
+
+#[test]
+fn extended_instructions(rt: HostRuntime) {
+    for (op, width, x, y, z, want) in &glsl_integers::RESULTS {
+        if is_width(*width) {
+            let (a, b, c) = (
+                integer(*x, *width),
+                integer(*y, *width),
+                integer(*z, *width),
+            );
+            let got = op.apply(a, b, c);
+            assert_eq!(rt;
+                bits_of(got),
+                u64::try_from(*want).ok(),
+                "{op:?} {width} {x} {y} {z}"
+            );
+            assert!(rt; !op.apply(undefined(*width), b, c).defined, "{op:?}");
+        }
+    }
+    let (one, none) = (integer(1, 32), undefined(32));
+    for number in [5, 7, 73, 74, 75] {
+        assert!(rt; glsl(number, one, none, none).defined, "{number}");
+    }
+    for number in [38, 39, 41, 42] {
+        assert!(rt; glsl(number, one, one, none).defined, "{number}");
+        assert!(rt; !glsl(number, one, none, one).defined, "{number}");
+    }
+    for number in [44, 45] {
+        assert!(rt; glsl(number, one, one, one).defined, "{number}");
+        assert!(rt; !glsl(number, one, one, none).defined, "{number}");
+    }
+    assert_eq!(rt;
+        glsl(74, integer(0xFFFF_FFFF, 32), one, one).bits,
+        0xFFFF_FFFF
+    );
+}
+
+#[test]
+fn operations_on_fields(rt: HostRuntime) {
+    for (op, width, x, y, offset, count, want) in &field_integers::RESULTS {
+        if is_width(*width) {
+            let (base, insert) = (integer(*x, *width), integer(*y, *width));
+            let got = op.apply(base, insert, integer(*offset, 16), integer(*count, 8));
+            assert_eq!(rt;
+                bits_of(got),
+                u64::try_from(*want).ok(),
+                "{op:?} {width} {x} {y} {offset} {count}"
+            );
+        }
+    }
+    let (one, none) = (integer(1, 32), undefined(32));
+    assert!(rt; !field(201, one, none, one, one).defined);
+    for opcode in [202, 203] {
+        assert!(rt; field(opcode, one, none, one, one).defined, "{opcode}");
+    }
+    for opcode in [201, 202, 203] {
+        assert!(rt; !field(opcode, none, one, one, one).defined, "{opcode}");
+        assert!(rt; !field(opcode, one, one, none, one).defined, "{opcode}");
+        assert!(rt; !field(opcode, one, one, one, none).defined, "{opcode}");
+    }
+}
+
+#[test]
+fn operations_on_vectors(rt: HostRuntime) {
+    let (yes, no, none) = (truth(true), truth(false), undefined(1));
+    assert_eq!(rt; any_all(154, &[no, yes]), yes);
+    assert_eq!(rt; any_all(154, &[no, no, no]), no);
+    assert_eq!(rt; any_all(155, &[yes, yes, yes, yes]), yes);
+    assert_eq!(rt; any_all(155, &[yes, no]), no);
+    assert_eq!(rt; any_all(154, &[yes, none]), none);
+    assert_eq!(rt; any_all(155, &[none, no]), none);
+
+    let wide = [integer(0x0000_0001_0000_0002, 64)];
+    assert_eq!(rt; bitcast(&wide, 32, 0), integer(2, 32));
+    assert_eq!(rt; bitcast(&wide, 32, 1), integer(1, 32));
+    let narrow = [integer(0x3412, 16), integer(0x7856, 16)];
+    assert_eq!(rt; bitcast(&narrow, 32, 0), integer(0x7856_3412, 32));
+    assert_eq!(rt; bitcast(&narrow, 16, 1), integer(0x7856, 16));
+    assert_eq!(rt; bitcast(&narrow, 8, 1), integer(0x34, 8));
+    let half = [integer(0x3412, 16), undefined(16)];
+    assert_eq!(rt; bitcast(&half, 32, 0), undefined(32));
+    assert_eq!(rt; bitcast(&half, 8, 1), integer(0x34, 8));
+    assert_eq!(rt; bitcast(&half, 8, 2), undefined(8));
 }

@@ -8,5 +8,5 @@ pub returns-then-places-width : goal.returns-then-places-width
 returns-then-places-width c =
     let fits : FitsSigned w64 c.signed.result = record { sfits = c.signed.type_inv } in
     c.signed_integer.ensures
-    ∙ (ap (λ z. integer c.args.width z) (shifted_signed c.signed.result _ (2 ^ c.args.places) fits c.signed.ensures)
+    ∙ (ap (λ z. integer c.args.width z) (shifted_signed w64 c.signed.result _ (2 ^ c.args.places) fits c.signed.ensures)
     ∙ sym (defined_if_true _ _ (lt-ltb _ _ c.if-places-width.true)))
