@@ -1,0 +1,37 @@
+-- A view: a program, its settings, and a position of the run. All else follows from these.
+use Rattle.std.specs.Prelude.{ℕ, ◌==◌, min, if◌then◌else◌, List, Option, None}
+use Rattle.spv_base.specs.State.{State}
+use Rattle.spv_base.specs.declared.happenings.EndCause.{EndCause}
+use Rattle.spv_machine.specs.Program.{Program}
+use Rattle.spv_session.specs.Settings.{Settings}
+use Rattle.spv_session.specs.Run.{entries_of, run, cause_at, end_of}
+
+pub record View : Type 0 where
+  pub program : Program
+  pub settings : Settings
+  pub position : ℕ
+
+abbrev pub first_view : Program → Settings → View
+first_view p settings = record { program = p; settings = settings; position = 0 }
+
+-- the same run at another position
+abbrev pub view_at : ℕ → View → View
+view_at n v = record v { position = n }
+
+abbrev pub entries_in : View → List ℕ
+entries_in v = entries_of v.program v.settings
+
+-- the state at the view's position, by running from the start
+abbrev pub state_in : View → State
+state_in v = run v.program (entries_in v) v.position
+
+abbrev pub end_in : View → ℕ
+end_in v = end_of v.program (entries_in v)
+
+-- why the run ends here; none where it goes on
+abbrev pub end_cause_in : View → Option EndCause
+end_cause_in v = if v.position == end_in v then cause_at v.program (entries_in v) v.position else None
+
+-- the position that a number names: the end where it is past it
+abbrev pub goto_target : View → ℕ → ℕ
+goto_target v n = min n (end_in v)

@@ -1,0 +1,145 @@
+//! A run of a module that goes forth and back along its schedule.
+ghost use Rattle.std.specs.Prelude.{◌≡◌, ◌≤◌, ◌<◌, ◌+◌, IfOk, OnOk, OnErr, IfErr, length, slice_get, Some, ℕ};
+ghost use Rattle.spv_machine.specs.Sound.{IsSound};
+ghost use Rattle.spv_base.specs.declared.causes.Fail.TheVariants as fail;
+ghost use Rattle.spv_session.specs.Motion.{Goes, Returns};
+ghost use Rattle.spv_session.specs.View.{first_view, view_at, entries_in, state_in, end_in, end_cause_in, goto_target};
+
+use crate::ends::cause_here;
+use crate::motion::{Back, Forth};
+use crate::run::Run;
+use crate::setup::Setup;
+use spv_base::{EndCause, Fail, NoMemory, SetupRefusal, Status4, Steps};
+use spv_machine::{Module, World};
+use std::alloc::Global;
+use std::marker::Model;
+use std::sync::ledger::Ledger;
+
+/// A module, its setup, and a position of the run that they give.
+#[derive(Drop)]
+pub struct Group {
+    alloc: Global,
+    module: Module,
+    setup: Setup,
+    run: Run,
+}
+
+impl Model for Group {
+    ghost use Rattle.spv_session.specs.View.{View};
+    ghost use Rattle.spv_session.specs.Motion.{IsRun};
+
+    ghost Value = { View };
+
+    ghost view = { λ g. record { program = g.module; settings = g.setup; position = g.run.position } };
+
+    ghost invariant = { λ g. IsRun g.module g.setup g.run.world g.run.position g.run.last };
+}
+
+impl Group {
+    /// The run of a module by a setup, at its start. Only memory can be wanting.
+    pub fn open(alloc: Global, m: Module, setup: Setup) -> Result<Group, Fail<SetupRefusal>>
+        ensures group { IfOk result (λ g. g ≡ first_view m setup) }
+        ensures error { IfErr result (λ e. e ≡ fail.NoMemory) }
+    {
+        let run = Run::start(alloc, &m, &setup)?;
+        Ok(Group {
+            alloc,
+            module: m,
+            setup,
+            run,
+        })
+    }
+
+    /// The number of events that were made.
+    pub fn position(&self) -> u64
+        ensures position { result ≡ self.now.position }
+        ensures within { result ≤ end_in self.now }
+    {
+        self.run.position
+    }
+
+    /// The least position from which on a motion back takes no step: the present one.
+    pub fn kept(&self) -> u64
+        ensures { result ≡ self.now.position }
+    {
+        self.run.position
+    }
+
+    pub fn module(&self) -> &Module
+        ensures { result.now ≡ self.now.program }
+    {
+        &self.module
+    }
+
+    /// The state at the position.
+    pub fn world(&self) -> &World
+        ensures state { result.now ≡ state_in self.now }
+        ensures sound { IsSound self.now.program result.now }
+        ensures first { 0 < length result.now.stacks }
+    {
+        &self.run.world
+    }
+
+    /// How many invocations there are.
+    pub fn invocations(&self) -> u32
+        ensures { result ≡ length (state_in self.now).statuses }
+    {
+        self.run.world.invocations()
+    }
+
+    /// How far an invocation is.
+    pub fn status(&self, i: u32) -> Status4
+        requires { i < length (state_in self.now).statuses }
+        ensures { slice_get (state_in self.now).statuses i ≡ Some result }
+    {
+        self.run.world.status(i)
+    }
+
+    /// Why the run ends here; none exactly where it goes on. It takes no step.
+    pub fn end_cause(&self) -> Result<Option<EndCause>, NoMemory>
+        ensures { IfOk result (λ cause. cause ≡ end_cause_in self.now) }
+    {
+        let next = self
+            .setup
+            .entry(self.run.world.invocations(), self.run.position);
+        cause_here(self.alloc, &self.module, &self.run.world, next)
+    }
+
+    /// Makes the next event, with one step at most. After want of memory all is as before.
+    pub fn forth<L: Ledger>(&mut self, steps: &mut Steps<L>) -> Result<Forth, NoMemory>
+        ensures goes { Goes self.old.program (entries_in self.old) result self.old.position self.new.position }
+        ensures kept { self.new ≡ view_at self.new.position self.old }
+        ensures cost { steps.new ≤ steps.old + 1 }
+    {
+        self.run.forth(self.alloc, &self.module, &self.setup, steps)
+    }
+
+    /// Takes the last event back, by running again from the start. After want of memory all is as before.
+    pub fn back<L: Ledger>(&mut self, steps: &mut Steps<L>) -> Result<Back, NoMemory>
+        ensures goes { Returns self.old.program (entries_in self.old) result self.old.position self.new.position }
+        ensures kept { self.new ≡ view_at self.new.position self.old }
+    {
+        let Some(happening) = self.run.last else {
+            return Ok(Back::AtStart);
+        };
+        let target = self.run.position - 1;
+        let mut run = Run::start(self.alloc, &self.module, &self.setup)?;
+        run.run_to(self.alloc, &self.module, &self.setup, target, steps)?;
+        self.run = run;
+        Ok(Back::Went(happening))
+    }
+
+    /// Goes to a position, or to the end where that comes first. One before the present is reached by running again from the
+    /// start. After want of memory the group is at some position.
+    pub fn goto<L: Ledger>(&mut self, target: u64, steps: &mut Steps<L>) -> Result<(), NoMemory>
+        ensures target { OnOk result (self.new.position ≡ goto_target self.old target) }
+        ensures kept { self.new ≡ view_at self.new.position self.old }
+        ensures within { self.new.position ≤ end_in self.old }
+    {
+        if target < self.run.position {
+            self.run = Run::start(self.alloc, &self.module, &self.setup)?;
+        }
+        self.run
+            .run_to(self.alloc, &self.module, &self.setup, target, steps)
+    }
+}

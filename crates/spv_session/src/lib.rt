@@ -1,0 +1,19 @@
+//! A run of a module, where it stands, and the replies to lines of input.
+#![tactic(auto)]
+
+mod ends;
+mod group;
+mod line;
+mod motion;
+mod numbers;
+mod run;
+mod session;
+mod setup;
+#[cfg(test)]
+mod tests;
+mod texts;
+
+pub use group::Group;
+pub use motion::{Back, Forth};
+pub use session::{Next, Session};
+pub use setup::Setup;

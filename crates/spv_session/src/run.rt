@@ -1,0 +1,128 @@
+//! A run at a position, always by running on from the start.
+ghost use Rattle.std.specs.Prelude.{◌≡◌, ◌≤◌, ◌+◌, ◌<◌, length, IfOk, OnOk, OnErr, max, min};
+ghost use Rattle.spv_machine.specs.Sound.{IsSound};
+ghost use Rattle.spv_session.specs.Motion.{IsRun, Makes, Goes};
+ghost use Rattle.spv_session.specs.Run.{entries_of, end_of, idle_event};
+
+use crate::ends::{all_finished, is_stuck};
+use crate::motion::Forth;
+use crate::setup::Setup;
+use spv_base::{EndCause, Happening, Kind, NoMemory, Steps};
+use spv_machine::execution::step_sound;
+use spv_machine::{Did, Module, StepErr, World, step};
+use std::alloc::Global;
+use std::sync::ledger::Ledger;
+
+/// The state at a position, and the event before it.
+#[derive(Drop)]
+pub struct Run {
+    pub world: World,
+    pub position: u64,
+    pub last: Option<Happening>,
+}
+
+/// An event of an invocation that waits or is finished.
+fn idle(inv: u32) -> Happening
+    ensures { result ≡ idle_event inv }
+{
+    Happening {
+        inv,
+        kind: Kind::Idle,
+        word: 0,
+        root: 0,
+        line: 0,
+    }
+}
+
+/// Makes the event of an invocation, with one step.
+#[tactic(auto, using(crate::proofs::Runs::idled, crate::proofs::Runs::moved))]
+fn event<L: Ledger>(
+    alloc: Global,
+    m: &Module,
+    world: &mut World,
+    inv: u32,
+    steps: &mut Steps<L>,
+) -> Result<Happening, StepErr>
+    requires inv { inv < length world.old.statuses }
+    requires sound { IsSound m.now world.old }
+    ensures makes { Makes m.now world.old inv result world.new }
+    ensures sound { IsSound m.now world.new }
+    ensures count { steps.new ≡ steps.old + 1 }
+{
+    // A step keeps the number of invocations.
+    step_sound(m);
+    match step(alloc, m, world, inv, steps) {
+        Ok(Did::Moved(happening)) => Ok(happening),
+        Ok(Did::Idle) => Ok(idle(inv)),
+        Err(error) => Err(error),
+    }
+}
+
+impl Run {
+    /// The start of a run.
+    pub fn start(alloc: Global, m: &Module, setup: &Setup) -> Result<Run, NoMemory>
+        ensures run { IfOk result (λ r. IsRun m.now setup.now r.world r.position r.last) }
+        ensures position { IfOk result (λ r. r.position ≡ 0) }
+    {
+        let _rounds = setup.rounds();
+        Ok(Run {
+            world: World::start(alloc, m)?,
+            position: 0,
+            last: None,
+        })
+    }
+
+    /// Makes the next event. It takes one step at most.
+    pub fn forth<L: Ledger>(
+        &mut self,
+        alloc: Global,
+        m: &Module,
+        setup: &Setup,
+        steps: &mut Steps<L>,
+    ) -> Result<Forth, NoMemory>
+        requires { IsRun m.now setup.now self.old.world self.old.position self.old.last }
+        ensures run { IsRun m.now setup.now self.new.world self.new.position self.new.last }
+        ensures goes { Goes m.now (entries_of m.now setup.now) result self.old.position self.new.position }
+        ensures cost { steps.new ≤ steps.old + 1 }
+    {
+        if all_finished(&self.world) {
+            return Ok(Forth::AtEnd(EndCause::Finished));
+        }
+        if is_stuck(&self.world) {
+            return Ok(Forth::AtEnd(EndCause::Stuck));
+        }
+        let Some(inv) = setup.entry(self.world.invocations(), self.position) else {
+            return Ok(Forth::AtEnd(EndCause::Schedule));
+        };
+        match event(alloc, m, &mut self.world, inv, steps) {
+            Ok(happening) => {
+                self.position += 1;
+                self.last = Some(happening);
+                Ok(Forth::Went(happening))
+            }
+            Err(StepErr::Fault(fault)) => Ok(Forth::AtEnd(EndCause::Fault(fault))),
+            Err(StepErr::NoMemory) => Err(NoMemory),
+        }
+    }
+
+    /// Runs on to a position, or to the end where that comes first.
+    pub fn run_to<L: Ledger>(
+        &mut self,
+        alloc: Global,
+        m: &Module,
+        setup: &Setup,
+        target: u64,
+        steps: &mut Steps<L>,
+    ) -> Result<(), NoMemory>
+        requires { IsRun m.now setup.now self.old.world self.old.position self.old.last }
+        ensures run { IsRun m.now setup.now self.new.world self.new.position self.new.last }
+        ensures position { OnOk result (self.new.position ≡ max self.old.position (min target (end_of m.now (entries_of m.now setup.now)))) }
+    {
+        'up: while self.position < target {
+            if let Forth::AtEnd(_) = self.forth(alloc, m, setup, steps)? {
+                return Ok(());
+            }
+        }
+        Ok(())
+    }
+}
