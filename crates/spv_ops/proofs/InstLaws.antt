@@ -1,11 +1,12 @@
 -- An instruction that is read has the words that it is read from, and the words of an instruction are read again.
-use Rattle.std.proofs.Common.{◌≡◌, ℕ, zero, suc, ◌^◌, ◌<◌, ◌≤◌, List, [], ◌∷◌, ◌++◌, length, Option, Some, None, Result, Ok, Err, refl, sym, ap, subst, ◌∙◌, arith, inl, inr}
+use Rattle.std.proofs.Common.{map, ◌≡◌, ℕ, zero, suc, ◌^◌, ◌<◌, ◌≤◌, List, [], ◌∷◌, ◌++◌, length, Option, Some, None, Result, Ok, Err, refl, sym, ap, subst, ◌∙◌, arith, inl, inr}
 use Rattle.std.specs.Prelude.{◌⊎◌, IsSome, IfOk, IfErr}
 use Rattle.std.specs.List.{AllByRecursion}
 use Rattle.std.proofs.lemmas.Bool.{cases_lt, lt-ltb, le-ltb}
 use Rattle.spv_base.specs.Answers.{Answers}
 use Rattle.spv_base.specs.declared.causes.Fail.{Fail}
 use Rattle.spv_base.specs.declared.causes.Fail.TheVariants.{Refused, NoMemory}
+use Rattle.spv_base.specs.declared.causes.NoMemory.{NoMemory as NoRoom}
 use Rattle.spv_base.specs.declared.causes.Refusal.{Refusal}
 use Rattle.spv_base.specs.declared.instructions.Inst.{Inst}
 use Rattle.spv_base.specs.declared.instructions.Operand.{Operand}
@@ -17,7 +18,7 @@ use Rattle.spv_ops.specs.declared.reading.WrongForm.{WrongForm}
 use Rattle.spv_ops.specs.Opcodes.{Row}
 use Rattle.spv_ops.specs.Forms.{row_of}
 use Rattle.spv_ops.specs.Steps.{◌>>=◌}
-use Rattle.spv_ops.specs.Reading.{head_at, operands_of, inst_by, inst_in, inst_of, or_wrong_form, unknown_opcode, wrong_form}
+use Rattle.spv_ops.specs.Reading.{head_at, operands_of, inst_by, inst_in, inst_of, insts_of, or_wrong_form, unknown_opcode, wrong_form}
 use Rattle.spv_ops.specs.Encoding.{words_of_head, words_of_operands, words_after_first, raw_of, words_of_raw, HasHead, HasNoZero, HasBytes, IsInst, IsRefused}
 use Rattle.spv_ops.proofs.StringLaws.{AreWords, IsText}
 use Rattle.spv_ops.proofs.OperandLaws.{AreSound, bind_ok, operands_take, operands_again}
@@ -221,3 +222,39 @@ pub words_from : (words : List ℕ) → AllByRecursion (λ w. w < 2 ^ 32) words 
 words_from [] h i = omega arith
 words_from (w ∷ words) h zero = h.0
 words_from (w ∷ words) h (suc i) = words_from words h.1 i
+
+-- ---- lists
+
+abbrev list_ok : List Inst → Result (List Inst) Refusal
+list_ok insts = Ok insts
+
+list_is : (x y : List Inst) → list_ok x ≡ list_ok y → x ≡ y
+list_is x y e = cc
+
+abbrev AreTheInsts : List RawInst → List Inst → Type 0
+AreTheInsts raws insts = AllByRecursion IsInst insts × (map raw_of insts ≡ raws)
+
+pub insts_take : (raws : List RawInst) (insts : List Inst) → AllByRecursion (λ r. AllByRecursion (λ w. w < 2 ^ 32) r.rest) raws → insts_of raws ≡ Ok insts → AreTheInsts raws insts
+unfolding insts_of
+insts_take [] insts fits e = subst (AreTheInsts []) (list_is [] insts e) (tt, refl)
+insts_take (raw ∷ raws) insts fits e =
+    let a = bind_ok (inst_of raw) (λ inst. insts_of raws >>= λ more. Ok (inst ∷ more)) insts e in
+    let b = bind_ok (insts_of raws) (λ more. Ok (a.0 ∷ more)) insts a.2 in
+    let first = inst_takes raw a.0 (words_from raw.rest fits.0) a.1 in
+    let more = insts_take raws b.0 fits.1 b.1 in
+    subst (AreTheInsts (raw ∷ raws)) (list_is (a.0 ∷ b.0) insts b.2) ((first.is_inst, more.0), ap2 first.encodes more.1)
+  where
+    ap2 : {x y : RawInst} {xs ys : List RawInst} → x ≡ y → xs ≡ ys → (x ∷ xs) ≡ (y ∷ ys)
+    ap2 {x} {y} {xs} {ys} e f = ap (λ (r : RawInst). r ∷ xs) e ∙ ap (λ (rs : List RawInst). y ∷ rs) f
+
+pub insts_again : (insts : List Inst) → AllByRecursion IsInst insts → AllByRecursion (λ i. AllByRecursion HasBytes i.operands) insts → insts_of (map raw_of insts) ≡ Ok insts
+unfolding insts_of
+insts_again [] are bytes = refl
+insts_again (inst ∷ insts) are bytes = rw (inst_again inst are.0 bytes.0, insts_again insts are.1 bytes.1) refl
+
+-- ---- what was written
+
+-- what was written is read again
+pub again : (inst : Inst) (result : Result RawInst NoRoom) → IsInst inst → IfOk result (λ r. (r ≡ raw_of inst) × AllByRecursion HasBytes inst.operands) → IfOk result (λ r. inst_of r ≡ Ok inst)
+again inst (Ok raw) is given = ap inst_of given.0 ∙ inst_again inst is given.1
+again inst (Err e) is given = tt

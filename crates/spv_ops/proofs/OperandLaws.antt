@@ -229,6 +229,11 @@ of_part : (part : Part) (parts : List Part) (r : Rest) (words : List ℕ) → en
 unfolding operands_of
 of_part part parts r words goes = rw goes refl
 
+spelled_both : (words rest : List ℕ) (first more : List Operand) → words ≡ words_of_operands first ++ rest → rest ≡ words_of_operands more
+    → words ≡ words_of_operands (first ++ more)
+spelled_both words rest first more one two =
+    one ∙ ap (λ (ws : List ℕ). words_of_operands first ++ ws) two ∙ sym (words_of_operands-append first more)
+
 pub operands_take : (parts : List Part) (r : Rest) (words : List ℕ) (operands : List Operand) → AreWords words → operands_of parts r words ≡ Ok operands → TakesAll parts r words operands
 unfolding operands_of
 operands_take [] r words operands fits e =
@@ -248,7 +253,7 @@ operands_take (part ∷ parts) r words operands fits e =
           subst (TakesAll (part ∷ parts) r words) m.2
           (record {
             has_form = inr (b.0.0, m.0, first.is, more.has_form, refl);
-            spelled = first.parts ∙ ap (λ (ws : List ℕ). words_of_operands b.0.0 ++ ws) more.spelled ∙ sym (words_of_operands-append b.0.0 m.0);
+            spelled = spelled_both words b.0.1 b.0.0 m.0 first.parts more.spelled;
             sound = sound_both b.0.0 m.0 first.sound more.sound;
           })
     ]

@@ -1,5 +1,5 @@
 //! The instruction that an opcode and words are.
-ghost use Rattle.std.specs.Prelude.{◌≡◌, ◌<◌, ◌^◌, Ok, IfOk, IfErr};
+ghost use Rattle.std.specs.Prelude.{◌≡◌, ◌<◌, ◌^◌, List, map, Ok, IfOk, IfErr};
 ghost use Rattle.std.specs.List.{AllByRecursion};
 ghost use Rattle.spv_base.specs.Answers.{Answers};
 ghost use Rattle.spv_ops.specs.Encoding.{HasBytes, IsInst, IsRefused, raw_of};
@@ -86,6 +86,14 @@ pub fn one_reading()
     ensures reads { (i : Inst) → IsInst i → AllByRecursion HasBytes i.operands → inst_of (raw_of i) ≡ Ok i }
     ensures read { (r : RawInst) (i : Inst) → AllByRecursion (λ w. w < 2 ^ 32) r.rest → inst_of r ≡ Ok i
         → IsInst i × AllByRecursion HasBytes i.operands × (raw_of i ≡ r) }
+{}
+
+/// A list of instructions is read from the list of their words, and only from that.
+pub fn one_list_reading()
+    ensures reads { (is : List Inst) → AllByRecursion IsInst is → AllByRecursion (λ i. AllByRecursion HasBytes i.operands) is
+        → insts_of (map raw_of is) ≡ Ok is }
+    ensures read { (rs : List RawInst) (is : List Inst) → AllByRecursion (λ r. AllByRecursion (λ w. w < 2 ^ 32) r.rest) rs → insts_of rs ≡ Ok is
+        → AllByRecursion IsInst is × (map raw_of is ≡ rs) }
 {}
 
 /// All instructions, or the refusal of the first that has one.

@@ -1,14 +1,16 @@
 //! The words of an instruction.
-ghost use Rattle.std.specs.Prelude.{◌≡◌, [], ◌∷◌, ◌++◌, ◌<◌, length, Ok, IfOk, OnOk};
+ghost use Rattle.std.specs.Prelude.{◌≡◌, [], ◌∷◌, ◌++◌, ◌<◌, length, Ok, IfOk, OnOk, IfSome, IfNone};
 ghost use Rattle.std.specs.List.{AllByRecursion};
 ghost use Rattle.spv_ops.specs.Strings.{words_of_text};
 ghost use Rattle.spv_ops.specs.Reading.{inst_of};
 ghost use Rattle.spv_ops.specs.Forms.{row_of};
 ghost use Rattle.spv_ops.specs.Encoding.{head_of, words_of_head, words_of_operand, words_of_operands, HasBytes, IsInst, raw_of};
 
+use crate::comparing::is_same_inst;
+use crate::decoding::decode;
 use crate::forms::Head;
 use crate::opcodes::opcode_of;
-use spv_base::{Inst, NoMemory, Operand, RawInst, Words};
+use spv_base::{Fail, Inst, NoMemory, Operand, RawInst, Words};
 use std::alloc::Global;
 
 /// The word that ends a string, with the bytes that no other word has.
@@ -79,11 +81,9 @@ fn head_of(op: u16) -> Head
     }
 }
 
-/// The words of an instruction, which are read as that instruction again.
-pub fn encode(alloc: Global, i: &Inst) -> Result<RawInst, NoMemory>
-    requires { IsInst i.now }
-    ensures raw { IfOk result (λ r. r ≡ raw_of i.now) }
-    ensures again { IfOk result (λ r. inst_of r ≡ Ok i.now) }
+/// The words that the opcode's form gives, whether the operands have the form or not.
+fn raw_of(alloc: Global, i: &Inst) -> Result<RawInst, NoMemory>
+    ensures { IfOk result (λ r. (r ≡ raw_of i.now) × AllByRecursion HasBytes i.now.operands) }
 {
     let mut rest = Words::new(alloc);
     push_head(&mut rest, head_of(i.op), i.ty, i.id)?;
@@ -93,4 +93,31 @@ pub fn encode(alloc: Global, i: &Inst) -> Result<RawInst, NoMemory>
         op: i.op,
         rest,
     })
+}
+
+/// The words of an instruction, which are read as that instruction again.
+pub fn encode(alloc: Global, i: &Inst) -> Result<RawInst, NoMemory>
+    requires { IsInst i.now }
+    ensures raw { IfOk result (λ r. r ≡ raw_of i.now) }
+    ensures again { IfOk result (λ r. inst_of r ≡ Ok i.now) }
+{
+    raw_of(alloc, i)
+}
+
+/// The words of an instruction, or none where the opcode is not in the table, the operands have not its form, a text
+/// has a zero byte, or there are more than 65,535 words.
+pub fn try_encode(alloc: Global, i: &Inst) -> Result<Option<RawInst>, NoMemory>
+    ensures some { IfOk result (λ found. IfSome found (λ r. IsInst i.now × (r ≡ raw_of i.now))) }
+    ensures none { IfOk result (λ found. IfNone found (IsInst i.now → ⊥)) }
+{
+    let raw = raw_of(alloc, i)?;
+    let read = match decode(alloc, &raw) {
+        Ok(read) => read,
+        Err(Fail::Refused(_)) => return Ok(None),
+        Err(Fail::NoMemory) => return Err(NoMemory),
+    };
+    if !is_same_inst(&read, i) {
+        return Ok(None);
+    }
+    Ok(Some(raw))
 }

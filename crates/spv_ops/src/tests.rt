@@ -2,8 +2,8 @@
 mod opcodes;
 mod shader;
 
-use crate::{decode, decode_all, encode};
-use spv_base::{Fail, Inst, NoMemory, Operand, RawInst, Refusal, Words};
+use crate::{decode, decode_all, encode, try_encode};
+use spv_base::{Fail, Inst, NoMemory, Operand, Operands, RawInst, Refusal, Text, Words};
 use std::alloc::{AllocError, Global};
 use std::test::Fail as TestFail;
 
@@ -215,5 +215,47 @@ fn refuses_the_first_of_a_list(rt: HostRuntime) -> Result<(), TestFail> {
     assert_eq!(rt; decode_all(alloc, &good)?.len(), 2);
     let due = Refusal { code: 7, word: 6 };
     assert!(rt; matches!(decode_all(alloc, &bad), Err(Fail::Refused(refusal)) if refusal == due));
+    Ok(())
+}
+
+/// The words after the first that an instruction has, or none.
+fn words_of(
+    alloc: Global,
+    op: u16,
+    ty: u32,
+    id: u32,
+    operands: Vec<Operand>,
+) -> Result<Option<RawInst>, NoMemory> {
+    let inst = Inst {
+        word: 5,
+        op,
+        ty,
+        id,
+        operands: Operands::from_vec(operands),
+    };
+    try_encode(alloc, &inst)
+}
+
+#[test]
+fn writes_what_has_the_form(rt: HostRuntime) -> Result<(), TestFail> {
+    let alloc = rt.alloc();
+    let text = |bytes: &[u8]| -> Result<Operand, NoMemory> {
+        Ok(Operand::Text(Text::from_slice(alloc, bytes)?))
+    };
+    let entry = vec![in alloc; Operand::Lit(5), Operand::Id(7), text(b"main")?]?;
+    let due = raw_inst(alloc, 15, &[5, 7, 0x6e69616d, 0])?;
+    assert!(rt; words_of(alloc, 15, 0, 0, entry)? == Some(due));
+    let sum = vec![in alloc; Operand::Id(10), Operand::Id(6)]?;
+    let due = raw_inst(alloc, 128, &[3, 11, 10, 6])?;
+    assert!(rt; words_of(alloc, 128, 3, 11, sum)? == Some(due));
+    // An operand too few, a literal for an id, a result of an instruction that has none, a zero byte, another opcode.
+    let few = vec![in alloc; Operand::Id(10)]?;
+    assert!(rt; words_of(alloc, 128, 3, 11, few)?.is_none());
+    let literal = vec![in alloc; Operand::Id(10), Operand::Lit(6)]?;
+    assert!(rt; words_of(alloc, 128, 3, 11, literal)?.is_none());
+    assert!(rt; words_of(alloc, 253, 0, 8, Vec::new(alloc))?.is_none());
+    let zero = vec![in alloc; Operand::Id(7), text(b"a\0")?]?;
+    assert!(rt; words_of(alloc, 5, 0, 0, zero)?.is_none());
+    assert!(rt; words_of(alloc, 9, 0, 0, Vec::new(alloc))?.is_none());
     Ok(())
 }
