@@ -234,6 +234,9 @@ spelled_both : (words rest : List ℕ) (first more : List Operand) → words ≡
 spelled_both words rest first more one two =
     one ∙ ap (λ (ws : List ℕ). words_of_operands first ++ ws) two ∙ sym (words_of_operands-append first more)
 
+with_part : (part : Part) (parts : List Part) (r : Rest) (first more : List Operand) → IsPart part first → HasForm parts r more → HasForm (part ∷ parts) r (first ++ more)
+with_part part parts r first more is has = inr (first, more, is, has, refl)
+
 pub operands_take : (parts : List Part) (r : Rest) (words : List ℕ) (operands : List Operand) → AreWords words → operands_of parts r words ≡ Ok operands → TakesAll parts r words operands
 unfolding operands_of
 operands_take [] r words operands fits e =
@@ -252,7 +255,7 @@ operands_take (part ∷ parts) r words operands fits e =
           let more = operands_take parts r b.0.1 m.0 first.more_fit m.1 in
           subst (TakesAll (part ∷ parts) r words) m.2
           (record {
-            has_form = inr (b.0.0, m.0, first.is, more.has_form, refl);
+            has_form = with_part part parts r b.0.0 m.0 first.is more.has_form;
             spelled = spelled_both words b.0.1 b.0.0 m.0 first.parts more.spelled;
             sound = sound_both b.0.0 m.0 first.sound more.sound;
           })

@@ -45,7 +45,7 @@ head_of (Some row) = row.2
 abbrev pub words_after_first : Option Row → Inst → List ℕ
 words_after_first row inst = words_of_head (head_of row) inst.ty inst.id ++ words_of_operands inst.operands
 
--- the words of an instruction after the first, with its opcode and its place
+-- its words after the first, with its opcode and its place
 unfoldable pub raw_of : Inst → RawInst
 raw_of inst = record { word = inst.word; op = inst.op; rest = words_after_first (row_of inst.op) inst }
 
@@ -53,6 +53,7 @@ raw_of inst = record { word = inst.word; op = inst.op; rest = words_after_first 
 abbrev pub words_of_raw : RawInst → List ℕ
 words_of_raw raw = ((length raw.rest + 1) * 65536 + raw.op) ∷ raw.rest
 
+-- the words of an instruction
 abbrev pub encoding : Inst → List ℕ
 encoding inst = words_of_raw (raw_of inst)
 
@@ -107,7 +108,7 @@ pub record IsInst (inst : Inst) : Type 0 where
   pub head : HasHead row.2 inst.ty inst.id
   pub operands : HasForm row.3 row.4 inst.operands
   pub texts : AllByRecursion HasNoZero inst.operands
-  pub count : length (words_of_raw (raw_of inst)) ≤ 65535
+  pub count : length (encoding inst) ≤ 65535
 
 -- no instruction has these words
 abbrev pub IsNoInst : RawInst → Type 0
