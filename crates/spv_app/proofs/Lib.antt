@@ -1,0 +1,6 @@
+pub mod Transcripts
+pub mod Pieces
+pub mod Cuts
+pub mod Runs
+pub mod Headlines
+pub mod Splits

@@ -1,0 +1,233 @@
+-- What stands between two reads, and how each exit leads from there to a run.
+use Rattle.std.proofs.Common.{◌≡◌, ◌↔◌, ◌⊎◌, ℕ, ◌+◌, ◌≤◌, Bool, true, false, ◌||◌, List, [], ◌∷◌, ◌++◌, refl, sym, ap, ◌∙◌, append_assoc, append-nil, length, length-append, subst, Option, Some, None, unwrap_or, inl, inr, arith}
+use Rattle.std.specs.Io.KnownBytes.{Appends, Consumes, Keeps, IsAtEnd}
+use Rattle.std.proofs.KnownBytes.{Appends-trans, Consumes-trans}
+use Rattle.spv_app.specs.declared.status.Stop.{Stop}
+use Rattle.spv_app.specs.declared.status.Stop.TheVariants as stop
+use Rattle.spv_app.specs.declared.status.Status.{Status}
+use Rattle.spv_app.specs.declared.status.Status.TheVariants.{Done, Usage, ModuleRefused, SetupRefused, FileFault, ReadFault, WriteFault, NoMemory, InputTooLong, FileTooLong}
+use Rattle.spv_session.specs.View.{View}
+use Rattle.spv_base.specs.Prefix.{IsPrefixOf, IsProperPrefixOf}
+use Rattle.spv_app.specs.Lines.{complete_from, rest_from, complete_lines, rest_of, lines_of, last_line}
+use Rattle.spv_app.specs.Transcript.{transcript, view_after, has_quit}
+use Rattle.spv_app.specs.Command_loop.{Says, AnswersInTime, with_rest, Ran, StopSays, status_of}
+use Rattle.spv_app.proofs.Transcripts.{transcript_goes, transcript_quits, has_quit-append, transcript_front, prefix_refl, prefix_trans, prefix_under, prefix_nil, prefix_of_proper, proper_under}
+use Rattle.spv_app.proofs.Pieces.{view_more, quit_more, stop_more}
+use Rattle.spv_app.proofs.Cuts.{complete_from-append, rest_from-append, lines_from, lines_from-append}
+
+-- Between two reads: got was taken, put was written, all complete lines were answered, none of them is `quit`, and `line` has come of the next.
+pub record Stands (start : View) (left_old left_now held_old held_now : Option (List ℕ)) (view : View) (line : List ℕ) (count : ℕ) : Type 0 where
+  pub got : List ℕ
+  pub put : List ℕ
+  pub taken : Consumes left_old left_now got
+  pub written : Appends held_old held_now put
+  pub counted : length got ≡ count
+  pub goes : has_quit (complete_lines got) ≡ false
+  pub due : put ≡ transcript start (complete_lines got)
+  pub at : view ≡ view_after start (complete_lines got)
+  pub rest : line ≡ rest_of got
+
+-- what is due from there on, of these bytes
+abbrev pub due_from : View → List ℕ → List ℕ → List ℕ
+due_from view line bytes = transcript view (lines_from line bytes)
+
+-- what a status says of a last piece, of what was written for it, and of what is left behind it
+abbrev pub SaysLast : Status → View → List ℕ → List ℕ → List ℕ → List ℕ → Type 0
+SaysLast Done view line piece more x = (x ≡ due_from view line (piece ++ more)) × ((more ≡ []) ⊎ (has_quit (complete_from line piece) ≡ true))
+SaysLast ReadFault view line piece more x = (x ≡ []) × (piece ≡ [])
+SaysLast WriteFault view line piece more x = IsProperPrefixOf x (due_from view line (piece ++ more))
+SaysLast NoMemory view line piece more x = IsPrefixOf x (due_from view line (piece ++ more))
+SaysLast InputTooLong view line piece more x = x ≡ []
+SaysLast Usage view line piece more x = ⊥
+SaysLast ModuleRefused view line piece more x = ⊥
+SaysLast SetupRefused view line piece more x = ⊥
+SaysLast FileFault view line piece more x = ⊥
+SaysLast FileTooLong view line piece more x = ⊥
+
+-- the front of two lists that are one, if it is the shorter
+front_of_front : (a b c d : List ℕ) → a ++ b ≡ c ++ d → length d ≤ length b → (e : List ℕ) × (c ≡ a ++ e)
+front_of_front [] b c d p h = (c, refl)
+front_of_front (x ∷ xs) b [] d p h = absurd (omega (arith, ap length p, length-append xs b))
+front_of_front (x ∷ xs) b (y ∷ ys) d p h =
+    let tails : xs ++ b ≡ ys ++ d = cc in
+    let heads : x ≡ y = cc in
+    let r = front_of_front xs b ys d tails h in
+    (r.0, ap (λ z. z ∷ ys) (sym heads) ∙ ap (λ l. x ∷ l) r.1)
+
+or_false : (a b : Bool) → (a || b) ≡ false → a ≡ false
+or_false true b h = absurd (cc)
+or_false false b h = refl
+
+module _ (start : View) (left_old left_now left_new held_old held_now held_new : Option (List ℕ)) (view : View) (line : List ℕ) (count : ℕ)
+    (s : Stands start left_old left_now held_old held_now view line count) (piece x : List ℕ) where
+  abbrev more : List ℕ
+  more = unwrap_or left_new []
+
+  -- what is due of all is what was written and what is due from here on
+  due_all : transcript start (lines_of (with_rest (s.got ++ piece) left_new)) ≡ s.put ++ due_from view line (piece ++ more)
+  due_all =
+      ap (λ l. transcript start (lines_of l)) (append_assoc s.got piece more)
+      ∙ ap (transcript start) (lines_from-append [] s.got (piece ++ more))
+      ∙ transcript_goes start (complete_lines s.got) (lines_from (rest_of s.got) (piece ++ more)) s.goes
+      ∙ ap (λ l. l ++ due_from (view_after start (complete_lines s.got)) (rest_of s.got) (piece ++ more)) (sym s.due)
+      ∙ ap (λ v. s.put ++ due_from v (rest_of s.got) (piece ++ more)) (sym s.at)
+      ∙ ap (λ l. s.put ++ due_from view l (piece ++ more)) (sym s.rest)
+
+  -- the lines that ended before the last piece were answered
+  in_time : length piece ≤ 4096 → AnswersInTime start (s.got ++ piece) (s.put ++ x)
+  in_time h front rest e long =
+      let f = front_of_front front rest s.got piece (sym e) (omega arith) in
+      let cut : complete_lines s.got ≡ complete_lines front ++ complete_from (rest_of front) f.0 = ap complete_lines f.1 ∙ complete_from-append [] front f.0 in (
+        or_false (has_quit (complete_lines front)) _ (sym (has_quit-append (complete_lines front) (complete_from (rest_of front) f.0)) ∙ ap has_quit (sym cut) ∙ s.goes),
+        prefix_trans _ s.put _ (subst (IsPrefixOf (transcript start (complete_lines front))) (ap (transcript start) (sym cut) ∙ sym s.due) (transcript_front start (complete_lines front) _)) (x, refl),
+      )
+
+  begins : (status : Status) → SaysLast status view line piece more x → IsPrefixOf x (due_from view line (piece ++ more))
+  begins Done h = subst (IsPrefixOf x) h.0 (prefix_refl x)
+  begins ReadFault h = subst (λ l. IsPrefixOf l (due_from view line (piece ++ more))) (sym h.0) (prefix_nil _)
+  begins WriteFault h = prefix_of_proper _ _ h
+  begins NoMemory h = h
+  begins InputTooLong h = subst (λ l. IsPrefixOf l (due_from view line (piece ++ more))) (sym h) (prefix_nil _)
+  begins Usage h = absurd h
+  begins ModuleRefused h = absurd h
+  begins SetupRefused h = absurd h
+  begins FileFault h = absurd h
+  begins FileTooLong h = absurd h
+
+  says : (status : Status) → SaysLast status view line piece more x → Says status start (s.got ++ piece) (with_rest (s.got ++ piece) left_new) (s.put ++ x)
+  says Done h = (
+    ap (λ l. s.put ++ l) h.0 ∙ sym due_all,
+    elim h.1 [
+      | inl none ↦ inl (sym (ap (λ l. (s.got ++ piece) ++ l) none ∙ append-nil (s.got ++ piece)))
+      | inr quit ↦ inr (ap has_quit (complete_from-append [] s.got piece) ∙ has_quit-append (complete_lines s.got) (complete_from (rest_of s.got) piece)
+          ∙ ap (λ b. b || has_quit (complete_from (rest_of s.got) piece)) s.goes ∙ ap (λ l. has_quit (complete_from l piece)) (sym s.rest) ∙ quit)
+    ],
+  )
+  says ReadFault h =
+      let same : s.got ++ piece ≡ s.got = ap (λ l. s.got ++ l) h.1 ∙ append-nil s.got in
+      (ap (λ l. s.put ++ l) h.0 ∙ append-nil s.put ∙ s.due ∙ ap (λ l. transcript start (complete_lines l)) (sym same), ap (λ l. has_quit (complete_lines l)) same ∙ s.goes)
+  says WriteFault h = subst (IsProperPrefixOf (s.put ++ x)) (sym due_all) (proper_under s.put x _ h)
+  says NoMemory h = tt
+  says InputTooLong h = tt
+  says Usage h = h
+  says ModuleRefused h = h
+  says SetupRefused h = h
+  says FileFault h = h
+  says FileTooLong h = h
+
+  -- an exit with a last piece
+  pub ran : (status : Status) → Consumes left_now left_new piece → Appends held_now held_new x → length piece ≤ 4096 → SaysLast status view line piece more x
+      → (status ≡ InputTooLong) ↔ (count + length piece ≡ 16777217) → count + length piece ≤ 16777217
+      → Ran start left_old left_new held_old held_new status
+  ran status took wrote short last long few = record {
+    got = s.got ++ piece;
+    put = s.put ++ x;
+    taken = Consumes-trans left_old left_now left_new s.got piece s.taken took;
+    written = Appends-trans held_old held_now held_new s.put x s.written wrote;
+    begins = subst (IsPrefixOf (s.put ++ x)) (sym due_all) (prefix_under s.put x _ (begins status last));
+    says = says status last;
+    in_time = in_time short;
+    too_long =
+        let e : length (s.got ++ piece) ≡ count + length piece = length-append s.got piece ∙ ap (λ n. n + length piece) s.counted in
+        (λ h. e ∙ long.0 h, λ h. long.1 (sym e ∙ h));
+    at_most = omega (arith, length-append s.got piece, s.counted);
+  }
+
+-- ---- one more piece that was answered
+
+pub stands_more : (start : View) (left_old left_now left_new held_old held_now held_new : Option (List ℕ)) (view view' : View) (line line' : List ℕ) (count : ℕ) (piece : List ℕ)
+    → Stands start left_old left_now held_old held_now view line count → Consumes left_now left_new piece → Appends held_now held_new (transcript view (complete_from line piece))
+    → has_quit (complete_from line piece) ≡ false → view' ≡ view_after view (complete_from line piece) → line' ≡ rest_from line piece
+    → Stands start left_old left_new held_old held_new view' line' (count + length piece)
+stands_more start left_old left_now left_new held_old held_now held_new view view' line line' count piece s took wrote go at rest =
+    let lines : complete_lines (s.got ++ piece) ≡ complete_lines s.got ++ complete_from line piece =
+    complete_from-append [] s.got piece ∙ ap (λ l. complete_lines s.got ++ complete_from l piece) (sym s.rest) in
+    record {
+      got = s.got ++ piece;
+      put = s.put ++ transcript view (complete_from line piece);
+      taken = Consumes-trans left_old left_now left_new s.got piece s.taken took;
+      written = Appends-trans held_old held_now held_new s.put _ s.written wrote;
+      counted = length-append s.got piece ∙ ap (λ n. n + length piece) s.counted;
+      goes = ap has_quit lines ∙ quit_more (complete_lines s.got) (complete_from line piece) s.goes ∙ go;
+      due = ap (λ l. l ++ transcript view (complete_from line piece)) s.due ∙ ap (λ v. transcript start (complete_lines s.got) ++ transcript v (complete_from line piece)) s.at
+          ∙ sym (transcript_goes start (complete_lines s.got) (complete_from line piece) s.goes) ∙ ap (transcript start) (sym lines);
+      at = at ∙ ap (λ v. view_after v (complete_from line piece)) s.at ∙ sym (view_more start (complete_lines s.got) (complete_from line piece) s.goes) ∙ ap (view_after start) (sym lines);
+      rest = rest ∙ ap (λ l. rest_from l piece) s.rest ∙ sym (rest_from-append [] s.got piece);
+    }
+
+-- ---- the exits
+
+within : (status : Status) (n : ℕ) → (status ≡ InputTooLong → ⊥) → n ≤ 16777216 → (status ≡ InputTooLong) ↔ (n ≡ 16777217)
+within status n other few = (λ h. absurd (other h), λ h. absurd (omega arith))
+
+at_end_is_nil : (o : Option (List ℕ)) → IsAtEnd o → unwrap_or o [] ≡ []
+at_end_is_nil None h = refl
+at_end_is_nil (Some xs) h = h
+
+takes_none : (a b : Option (List ℕ)) → Keeps a b → Consumes a b []
+takes_none None b h = tt
+takes_none (Some x) None h = absurd h
+takes_none (Some x) (Some y) h = sym h
+
+writes_none : (a : Option (List ℕ)) → Appends a a []
+writes_none None = tt
+writes_none (Some x) = sym (append-nil x)
+
+stop_is_short : (stop : Stop) → status_of stop ≡ InputTooLong → ⊥
+stop_is_short stop.WriteFault h = cc
+stop_is_short stop.NoMemory h = cc
+
+stop_says : (stop : Stop) (view : View) (line piece more x : List ℕ) → StopSays stop x (due_from view line (piece ++ more)) → SaysLast (status_of stop) view line piece more x
+stop_says stop.WriteFault view line piece left x h = h
+stop_says stop.NoMemory view line piece left x h = h
+
+-- what is due of a piece's lines is a front of what is due of all
+piece_front : (view : View) (line piece more : List ℕ) → IsPrefixOf (transcript view (complete_from line piece)) (due_from view line (piece ++ more))
+piece_front view line piece more =
+    subst (IsPrefixOf (transcript view (complete_from line piece))) (ap (transcript view) (sym (lines_from-append line piece more)))
+    (transcript_front view (complete_from line piece) (lines_from (rest_from line piece) more))
+
+module _ (start : View) (left_old left_now left_new held_old held_now held_new : Option (List ℕ)) (view : View) (line : List ℕ) (count : ℕ)
+    (s : Stands start left_old left_now held_old held_now view line count) where
+  pub ran_read_fault : Keeps left_now left_new → count ≤ 16777216 → Ran start left_old left_new held_old held_now ReadFault
+  ran_read_fault kept few =
+      ran start left_old left_now left_new held_old held_now held_now view line count s [] [] ReadFault (takes_none left_now left_new kept) (writes_none held_now) (omega arith) (refl, refl)
+      (within ReadFault (count + 0) (λ h. cc) (omega arith)) (omega arith)
+
+  -- at the end of the input
+  module _ (last : List ℕ) (same : last ≡ line) (piece : List ℕ) (none : piece ≡ []) (took : Consumes left_now left_new piece) (end : IsAtEnd left_new) (few : count ≤ 16777216) where
+    ended_due : transcript view (last_line last) ≡ due_from view line ([] ++ unwrap_or left_new [])
+    ended_due = ap (λ l. transcript view (last_line l)) same ∙ ap (due_from view line) (sym (at_end_is_nil left_new end))
+
+    pub ran_end : Appends held_now held_new (transcript view (last_line last)) → Ran start left_old left_new held_old held_new Done
+    ran_end wrote =
+        ran start left_old left_now left_new held_old held_now held_new view line count s [] (transcript view (last_line last)) Done (subst (Consumes left_now left_new) none took) wrote (omega arith)
+        (ended_due, inl (at_end_is_nil left_new end)) (within Done (count + 0) (λ h. cc) (omega arith)) (omega arith)
+
+    pub ran_end_stop : (stop : Stop) → (put : List ℕ) × Appends held_now held_new put × StopSays stop put (transcript view (last_line last)) → Ran start left_old left_new held_old held_new (status_of stop)
+    ran_end_stop stop w =
+        ran start left_old left_now left_new held_old held_now held_new view line count s [] w.0 (status_of stop) (subst (Consumes left_now left_new) none took) w.1 (omega arith)
+        (stop_says stop view line [] (unwrap_or left_new []) w.0 (subst (StopSays stop w.0) ended_due w.2)) (within (status_of stop) (count + 0) (stop_is_short stop) (omega arith)) (omega arith)
+
+  -- after a piece
+  module _ (piece : List ℕ) (n : ℕ) (is : length piece ≡ n) (short : n ≤ 4096) (took : Consumes left_now left_new piece) where
+    pub ran_too_long : count + n ≡ 16777217 → Ran start left_old left_new held_old held_now InputTooLong
+    ran_too_long long =
+        ran start left_old left_now left_new held_old held_now held_now view line count s piece [] InputTooLong took (writes_none held_now) (omega arith) refl
+        (λ _. omega arith, λ _. refl) (omega arith)
+
+    pub ran_quit : count + n ≤ 16777216 → Appends held_now held_new (transcript view (complete_from line piece)) → has_quit (complete_from line piece) ≡ true → Ran start left_old left_new held_old held_new Done
+    ran_quit few wrote quit =
+        ran start left_old left_now left_new held_old held_now held_new view line count s piece (transcript view (complete_from line piece)) Done took wrote (omega arith) (
+          sym (transcript_quits view (complete_from line piece) (lines_from (rest_from line piece) (unwrap_or left_new [])) quit)
+              ∙ ap (transcript view) (sym (lines_from-append line piece (unwrap_or left_new []))),
+          inr quit,
+        )
+        (within Done (count + length piece) (λ h. cc) (omega arith)) (omega arith)
+
+    pub ran_stop : count + n ≤ 16777216 → (stop : Stop) → (put : List ℕ) × Appends held_now held_new put × StopSays stop put (transcript view (complete_from line piece))
+        → Ran start left_old left_new held_old held_new (status_of stop)
+    ran_stop few stop w =
+        ran start left_old left_now left_new held_old held_now held_new view line count s piece w.0 (status_of stop) took w.1 (omega arith)
+        (stop_says stop view line piece (unwrap_or left_new []) w.0 (stop_more stop w.0 _ _ w.2 (piece_front view line piece (unwrap_or left_new []))))
+        (within (status_of stop) (count + length piece) (stop_is_short stop) (omega arith)) (omega arith)

@@ -1,0 +1,43 @@
+use Rattle.std.proofs.Common.{◌≡◌, ◌∷◌, ◌++◌, drop, get_or, ◌+◌, false, ap, sym, ◌∙◌}
+use Rattle.std.proofs.lemmas.List.{drop_more}
+use Rattle.std.proofs.KnownBytes.{Appends-trans}
+use Rattle.spv_app.specs.Lines.{complete_from, rest_from, ended_by, line_after}
+use Rattle.spv_app.specs.Transcript.{transcript, view_after, has_quit}
+use Rattle.spv_app.proofs.Pieces.{hands_on, goes, due_more, view_more, quit_more, stop_first}
+use Rattle.spv_app.proofs.answer.answer_piece.Goals as goal
+
+pub loop-byte-preserved : goal.loop-byte-preserved
+loop-byte-preserved g c =
+    let b = get_or c.args.piece.now c.loop-byte.byte-index 0 in
+    let bs = drop (c.loop-byte.byte-index + 1) c.args.piece.now in
+    let line = c.loop-byte.line.items in
+    let h = c.in_ok-answer_byte.ensures in
+    let inv = c.loop-byte.invariant in
+    let e : drop c.loop-byte.byte-index c.args.piece.now ≡ b ∷ bs = drop_more c.args.piece.now c.loop-byte.byte-index 0 c.loop-byte-test.true in
+    let go : has_quit (ended_by line b) ≡ false = goes (has_quit (ended_by line b)) _ c.in-Go.is h.next in
+    let later = complete_from (line_after line b) bs in
+    let now : complete_from c.answer_byte.new.line.items bs ≡ later = ap (λ l. complete_from l bs) h.rest in
+    let all : complete_from line (drop c.loop-byte.byte-index c.args.piece.now) ≡ ended_by line b ++ later = ap (complete_from line) e in
+    record {
+      written = (
+        inv.written.0 ++ transcript c.loop-byte.session (ended_by line b),
+        Appends-trans _ _ _ _ _ inv.written.1 h.written,
+        rw (h.view, now) (due_more inv.written.0 _ c.loop-byte.session (ended_by line b) later go (ap (λ l. inv.written.0 ++ transcript c.loop-byte.session l) (sym all) ∙ inv.written.2)),
+      );
+      quit = ap has_quit now ∙ sym (quit_more (ended_by line b) later go) ∙ ap has_quit (sym all) ∙ inv.quit;
+      view = rw (h.view, now) (sym (view_more c.loop-byte.session (ended_by line b) later go) ∙ ap (view_after c.loop-byte.session) (sym all) ∙ inv.view);
+      rest = ap (λ l. rest_from l bs) h.rest ∙ ap (rest_from line) (sym e) ∙ inv.rest;
+      count = h.count ∙ inv.count;
+    }
+
+pub returns-in_err-answer_byte-clause-stop : goal.returns-in_err-answer_byte-clause-stop
+returns-in_err-answer_byte-clause-stop g c =
+    let b = get_or c.args.piece.now c.loop-byte.byte-index 0 in
+    let bs = drop (c.loop-byte.byte-index + 1) c.args.piece.now in
+    let line = c.loop-byte.line.items in
+    let inv = c.loop-byte.invariant in
+    let e : drop c.loop-byte.byte-index c.args.piece.now ≡ b ∷ bs = drop_more c.args.piece.now c.loop-byte.byte-index 0 c.loop-byte-test.true in
+    hands_on _ _ _ c.from_residual.ensures.1
+    (stop_first _ _ _ _ inv.written.0 _ c.loop-byte.session (ended_by line b) (complete_from (line_after line b) bs) inv.written.1
+    (ap (λ l. inv.written.0 ++ transcript c.loop-byte.session (complete_from line l)) (sym e) ∙ inv.written.2)
+    c.in_err-answer_byte.ensures.stop)

@@ -1,0 +1,46 @@
+-- Which pair of a module and a setup is opened, and which refusal is due else.
+use Rattle.std.specs.Prelude.{ℕ, List, ◌++◌, slice_index, codes, decimal, Result, Ok, Err}
+use Rattle.spv_base.specs.declared.causes.Refusal.{Refusal}
+use Rattle.spv_base.specs.declared.causes.SetupRefusal.{SetupRefusal}
+use Rattle.spv_base.specs.declared.instructions.RawInst.{RawInst}
+use Rattle.spv_base.specs.declared.instructions.Inst.{Inst}
+use Rattle.spv_words.specs.Words.{ModuleWords, words_of}
+use Rattle.spv_words.specs.Cuts.{raw_of}
+use Rattle.spv_ops.specs.Reading.{insts_of}
+use Rattle.spv_machine.specs.Program.{Program, program_of}
+use Rattle.spv_session.specs.Settings.{Settings, settings_of}
+use Rattle.spv_session.specs.View.{View, first_view}
+use Rattle.spv_app.specs.declared.opening.OpeningRefusal.{OpeningRefusal}
+use Rattle.spv_app.specs.declared.opening.OpeningRefusal.TheVariants.{Module, Setup}
+
+-- a later pass, which is read only where the one before refuses nothing
+abbrev pub then : {A B R : Type 0} → Result A R → (A → Result B R) → Result B R
+then (Ok x) pass = pass x
+then (Err refusal) pass = Err refusal
+
+-- the program of a module's bytes: its words, its instructions as words, its instructions, and the form that can be run
+abbrev pub program_in : List ℕ → Result Program Refusal
+program_in bytes =
+    then (words_of bytes) (λ words. then (raw_of words.items) (λ raws. then (insts_of raws) (λ insts. program_of insts (slice_index words.items 3))))
+
+-- whose refusal it is
+abbrev pub of_setup : {A : Type 0} → Result A SetupRefusal → Result A OpeningRefusal
+of_setup (Ok x) = Ok x
+of_setup (Err refusal) = Err (Setup refusal)
+
+abbrev pub of_module : {A : Type 0} → Result A Refusal → Result A OpeningRefusal
+of_module (Ok x) = Ok x
+of_module (Err refusal) = Err (Module refusal)
+
+-- the setup's text is looked at first, and then the module; the view is the one before the first command
+unfoldable pub opening : List ℕ → List ℕ → Result View OpeningRefusal
+opening mod_bytes setup = then (of_setup (settings_of setup)) (λ settings. then (of_module (program_in mod_bytes)) (λ program. Ok (first_view program settings)))
+
+-- the text that tells a refusal
+abbrev pub refusal_text : OpeningRefusal → List ℕ
+refusal_text (Module refusal) = codes "module refused: M" ++ decimal refusal.code ++ codes " at word " ++ decimal refusal.word
+refusal_text (Setup refusal) = codes "setup refused: S" ++ decimal refusal.code ++ codes " at line " ++ decimal refusal.line
+
+-- the line of it
+abbrev pub refusal_line : OpeningRefusal → List ℕ
+refusal_line refusal = refusal_text refusal ++ codes "\n"

@@ -1,0 +1,182 @@
+//! The top call.
+ghost use Rattle.std.specs.Prelude.{◌≡◌, ◌≢◌, ◌↔◌, ◌⊎◌, ◌<◌, ◌≤◌, ◌-◌, ◌^◌, ◌++◌, List, ℕ, Option, Some, None, All, vec_len, length, IfOk, IfErr, IsErrOf};
+ghost use Rattle.std.specs.Io.KnownBytes.{Appends};
+ghost use Rattle.spv_app.specs.Command_line.{Names, debug_names, usage_line};
+ghost use Rattle.spv_app.specs.Opening.{opening, refusal_line};
+ghost use Rattle.spv_app.specs.Debug.{Debugged, IsPair, IsOneOf, binary_limit, setup_limit, SaysLine, SaysUnopened, status_of_file, status_of_refusal, due_text, due_status};
+
+use crate::command_loop::run;
+use crate::opening::{OpeningRefusal, open};
+use crate::status::Status;
+use spv_base::{Fail, Failed, FileErr, Files, Probe, Sink, Source, Steps, write_all};
+use spv_session::Session;
+use std::alloc::Global;
+use std::sync::ledger::Ledger;
+
+/// The most bytes of a module.
+const BINARY_LIMIT: u64 = 4_194_304;
+
+/// The most bytes of a setup.
+const SETUP_LIMIT: u64 = 67_108_864;
+
+impl From<OpeningRefusal> for Status {
+    ghost from_gives = { λ refusal status. status ≡ status_of_refusal refusal };
+
+    fn from(refusal: OpeningRefusal) -> Status {
+        match refusal {
+            OpeningRefusal::Module(_) => Status::ModuleRefused,
+            OpeningRefusal::Setup(_) => Status::SetupRefused,
+        }
+    }
+}
+
+/// Writes the line that is due with a status.
+fn tell<K: Sink>(out: &mut K, line: &[u8], due: Status) -> Status
+    requires count { K.faults out.old < 2 ^ 64 - 1 }
+    requires due { due ≢ Status.WriteFault }
+    ensures says { (put : List ℕ) × Appends (K.taken out.old) (K.taken out.new) put × SaysLine due line.now result put }
+    ensures count { (result ≡ Status.WriteFault) ↔ (K.faults out.old < K.faults out.new) }
+    ensures counted { K.faults out.old ≤ K.faults out.new }
+{
+    match write_all(out, line) {
+        Ok(()) => due,
+        Err(Failed) => Status::WriteFault,
+    }
+}
+
+/// Writes the line that tells a refusal.
+fn tell_refusal<K: Sink>(alloc: Global, refusal: OpeningRefusal, out: &mut K) -> Status
+    requires { K.faults out.old < 2 ^ 64 - 1 }
+    ensures says { (put : List ℕ) × Appends (K.taken out.old) (K.taken out.new) put × SaysLine (status_of_refusal refusal) (refusal_line refusal) result put }
+    ensures count { (result ≡ Status.WriteFault) ↔ (K.faults out.old < K.faults out.new) }
+    ensures counted { K.faults out.old ≤ K.faults out.new }
+{
+    match format!(in alloc; "{refusal}\n") {
+        Ok(line) => tell(out, line.as_bytes(), Status::from(refusal)),
+        Err(_) => Status::NoMemory,
+    }
+}
+
+/// Reads the module, and then the setup.
+fn read_pair<F: Files>(
+    alloc: Global,
+    files: &mut F,
+    binary_name: &str,
+    setup_name: &str,
+) -> Result<(Vec<u8>, Vec<u8>), FileErr>
+    requires { F.faults files.old < 2 ^ 64 - 1 }
+    ensures pair { IfOk result (λ pair. IsPair (F.contents files.old) (record { binary = binary_name.now; setup = setup_name.now }) pair.0.items pair.1.items) }
+    ensures failed { IsErrOf result FileErr.Failed ↔ (F.faults files.old < F.faults files.new) }
+    ensures counted { F.faults files.old ≤ F.faults files.new }
+    ensures name { IsErrOf result FileErr.Failed → (F.failed_name files.new ≡ binary_name.now) ⊎ (F.failed_name files.new ≡ setup_name.now) }
+    ensures says { IfErr result (λ error. SaysUnopened (F.contents files.old) (record { binary = binary_name.now; setup = setup_name.now }) (F.taken files.new) (F.failed_name files.new) (status_of_file error)) }
+{
+    let binary = files.read_all(alloc, binary_name, BINARY_LIMIT)?;
+    let setup = files.read_all(alloc, setup_name, SETUP_LIMIT)?;
+    Ok((binary, setup))
+}
+
+/// Reads a module and a setup, and answers the input's lines about them.
+fn debug<F: Files, I: Source, K: Sink, L: Ledger>(
+    alloc: Global,
+    binary_name: &str,
+    setup_name: &str,
+    files: &mut F,
+    input: &mut I,
+    out: &mut K,
+    kit: Vec<Box<dyn Probe>>,
+    steps: &mut Steps<L>,
+) -> Status
+    requires few { vec_len kit ≤ 16 }
+    requires unused { All (λ p. tally p ≡ 0) kit.items }
+    requires files { F.faults files.old < 2 ^ 64 - 1 }
+    requires input { I.faults input.old < 2 ^ 64 - 1 }
+    requires out { K.faults out.old < 2 ^ 64 - 1 }
+    ensures debugged { Debugged (F.contents files.old) (record { binary = binary_name.now; setup = setup_name.now }) (F.taken files.new) (F.failed_name files.new) (input.new ≡ input.old)
+        (I.left input.old) (I.left input.new) (K.taken out.old) (K.taken out.new) result }
+    ensures file_fault { (result ≡ Status.FileFault) ↔ (F.faults files.old < F.faults files.new) }
+    ensures file_name { result ≡ Status.FileFault → (F.failed_name files.new ≡ binary_name.now) ⊎ (F.failed_name files.new ≡ setup_name.now) }
+    ensures read_fault { (result ≡ Status.ReadFault) ↔ (I.faults input.old < I.faults input.new) }
+    ensures write_fault { (result ≡ Status.WriteFault) ↔ (K.faults out.old < K.faults out.new) }
+    ensures counted { (F.faults files.old ≤ F.faults files.new) × (I.faults input.old ≤ I.faults input.new) × (K.faults out.old ≤ K.faults out.new) }
+{
+    let (binary, setup) = match read_pair(alloc, files, binary_name, setup_name) {
+        Ok(pair) => pair,
+        Err(error) => return Status::from(error),
+    };
+    let group = match open(alloc, binary, setup) {
+        Ok(group) => group,
+        Err(Fail::Refused(refusal)) => return tell_refusal(alloc, refusal, out),
+        Err(Fail::NoMemory) => return Status::NoMemory,
+    };
+    let mut session = match Session::open(alloc, group, kit) {
+        Ok(session) => session,
+        Err(_) => return Status::NoMemory,
+    };
+    run(alloc, &mut session, input, out, steps)
+}
+
+/// Writes the line that says which words there are.
+fn tell_usage<K: Sink>(out: &mut K) -> Status
+    requires { K.faults out.old < 2 ^ 64 - 1 }
+    ensures says { (put : List ℕ) × Appends (K.taken out.old) (K.taken out.new) put × SaysLine Status.Usage usage_line result put }
+    ensures count { (result ≡ Status.WriteFault) ↔ (K.faults out.old < K.faults out.new) }
+    ensures counted { K.faults out.old ≤ K.faults out.new }
+{
+    let line = "usage: spvdbg debug MODULE SETUP | check MODULE | make N | text MODULE\n";
+    tell(out, line.as_bytes(), Status::Usage)
+}
+
+/// Does what the words say: `debug MODULE SETUP` reads the module and the setup, opens the pair, and answers the lines of the
+/// input, to its end or to `quit`. The first word is the program's name. Each answer is named by its status.
+pub fn debug_main<F: Files, I: Source, K: Sink, L: Ledger>(
+    alloc: Global,
+    words: &[String],
+    files: &mut F,
+    input: &mut I,
+    out: &mut K,
+    kit: Vec<Box<dyn Probe>>,
+    steps: &mut Steps<L>,
+) -> Status
+    requires few { vec_len kit ≤ 16 }
+    requires unused { All (λ p. tally p ≡ 0) kit.items }
+    requires files { F.faults files.old < 2 ^ 64 - 1 }
+    requires input { I.faults input.old < 2 ^ 64 - 1 }
+    requires out { K.faults out.old < 2 ^ 64 - 1 }
+
+    // The bytes written are those that are due: the line of the refusal, or the transcript of the whole input.
+    ensures headline { (names : Names) (m : List ℕ → Option (List ℕ)) (binary setup xs before : List ℕ)
+        → debug_names words.now ≡ Some names → F.contents files.old ≡ Some m → m names.binary ≡ Some binary → m names.setup ≡ Some setup
+        → length binary ≤ binary_limit → length setup ≤ setup_limit
+        → I.left input.old ≡ Some xs → length xs ≤ 16777216 → K.taken out.old ≡ Some before
+        → F.faults files.new ≡ F.faults files.old → I.faults input.new ≡ I.faults input.old → K.faults out.new ≡ K.faults out.old
+        → result ≢ Status.NoMemory
+        → (K.taken out.new ≡ Some (before ++ due_text (opening binary setup) xs)) × (result ≡ due_status (opening binary setup)) }
+
+    // What each status says, whatever was told and whatever failed.
+    ensures debugged { (names : Names) → debug_names words.now ≡ Some names
+        → Debugged (F.contents files.old) names (F.taken files.new) (F.failed_name files.new) (input.new ≡ input.old) (I.left input.old) (I.left input.new) (K.taken out.old) (K.taken out.new) result }
+    ensures usage { debug_names words.now ≡ None
+        → (files.new ≡ files.old) × (input.new ≡ input.old) × ((put : List ℕ) × Appends (K.taken out.old) (K.taken out.new) put × SaysLine Status.Usage usage_line result put) }
+
+    // Faults are told exactly where they were counted.
+    ensures file_fault { (result ≡ Status.FileFault) ↔ (F.faults files.old < F.faults files.new) }
+    ensures file_name { result ≡ Status.FileFault → IsOneOf (debug_names words.now) (F.failed_name files.new) }
+    ensures read_fault { (result ≡ Status.ReadFault) ↔ (I.faults input.old < I.faults input.new) }
+    ensures write_fault { (result ≡ Status.WriteFault) ↔ (K.faults out.old < K.faults out.new) }
+    ensures counted { (F.faults files.old ≤ F.faults files.new) × (I.faults input.old ≤ I.faults input.new) × (K.faults out.old ≤ K.faults out.new) }
+{
+    match words {
+        [_, command, binary, setup] if command.as_str() == "debug" => debug(
+            alloc,
+            binary.as_str(),
+            setup.as_str(),
+            files,
+            input,
+            out,
+            kit,
+            steps,
+        ),
+        _ => tell_usage(out),
+    }
+}

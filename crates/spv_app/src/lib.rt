@@ -1,0 +1,13 @@
+//! The program over any files, input and output: it opens a module and a setup, and answers commands about their run.
+#![tactic(auto)]
+
+pub mod answer;
+pub mod command_loop;
+pub mod debug;
+pub mod lines;
+pub mod opening;
+pub mod status;
+
+pub use debug::debug_main;
+pub use opening::OpeningRefusal;
+pub use status::Status;

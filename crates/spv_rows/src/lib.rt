@@ -1,0 +1,11 @@
+//! Tests that call the program over files, input and output in memory. The expected texts are worked out by hand.
+#![tactic(auto)]
+
+#[cfg(test)]
+mod calls;
+#[cfg(test)]
+mod faults;
+#[cfg(test)]
+mod limits;
+#[cfg(test)]
+mod rows;

@@ -1,0 +1,111 @@
+//! How much input is taken, and in which pieces output is offered.
+ghost use Rattle.std.specs.Prelude.{◌≡◌, ◌≤◌, vec_len};
+
+use crate::calls::{DEBUG, TEN_ROUNDS, call, files, sum, words};
+use spv_app::Status;
+use spv_base::{Failed, MemoryFiles, MemorySink, MemorySource, Sink, Source};
+use std::test::Fail;
+
+/// One more byte than the input may have.
+const TOO_LONG: usize = 16_777_217;
+
+/// Input in memory, and the lengths of the longest buffer and of all.
+#[derive(Drop)]
+struct Watched {
+    held: MemorySource,
+    longest: usize,
+}
+
+impl Source for Watched {
+    ghost use Rattle.std.specs.Prelude.{Some, drop};
+
+    ghost left = { λ s. Some (drop s.held.at s.held.bytes.items) };
+
+    ghost faults = { λ s. 0 };
+
+    fn read(&mut self, buf: &mut [u8]) -> Result<usize, Failed> {
+        self.longest = self.longest.max(buf.len());
+        self.held.read(buf)
+    }
+}
+
+/// Output that takes at most so many bytes at a call, and keeps how long each piece was that was offered.
+#[derive(Drop)]
+struct Offers {
+    most: usize,
+    lengths: Vec<usize>,
+    faults: u64,
+}
+
+impl Sink for Offers {
+    ghost use Rattle.std.specs.Prelude.{None};
+
+    ghost taken = { λ s. None };
+
+    ghost faults = { λ s. s.faults };
+
+    fn write(&mut self, bytes: &[u8]) -> Result<usize, Failed> {
+        if self.most == 0 || self.lengths.push(bytes.len()).is_err() {
+            self.faults += 1;
+            return Err(Failed);
+        }
+        Ok(bytes.len().min(self.most))
+    }
+}
+
+/// The first commands, the byte that follows them without end, how the call ends, and how many bytes it took.
+const ENDLESS: [(&str, u8, Status, &str, usize); 3] = [
+    ("", b'\n', Status::InputTooLong, "", TOO_LONG),
+    ("goto 3\n", b'x', Status::InputTooLong, "stop: done\n@3 i=0 %7 word 65\n", TOO_LONG),
+    ("quit\n", b'\n', Status::Done, "", 4096),
+];
+
+#[test]
+fn long_input_ends_the_call(rt: HostRuntime) -> Result<(), Fail> {
+    let alloc = rt.alloc();
+    let words = words(alloc, DEBUG)?;
+    for (first, rest, status, written, taken) in ENDLESS {
+        let mut commands = vec![in alloc; rest; TOO_LONG]?;
+        for (i, byte) in first.bytes().enumerate() {
+            if i < commands.len() {
+                commands[i] = byte;
+            }
+        }
+        let mut held = MemoryFiles::new(alloc, files(alloc, sum(alloc)?, TEN_ROUNDS)?);
+        let mut input = Watched {
+            held: MemorySource::new(commands),
+            longest: 0,
+        };
+        let mut out = MemorySink::new(alloc);
+        assert_eq!(rt; call(alloc, &words, &mut held, &mut input, &mut out), status);
+        assert_eq!(rt; out.bytes.as_slice(), written.as_bytes());
+        assert_eq!(rt; input.held.at, taken);
+        assert_eq!(rt; input.longest, 4096);
+    }
+    Ok(())
+}
+
+/// The most bytes of a write, and the lengths of the pieces that are offered.
+const PIECES: [(usize, &[usize]); 2] = [
+    (4096, &[29, 18, 35]),
+    (10, &[29, 19, 9, 18, 8, 35, 25, 15, 5]),
+];
+
+#[test]
+fn replies_are_offered_whole(rt: HostRuntime) -> Result<(), Fail> {
+    let alloc = rt.alloc();
+    let words = words(alloc, DEBUG)?;
+    for (most, lengths) in PIECES {
+        let mut held = MemoryFiles::new(alloc, files(alloc, sum(alloc)?, TEN_ROUNDS)?);
+        let commands = b"\nregs\ngoto 3\n  \nregs\ngoto 9\nquit\n";
+        let mut input = MemorySource::new(commands.to_vec(alloc)?);
+        let mut out = Offers {
+            most,
+            lengths: Vec::new(alloc),
+            faults: 0,
+        };
+        assert_eq!(rt; call(alloc, &words, &mut held, &mut input, &mut out), Status::Done);
+        assert_eq!(rt; out.lengths.as_slice(), lengths);
+    }
+    Ok(())
+}
