@@ -24,7 +24,15 @@ const STREAMS: [(&str, &[u64], &[u64], usize, usize, Status, &str); 11] = [
     (COMMANDS, &[], &[5], 4096, 1, Status::WriteFault, "stop:"),
     ("quit\n", &[1], &[], 4096, 4096, Status::Done, ""),
     ("quit", &[1], &[], 4096, 4096, Status::ReadFault, ""),
-    ("\n\nquit\ngoto 3\n", &[1], &[0], 4096, 4096, Status::Done, ""),
+    (
+        "\n\nquit\ngoto 3\n",
+        &[1],
+        &[0],
+        4096,
+        4096,
+        Status::Done,
+        "",
+    ),
 ];
 
 #[test]
@@ -37,7 +45,10 @@ fn streams_fail(rt: HostRuntime) -> Result<(), Fail> {
         let commands = commands.as_bytes().to_vec(alloc)?;
         let mut input = FailingSource::new(commands, most_read.max(1), reads.to_vec(alloc)?);
         let mut out = FailingSink::new(alloc, most_written.max(1), writes.to_vec(alloc)?);
-        assert_eq!(rt; call(alloc, &words, &mut held, &mut input, &mut out), status);
+        assert_eq!(rt;
+            call(alloc, &words, &mut held, &mut input, &mut out),
+            status
+        );
         assert_eq!(rt; out.bytes.as_slice(), written.as_bytes());
     }
     Ok(())
@@ -48,7 +59,15 @@ fn streams_fail(rt: HostRuntime) -> Result<(), Fail> {
 const FILES: [(&str, &[u64], &[u64], Status, &str, &str, u64); 4] = [
     (TEN_ROUNDS, &[0], &[], Status::FileFault, "", MODULE, 0),
     (TEN_ROUNDS, &[1], &[], Status::FileFault, "", SETUP, 0),
-    ("rounds 1\n", &[], &[], Status::SetupRefused, "setup refused: S1 at line 1\n", "", 0),
+    (
+        "rounds 1\n",
+        &[],
+        &[],
+        Status::SetupRefused,
+        "setup refused: S1 at line 1\n",
+        "",
+        0,
+    ),
     ("rounds 1\n", &[], &[0], Status::WriteFault, "", "", 0),
 ];
 
@@ -61,7 +80,10 @@ fn files_fail(rt: HostRuntime) -> Result<(), Fail> {
         let mut held = FailingFiles::new(alloc, held, readings.to_vec(alloc)?);
         let mut input = FailingSource::new(COMMANDS.as_bytes().to_vec(alloc)?, 1, Vec::new(alloc));
         let mut out = FailingSink::new(alloc, 4096, writes.to_vec(alloc)?);
-        assert_eq!(rt; call(alloc, &words, &mut held, &mut input, &mut out), status);
+        assert_eq!(rt;
+            call(alloc, &words, &mut held, &mut input, &mut out),
+            status
+        );
         assert_eq!(rt; out.bytes.as_slice(), written.as_bytes());
         assert_eq!(rt; held.held.failed_name.as_str(), name);
         assert_eq!(rt; input.calls, reads);

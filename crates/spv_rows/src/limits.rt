@@ -56,7 +56,13 @@ impl Sink for Offers {
 /// The first commands, the byte that follows them without end, how the call ends, and how many bytes it took.
 const ENDLESS: [(&str, u8, Status, &str, usize); 3] = [
     ("", b'\n', Status::InputTooLong, "", TOO_LONG),
-    ("goto 3\n", b'x', Status::InputTooLong, "stop: done\n@3 i=0 %7 word 65\n", TOO_LONG),
+    (
+        "goto 3\n",
+        b'x',
+        Status::InputTooLong,
+        "stop: done\n@3 i=0 %7 word 65\n",
+        TOO_LONG,
+    ),
     ("quit\n", b'\n', Status::Done, "", 4096),
 ];
 
@@ -77,7 +83,10 @@ fn long_input_ends_the_call(rt: HostRuntime) -> Result<(), Fail> {
             longest: 0,
         };
         let mut out = MemorySink::new(alloc);
-        assert_eq!(rt; call(alloc, &words, &mut held, &mut input, &mut out), status);
+        assert_eq!(rt;
+            call(alloc, &words, &mut held, &mut input, &mut out),
+            status
+        );
         assert_eq!(rt; out.bytes.as_slice(), written.as_bytes());
         assert_eq!(rt; input.held.at, taken);
         assert_eq!(rt; input.longest, 4096);
@@ -104,7 +113,10 @@ fn replies_are_offered_whole(rt: HostRuntime) -> Result<(), Fail> {
             lengths: Vec::new(alloc),
             faults: 0,
         };
-        assert_eq!(rt; call(alloc, &words, &mut held, &mut input, &mut out), Status::Done);
+        assert_eq!(rt;
+            call(alloc, &words, &mut held, &mut input, &mut out),
+            Status::Done
+        );
         assert_eq!(rt; out.lengths.as_slice(), lengths);
     }
     Ok(())

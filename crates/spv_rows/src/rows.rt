@@ -27,7 +27,10 @@ const COMMANDS: [(&str, &str); 18] = [
     ("goto 2", "stop: done\n@2 i=0 %7 word 60\n"),
     ("goto 2\nregs", "stop: done\n@2 i=0 %7 word 60\n%10 = 40\n"),
     ("  goto   1  \n", "stop: done\n@1 i=0 %7 word 56\n"),
-    ("goto 000000000000000000000000001\n", "stop: done\n@1 i=0 %7 word 56\n"),
+    (
+        "goto 000000000000000000000000001\n",
+        "stop: done\n@1 i=0 %7 word 56\n",
+    ),
     ("goto 4294967295\n", "stop: all finished\n@4 i=0 finished\n"),
     ("goto 4294967296\n", ARGUMENTS),
     ("goto 99999999999999999999999999\n", ARGUMENTS),
@@ -40,16 +43,77 @@ const COMMANDS: [(&str, &str); 18] = [
 ];
 
 /// A word of the shader and what it becomes, a setup, and the status and the line of the refusal.
-const REFUSALS: [(usize, u32, &str, Status, &str); 9] = [
-    (0, 0x0723_0204, TEN_ROUNDS, Status::ModuleRefused, "module refused: M2 at word 0\n"),
-    (1, 0x0001_0700, TEN_ROUNDS, Status::ModuleRefused, "module refused: M3 at word 1\n"),
-    (3, 0, TEN_ROUNDS, Status::ModuleRefused, "module refused: M4 at word 3\n"),
-    (66, 0x0002_0038, TEN_ROUNDS, Status::ModuleRefused, "module refused: M5 at word 66\n"),
-    (60, 0x0005_0081, TEN_ROUNDS, Status::ModuleRefused, "module refused: M6 at word 60\n"),
-    (60, 0x0005_0082, TEN_ROUNDS, Status::ModuleRefused, "module refused: M0 at word 5\n"),
-    (67, 0, "spvdbg-setup 3\nrounds 10\n", Status::SetupRefused, "setup refused: S1 at line 1\n"),
-    (67, 0, "", Status::SetupRefused, "setup refused: S1 at line 1\n"),
-    (0, 0, "rounds 10\n", Status::SetupRefused, "setup refused: S1 at line 1\n"),
+const REFUSALS: [(usize, u32, &str, Status, &str); 10] = [
+    (
+        0,
+        0x0723_0204,
+        TEN_ROUNDS,
+        Status::ModuleRefused,
+        "module refused: M2 at word 0\n",
+    ),
+    (
+        1,
+        0x0001_0700,
+        TEN_ROUNDS,
+        Status::ModuleRefused,
+        "module refused: M3 at word 1\n",
+    ),
+    (
+        3,
+        0,
+        TEN_ROUNDS,
+        Status::ModuleRefused,
+        "module refused: M4 at word 3\n",
+    ),
+    (
+        66,
+        0x0002_0038,
+        TEN_ROUNDS,
+        Status::ModuleRefused,
+        "module refused: M5 at word 66\n",
+    ),
+    (
+        60,
+        0x0005_0081,
+        TEN_ROUNDS,
+        Status::ModuleRefused,
+        "module refused: M6 at word 60\n",
+    ),
+    (
+        65,
+        0x0001_00FE,
+        TEN_ROUNDS,
+        Status::ModuleRefused,
+        "module refused: M7 at word 65\n",
+    ),
+    (
+        60,
+        0x0005_0082,
+        TEN_ROUNDS,
+        Status::ModuleRefused,
+        "module refused: M0 at word 5\n",
+    ),
+    (
+        67,
+        0,
+        "spvdbg-setup 3\nrounds 10\n",
+        Status::SetupRefused,
+        "setup refused: S1 at line 1\n",
+    ),
+    (
+        67,
+        0,
+        "",
+        Status::SetupRefused,
+        "setup refused: S1 at line 1\n",
+    ),
+    (
+        0,
+        0,
+        "rounds 10\n",
+        Status::SetupRefused,
+        "setup refused: S1 at line 1\n",
+    ),
 ];
 
 /// Words that are no command line, or name a file that is not there.
@@ -58,7 +122,11 @@ const WRONG_WORDS: [(&str, Status, &str); 8] = [
     ("spvdbg", Status::Usage, USAGE),
     ("spvdbg debug", Status::Usage, USAGE),
     ("spvdbg debug module.spv", Status::Usage, USAGE),
-    ("spvdbg debug module.spv module.setup more", Status::Usage, USAGE),
+    (
+        "spvdbg debug module.spv module.setup more",
+        Status::Usage,
+        USAGE,
+    ),
     ("spvdbg Debug module.spv module.setup", Status::Usage, USAGE),
     ("spvdbg debug nothing module.setup", Status::FileFault, ""),
     ("spvdbg debug module.spv nothing", Status::FileFault, ""),
@@ -102,10 +170,16 @@ fn commands_are_answered(rt: HostRuntime) -> Result<(), Fail> {
         word.reverse();
     }
     let (_, bytes) = outcome(alloc, DEBUG, swapped, TEN_ROUNDS, b"goto 0\n")?;
-    assert_eq!(rt; bytes.as_slice(), b"stop: done, start\n@0 i=0 %7 word 53\n".as_slice());
+    assert_eq!(rt;
+        bytes.as_slice(),
+        b"stop: done, start\n@0 i=0 %7 word 53\n".as_slice()
+    );
     let two_rounds = "spvdbg-setup 1\nrounds 2";
     let (_, bytes) = outcome(alloc, DEBUG, sum(alloc)?, two_rounds, b"goto 3\n")?;
-    assert_eq!(rt; bytes.as_slice(), b"stop: schedule ended\n@2 i=0 %7 word 60\n".as_slice());
+    assert_eq!(rt;
+        bytes.as_slice(),
+        b"stop: schedule ended\n@2 i=0 %7 word 60\n".as_slice()
+    );
     Ok(())
 }
 
@@ -123,7 +197,11 @@ fn pairs_and_words_are_refused(rt: HostRuntime) -> Result<(), Fail> {
         module.truncate(length);
         let (status, bytes) = outcome(alloc, DEBUG, module, TEN_ROUNDS, b"goto 1\n")?;
         assert_eq!(rt; status, Status::ModuleRefused, "{length}");
-        assert_eq!(rt; bytes.as_slice(), b"module refused: M1 at word 0\n".as_slice(), "{length}");
+        assert_eq!(rt;
+            bytes.as_slice(),
+            b"module refused: M1 at word 0\n".as_slice(),
+            "{length}"
+        );
     }
     for (line, due, written) in WRONG_WORDS {
         let (status, bytes) = outcome(alloc, line, sum(alloc)?, TEN_ROUNDS, b"goto 1\n")?;
