@@ -4,3 +4,4 @@ pub mod Cuts
 pub mod Runs
 pub mod Headlines
 pub mod Splits
+pub mod Openings

@@ -86,7 +86,6 @@ fn fit(alloc: Global, module: Module, setup: Setup) -> Result<Group, Fail<Openin
 }
 
 /// Opens a pair: the setup's text is looked at first, and then the module. The group stands at the first position.
-#[tactic(auto, unfolding(crate::specs::Opening::opening))]
 pub fn open(alloc: Global, binary: Vec<u8>, setup: Vec<u8>) -> Result<Group, Fail<OpeningRefusal>>
     ensures opening { Answers (opening binary.items setup.items) result }
     ensures start { IfOk result (λ group. group.position ≡ 0) }
