@@ -23,7 +23,7 @@ use Rattle.spv_session.proofs.Entries.{entry_below}
 
 -- ---- the end
 
-end_is : (p : Program) (es : List ℕ) → IsLeast (has_cause p es) 0 (length es) (end_of p es)
+pub end_is : (p : Program) (es : List ℕ) → IsLeast (has_cause p es) 0 (length es) (end_of p es)
 end_is p es = least_is (has_cause p es) 0 (length es) (omega arith)
 
 some_cause : (b c : Bool) (x y z : EndCause) → is_some (cond b (Some x) (cond c (Some y) (Some z))) ≡ true

@@ -65,6 +65,7 @@ impl Group {
         self.run.position
     }
 
+    /// The module that runs.
     pub fn module(&self) -> &Module
         ensures { result.now ≡ self.now.program }
     {

@@ -13,6 +13,7 @@ mod setup;
 mod tests;
 mod texts;
 
+pub use ends::{end_is_least, entries_take_turns};
 pub use group::Group;
 pub use motion::{Back, Forth};
 pub use session::{Next, Session};
