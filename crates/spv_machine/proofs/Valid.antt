@@ -1,14 +1,15 @@
 -- The first form is valid.
-use Rattle.std.proofs.Common.{◌≡◌, ℕ, true, List, [], ◌∷◌, refl, sym, subst, arith, Option, Some, None, IsSome, find, unwrap_or, nat_lt}
-use Rattle.std.specs.Prelude.{◌==◌, ◌&&◌, option_map}
+use Rattle.std.proofs.Common.{◌≡◌, ℕ, Bool, true, false, cond, ap, ◌∙◌, Ok, Err, List, [], ◌∷◌, refl, sym, subst, arith, Option, Some, None, IsSome, find, unwrap_or, nat_lt}
+use Rattle.std.specs.Prelude.{◌==◌, ◌&&◌, ◌↔◌, option_map}
+use Rattle.spv_base.specs.declared.causes.Refusal.{Refusal}
 use Rattle.spv_base.specs.declared.instructions.Inst.{Inst}
 use Rattle.spv_machine.specs.declared.opcodes.Opcode.{Opcode}
 use Rattle.spv_machine.specs.declared.opcodes.Opcode.TheVariants.{Capability, Function}
 use Rattle.spv_machine.specs.Opcode.{opcode_of}
 use Rattle.spv_machine.specs.Action.{action_of, is_executable}
 use Rattle.spv_machine.specs.Form as form
-use Rattle.spv_machine.specs.Form.{is_first_form, is_capability, is_ordered, is_ordered_after, are_rows, names_of, are_linked}
-use Rattle.spv_machine.specs.Program.{is_next, inst_at, next_of, first_of, is_function, is_function_opcode}
+use Rattle.spv_machine.specs.Form.{IsFirstForm, is_first_form, is_capability, is_ordered, is_ordered_after, are_rows, names_of, are_linked}
+use Rattle.spv_machine.specs.Program.{Program, program_of, is_next, inst_at, next_of, first_of, is_function, is_function_opcode}
 use Rattle.spv_machine.specs.Valid.{IsValid, IsExecutable, GoesOn}
 use Rattle.spv_machine.proofs.Ordered.{both, runs, goes_on_runs, find_more, found_holds, IsBehind, found_by_word, has_next, has_next_at}
 use Rattle.spv_machine.proofs.Linked.{stores_value}
@@ -53,3 +54,25 @@ valid (d ∷ ds) bound h =
       next = λ word on. next_after d ds word order.1 on;
       stores = λ word e pointer object at is. stores_value bound (λ (x : Inst). x.word == word) [] (d ∷ ds) e pointer object parts.1 at is;
     }
+
+-- ---- the first form as a relation
+
+form_of : (insts : List Inst) (bound : ℕ) → is_first_form insts bound ≡ true → IsFirstForm insts bound
+form_of insts bound h =
+    let parts = both (is_ordered insts && are_rows (names_of insts) insts) (are_linked bound [] insts) h in
+    let front = both (is_ordered insts) (are_rows (names_of insts) insts) parts.0 in
+    record { ordered = front.0; rows = front.1; linked = parts.1 }
+
+is_form : (insts : List Inst) (bound : ℕ) → IsFirstForm insts bound → is_first_form insts bound ≡ true
+is_form insts bound h = rw (h.ordered, h.rows, h.linked) refl
+
+chosen : (b : Bool) (x p : Program) (r : Refusal) → cond b (Ok x) (Err r) ≡ Ok p → (b ≡ true) × (x ≡ p)
+chosen true x p r e = (refl, cc)
+chosen false x p r e = absurd (cc)
+
+pub form_law : (insts : List Inst) (bound : ℕ) (p : Program) → (program_of insts bound ≡ Ok p) ↔ (IsFirstForm insts bound × (p.insts ≡ insts))
+unfolding program_of
+form_law insts bound p = (
+  λ e. let r = chosen (is_first_form insts bound) (record { insts = insts }) p (record { code = 0; word = 5 }) e in (form_of insts bound r.0, ap (λ (q : Program). q.insts) (sym r.1)),
+  λ h. ap (λ b. cond b (Ok (record { insts = insts })) (Err (record { code = 0; word = 5 }))) (is_form insts bound h.0) ∙ ap Ok (λ i. record { insts = sym h.1 i }),
+)

@@ -16,3 +16,6 @@ pub use execution::{Did, StepErr, fault_of, step};
 pub use frames::{Frame, Stack};
 pub use module::{Module, first};
 pub use world::World;
+
+#[cfg(test)]
+mod tests;

@@ -1,5 +1,5 @@
 //! Accepted modules.
-ghost use Rattle.std.specs.Prelude.{◌≡◌, ◌==◌, find, option_copied, length};
+ghost use Rattle.std.specs.Prelude.{◌↔◌, ℕ, List, Ok, ◌≡◌, ◌==◌, find, option_copied, length};
 ghost use Rattle.spv_base.specs.Answers.{Answers};
 ghost use Rattle.spv_base.specs.declared.instructions.Inst.{Inst as InstType};
 ghost use Rattle.spv_machine.specs.Program as program;
@@ -54,8 +54,8 @@ fn is_function(inst: &Inst, id: u32) -> bool
     matches!(opcode_of(inst.op), Opcode::Function) && inst.id == id
 }
 
-/// The module of these instructions, where they are in the first form under this Bound; else M0, at the first
-/// instruction's word.
+/// The module of these instructions, where they are in the first form under this Bound; else refusal 0, at word 5, where
+/// the first instruction stands.
 pub fn first(alloc: Global, insts: Vec<Inst>, bound: u32) -> Result<Module, Fail<Refusal>>
     ensures { Answers (program.program_of insts.items bound) result }
 {
@@ -65,6 +65,11 @@ pub fn first(alloc: Global, insts: Vec<Inst>, bound: u32) -> Result<Module, Fail
     let entry = entry_of(insts.as_slice());
     Ok(Module { insts, entry })
 }
+
+/// A list of instructions is a program exactly where it is in the first form.
+pub fn first_form()
+    ensures { (insts : List InstType) (bound : ℕ) (p : program.Program) → (program.program_of insts bound ≡ Ok p) ↔ (form.IsFirstForm insts bound × (p.insts ≡ insts)) }
+{}
 
 impl Module {
     /// The instructions.
