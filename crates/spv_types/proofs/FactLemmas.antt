@@ -5,7 +5,7 @@ use Rattle.std.specs.Ordering.{is_eq}
 use Rattle.std.specs.Option.{option_or, is_some}
 use Rattle.std.proofs.lemmas.List.{take_more}
 use Rattle.spv_base.specs.declared.instructions.Inst.{Inst}
-use Rattle.spv_types.specs.Facts.{constant_type, decoration, is_constant, member_offset, pair_cmp}
+use Rattle.spv_types.specs.Facts.{constant_type, decoration, definition, is_constant, member_offset, pair_cmp}
 use Rattle.spv_types.specs.Operands.{id_at, lit_at}
 use Rattle.spv_types.specs.declared.opcodes.TheConstants.{DECORATE, MEMBER_DECORATE, OFFSET}
 use Rattle.spv_types.proofs.TableLemmas.{same_key}
@@ -112,3 +112,29 @@ constant_known i f h id = go (is_constant i.op) (i.id == id) refl (f id) refl
     go false b e None g = refl
     go true false e None g = refl
     go true true e None g = let s : i.id ≡ id = grind arith in let m : is_some (f i.id) ≡ false = rw (s, g) refl in cc
+
+pub definition_none : (id : ℕ) → None ≡ definition [] id
+unfolding definition
+definition_none id = refl
+
+definition_push : (xs : List Inst) (i : Inst) (id : ℕ) → definition (xs ++ i ∷ []) id ≡ option_or (definition xs id) (definition (i ∷ []) id)
+unfolding definition
+definition_push [] i id = refl
+definition_push (x ∷ xs) i id = step _ _ _ _ _ (definition_push xs i id)
+
+pub definition_next : (xs : List Inst) (n : ℕ) (x : Inst) → n < length xs → x ≡ get_or xs n x → (o : Option ℕ) (id : ℕ) → o ≡ definition (take n xs) id → option_or o (definition (x ∷ []) id) ≡ definition (take (n + 1) xs) id
+definition_next xs n x l e o id h = rw (h, take_more xs n x l, ← e) (sym (definition_push (take n xs) x id))
+
+pub definition_here : (i : Inst) (o : Option ℕ) (id : ℕ) → option_or o (if i.id == id then Some i.ty else None) ≡ option_or o (definition (i ∷ []) id)
+unfolding definition
+definition_here i o id = refl
+
+-- an id that is defined already stays as it is
+pub definition_known : (i : Inst) (f : ℕ → Option ℕ) → is_some (f i.id) ≡ true → (id : ℕ) → f id ≡ option_or (f id) (definition (i ∷ []) id)
+unfolding definition
+definition_known i f h id = go (i.id == id) refl (f id) refl
+  where
+    go : (b : Bool) → (i.id == id) ≡ b → (o : Option ℕ) → f id ≡ o → o ≡ option_or o (if b then Some i.ty else None)
+    go b e (Some x) g = refl
+    go false e None g = refl
+    go true e None g = let s : i.id ≡ id = grind arith in let m : is_some (f i.id) ≡ false = rw (s, g) refl in cc

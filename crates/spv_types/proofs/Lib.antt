@@ -8,3 +8,5 @@ pub mod FactLemmas
 pub mod TypingLemmas
 pub mod RuleLemmas
 pub mod BuildLemmas
+pub mod LayoutLemmas
+pub mod BlockLemmas

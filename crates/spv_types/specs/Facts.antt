@@ -26,6 +26,11 @@ unfoldable pub constant_type : List Inst → ℕ → Option ℕ
 constant_type [] id = None
 constant_type (i ∷ is) id = if is_constant i.op && i.id == id then Some i.ty else constant_type is id
 
+-- the type that the first instruction with an id as its result has there, or 0 where it has none
+unfoldable pub definition : List Inst → ℕ → Option ℕ
+definition [] id = None
+definition (i ∷ is) id = if i.id == id then Some i.ty else definition is id
+
 -- the order of pairs of numbers
 abbrev pub pair_cmp : ℕ × ℕ → ℕ × ℕ → Ordering
 pair_cmp p q = ordering_then (nat_cmp p.0 q.0) (nat_cmp p.1 q.1)

@@ -8,3 +8,7 @@ pub mod Facts
 pub mod Typing
 pub mod Rules
 pub mod Build
+pub mod Layout
+pub mod Measured
+pub mod Blocks
+pub mod Shapes

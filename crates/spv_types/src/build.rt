@@ -15,7 +15,7 @@ use std::alloc::Global;
 const TYPE_CODE: u8 = 12;
 
 /// The number of instructions before the functions.
-fn functions_start(insts: &[Inst]) -> usize
+pub fn functions_start(insts: &[Inst]) -> usize
     ensures within { result ≤ length insts.now }
     ensures before { take result insts.now ≡ before_functions insts.now }
 {

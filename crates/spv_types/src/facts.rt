@@ -1,9 +1,9 @@
 //! Decorations, and the types of constants.
 ghost use Rattle.std.specs.Prelude.{◌≡◌, ℕ, [], ◌∷◌, IfOk, OnOk, if◌then◌else◌, ◌&&◌, ◌==◌, Some, None};
-ghost use Rattle.std.specs.Option.{option_or};
+ghost use Rattle.std.specs.Option.{is_some, option_or};
 ghost use Rattle.std.specs.BTreeMap.{get};
 ghost use Rattle.std.specs.Ordering.{nat_cmp};
-ghost use Rattle.spv_types.specs.Facts.{constant_type, decoration, is_constant, member_offset, pair_cmp};
+ghost use Rattle.spv_types.specs.Facts.{constant_type, decoration, definition, is_constant, member_offset, pair_cmp};
 
 use crate::opcodes::{
     CONSTANT_COMPOSITE, CONSTANT_NULL, CONSTANT_TRUE, DECORATE, MEMBER_DECORATE, OFFSET,
@@ -22,6 +22,7 @@ pub struct Facts<'a> {
     decorations: BTreeMap<(u32, usize), u32>,
     offsets: BTreeMap<(u32, usize), u32>,
     constants: BTreeMap<u32, u32>,
+    definitions: BTreeMap<u32, u32>,
 }
 
 impl<'a> Model for Facts<'a> {
@@ -29,7 +30,7 @@ impl<'a> Model for Facts<'a> {
     ghost use Rattle.std.specs.BTreeMap.{get};
     ghost use Rattle.std.specs.Ordering.{nat_cmp};
     ghost use Rattle.spv_base.specs.declared.instructions.Inst.{Inst};
-    ghost use Rattle.spv_types.specs.Facts.{constant_type, decoration, member_offset, pair_cmp};
+    ghost use Rattle.spv_types.specs.Facts.{constant_type, decoration, definition, member_offset, pair_cmp};
 
     ghost Value = { List Inst };
 
@@ -39,6 +40,7 @@ impl<'a> Model for Facts<'a> {
       decorations_are : (id kind : ℕ) → get pair_cmp f.decorations (id, kind) ≡ decoration f.insts.now id kind;
       offsets_are : (id member : ℕ) → get pair_cmp f.offsets (id, member) ≡ member_offset f.insts.now id member;
       constants_are : (id : ℕ) → get nat_cmp f.constants id ≡ constant_type f.insts.now id;
+      definitions_are : (id : ℕ) → get nat_cmp f.definitions id ≡ definition f.insts.now id;
     } };
 }
 
@@ -52,7 +54,7 @@ pub fn is_constant(op: u16) -> bool
 }
 
 /// Puts a value under a key that has none yet.
-fn put_first(
+pub fn put_first(
     map: &mut BTreeMap<(u32, usize), u32>,
     key: (u32, usize),
     value: u32,
@@ -112,6 +114,17 @@ fn note_constant(map: &mut BTreeMap<u32, u32>, inst: &Inst) -> Result<(), NoMemo
     Ok(())
 }
 
+/// Adds the definition of an id.
+fn note_definition(map: &mut BTreeMap<u32, u32>, inst: &Inst) -> Result<(), NoMemory>
+    ensures { OnOk result ((id : ℕ) → get nat_cmp map.new id ≡ option_or (get nat_cmp map.old id) (definition (inst.now ∷ []) id)) }
+{
+    if map.contains_key(&inst.id) {
+        return Ok(());
+    }
+    map.insert(inst.id, inst.ty)?;
+    Ok(())
+}
+
 /// The decorations of ids.
 fn decorations(alloc: Global, insts: &[Inst]) -> Result<BTreeMap<(u32, usize), u32>, NoMemory>
     ensures { IfOk result (λ map. (id kind : ℕ) → get pair_cmp map (id, kind) ≡ decoration insts.now id kind) }
@@ -145,6 +158,17 @@ fn constants(alloc: Global, insts: &[Inst]) -> Result<BTreeMap<u32, u32>, NoMemo
     Ok(map)
 }
 
+/// The definitions of ids.
+fn definitions(alloc: Global, insts: &[Inst]) -> Result<BTreeMap<u32, u32>, NoMemory>
+    ensures { IfOk result (λ map. (id : ℕ) → get nat_cmp map id ≡ definition insts.now id) }
+{
+    let mut map = BTreeMap::new(alloc);
+    for inst in insts {
+        note_definition(&mut map, inst)?;
+    }
+    Ok(map)
+}
+
 impl<'a> Facts<'a> {
     /// What some instructions say.
     pub fn of(alloc: Global, insts: &'a [Inst]) -> Result<Facts<'a>, NoMemory>
@@ -155,6 +179,7 @@ impl<'a> Facts<'a> {
             decorations: decorations(alloc, insts)?,
             offsets: offsets(alloc, insts)?,
             constants: constants(alloc, insts)?,
+            definitions: definitions(alloc, insts)?,
         })
     }
 
@@ -177,5 +202,12 @@ impl<'a> Facts<'a> {
         ensures { result ≡ constant_type self.now id }
     {
         self.constants.get(&id).copied()
+    }
+
+    /// Whether an instruction has this id as its result.
+    pub fn is_defined(&self, id: u32) -> bool
+        ensures { result ≡ is_some (definition self.now id) }
+    {
+        self.definitions.contains_key(&id)
     }
 }

@@ -2,15 +2,18 @@
 //! module variables and blocks keep (SPIR-V 1.6 sections 2.16.1, 2.16.2 and 3.42.6).
 #![tactic(auto)]
 
+mod blocks;
 mod build;
 pub mod counts;
 mod facts;
 pub mod forms;
+mod layout;
 pub mod leaves;
 pub mod opcodes;
 mod operands;
 pub mod places;
 mod rules;
+mod spans;
 pub mod table;
 #[cfg(test)]
 mod tests;

@@ -78,7 +78,7 @@ impl TypeTable {
         }
     }
 
-    fn is_runtime(&self, ty: u32) -> bool
+    pub(crate) fn is_runtime(&self, ty: u32) -> bool
         ensures { result ≡ is_runtime (form_of self.now ty) }
     {
         matches!(self.form(ty), Some(Form::Runtime { .. }))

@@ -1,7 +1,7 @@
 //! The table of the types of a module.
 ghost use Rattle.std.specs.Prelude.{◌≡◌, ◌↔◌, ◌<◌, ◌≤◌, ℕ, List, [], ◌∷◌, ◌++◌, length, Some, None, IfOk, OnOk, OnErr, MatchOption, IsTrue, slice_get, option_map, option_copied};
 ghost use Rattle.spv_types.specs.Typing.{with_form};
-ghost use Rattle.spv_types.specs.Types.{IsUnset, form_of, found_among, number_of, with_length};
+ghost use Rattle.spv_types.specs.Types.{IsUnset, form_at, form_of, found_among, number_of, with_length};
 
 use crate::forms::Form;
 use spv_base::NoMemory;
@@ -127,5 +127,13 @@ impl TypeTable {
     {
         let n = self.number(id)?;
         Some(&self.entries[n].1)
+    }
+
+    /// The form of the type with a number.
+    pub(crate) fn form_at(&self, number: usize) -> &Form
+        requires { number < length self.now }
+        ensures { result.now ≡ form_at self.now number }
+    {
+        &self.entries[number].1
     }
 }

@@ -1,8 +1,8 @@
 //! Types and blocks, built from instructions.
 use crate::opcodes::{
-    ARRAY_STRIDE, BLOCK, CONSTANT, DECORATE, FUNCTION, MEMBER_DECORATE, OFFSET, TYPE_ARRAY,
-    TYPE_BOOL, TYPE_INT, TYPE_POINTER, TYPE_RUNTIME_ARRAY, TYPE_STRUCT, TYPE_VECTOR, TYPE_VOID,
-    UNDEF, VARIABLE,
+    ARRAY_STRIDE, BINDING, BLOCK, BUFFER_BLOCK, CONSTANT, DECORATE, DESCRIPTOR_SET, FUNCTION,
+    MEMBER_DECORATE, OFFSET, TYPE_ARRAY, TYPE_BOOL, TYPE_INT, TYPE_POINTER, TYPE_RUNTIME_ARRAY,
+    TYPE_STRUCT, TYPE_VECTOR, TYPE_VOID, UNDEF, VARIABLE,
 };
 use crate::table::TypeTable;
 use spv_base::{Fail as Failure, Inst, Items, NoMemory, Operand, Refusal};
@@ -180,6 +180,99 @@ fn each_rule_of_types_broken_once(rt: HostRuntime) -> Result<(), Fail> {
     for (op, ty, words) in broken {
         let insts = with_one(alloc, op, ty, words)?;
         assert!(rt; TypeTable::build(alloc, insts.as_slice()).err() == Some(refusal));
+    }
+    Ok(())
+}
+
+/// A module with two buffers of one block, an element of its array or runtime array 8 bytes long, and one decoration changed.
+fn with_blocks(
+    alloc: Global,
+    array: u16,
+    changed: usize,
+    words: &[Word],
+) -> Result<Vec<Inst>, NoMemory> {
+    let decorations: [(u16, &[Word]); 8] = [
+        (DECORATE, &[Id(4), Lit(BLOCK)]),
+        (MEMBER_DECORATE, &[Id(4), Lit(0), Lit(OFFSET), Lit(0)]),
+        (MEMBER_DECORATE, &[Id(4), Lit(1), Lit(OFFSET), Lit(16)]),
+        (DECORATE, &[Id(3), Lit(ARRAY_STRIDE), Lit(16)]),
+        (DECORATE, &[Id(6), Lit(DESCRIPTOR_SET), Lit(0)]),
+        (DECORATE, &[Id(6), Lit(BINDING), Lit(0)]),
+        (DECORATE, &[Id(7), Lit(DESCRIPTOR_SET), Lit(0)]),
+        (DECORATE, &[Id(7), Lit(BINDING), Lit(1)]),
+    ];
+    let mut insts = Vec::new(alloc);
+    for (n, (op, given)) in decorations.iter().enumerate() {
+        add(
+            alloc,
+            &mut insts,
+            *op,
+            0,
+            0,
+            if n == changed { words } else { *given },
+        )?;
+    }
+    add(alloc, &mut insts, TYPE_INT, 0, 1, &[Lit(32), Lit(0)])?;
+    add(alloc, &mut insts, TYPE_VECTOR, 0, 2, &[Id(1), Lit(2)])?;
+    add(alloc, &mut insts, array, 0, 3, &[Id(2), Id(9)])?;
+    add(alloc, &mut insts, TYPE_STRUCT, 0, 4, &[Id(1), Id(3)])?;
+    add(alloc, &mut insts, TYPE_POINTER, 0, 5, &[Lit(12), Id(4)])?;
+    add(alloc, &mut insts, VARIABLE, 5, 6, &[Lit(12)])?;
+    add(alloc, &mut insts, VARIABLE, 5, 7, &[Lit(12)])?;
+    Ok(insts)
+}
+
+#[test]
+fn each_rule_of_layout_broken_once(rt: HostRuntime) -> Result<(), Fail> {
+    let alloc = rt.alloc();
+    // which array, which decoration is changed, to what, and the word that is refused
+    let rows: [(u16, usize, &[Word], Option<u32>); 17] = [
+        (TYPE_ARRAY, 8, &[], None),
+        (TYPE_ARRAY, 2, &[Id(4), Lit(1), Lit(OFFSET), Lit(4)], None),
+        (TYPE_ARRAY, 3, &[Id(3), Lit(ARRAY_STRIDE), Lit(8)], None),
+        (TYPE_ARRAY, 6, &[Id(7), Lit(DESCRIPTOR_SET), Lit(1)], None),
+        (TYPE_ARRAY, 1, &[Id(4), Lit(0), Lit(24), Lit(0)], Some(13)),
+        (
+            TYPE_ARRAY,
+            2,
+            &[Id(4), Lit(1), Lit(OFFSET), Lit(3)],
+            Some(13),
+        ),
+        (
+            TYPE_ARRAY,
+            1,
+            &[Id(4), Lit(0), Lit(OFFSET), Lit(63)],
+            Some(13),
+        ),
+        (TYPE_ARRAY, 1, &[Id(4), Lit(0), Lit(OFFSET), Lit(64)], None),
+        (TYPE_ARRAY, 3, &[Id(3), Lit(ARRAY_STRIDE), Lit(7)], Some(13)),
+        (TYPE_ARRAY, 3, &[Id(3), Lit(ARRAY_STRIDE), Lit(0)], Some(13)),
+        (TYPE_ARRAY, 3, &[Id(3), Lit(24)], Some(13)),
+        (TYPE_ARRAY, 5, &[Id(6), Lit(24)], Some(13)),
+        (TYPE_ARRAY, 7, &[Id(7), Lit(BINDING), Lit(0)], Some(14)),
+        (TYPE_ARRAY, 6, &[Id(7), Lit(BUFFER_BLOCK)], Some(6)),
+        (TYPE_ARRAY, 6, &[Id(70), Lit(BUFFER_BLOCK)], Some(14)),
+        (TYPE_RUNTIME_ARRAY, 8, &[], None),
+        (
+            TYPE_RUNTIME_ARRAY,
+            1,
+            &[Id(4), Lit(0), Lit(OFFSET), Lit(64)],
+            Some(13),
+        ),
+    ];
+    for (array, changed, words, refused) in rows {
+        let insts = with_blocks(alloc, array, changed, words)?;
+        let Ok(mut table) = TypeTable::build(alloc, insts.as_slice()) else {
+            return Err(Fail::new("refused"));
+        };
+        if table.is_unset(3) {
+            table.set_length(3, 3);
+        }
+        let answer = table.check_layout(alloc, insts.as_slice());
+        match refused {
+            Some(word) => assert!(rt; answer == Err(Failure::Refused(Refusal { code: 13, word }))),
+            None => assert!(rt; answer == Ok(())),
+        }
     }
     Ok(())
 }

@@ -1,0 +1,82 @@
+-- Sizes, spans and what is laid out, one type or member after another.
+use Rattle.std.proofs.Common.{◌≡◌, ◌∙◌, ℕ, zero, suc, ◌+◌, ◌<◌, ◌≤◌, ◌-◌, Bool, true, false, List, [], ◌∷◌, ◌++◌, length, length-drop, append-nil, take-append-drop, map, get_or, take, drop, drop-cons, drop_of_length-le, add-one, Some, None, refl, sym, ap, arith}
+use Rattle.std.specs.Prelude.{◌&&◌, max, unwrap_or}
+use Rattle.std.specs.Option.{is_some}
+use Rattle.std.specs.List.{list_all}
+use Rattle.spv_types.specs.declared.forms.Form.{Form}
+use Rattle.spv_types.specs.declared.forms.Form.TheVariants.{Void}
+use Rattle.spv_types.specs.declared.forms.Member.{Member}
+use Rattle.spv_types.specs.declared.spans.Span.{Span}
+use Rattle.spv_types.specs.Types.{Types, form_at, in_first, number_of}
+use Rattle.spv_types.specs.Cuts.{cut}
+use Rattle.spv_types.specs.Layout.{are_apart, greatest_end, laid_among, laid_step, members_laid, none_overlap, size_among, size_step}
+use Rattle.spv_types.specs.Measured.{AreLaid, AreSizes}
+use Rattle.spv_types.proofs.TypeLemmas.{in_first-found, in_first-missing, in_first-unknown, number_form}
+
+-- what the first types give for an id of one of them, by its number
+module _ {A : Type 0} (none : A) (step : (ℕ → A) → Form → A) where
+  value_at : (ts : Types) (limit n id : ℕ) → number_of ts id ≡ Some n → n < limit → in_first none step ts limit id ≡ step (in_first none step ts n) (form_at ts n)
+  value_at ts limit n id h l = in_first-found none step ts limit n id h l ∙ rw (number_form ts id n (0, Void) h) refl
+
+pub size_known : (ts : Types) (sizes : List ℕ) (n id : ℕ) → AreSizes ts sizes → number_of ts id ≡ Some n → n < length sizes → get_or sizes n 0 ≡ size_among ts (length sizes) id
+unfolding size_among
+size_known ts sizes n id a h l = a.sizes_are n l ∙ sym (value_at 0 size_step ts (length sizes) n id h l)
+
+pub size_missing : (ts : Types) (limit n id : ℕ) → number_of ts id ≡ Some n → limit ≤ n → 0 ≡ size_among ts limit id
+unfolding size_among
+size_missing ts limit n id h l = sym (in_first-missing 0 size_step ts limit n id h l)
+
+pub size_unknown : (ts : Types) (limit id : ℕ) → number_of ts id ≡ None → 0 ≡ size_among ts limit id
+unfolding size_among
+size_unknown ts limit id h = sym (in_first-unknown 0 size_step ts limit id h)
+
+pub laid_known : (ts : Types) (laid : List Bool) (n id : ℕ) → AreLaid ts laid → number_of ts id ≡ Some n → n < length laid → get_or laid n false ≡ laid_among ts (length laid) id
+unfolding laid_among
+laid_known ts laid n id a h l = a.laid_are n l ∙ sym (value_at false (laid_step ts) ts (length laid) n id h l)
+
+pub laid_missing : (ts : Types) (limit n id : ℕ) → number_of ts id ≡ Some n → limit ≤ n → false ≡ laid_among ts limit id
+unfolding laid_among
+laid_missing ts limit n id h l = sym (in_first-missing false (laid_step ts) ts limit n id h l)
+
+pub laid_unknown : (ts : Types) (limit id : ℕ) → number_of ts id ≡ None → false ≡ laid_among ts limit id
+unfolding laid_among
+laid_unknown ts limit id h = sym (in_first-unknown false (laid_step ts) ts limit id h)
+
+pub no_end : (size : ℕ → ℕ) → 0 ≡ greatest_end size []
+unfolding greatest_end
+no_end size = refl
+
+pub greatest_next : (size : ℕ → ℕ) (ms : List Member) (k : ℕ) (d : Member) → k < length ms → max (greatest_end size (take k ms)) (cut (unwrap_or (get_or ms k d).offset 0 + size (get_or ms k d).ty)) ≡ greatest_end size (take (k + 1) ms)
+unfolding greatest_end
+greatest_next size [] k d l = absurd (omega arith)
+greatest_next size (m ∷ ms) zero d l = omega arith
+greatest_next size (m ∷ ms) (suc k) d l =
+    let z : suc k + 1 ≡ suc (k + 1) = omega arith in
+    rw (z, ← greatest_next size ms k d (omega arith)) (omega arith)
+
+pub overlap_none : true ≡ none_overlap []
+unfolding none_overlap
+overlap_none = refl
+
+pub overlap_at : (ss : List Span) (n : ℕ) (d : Span) → n < length ss → none_overlap (drop n ss) ≡ (list_all (are_apart (get_or ss n d)) (drop (n + 1) ss) && none_overlap (drop (n + 1) ss))
+unfolding none_overlap
+overlap_at ss n d l = rw (drop-cons ss n d l, add-one) refl
+
+pub no_members_laid : (laid : ℕ → Bool) → true ≡ members_laid laid []
+unfolding members_laid
+no_members_laid laid = refl
+
+pub members_laid_at : (laid : ℕ → Bool) (ms : List Member) (n : ℕ) (d : Member) → n < length ms → members_laid laid (drop n ms) ≡ ((is_some (get_or ms n d).offset && laid (get_or ms n d).ty) && members_laid laid (drop (n + 1) ms))
+unfolding members_laid
+members_laid_at laid ms n d l = rw (drop-cons ms n d l, add-one) refl
+
+take_all : {A : Type 0} (xs : List A) (j : ℕ) → length xs ≤ j → take j xs ≡ xs
+take_all xs j l = sym (append-nil (take j xs)) ∙ ap (λ (ys : List _). take j xs ++ ys) (sym (drop_of_length-le xs l)) ∙ take-append-drop j xs
+
+pub tail_is : {A : Type 0} (ss : List A) (k : ℕ) → take (length ss - k) (drop k ss) ≡ drop k ss
+tail_is ss k = take_all (drop k ss) (length ss - k) (omega (arith, length-drop k ss))
+
+pub map_next : (f : Member → Span) (ms : List Member) (k : ℕ) (d : Member) → k < length ms → map f (take (k + 1) ms) ≡ map f (take k ms) ++ f (get_or ms k d) ∷ []
+map_next f [] k d l = absurd (omega arith)
+map_next f (m ∷ ms) zero d l = refl
+map_next f (m ∷ ms) (suc k) d l = let z : suc k + 1 ≡ suc (k + 1) = omega arith in rw (z, map_next f ms k d (omega arith)) refl

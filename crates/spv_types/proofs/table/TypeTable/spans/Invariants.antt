@@ -1,0 +1,7 @@
+use Rattle.std.proofs.Common.{◌≡◌, map, take}
+use Rattle.spv_types.specs.Layout.{span_of}
+use Rattle.spv_types.proofs.table.TypeTable.spans.Given as goal
+
+-- the spans so far
+abbrev pub invariant-loop-member : goal.invariant-loop-member
+invariant-loop-member l = l.spans.items ≡ map (span_of l.self) (take l.member-index l.members)

@@ -1,0 +1,101 @@
+-- The rules of decorations and of the blocks that variables point to (SPIR-V 1.6 sections 2.16.2 and 3.20, and this
+-- project's profile).
+use Rattle.std.specs.Prelude.{◌≡◌, ℕ, ◌==◌, ◌&&◌, ◌||◌, not, if◌then◌else◌, Bool, true, false, List, [], ◌∷◌, ◌++◌, length, drop, Option, Some, None, Result}
+use Rattle.std.specs.List.{list_any}
+use Rattle.std.specs.Option.{is_some}
+use Rattle.spv_base.specs.declared.instructions.Inst.{Inst}
+use Rattle.spv_base.specs.declared.causes.Refusal.{Refusal}
+use Rattle.spv_types.specs.declared.forms.Form.{Form}
+use Rattle.spv_types.specs.declared.forms.Form.TheVariants.{Void, Bool as Boolean, Int, Vector, Array, Runtime, Struct, Pointer, Function}
+use Rattle.spv_types.specs.declared.opcodes.TheConstants.{VARIABLE, DECORATE, MEMBER_DECORATE, BUFFER_BLOCK, BINDING, DESCRIPTOR_SET, UNIFORM, PUSH_CONSTANT, STORAGE_BUFFER}
+use Rattle.spv_types.specs.Types.{Types, form_of}
+use Rattle.spv_types.specs.Operands.{id_at, lit_at}
+use Rattle.spv_types.specs.Facts.{decoration, definition}
+use Rattle.spv_types.specs.Typing.{before_functions}
+use Rattle.spv_types.specs.Build.{unless_refused}
+use Rattle.spv_types.specs.Layout.{is_laid}
+
+-- the code of the rules of layout
+abbrev pub layout_code : ℕ
+layout_code = 13
+
+abbrev pub is_buffer_class : ℕ → Bool
+is_buffer_class class = class == UNIFORM || class == STORAGE_BUFFER
+
+abbrev pub is_block_class : ℕ → Bool
+is_block_class class = is_buffer_class class || class == PUSH_CONSTANT
+
+-- a variable of a class whose variables point to blocks
+abbrev pub is_block_variable : Inst → Bool
+is_block_variable i = i.op == VARIABLE && is_block_class (lit_at i.operands 0)
+
+-- the target of a pointer type, or 0
+abbrev pub target_of : Option Form → ℕ
+target_of None = 0
+target_of (Some Void) = 0
+target_of (Some Boolean) = 0
+target_of (Some (Int width sign)) = 0
+target_of (Some (Vector component count)) = 0
+target_of (Some (Array element length stride)) = 0
+target_of (Some (Runtime element stride)) = 0
+target_of (Some (Struct members block)) = 0
+target_of (Some (Pointer class target)) = target
+target_of (Some (Function returns parameters)) = 0
+
+abbrev pub is_value : ℕ → Option ℕ → Bool
+is_value n None = false
+is_value n (Some m) = m == n
+
+-- a buffer variable with a descriptor set and a binding
+abbrev pub is_at : List Inst → ℕ → ℕ → Inst → Bool
+is_at all set binding i = (i.op == VARIABLE && is_buffer_class (lit_at i.operands 0)) && (is_value set (decoration all i.id DESCRIPTOR_SET) && is_value binding (decoration all i.id BINDING))
+
+-- one of some instructions is a buffer variable with that descriptor set and binding
+unfoldable pub is_taken : List Inst → List Inst → ℕ → ℕ → Bool
+is_taken all before set binding = list_any (is_at all set binding) before
+
+-- a map has the places of the buffer variables among some instructions
+abbrev pub ArePlaces : List Inst → List Inst → (ℕ × ℕ → Option ℕ) → Type 0
+ArePlaces all before places = (set binding : ℕ) → is_some (places (set, binding)) ≡ is_taken all before set binding
+
+-- a buffer variable has a descriptor set and a binding, which no variable before it shares
+abbrev pub keeps_pair : List Inst → List Inst → Option ℕ → Option ℕ → Bool
+keeps_pair all before None binding = false
+keeps_pair all before (Some set) None = false
+keeps_pair all before (Some set) (Some binding) = not (is_taken all before set binding)
+
+-- a variable of a block class points to a block that is laid out, and a buffer has a place of its own
+abbrev pub keeps_block : List Inst → Types → List Inst → Inst → Bool
+keeps_block all ts before i = is_laid ts (target_of (form_of ts i.ty)) && (lit_at i.operands 0 == PUSH_CONSTANT || keeps_pair all before (decoration all i.id DESCRIPTOR_SET) (decoration all i.id BINDING))
+
+-- BufferBlock stands on no id that is defined
+abbrev pub keeps_decoration : List Inst → Inst → ℕ → Bool
+keeps_decoration all i kind = not (kind == BUFFER_BLOCK && is_some (definition all (id_at i.operands 0)))
+
+-- an instruction before the functions keeps the rules of layout, after those before it
+unfoldable pub keeps_layout : List Inst → Types → List Inst → Inst → Bool
+keeps_layout all ts before i =
+    if i.op == DECORATE then keeps_decoration all i (lit_at i.operands 1)
+    else (if i.op == MEMBER_DECORATE then keeps_decoration all i (lit_at i.operands 2)
+    else (if is_block_variable i then keeps_block all ts before i
+    else true))
+
+abbrev pub breach : Inst → Refusal
+breach i = record { code = layout_code; word = i.word }
+
+-- the refusals before the functions, each after the instructions before it
+unfoldable pub module_breaches : List Inst → Types → List Inst → List Inst → List Refusal
+module_breaches all ts before [] = []
+module_breaches all ts before (i ∷ is) = (if keeps_layout all ts before i then [] else breach i ∷ []) ++ module_breaches all ts (before ++ i ∷ []) is
+
+-- the refusals in the functions, where no variable is of a block class
+unfoldable pub function_breaches : List Inst → List Refusal
+function_breaches [] = []
+function_breaches (i ∷ is) = (if is_block_variable i then breach i ∷ [] else []) ++ function_breaches is
+
+abbrev pub nothing : Unit {0}
+nothing = tt
+
+-- nothing, where all blocks of a module are laid out, or the first breach
+unfoldable pub layout_of : Types → List Inst → Result (Unit {0}) Refusal
+layout_of ts insts = unless_refused nothing (module_breaches insts ts [] (before_functions insts) ++ function_breaches (drop (length (before_functions insts)) insts))
