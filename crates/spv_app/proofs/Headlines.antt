@@ -1,9 +1,9 @@
 -- What is due where nothing fails, from what each status says.
-use Rattle.std.proofs.Common.{Bool, ◌≡◌, ◌≢◌, ◌↔◌, true, if◌then◌else◌, ◌∷◌, get_or, String, string_bytes, codes, ◌⊎◌, inl, inr, ℕ, ◌+◌, ◌≤◌, ◌<◌, List, [], ◌++◌, length, length-append, refl, sym, ap, ◌∙◌, subst, Option, Some, None, unwrap_or, Result, Ok, Err, arith}
+use Rattle.std.proofs.Common.{Bool, ◌≡◌, ◌≢◌, ◌↔◌, true, if◌then◌else◌, ◌∷◌, get_or, String, string_bytes, codes, inl, inr, ℕ, ◌+◌, ◌≤◌, ◌<◌, List, [], ◌++◌, length, length-append, refl, sym, ap, ◌∙◌, subst, Option, Some, None, unwrap_or, Result, arith}
 use Rattle.std.specs.Io.KnownBytes.{Appends, Consumes}
 use Rattle.std.specs.Str.{bytes_eq}
 use Rattle.std.specs.declared.alloc.Global.{Global}
-use Rattle.spv_base.specs.Outside.{Told, Holds, HoldsMore}
+use Rattle.spv_base.specs.Outside.{Told, HoldsMore}
 use Rattle.spv_session.specs.View.{View}
 use Rattle.spv_app.specs.declared.status.Status.{Status}
 use Rattle.spv_app.specs.declared.status.Status.TheVariants.{Done, Usage, ModuleRefused, SetupRefused, FileFault, ReadFault, WriteFault, NoMemory, InputTooLong, FileTooLong}
@@ -11,9 +11,9 @@ use Rattle.spv_app.specs.declared.opening.OpeningRefusal.{OpeningRefusal}
 use Rattle.spv_app.specs.Lines.{lines_of}
 use Rattle.spv_app.specs.Transcript.{transcript}
 use Rattle.spv_app.specs.Command_line.{Names, debug_names}
-use Rattle.spv_app.specs.Command_loop.{Ran, Says, with_rest}
+use Rattle.spv_app.specs.Command_loop.{Says, with_rest}
 use Rattle.spv_app.specs.Opening.{opening, refusal_line}
-use Rattle.spv_app.specs.Debug.{Debugged, Unopened, Refused, Opened, IsPair, IsTooLong, SaysLine, SaysUnopened, binary_limit, setup_limit, status_of_refusal, due_text, due_status}
+use Rattle.spv_app.specs.Debug.{Debugged, Unopened, Refused, Opened, IsPair, IsTooLong, SaysLine, binary_limit, setup_limit, status_of_refusal, due_text, due_status}
 
 -- none of these is the status
 pub record NothingFails (status : Status) : Type 0 where

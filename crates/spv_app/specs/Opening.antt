@@ -2,13 +2,11 @@
 use Rattle.std.specs.Prelude.{ℕ, List, ◌++◌, slice_index, codes, decimal, Result, Ok, Err}
 use Rattle.spv_base.specs.declared.causes.Refusal.{Refusal}
 use Rattle.spv_base.specs.declared.causes.SetupRefusal.{SetupRefusal}
-use Rattle.spv_base.specs.declared.instructions.RawInst.{RawInst}
-use Rattle.spv_base.specs.declared.instructions.Inst.{Inst}
-use Rattle.spv_words.specs.Words.{ModuleWords, words_of}
+use Rattle.spv_words.specs.Words.{words_of}
 use Rattle.spv_words.specs.Cuts.{raw_of}
 use Rattle.spv_ops.specs.Reading.{insts_of}
 use Rattle.spv_machine.specs.Program.{Program, program_of}
-use Rattle.spv_session.specs.Settings.{Settings, settings_of}
+use Rattle.spv_session.specs.Settings.{settings_of}
 use Rattle.spv_session.specs.View.{View, first_view}
 use Rattle.spv_app.specs.declared.opening.OpeningRefusal.{OpeningRefusal}
 use Rattle.spv_app.specs.declared.opening.OpeningRefusal.TheVariants.{Module, Setup}

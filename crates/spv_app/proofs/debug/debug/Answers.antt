@@ -1,4 +1,4 @@
-use Rattle.std.proofs.Common.{refl, inr, inl}
+use Rattle.std.proofs.Common.{refl, inr}
 use Rattle.std.proofs.KnownBytes.{Keeps-refl}
 use Rattle.spv_app.specs.Debug.{Unopened, Refused, Opened, status_of_file}
 use Rattle.spv_app.proofs.debug.debug.Goals as goal
