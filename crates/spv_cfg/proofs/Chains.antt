@@ -1,0 +1,161 @@
+-- Chains of calls, one function more at a time.
+use Rattle.std.proofs.Common.{◌≡◌, ◌<◌, ◌≤◌, ◌+◌, ◌-◌, drop, set, append_assoc, add-one, ⊎_elim, ℕ, zero, suc, List, [], ◌∷◌, length, get_or, max, eqb, cond, ◌++◌, ◌&&◌, refl, sym, ap, ◌∙◌, arith, rules, true, false, IfSome, Some, None, Option}
+use Rattle.std.specs.List.{All, flat_map}
+use Rattle.std.proofs.lemmas.Grind.{common_steps}
+use Rattle.std.proofs.lemmas.Bool.{cases_lt}
+use Rattle.std.proofs.lemmas.List.{append-nil, drop_all, drop_more, get_or_past}
+use Rattle.spv_cfg.specs.Lowest.{lowest, sooner}
+use Rattle.spv_cfg.proofs.LowestLemmas.{sooner_assoc, sooner-none, lowest-append}
+use Rattle.spv_cfg.proofs.Backwards.{drop_back}
+use Rattle.std.proofs.lemmas.List.Elements.{All-nil, All-append, All-head, All-tail}
+use Rattle.spv_base.specs.Entries.{reads}
+use Rattle.spv_cfg.specs.Calls.{most, longest, limit, lengths, numbered, call_between, call_of, depths, over, too_deep}
+use Rattle.spv_cfg.specs.Roles.{number_at}
+use Rattle.spv_cfg.specs.Sites.{Stand, in_function}
+
+pub longest-suc : (k : ℕ) (calls : List (ℕ × ℕ)) (f : ℕ) → longest (suc k) calls f ≡ suc (most (λ g. longest k calls g) f calls)
+unfolding longest
+longest-suc k calls f = refl
+
+pub longest-zero : (calls : List (ℕ × ℕ)) (f : ℕ) → longest zero calls f ≡ 0
+unfolding longest
+longest-zero calls f = refl
+
+-- a bound on all callees is one on the most
+pub most-le : (level : ℕ → ℕ) (bound f : ℕ) (calls : List (ℕ × ℕ)) → ((g : ℕ) → level g ≤ bound) → most level f calls ≤ bound
+most-le level bound f [] small = omega arith
+most-le level bound f (call ∷ calls) small =
+    let rest = most-le level bound f calls small in
+    let here = small call.1 in
+    elim (eqb call.0 f) as (λ b. max (cond b (level call.1) 0) (most level f calls) ≤ bound) [ true ↦ omega arith | false ↦ omega arith ]
+
+pub longest-le : (k : ℕ) (calls : List (ℕ × ℕ)) (f : ℕ) → longest k calls f ≤ k
+longest-le zero calls f = rw longest-zero (omega arith)
+longest-le (suc k) calls f =
+    let rest = most-le (λ g. longest k calls g) k f calls (λ g. longest-le k calls g) in
+    rw longest-suc (omega arith)
+
+-- what holds of the calls' two functions
+abbrev pub Within : ℕ → List (ℕ × ℕ) → Type 0
+Within n calls = All (λ call. (call.0 < n) × (call.1 < n)) calls
+
+-- levels that agree below n give the same most
+pub most-same : (one other : ℕ → ℕ) (n f : ℕ) (calls : List (ℕ × ℕ)) → ((g : ℕ) → g < n → one g ≡ other g) → Within n calls
+    → most one f calls ≡ most other f calls
+most-same one other n f [] same within = refl
+most-same one other n f (call ∷ calls) same within =
+    let P : ℕ × ℕ → Type 0 = λ c. (c.0 < n) × (c.1 < n) in
+    let here = same call.1 (All-head P call calls within).1 in
+    let rest = most-same one other n f calls same (All-tail P call calls within) in
+    rw (here, rest) refl
+
+-- lengths by number are the list of them
+pub lengths-from_get_or : (calls : List (ℕ × ℕ)) (k : ℕ) (xs : List ℕ) → ((f : ℕ) → f < length xs → get_or xs f 0 ≡ longest limit calls (k + f))
+    → xs ≡ lengths calls k (length xs)
+lengths-from_get_or calls k [] same = refl
+lengths-from_get_or calls k (x ∷ xs) same =
+    let first : x ≡ longest limit calls k = let zero_lt : 0 < suc (length xs) = omega arith in let none : k + 0 ≡ k = omega arith in rw none at (same 0 zero_lt) in
+    let rest : xs ≡ lengths calls (suc k) (length xs)
+    = lengths-from_get_or calls (suc k) xs (λ f lt. let more : suc f < suc (length xs) = omega arith in let moved : k + suc f ≡ suc k + f = omega arith in rw moved at (same (suc f) more)) in
+    rw (← first, ← rest) refl
+
+-- numbers of functions are below how many there are
+pub numbered-small : (k n : ℕ) (fs : List (ℕ × ℕ)) (id : ℕ) → k + length fs ≤ n → IfSome (reads id (numbered k fs)) (λ number. number < n)
+numbered-small k n [] id le = tt
+numbered-small k n (f ∷ fs) id le =
+    let here : k < n = omega arith in
+    let room : suc k + length fs ≤ n = omega arith in
+    let rest = numbered-small (suc k) n fs id room in
+    elim (eqb f.0 id) as (λ b. IfSome (cond b (Some k) (reads id (numbered (suc k) fs))) (λ number. number < n)) [ true ↦ here | false ↦ rest ]
+
+pub call_between-within : (n : ℕ) (caller callee : Option ℕ) → IfSome caller (λ k. k < n) → IfSome callee (λ k. k < n) → Within n (call_between caller callee)
+call_between-within n None callee one other = λ k d lt. absurd (omega arith)
+call_between-within n (Some a) None one other = λ k d lt. absurd (omega arith)
+call_between-within n (Some a) (Some b) one other = search rules
+
+-- all calls are between functions
+pub calls_within : (numbers : List (ℕ × ℕ)) (n : ℕ) → ((id : ℕ) → IfSome (reads id numbers) (λ k. k < n)) → (stood : List Stand)
+    → Within n (flat_map (call_of numbers) stood)
+calls_within numbers n small [] = All-nil (λ call. (call.0 < n) × (call.1 < n))
+calls_within numbers n small (s ∷ more) =
+    let P : ℕ × ℕ → Type 0 = λ call. (call.0 < n) × (call.1 < n) in
+    let call = call_between-within n (reads s.site.function numbers) (reads (number_at s.inst 0) numbers) (small s.site.function) (small (number_at s.inst 0)) in
+    let between : List (ℕ × ℕ) = call_between (reads s.site.function numbers) (reads (number_at s.inst 0) numbers) in
+    let here : Within n (call_of numbers s)
+    = elim (eqb s.inst.op 57 && in_function s.site.place) as (λ b. Within n (cond b between [])) [ true ↦ call | false ↦ All-nil P ] in
+    All-append P (call_of numbers s) (flat_map (call_of numbers) more) here (calls_within numbers n small more)
+
+-- ---- steps of the loops
+
+-- one call more
+set_longest : (longer : List ℕ) (a f v x rest : ℕ) → a < length longer → get_or longer f 0 ≡ suc rest → v ≡ max (get_or longer a 0) (x + 1)
+    → get_or (set longer a v) f 0 ≡ suc (max (cond (eqb a f) x 0) rest)
+set_longest longer a f v x rest lt here is = grind (arith, common_steps)
+
+pub one_more_step : (calls : List (ℕ × ℕ)) (xs longer : List ℕ) (i v : ℕ) → 0 < i → i ≤ length calls → length longer ≡ length xs → Within (length xs) calls
+    → ((f : ℕ) → f < length xs → get_or longer f 0 ≡ suc (most (λ g. get_or xs g 0) f (drop i calls)))
+    → v ≡ max (get_or longer (get_or calls (i - 1) (0, 0)).0 0) (get_or xs (get_or calls (i - 1) (0, 0)).1 0 + 1)
+    → (f : ℕ) → f < length xs → get_or (set longer (get_or calls (i - 1) (0, 0)).0 v) f 0 ≡ suc (most (λ g. get_or xs g 0) f (drop (i - 1) calls))
+one_more_step calls xs longer i v some le len within so_far is f lt =
+    let call : ℕ × ℕ = get_or calls (i - 1) (0, 0) in
+    let place : i - 1 < length calls = omega arith in
+    let bounds : (call.0 < length xs) × (call.1 < length xs) = within (i - 1) (0, 0) place in
+    let inside : call.0 < length longer = rw len bounds.0 in
+    rw (drop_back calls i (0, 0) some le)
+    (set_longest longer call.0 f v (get_or xs call.1 0) (most (λ g. get_or xs g 0) f (drop i calls)) inside (so_far f lt) is)
+
+-- chains of one function more
+pub chains_more : (calls : List (ℕ × ℕ)) (xs ys : List ℕ) (n k : ℕ) → length xs ≡ n → ((f : ℕ) → f < n → get_or xs f 0 ≡ longest k calls f) → Within n calls
+    → ((f : ℕ) → f < length xs → get_or ys f 0 ≡ suc (most (λ g. get_or xs g 0) f calls))
+    → (f : ℕ) → f < n → get_or ys f 0 ≡ longest (k + 1) calls f
+chains_more calls xs ys n k len so_far within more f lt =
+    let inside : f < length xs = rw len lt in
+    more f inside ∙ ap suc (most-same (λ g. get_or xs g 0) (λ g. longest k calls g) n f calls so_far within) ∙ sym (rw add-one (longest-suc k calls f))
+
+pub chains_small : (calls : List (ℕ × ℕ)) (xs : List ℕ) (n k : ℕ) → length xs ≡ n → k ≤ 64 → ((f : ℕ) → f < n → get_or xs f 0 ≡ longest k calls f)
+    → (f : ℕ) → get_or xs f 0 ≤ 64
+chains_small calls xs n k len small so_far f =
+    ⊎_elim (λ lt. let bound = longest-le k calls f in let here = so_far f lt in omega arith)
+    (λ le. let past : length xs ≤ f = omega arith in let here = get_or_past xs f 0 past in omega arith)
+    (cases_lt f n)
+
+pub chains_all : (calls : List (ℕ × ℕ)) (xs : List ℕ) (n k : ℕ) → length xs ≡ n → k ≡ 65 → ((f : ℕ) → f < n → get_or xs f 0 ≡ longest k calls f)
+    → xs ≡ lengths calls 0 n
+chains_all calls xs n k len full so_far =
+    lengths-from_get_or calls 0 xs (λ f lt. let inside : f < n = omega arith in let none : 0 + f ≡ f = omega arith in rw (none, ← full) (so_far f inside))
+    ∙ ap (λ (m : ℕ). lengths calls 0 m) len
+
+pub depths_more : (front total : List (ℕ × ℕ)) (fs : List (ℕ × ℕ)) (ns : List ℕ) (k : ℕ) → k < length fs → length ns ≡ length fs
+    → front ++ depths (drop k fs) (drop k ns) ≡ total
+    → (front ++ ((get_or fs k (0, 0)).0, get_or ns k 0) ∷ []) ++ depths (drop (k + 1) fs) (drop (k + 1) ns) ≡ total
+depths_more front total fs ns k lt len so_far =
+    let inside : k < length ns = omega arith in
+    let step : depths (drop k fs) (drop k ns) ≡ ((get_or fs k (0, 0)).0, get_or ns k 0) ∷ depths (drop (k + 1) fs) (drop (k + 1) ns)
+    = rw (drop_more fs k (0, 0) lt, drop_more ns k 0 inside) refl in
+    append_assoc front _ _ ∙ sym (ap (λ (rest : List (ℕ × ℕ)). front ++ rest) step) ∙ so_far
+
+pub depths_all : (front total : List (ℕ × ℕ)) (fs : List (ℕ × ℕ)) (ns : List ℕ) (k : ℕ) → length fs ≤ k
+    → front ++ depths (drop k fs) (drop k ns) ≡ total → front ≡ total
+depths_all front total fs ns k le so_far =
+    let past : drop k fs ≡ [] = drop_all k fs le in
+    sym (append-nil front) ∙ (rw past at so_far)
+
+pub too_deep_more : (least next more total : Option ℕ) (fs : List (ℕ × ℕ)) (ns : List ℕ) (k : ℕ) → k < length fs → length ns ≡ length fs
+    → next ≡ lowest (over (get_or fs k (0, 0)).1 (get_or ns k 0)) → more ≡ sooner least next
+    → sooner least (lowest (too_deep (drop k fs) (drop k ns))) ≡ total
+    → sooner more (lowest (too_deep (drop (k + 1) fs) (drop (k + 1) ns))) ≡ total
+too_deep_more least next more total fs ns k lt len next_is more_is so_far =
+    let inside : k < length ns = omega arith in
+    let here : List ℕ = over (get_or fs k (0, 0)).1 (get_or ns k 0) in
+    let rest : List ℕ = too_deep (drop (k + 1) fs) (drop (k + 1) ns) in
+    let step : too_deep (drop k fs) (drop k ns) ≡ here ++ rest = rw (drop_more fs k (0, 0) lt, drop_more ns k 0 inside) refl in
+    let joined : lowest (here ++ rest) ≡ sooner (lowest here) (lowest rest) = lowest-append here rest in
+    let front : sooner least (lowest (here ++ rest)) ≡ total = rw step at so_far in
+    rw (more_is, next_is, sooner_assoc least (lowest here) (lowest rest), ← joined) front
+
+pub too_deep_all : (least total : Option ℕ) (fs : List (ℕ × ℕ)) (ns : List ℕ) (k : ℕ) → length fs ≤ k
+    → sooner least (lowest (too_deep (drop k fs) (drop k ns))) ≡ total → least ≡ total
+too_deep_all least total fs ns k le so_far =
+    let past : drop k fs ≡ [] = drop_all k fs le in
+    let ended : sooner least None ≡ total = rw past at so_far in
+    sym (sooner-none least) ∙ ended

@@ -1,0 +1,6 @@
+pub mod LowestLemmas
+pub mod Walks
+pub mod Backwards
+pub mod Orders
+pub mod Chains
+pub mod FlowLemmas

@@ -1,0 +1,13 @@
+use Rattle.spv_cfg.specs.Branches as spec
+use Rattle.spv_cfg.proofs.Walks.{lowest_more, lowest_all}
+use Rattle.spv_cfg.proofs.branches.branch_breach.Goals as goal
+
+pub loop-inst-preserved : goal.loop-inst-preserved
+loop-inst-preserved c =
+    lowest_more (spec.branch_breach c.args.names.now) c.loop-inst.least c.in_ok-next.next _ _ c.args.names.now.sets c.loop-inst.site _ c.args.insts.now c.loop-inst.inst-index c.inst-item.result c.role_of-role.result
+    c.loop-inst-test.true c.inst-item.is c.role_of-role.ensures c.in_ok-next.ensures c.sooner-least.ensures c.after-site.ensures c.loop-inst.invariant
+
+pub returns : goal.returns
+returns c =
+    lowest_all (spec.branch_breach c.args.names.now) c.loop-inst.least _ c.args.names.now.sets c.loop-inst.site c.args.insts.now c.loop-inst.inst-index
+    c.loop-inst-test.false c.loop-inst.invariant

@@ -1,0 +1,72 @@
+-- Chains of calls: which function calls which, and how long a chain of calls may become.
+use Rattle.std.specs.Prelude.{ℕ, zero, suc, Bool, List, [], ◌∷◌, ◌++◌, ◌==◌, ◌&&◌, nat_lt, if◌then◌else◌, Option, Some, None, max}
+use Rattle.std.specs.List.{flat_map}
+use Rattle.spv_base.specs.Entries.{reads}
+use Rattle.spv_base.specs.declared.instructions.Inst.{Inst}
+use Rattle.spv_cfg.specs.Roles.{number_at, sets_of}
+use Rattle.spv_cfg.specs.Sites.{Stand, stands, outside, in_function}
+
+-- the functions: the id and the word of each OpFunction
+abbrev pub function_of : Inst → List (ℕ × ℕ)
+function_of inst = if inst.op == 54 then (inst.id, inst.word) ∷ [] else []
+
+abbrev pub functions_of : List Inst → List (ℕ × ℕ)
+functions_of insts = flat_map function_of insts
+
+-- functions are numbered in the order of the module: the numbers by the ids
+abbrev pub numbered : ℕ → List (ℕ × ℕ) → List (ℕ × ℕ)
+numbered k [] = []
+numbered k (f ∷ fs) = (f.0, k) ∷ numbered (suc k) fs
+
+abbrev pub call_between : Option ℕ → Option ℕ → List (ℕ × ℕ)
+call_between (Some caller) (Some callee) = (caller, callee) ∷ []
+call_between (Some caller) None = []
+call_between None callee = []
+
+-- the calls: the number of the function that an OpFunctionCall (57) stands in, and the number of the one that it names
+abbrev pub call_of : List (ℕ × ℕ) → Stand → List (ℕ × ℕ)
+call_of numbers s =
+    if (s.inst.op == 57) && in_function s.site.place
+    then call_between (reads s.site.function numbers) (reads (number_at s.inst 0) numbers)
+    else []
+
+abbrev pub calls_in : List (ℕ × Bool) → List (ℕ × ℕ) → List Inst → List (ℕ × ℕ)
+calls_in sets numbers insts = flat_map (call_of numbers) (stands sets outside insts)
+
+abbrev pub calls_of : List Inst → List (ℕ × ℕ)
+calls_of insts = calls_in (sets_of insts) (numbered 0 (functions_of insts)) insts
+
+-- the most that a callee of a function has
+abbrev pub most : (ℕ → ℕ) → ℕ → List (ℕ × ℕ) → ℕ
+most level f [] = 0
+most level f (call ∷ calls) = max (if call.0 == f then level call.1 else 0) (most level f calls)
+
+-- the length of the longest chain of calls from a function, of the chains of at most k functions
+unfoldable pub longest : ℕ → List (ℕ × ℕ) → ℕ → ℕ
+longest zero calls f = 0
+longest (suc k) calls f = suc (most (λ g. longest k calls g) f calls)
+
+-- a chain of more than 64 functions is one too many; a cycle gives chains of any length
+abbrev pub limit : ℕ
+limit = 65
+
+-- these lengths for the functions from number k on, as many as n
+abbrev pub lengths : List (ℕ × ℕ) → ℕ → ℕ → List ℕ
+lengths calls k zero = []
+lengths calls k (suc n) = longest limit calls k ∷ lengths calls (suc k) n
+
+-- the functions, each with the length of its longest chain
+abbrev pub depths : List (ℕ × ℕ) → List ℕ → List (ℕ × ℕ)
+depths [] ns = []
+depths (f ∷ fs) [] = []
+depths (f ∷ fs) (n ∷ ns) = (f.0, n) ∷ depths fs ns
+
+-- a chain of so many functions is too long
+abbrev pub over : ℕ → ℕ → List ℕ
+over word n = if nat_lt 64 n then word ∷ [] else []
+
+-- the words of those from which a chain of more than 64 functions starts, or a cycle is reached
+abbrev pub too_deep : List (ℕ × ℕ) → List ℕ → List ℕ
+too_deep [] ns = []
+too_deep (f ∷ fs) [] = []
+too_deep (f ∷ fs) (n ∷ ns) = over f.1 n ++ too_deep fs ns

@@ -1,0 +1,26 @@
+-- The executables of each block, and which one comes after which.
+use Rattle.std.specs.Prelude.{ℕ, Bool, List, [], ◌∷◌, ◌==◌, ◌&&◌, if◌then◌else◌, Option, Some, None}
+use Rattle.std.specs.List.{flat_map}
+use Rattle.spv_base.specs.declared.instructions.Inst.{Inst}
+use Rattle.spv_cfg.specs.Roles.{is_executable, sets_of}
+use Rattle.spv_cfg.specs.Sites.{Stand, stands, outside, in_block}
+
+abbrev pub executable_of : Stand → List (ℕ × ℕ)
+executable_of s = if is_executable s.role && in_block s.site.place then (s.site.label, s.inst.word) ∷ [] else []
+
+-- the executables of all blocks in the order of the module: the label of the block, and the word of the executable
+abbrev pub executables_in : List (ℕ × Bool) → List Inst → List (ℕ × ℕ)
+executables_in sets insts = flat_map executable_of (stands sets outside insts)
+
+abbrev pub executables_of : List Inst → List (ℕ × ℕ)
+executables_of insts = executables_in (sets_of insts) insts
+
+-- the first of these executables, where it is in the block with this label
+abbrev pub following : ℕ → List (ℕ × ℕ) → Option ℕ
+following label [] = None
+following label (e ∷ es) = if e.0 == label then Some e.1 else None
+
+-- each executable with the one after it in its block
+abbrev pub followed : List (ℕ × ℕ) → List (ℕ × Option ℕ)
+followed [] = []
+followed (e ∷ es) = (e.1, following e.0 es) ∷ followed es

@@ -1,0 +1,9 @@
+pub mod Roles
+pub mod Sites
+pub mod Executables
+pub mod Lowest
+pub mod Layout
+pub mod Branches
+pub mod Phis
+pub mod Calls
+pub mod Flow

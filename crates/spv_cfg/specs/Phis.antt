@@ -1,0 +1,70 @@
+-- Breaches of phis (SPIR-V 1.6, OpPhi): one pair for each predecessor of the block.
+use Rattle.std.specs.Prelude.{ℕ, Bool, true, false, not, List, [], ◌∷◌, ◌++◌, ◌%◌, ◌==◌, ◌&&◌, if◌then◌else◌, Option, Some, None, map, length}
+use Rattle.std.specs.List.{flat_map, filter, list_any, list_all, count_by}
+use Rattle.spv_base.specs.Entries.{reads}
+use Rattle.spv_base.specs.declared.instructions.Inst.{Inst}
+use Rattle.spv_cfg.specs.declared.roles.Role.{Role}
+use Rattle.spv_cfg.specs.declared.roles.Role.TheVariants.{Function, Parameter, End, Label, Line, Phi, Variable, Terminator, Passed, Executable}
+use Rattle.spv_cfg.specs.declared.names.Home.{Home}
+use Rattle.spv_cfg.specs.declared.names.Names.{Names}
+use Rattle.spv_cfg.specs.Roles.{numbers_of}
+use Rattle.spv_cfg.specs.Sites.{Stand, stands, outside, in_block}
+use Rattle.spv_cfg.specs.Branches.{is_terminator, targets_of, selector_width, cases_by_word, are_distinct}
+
+abbrev pub is_phi : Role → Bool
+is_phi Function = false
+is_phi Parameter = false
+is_phi End = false
+is_phi Label = false
+is_phi Line = false
+is_phi Phi = true
+is_phi Variable = false
+is_phi Terminator = false
+is_phi Passed = false
+is_phi Executable = false
+
+-- each number once
+abbrev pub distinct : List ℕ → List ℕ
+distinct [] = []
+distinct (number ∷ numbers) = distinct numbers ++ (if list_any (λ n. n == number) numbers then [] else number ∷ [])
+
+-- a label of this function
+abbrev pub is_within : ℕ → Option Home → Bool
+is_within function None = false
+is_within function (Some home) = home.function == function
+
+-- the edges from a block to the blocks of its function: the label of the target, and the label of the block
+abbrev pub edges_by : Names → ℕ → ℕ → Inst → List (ℕ × ℕ)
+edges_by names function label inst =
+    map (λ target. (target, label))
+    (distinct (filter (λ target. is_within function (reads target names.labels)) (targets_of (selector_width names inst) inst)))
+
+abbrev pub edges_from : Names → Stand → List (ℕ × ℕ)
+edges_from names s =
+    if is_terminator s.role && in_block s.site.place then edges_by names s.site.function s.site.label s.inst else []
+
+abbrev pub edges_of : Names → List Inst → List (ℕ × ℕ)
+edges_of names insts = flat_map (edges_from names) (stands names.sets outside insts)
+
+-- how many blocks an edge goes from to a label, and whether one goes from this block
+abbrev pub predecessor_count : List (ℕ × ℕ) → ℕ → ℕ
+predecessor_count edges label = count_by (λ edge. edge.0 == label) edges
+
+abbrev pub is_predecessor : List (ℕ × ℕ) → ℕ → ℕ → Bool
+is_predecessor edges label block = list_any (λ edge. (edge.0 == label) && (edge.1 == block)) edges
+
+-- the parent blocks that a phi names: the second of each pair
+abbrev pub parents_of : Inst → List ℕ
+parents_of inst = map (λ pair. pair.1) (cases_by_word (numbers_of inst))
+
+-- whole pairs, as many as there are predecessors, each with another predecessor
+abbrev pub is_phi_right : List (ℕ × ℕ) → ℕ → Inst → Bool
+is_phi_right edges label inst =
+    (length (numbers_of inst) % 2 == 0) && ((length (parents_of inst) == predecessor_count edges label)
+    && (list_all (is_predecessor edges label) (parents_of inst) && are_distinct (parents_of inst)))
+
+abbrev pub phi_breach : List (ℕ × ℕ) → Stand → List ℕ
+phi_breach edges s = if (is_phi s.role && in_block s.site.place) && not (is_phi_right edges s.site.label s.inst) then s.inst.word ∷ [] else []
+
+abbrev pub phi_breaches : Names → List Inst → List ℕ
+phi_breaches names insts = flat_map (phi_breach (edges_of names insts)) (stands names.sets outside insts)

@@ -1,0 +1,149 @@
+//! Chains of calls: which function calls which, and how long a chain of calls may become.
+ghost use Rattle.std.specs.Prelude.{◌≡◌, ◌<◌, ◌≤◌, ℕ, suc, IfOk, length, slice_index};
+ghost use Rattle.std.specs.List.{All};
+ghost use Rattle.spv_cfg.specs.Lowest.{lowest};
+ghost use Rattle.spv_cfg.specs.Calls as spec;
+
+use crate::lowest::sooner;
+use crate::roles::{number_at, role_of};
+use crate::sites::Site;
+use crate::table::Table;
+use spv_base::{Inst, NoMemory};
+use std::alloc::Global;
+
+/// The functions: the id and the word of each OpFunction.
+pub fn functions_of(alloc: Global, insts: &[Inst]) -> Result<Vec<(u32, u32)>, NoMemory>
+    ensures { IfOk result (λ functions. functions.items ≡ spec.functions_of insts.now) }
+{
+    let mut functions = Vec::new(alloc);
+    for inst in insts {
+        if inst.op == 54 {
+            functions.push((inst.id, inst.word))?;
+        }
+    }
+    Ok(functions)
+}
+
+/// The numbers of the functions by their ids.
+fn numbers_by_id(alloc: Global, functions: &[(u32, u32)]) -> Result<Table<usize>, NoMemory>
+    ensures { IfOk result (λ numbers. numbers ≡ spec.numbered 0 functions.now) }
+{
+    let mut numbers = Vec::new(alloc);
+    for k in 0..functions.len() {
+        numbers.push((functions[k].0, k))?;
+    }
+    Table::new(alloc, numbers)
+}
+
+/// The calls, each by the numbers of its two functions.
+fn calls_of(
+    alloc: Global,
+    sets: &Table<bool>,
+    numbers: &Table<usize>,
+    insts: &[Inst],
+) -> Result<Vec<(usize, usize)>, NoMemory>
+    ensures { IfOk result (λ calls. calls.items ≡ spec.calls_in sets.now numbers.now insts.now) }
+{
+    let mut calls = Vec::new(alloc);
+    let mut site = Site::outside();
+    for inst in insts {
+        if inst.op == 57 && site.place.in_function() {
+            if let Some(caller) = numbers.get(site.function) {
+                if let Some(callee) = numbers.get(number_at(inst, 0)) {
+                    calls.push((caller, callee))?;
+                }
+            }
+        }
+        site = site.after(role_of(sets, inst), inst);
+    }
+    Ok(calls)
+}
+
+/// The longest chains of one function more, from those of the callees.
+fn one_more(alloc: Global, calls: &[(usize, usize)], lengths: &[u32]) -> Result<Vec<u32>, NoMemory>
+    requires numbers { All (λ call. (call.0 < length lengths.now) × (call.1 < length lengths.now)) calls.now }
+    requires small { (f : ℕ) → slice_index lengths.now f ≤ 64 }
+    ensures len { IfOk result (λ longer. length longer.items ≡ length lengths.now) }
+    ensures longer { IfOk result (λ longer. (f : ℕ) → f < length lengths.now → slice_index longer.items f ≡ suc (spec.most (λ g. slice_index lengths.now g) f calls.now)) }
+{
+    let mut longer = vec![in alloc; 1; lengths.len()]?;
+    let mut i = calls.len();
+    'back: while i > 0 {
+        i -= 1;
+        let caller = calls[i].0;
+        let length = lengths[calls[i].1] + 1;
+        longer[caller] = longer[caller].max(length);
+    }
+    Ok(longer)
+}
+
+/// For each number below count the length of the longest chain of calls from it, of the chains of at most 65 functions.
+fn longest_chains(
+    alloc: Global,
+    calls: &[(usize, usize)],
+    count: usize,
+) -> Result<Vec<u32>, NoMemory>
+    requires { All (λ call. (call.0 < count) × (call.1 < count)) calls.now }
+    ensures lengths { IfOk result (λ lengths. lengths.items ≡ spec.lengths calls.now 0 count) }
+    ensures len { IfOk result (λ lengths. length lengths.items ≡ count) }
+{
+    let mut lengths = vec![in alloc; 0; count]?;
+    let mut most: u32 = 0;
+    'longer: while most < 65 {
+        let longer = one_more(alloc, calls, lengths.as_slice())?;
+        lengths = longer;
+        most += 1;
+    }
+    Ok(lengths)
+}
+
+/// For each function the length of the longest chain of calls from it, of the chains of at most 65 functions.
+pub fn lengths_of(
+    alloc: Global,
+    sets: &Table<bool>,
+    functions: &[(u32, u32)],
+    insts: &[Inst],
+) -> Result<Vec<u32>, NoMemory>
+    ensures lengths { IfOk result (λ lengths. lengths.items ≡ spec.lengths (spec.calls_in sets.now (spec.numbered 0 functions.now) insts.now) 0 (length functions.now)) }
+    ensures len { IfOk result (λ lengths. length lengths.items ≡ length functions.now) }
+{
+    let numbers = numbers_by_id(alloc, functions)?;
+    let calls = calls_of(alloc, sets, &numbers, insts)?;
+    longest_chains(alloc, calls.as_slice(), functions.len())
+}
+
+/// The functions, each with its depth.
+pub fn depths_of(
+    alloc: Global,
+    functions: &[(u32, u32)],
+    lengths: &[u32],
+) -> Result<Table<u32>, NoMemory>
+    requires { length lengths.now ≡ length functions.now }
+    ensures { IfOk result (λ depths. depths ≡ spec.depths functions.now lengths.now) }
+{
+    let mut depths = Vec::new(alloc);
+    for k in 0..functions.len() {
+        depths.push((functions[k].0, lengths[k]))?;
+    }
+    Table::new(alloc, depths)
+}
+
+/// The word, where so many functions are too many.
+fn over(word: u32, length: u32) -> Option<u32>
+    ensures { result ≡ lowest (spec.over word length) }
+{
+    if length > 64 { Some(word) } else { None }
+}
+
+/// The lowest word of a function from which a chain of more than 64 functions starts.
+pub fn call_breach(functions: &[(u32, u32)], lengths: &[u32]) -> Option<u32>
+    requires { length lengths.now ≡ length functions.now }
+    ensures { result ≡ lowest (spec.too_deep functions.now lengths.now) }
+{
+    let mut least = None;
+    for k in 0..functions.len() {
+        let next = over(functions[k].1, lengths[k]);
+        least = sooner(least, next);
+    }
+    least
+}

@@ -1,0 +1,158 @@
+//! The functions and blocks of a module, for a debugger that goes through them.
+ghost use Rattle.std.specs.Prelude.{◌≡◌, Some, IsSome, IfOk, length};
+ghost use Rattle.spv_base.specs.Answers.{Answers};
+ghost use Rattle.spv_base.specs.Entries.{reads};
+ghost use Rattle.spv_cfg.specs.Lowest.{lowest};
+ghost use Rattle.spv_cfg.specs.Flow as spec;
+ghost use Rattle.spv_cfg.specs.Branches.{names_of as names_in};
+ghost use Rattle.spv_cfg.specs.Calls.{functions_of as functions_in};
+
+use crate::branches::branch_breach;
+use crate::calls::{call_breach, depths_of, functions_of, lengths_of};
+use crate::edges::edges_of;
+use crate::executables::{executables_of, followed};
+use crate::layout::layout_breach;
+use crate::lowest::sooner;
+use crate::names::{Names, names_of};
+use crate::phis::phi_breach;
+use crate::table::Table;
+use spv_base::{Fail, Inst, NoMemory, Refusal};
+use std::alloc::Global;
+use std::marker::Model;
+
+/// The executables of each block, which one comes after which, and the depth of each function.
+///
+/// A pc is the word number of an executable: an instruction in a block that is no label, phi, variable, line, merge or
+/// OpNop and that has a meaning at run time.
+#[derive(Drop)]
+pub struct Code {
+    blocks: Table<u32>,
+    nexts: Table<Option<u32>>,
+    depths: Table<u32>,
+}
+
+impl Model for Code {
+    ghost use Rattle.spv_cfg.specs.Flow.{Flow};
+
+    ghost Value = { Flow };
+
+    ghost view = { λ c. record { blocks = c.blocks; nexts = c.nexts; depths = c.depths } };
+}
+
+/// The lowest word where a rule of blocks, terminators or phis is broken.
+fn block_breach(alloc: Global, names: &Names, insts: &[Inst]) -> Result<Option<u32>, NoMemory>
+    requires { names.now ≡ names_in insts.now }
+    ensures { IfOk result (λ least. least ≡ lowest (spec.block_breaches insts.now)) }
+{
+    let layout = layout_breach(&names.sets, insts);
+    let branches = branch_breach(alloc, names, insts)?;
+    let edges = edges_of(alloc, names, insts)?;
+    let phis = phi_breach(alloc, names, &edges, insts)?;
+    Ok(sooner(layout, sooner(branches, phis)))
+}
+
+/// The lower of two breaches, and at one word the one of blocks.
+fn refusal_of(block: Option<u32>, call: Option<u32>) -> Option<Refusal>
+    ensures { result ≡ spec.refusal block call }
+{
+    match (block, call) {
+        (None, None) => None,
+        (None, Some(word)) => Some(Refusal { code: 16, word }),
+        (Some(word), None) => Some(Refusal { code: 15, word }),
+        (Some(block), Some(call)) => Some(if call < block {
+            Refusal {
+                code: 16,
+                word: call,
+            }
+        } else {
+            Refusal {
+                code: 15,
+                word: block,
+            }
+        }),
+    }
+}
+
+impl Code {
+    /// The functions and blocks of a module's instructions, unless a rule of theirs is broken: the lowest breach is
+    /// refused, with code 15 for blocks, terminators and phis (SPIR-V 1.6 sections 2.4 and 2.16.1), and with code 16
+    /// for calls, where a chain of more than 64 functions or a cycle begins at a function.
+    #[tactic(auto, unfolding(crate::specs::Flow::flow_of))]
+    pub fn build(alloc: Global, insts: &[Inst]) -> Result<Code, Fail<Refusal>>
+        ensures { Answers (spec.flow_of insts.now) result }
+    {
+        let names = names_of(alloc, insts)?;
+        let block = block_breach(alloc, &names, insts)?;
+        let functions = functions_of(alloc, insts)?;
+        let lengths = lengths_of(alloc, &names.sets, functions.as_slice(), insts)?;
+        let call = call_breach(functions.as_slice(), lengths.as_slice());
+        match refusal_of(block, call) {
+            Some(refusal) => Err(Fail::Refused(refusal)),
+            None => Ok(Code::new(
+                alloc,
+                &names,
+                functions.as_slice(),
+                lengths.as_slice(),
+                insts,
+            )?),
+        }
+    }
+
+    /// The functions and blocks of these instructions.
+    fn new(
+        alloc: Global,
+        names: &Names,
+        functions: &[(u32, u32)],
+        lengths: &[u32],
+        insts: &[Inst],
+    ) -> Result<Code, NoMemory>
+        requires names { names.now ≡ names_in insts.now }
+        requires functions { functions.now ≡ functions_in insts.now }
+        requires lengths { lengths.now ≡ spec.lengths_of insts.now }
+        requires len { length lengths.now ≡ length functions.now }
+        ensures { IfOk result (λ code. code ≡ spec.flow_in insts.now) }
+    {
+        let depths = depths_of(alloc, functions, lengths)?;
+        let executables = executables_of(alloc, &names.sets, insts)?;
+        let nexts = followed(alloc, executables.as_slice())?;
+        let blocks = Table::new(alloc, executables)?;
+        Ok(Code {
+            blocks,
+            nexts,
+            depths,
+        })
+    }
+
+    /// The executable after a pc in its block. There is none exactly where the pc is the last one of its block.
+    pub fn next(&self, pc: u32) -> Option<u32>
+        requires { IsSome (reads pc self.now.nexts) }
+        ensures { reads pc self.now.nexts ≡ Some result }
+    {
+        match self.nexts.get(pc) {
+            Some(next) => next,
+            None => unreachable!(),
+        }
+    }
+
+    /// The first executable of the block with this label.
+    pub fn first(&self, label: u32) -> u32
+        requires { IsSome (reads label self.now.blocks) }
+        ensures { reads label self.now.blocks ≡ Some result }
+    {
+        match self.blocks.get(label) {
+            Some(first) => first,
+            None => unreachable!(),
+        }
+    }
+
+    /// How many functions the longest chain of calls from this function has, with this one.
+    pub fn depth(&self, function: u32) -> u32
+        requires { IsSome (reads function self.now.depths) }
+        ensures { reads function self.now.depths ≡ Some result }
+    {
+        match self.depths.get(function) {
+            Some(depth) => depth,
+            None => unreachable!(),
+        }
+    }
+}

@@ -1,0 +1,177 @@
+//! The edges between the blocks of functions.
+ghost use Rattle.std.specs.Prelude.{◌≡◌, ◌==◌, ◌&&◌, ℕ, IfOk, map, unwrap_or};
+ghost use Rattle.std.specs.List.{filter, list_any, count_by};
+ghost use Rattle.std.specs.Ordering.{nat_cmp, ordering_then};
+ghost use Rattle.std.specs.BTreeMap as tree;
+ghost use Rattle.std.specs.BTreeSet as sorted;
+ghost use Rattle.spv_base.specs.Entries.{reads};
+ghost use Rattle.spv_cfg.specs.Phis as spec;
+
+use crate::branches::targets_of;
+use crate::distinct::distinct;
+use crate::names::Names;
+use crate::roles::{Role, role_of};
+use crate::sites::Site;
+use spv_base::{Inst, NoMemory};
+use std::alloc::Global;
+use std::collections::{BTreeMap, BTreeSet};
+use std::marker::Model;
+
+/// Edges, each the label of its target and the label of the block that it comes from.
+#[derive(Drop)]
+pub struct Edges {
+    list: Vec<(u32, u32)>,
+    pairs: BTreeSet<(u32, u32)>,
+    counts: BTreeMap<u32, usize>,
+}
+
+impl Model for Edges {
+    ghost use Rattle.std.specs.Prelude.{◌≡◌, ◌==◌, ◌&&◌, ℕ, List, unwrap_or};
+    ghost use Rattle.std.specs.List.{list_any, count_by};
+    ghost use Rattle.std.specs.Ordering.{nat_cmp, ordering_then};
+    ghost use Rattle.std.specs.BTreeMap as tree;
+    ghost use Rattle.std.specs.BTreeSet as sorted;
+
+    ghost Value = { List (ℕ × ℕ) };
+
+    ghost view = { λ e. e.list.items };
+
+    ghost invariant = { λ e.
+        ((target source : ℕ) → sorted.contains (λ x y. ordering_then (nat_cmp x.0 y.0) (nat_cmp x.1 y.1)) e.pairs (target, source)
+        ≡ list_any (λ edge. (edge.0 == target) && (edge.1 == source)) e.list.items)
+        × ((target : ℕ) → unwrap_or (tree.get nat_cmp e.counts target) 0 ≡ count_by (λ edge. edge.0 == target) e.list.items) };
+}
+
+/// How many of the edges go to each label.
+fn counts_of(alloc: Global, edges: &[(u32, u32)]) -> Result<BTreeMap<u32, usize>, NoMemory>
+    ensures { IfOk result (λ counts. (target : ℕ) → unwrap_or (tree.get nat_cmp counts target) 0 ≡ count_by (λ edge. edge.0 == target) edges.now) }
+{
+    let mut counts = BTreeMap::new(alloc);
+    let mut i = edges.len();
+    'back: while i > 0 {
+        i -= 1;
+        let target = edges[i].0;
+        let count = counts.get(&target).copied().unwrap_or(0);
+        counts.insert(target, count + 1)?;
+    }
+    Ok(counts)
+}
+
+/// The edges as a set.
+fn pairs_of(alloc: Global, edges: &[(u32, u32)]) -> Result<BTreeSet<(u32, u32)>, NoMemory>
+    ensures { IfOk result (λ pairs. (target source : ℕ) → sorted.contains (λ x y. ordering_then (nat_cmp x.0 y.0) (nat_cmp x.1 y.1)) pairs (target, source)
+        ≡ list_any (λ edge. (edge.0 == target) && (edge.1 == source)) edges.now) }
+{
+    let mut pairs = BTreeSet::new(alloc);
+    let mut i = edges.len();
+    'back: while i > 0 {
+        i -= 1;
+        pairs.insert(edges[i])?;
+    }
+    Ok(pairs)
+}
+
+impl Edges {
+    fn new(alloc: Global, list: Vec<(u32, u32)>) -> Result<Edges, NoMemory>
+        ensures { IfOk result (λ edges. edges ≡ list.items) }
+    {
+        let pairs = pairs_of(alloc, list.as_slice())?;
+        let counts = counts_of(alloc, list.as_slice())?;
+        Ok(Edges {
+            list,
+            pairs,
+            counts,
+        })
+    }
+
+    /// Whether there is this edge.
+    pub fn contains(&self, target: u32, source: u32) -> bool
+        ensures { result ≡ list_any (λ edge. (edge.0 == target) && (edge.1 == source)) self.now }
+    {
+        self.pairs.contains(&(target, source))
+    }
+
+    /// How many edges go to a label.
+    pub fn count(&self, target: u32) -> usize
+        ensures { result ≡ count_by (λ edge. edge.0 == target) self.now }
+    {
+        self.counts.get(&target).copied().unwrap_or(0)
+    }
+}
+
+/// The targets that are labels of this function.
+fn within(
+    alloc: Global,
+    names: &Names,
+    function: u32,
+    targets: &[u32],
+) -> Result<Vec<u32>, NoMemory>
+    ensures { IfOk result (λ kept. kept.items ≡ filter (λ target. spec.is_within function (reads target names.now.labels)) targets.now) }
+{
+    let mut kept = Vec::new(alloc);
+    for target in targets {
+        if names.is_within(function, *target) {
+            kept.push(*target)?;
+        }
+    }
+    Ok(kept)
+}
+
+/// The edges from the block with this label to these targets.
+fn edges_to(alloc: Global, label: u32, targets: &[u32]) -> Result<Vec<(u32, u32)>, NoMemory>
+    ensures { IfOk result (λ edges. edges.items ≡ map (λ target. (target, label)) targets.now) }
+{
+    let mut edges = Vec::new(alloc);
+    for target in targets {
+        edges.push((*target, label))?;
+    }
+    Ok(edges)
+}
+
+/// The edges from a block of a function, with its terminator.
+fn edges_by(
+    alloc: Global,
+    names: &Names,
+    function: u32,
+    label: u32,
+    inst: &Inst,
+) -> Result<Vec<(u32, u32)>, NoMemory>
+    ensures { IfOk result (λ edges. edges.items ≡ spec.edges_by names.now function label inst.now) }
+{
+    let targets = targets_of(alloc, names.selector_width(inst), inst)?;
+    let kept = within(alloc, names, function, targets.as_slice())?;
+    let once = distinct(alloc, kept.as_slice())?;
+    edges_to(alloc, label, once.as_slice())
+}
+
+/// The edges from a block, at its terminator.
+fn edges_from(
+    alloc: Global,
+    names: &Names,
+    site: Site,
+    role: Role,
+    inst: &Inst,
+) -> Result<Vec<(u32, u32)>, NoMemory>
+    ensures { IfOk result (λ edges. edges.items ≡ spec.edges_from names.now (record { site = site; role = role; inst = inst.now })) }
+{
+    if role.is_terminator() && site.place.in_block() {
+        edges_by(alloc, names, site.function, site.label, inst)
+    } else {
+        Ok(Vec::new(alloc))
+    }
+}
+
+/// The edges between the blocks of each function.
+pub fn edges_of(alloc: Global, names: &Names, insts: &[Inst]) -> Result<Edges, NoMemory>
+    ensures { IfOk result (λ edges. edges ≡ spec.edges_of names.now insts.now) }
+{
+    let mut edges = Vec::new(alloc);
+    let mut site = Site::outside();
+    for inst in insts {
+        let role = role_of(&names.sets, inst);
+        let more = edges_from(alloc, names, site, role, inst)?;
+        edges.extend_from_slice(more.as_slice())?;
+        site = site.after(role, inst);
+    }
+    Edges::new(alloc, edges)
+}

@@ -1,0 +1,52 @@
+//! The executables of each block, and which one comes after which.
+ghost use Rattle.std.specs.Prelude.{◌≡◌, IfOk};
+ghost use Rattle.spv_cfg.specs.Executables as spec;
+
+use crate::roles::role_of;
+use crate::sites::Site;
+use crate::table::Table;
+use spv_base::{Inst, NoMemory};
+use std::alloc::Global;
+
+/// The executables of all blocks: the label of the block, and the word of the executable.
+pub fn executables_of(
+    alloc: Global,
+    sets: &Table<bool>,
+    insts: &[Inst],
+) -> Result<Vec<(u32, u32)>, NoMemory>
+    ensures { IfOk result (λ executables. executables.items ≡ spec.executables_in sets.now insts.now) }
+{
+    let mut executables = Vec::new(alloc);
+    let mut site = Site::outside();
+    for inst in insts {
+        let role = role_of(sets, inst);
+        if role.is_executable() && site.place.in_block() {
+            executables.push((site.label, inst.word))?;
+        }
+        site = site.after(role, inst);
+    }
+    Ok(executables)
+}
+
+/// Each executable with the one after it in its block.
+pub fn followed(alloc: Global, executables: &[(u32, u32)]) -> Result<Table<Option<u32>>, NoMemory>
+    ensures { IfOk result (λ followers. followers ≡ spec.followed executables.now) }
+{
+    let mut followers = Vec::new(alloc);
+    let mut rest = executables;
+    'forth: while let [(label, word), more @ ..] = rest {
+        followers.push((*word, following(*label, more)))?;
+        rest = more;
+    }
+    Table::new(alloc, followers)
+}
+
+/// The first of these executables, where it is in the block with this label.
+fn following(label: u32, rest: &[(u32, u32)]) -> Option<u32>
+    ensures { result ≡ spec.following label rest.now }
+{
+    match rest {
+        [] => None,
+        [e, ..] => if e.0 == label { Some(e.1) } else { None },
+    }
+}

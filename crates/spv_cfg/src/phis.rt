@@ -1,0 +1,92 @@
+//! Phis (SPIR-V 1.6, OpPhi): one pair for each predecessor of the block.
+ghost use Rattle.std.specs.Prelude.{◌≡◌, IfOk, map};
+ghost use Rattle.std.specs.List.{list_all, flat_map};
+ghost use Rattle.spv_cfg.specs.Lowest.{lowest};
+ghost use Rattle.spv_cfg.specs.Sites.{stands, outside};
+ghost use Rattle.spv_cfg.specs.Phis as spec;
+
+use crate::distinct::are_distinct;
+use crate::edges::Edges;
+use crate::lowest::sooner;
+use crate::names::Names;
+use crate::roles::{Role, role_of};
+use crate::sites::Site;
+use crate::switches::{cases_by_word, numbers_of};
+use spv_base::{Inst, NoMemory};
+use std::alloc::Global;
+
+/// The second of each pair.
+fn seconds_of(alloc: Global, pairs: &[(u64, u32)]) -> Result<Vec<u64>, NoMemory>
+    ensures { IfOk result (λ seconds. seconds.items ≡ map (λ pair. pair.1) pairs.now) }
+{
+    let mut seconds = Vec::new(alloc);
+    for pair in pairs {
+        seconds.push(u64::from(pair.1))?;
+    }
+    Ok(seconds)
+}
+
+/// Whether the second of each pair is a predecessor.
+fn are_predecessors(edges: &Edges, label: u32, pairs: &[(u64, u32)]) -> bool
+    ensures { result ≡ list_all (spec.is_predecessor edges.now label) (map (λ pair. pair.1) pairs.now) }
+{
+    for pair in pairs {
+        if !edges.contains(label, pair.1) {
+            return false;
+        }
+    }
+    true
+}
+
+/// Whether a phi has whole pairs, as many as there are predecessors of the block, each with another predecessor.
+fn is_phi_right(alloc: Global, edges: &Edges, label: u32, inst: &Inst) -> Result<bool, NoMemory>
+    ensures { IfOk result (λ right. right ≡ spec.is_phi_right edges.now label inst.now) }
+{
+    let numbers = numbers_of(alloc, inst)?;
+    let pairs = cases_by_word(alloc, numbers.as_slice())?;
+    let parents = seconds_of(alloc, pairs.as_slice())?;
+    let distinct = are_distinct(alloc, parents.as_slice())?;
+    let predecessors = are_predecessors(edges, label, pairs.as_slice());
+    let whole = numbers.len() % 2 == 0;
+    Ok(whole && parents.len() == edges.count(label) && predecessors && distinct)
+}
+
+/// The instruction, where it is a phi that is not right.
+fn breach_at(
+    alloc: Global,
+    edges: &Edges,
+    site: Site,
+    role: Role,
+    inst: &Inst,
+) -> Result<Option<u32>, NoMemory>
+    ensures { IfOk result (λ breach. breach ≡ lowest (spec.phi_breach edges.now (record { site = site; role = role; inst = inst.now }))) }
+{
+    if !(role.is_phi() && site.place.in_block()) {
+        return Ok(None);
+    }
+    if is_phi_right(alloc, edges, site.label, inst)? {
+        Ok(None)
+    } else {
+        Ok(Some(inst.word))
+    }
+}
+
+/// The lowest word of a phi that is not right.
+pub fn phi_breach(
+    alloc: Global,
+    names: &Names,
+    edges: &Edges,
+    insts: &[Inst],
+) -> Result<Option<u32>, NoMemory>
+    ensures { IfOk result (λ least. least ≡ lowest (flat_map (spec.phi_breach edges.now) (stands names.now.sets outside insts.now))) }
+{
+    let mut least = None;
+    let mut site = Site::outside();
+    for inst in insts {
+        let role = role_of(&names.sets, inst);
+        let next = breach_at(alloc, edges, site, role, inst)?;
+        least = sooner(least, next);
+        site = site.after(role, inst);
+    }
+    Ok(least)
+}

@@ -1,0 +1,148 @@
+//! What an instruction is to the functions and blocks of a module (SPIR-V 1.6 section 2.4).
+ghost use Rattle.std.specs.Prelude.{◌≡◌, IfOk, nat_eq, codes, unwrap_or};
+ghost use Rattle.std.specs.List.{starts_with};
+ghost use Rattle.spv_base.specs.Entries.{reads};
+ghost use Rattle.spv_cfg.specs.Roles as spec;
+ghost use Rattle.spv_cfg.specs.Branches.{is_label, is_terminator};
+ghost use Rattle.spv_cfg.specs.Phis.{is_phi};
+
+use crate::table::Table;
+use spv_base::{Inst, NoMemory, Operand};
+use std::alloc::Global;
+
+/// What an instruction is to its function.
+#[derive(Clone, Copy, Debug, PartialEq, Eq)]
+pub enum Role {
+    Function,
+    Parameter,
+    End,
+    Label,
+    /// A line, or an instruction with no meaning at run time.
+    Line,
+    Phi,
+    /// A variable of the function.
+    Variable,
+    Terminator,
+    /// It stands in a block, and a run passes it.
+    Passed,
+    Executable,
+}
+
+/// The number in an operand: an id or a literal word, and 0 for a string.
+pub fn number_in(operand: &Operand) -> u32
+    ensures { result ≡ spec.number_in operand.now }
+{
+    match operand {
+        Operand::Id(id) => *id,
+        Operand::Lit(word) => *word,
+        Operand::Text(_) => 0,
+    }
+}
+
+/// The number at a place of the operands, and 0 past their end.
+pub fn number_at(inst: &Inst, place: usize) -> u32
+    ensures { result ≡ spec.number_at inst.now place }
+{
+    match inst.operands.get(place) {
+        Some(operand) => number_in(operand),
+        None => 0,
+    }
+}
+
+/// Whether the name of an imported set begins with "NonSemantic.".
+fn is_debug_set(inst: &Inst) -> bool
+    ensures { result ≡ starts_with nat_eq (spec.name_of inst.now) (codes "NonSemantic.") }
+{
+    match inst.operands.get(0) {
+        Some(Operand::Text(name)) => name.as_slice().starts_with(b"NonSemantic."),
+        Some(Operand::Id(_)) => false,
+        Some(Operand::Lit(_)) => false,
+        None => false,
+    }
+}
+
+/// The imported sets, each with whether it has no meaning at run time.
+pub fn sets_of(alloc: Global, insts: &[Inst]) -> Result<Table<bool>, NoMemory>
+    ensures { IfOk result (λ sets. sets ≡ spec.sets_of insts.now) }
+{
+    let mut sets = Vec::new(alloc);
+    for inst in insts {
+        if inst.op == 11 {
+            sets.push((inst.id, is_debug_set(inst)))?;
+        }
+    }
+    Table::new(alloc, sets)
+}
+
+/// What an opcode is, where OpExtInst is of a set with no meaning or not, and OpVariable is of the function or not.
+fn role_by(op: u16, debug: bool, local: bool) -> Role
+    ensures { result ≡ unwrap_or (reads op (spec.roles debug local)) Role.Executable }
+{
+    match op {
+        0 => Role::Passed,
+        8 => Role::Line,
+        12 => if debug { Role::Line } else { Role::Executable },
+        54 => Role::Function,
+        55 => Role::Parameter,
+        56 => Role::End,
+        59 => if local { Role::Variable } else { Role::Passed },
+        245 => Role::Phi,
+        246 => Role::Passed,
+        247 => Role::Passed,
+        248 => Role::Label,
+        249 => Role::Terminator,
+        250 => Role::Terminator,
+        251 => Role::Terminator,
+        253 => Role::Terminator,
+        254 => Role::Terminator,
+        255 => Role::Terminator,
+        317 => Role::Line,
+        _ => Role::Executable,
+    }
+}
+
+/// What an instruction is.
+pub fn role_of(sets: &Table<bool>, inst: &Inst) -> Role
+    ensures { result ≡ spec.role_of sets.now inst.now }
+{
+    let first = number_at(inst, 0);
+    let debug = sets.get(first).unwrap_or(false);
+    role_by(inst.op, debug, first == 7)
+}
+
+impl Role {
+    /// Whether a run stops at it.
+    pub fn is_executable(self) -> bool
+        ensures { result ≡ spec.is_executable self }
+    {
+        matches!(self, Role::Terminator | Role::Executable)
+    }
+
+    /// Whether a block has ended, or should have, where it stands.
+    pub fn ends_block(self) -> bool
+        ensures { result ≡ spec.ends_block self }
+    {
+        matches!(self, Role::Function | Role::End | Role::Label)
+    }
+
+    /// Whether it begins a block.
+    pub fn is_label(self) -> bool
+        ensures { result ≡ is_label self }
+    {
+        matches!(self, Role::Label)
+    }
+
+    /// Whether it ends a block.
+    pub fn is_terminator(self) -> bool
+        ensures { result ≡ is_terminator self }
+    {
+        matches!(self, Role::Terminator)
+    }
+
+    /// Whether it is a phi.
+    pub fn is_phi(self) -> bool
+        ensures { result ≡ is_phi self }
+    {
+        matches!(self, Role::Phi)
+    }
+}

@@ -1,0 +1,145 @@
+//! The literals and labels of switches (SPIR-V 1.6, OpSwitch).
+ghost use Rattle.std.specs.Prelude.{◌≡◌, ◌∷◌, IfOk, drop, map};
+ghost use Rattle.spv_cfg.specs.Roles.{numbers_of as numbers_in};
+ghost use Rattle.spv_cfg.specs.Branches as spec;
+
+use crate::distinct::are_distinct;
+use crate::roles::number_in;
+use spv_base::{Inst, NoMemory};
+use std::alloc::Global;
+
+/// The numbers in the operands.
+pub fn numbers_of(alloc: Global, inst: &Inst) -> Result<Vec<u32>, NoMemory>
+    ensures { IfOk result (λ numbers. numbers.items ≡ numbers_in inst.now) }
+{
+    let mut numbers = Vec::new(alloc);
+    for operand in inst.operands.as_slice() {
+        numbers.push(number_in(operand))?;
+    }
+    Ok(numbers)
+}
+
+/// The words behind the first two.
+fn behind_two(words: &[u32]) -> &[u32]
+    ensures { result.now ≡ drop 2 words.now }
+{
+    match words {
+        [_, _, rest @ ..] => rest,
+        [_] => &[],
+        [] => &[],
+    }
+}
+
+/// Pairs of a literal of one word and a label.
+pub fn cases_by_word(alloc: Global, words: &[u32]) -> Result<Vec<(u64, u32)>, NoMemory>
+    ensures { IfOk result (λ cases. cases.items ≡ spec.cases_by_word words.now) }
+{
+    let mut cases = Vec::new(alloc);
+    let mut rest = words;
+    'forth: while let [word, label, more @ ..] = rest {
+        cases.push((u64::from(*word), *label))?;
+        rest = more;
+    }
+    Ok(cases)
+}
+
+/// Pairs of a literal of two words, the low one first, and a label.
+fn cases_by_two(alloc: Global, words: &[u32]) -> Result<Vec<(u64, u32)>, NoMemory>
+    ensures { IfOk result (λ cases. cases.items ≡ spec.cases_by_two words.now) }
+{
+    let mut cases = Vec::new(alloc);
+    let mut rest = words;
+    'forth: while let [low, high, label, more @ ..] = rest {
+        let literal = u64::from(*low) + u64::from(*high) * 0x1_0000_0000;
+        cases.push((literal, *label))?;
+        rest = more;
+    }
+    Ok(cases)
+}
+
+fn cases(alloc: Global, width: u32, words: &[u32]) -> Result<Vec<(u64, u32)>, NoMemory>
+    ensures { IfOk result (λ cases. cases.items ≡ spec.cases width words.now) }
+{
+    if width == 64 {
+        cases_by_two(alloc, words)
+    } else {
+        cases_by_word(alloc, words)
+    }
+}
+
+/// The literals and labels behind the selector and the default.
+fn cases_of(alloc: Global, width: u32, inst: &Inst) -> Result<Vec<(u64, u32)>, NoMemory>
+    ensures { IfOk result (λ cases. cases.items ≡ spec.cases width (spec.case_words inst.now)) }
+{
+    let words = numbers_of(alloc, inst)?;
+    cases(alloc, width, behind_two(words.as_slice()))
+}
+
+fn are_whole(width: u32, words: &[u32]) -> bool
+    ensures { result ≡ spec.are_whole width words.now }
+{
+    if width == 64 {
+        words.len() % 3 == 0
+    } else {
+        words.len() % 2 == 0
+    }
+}
+
+/// A literal as a number of the selector's width.
+fn at_width(width: u32, literal: u64) -> u64
+    ensures { result ≡ spec.at_width width literal }
+{
+    match width {
+        8 => literal % 256,
+        16 => literal % 65536,
+        _ => literal,
+    }
+}
+
+/// The literals of some cases as numbers of the selector's width.
+fn literals_of(alloc: Global, width: u32, cases: &[(u64, u32)]) -> Result<Vec<u64>, NoMemory>
+    ensures { IfOk result (λ literals. literals.items ≡ map (λ c. spec.at_width width c.0) cases.now) }
+{
+    let mut literals = Vec::new(alloc);
+    for case in cases {
+        literals.push(at_width(width, case.0))?;
+    }
+    Ok(literals)
+}
+
+/// Whether the words are whole pairs, and no literal stands twice.
+pub fn is_switch_right(alloc: Global, width: u32, inst: &Inst) -> Result<bool, NoMemory>
+    ensures { IfOk result (λ right. right ≡ spec.is_switch_right width inst.now) }
+{
+    let words = numbers_of(alloc, inst)?;
+    let words = behind_two(words.as_slice());
+    let cases = cases(alloc, width, words)?;
+    let literals = literals_of(alloc, width, cases.as_slice())?;
+    let distinct = are_distinct(alloc, literals.as_slice())?;
+    Ok(are_whole(width, words) && distinct)
+}
+
+/// A default, and the labels of the cases.
+fn labels_in(alloc: Global, default: u32, cases: &[(u64, u32)]) -> Result<Vec<u32>, NoMemory>
+    ensures { IfOk result (λ labels. labels.items ≡ default ∷ map (λ c. c.1) cases.now) }
+{
+    let mut labels = Vec::new(alloc);
+    labels.push(default)?;
+    for case in cases {
+        labels.push(case.1)?;
+    }
+    Ok(labels)
+}
+
+/// The default and the labels of the cases.
+pub fn switch_targets(
+    alloc: Global,
+    width: u32,
+    inst: &Inst,
+    default: u32,
+) -> Result<Vec<u32>, NoMemory>
+    ensures { IfOk result (λ targets. targets.items ≡ default ∷ map (λ c. c.1) (spec.cases width (spec.case_words inst.now))) }
+{
+    let cases = cases_of(alloc, width, inst)?;
+    labels_in(alloc, default, cases.as_slice())
+}
