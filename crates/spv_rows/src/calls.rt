@@ -1,5 +1,5 @@
 //! One call of the program.
-ghost use Rattle.std.specs.Prelude.{◌≡◌, ◌<◌, ◌-◌, ◌^◌};
+ghost use Rattle.std.specs.Prelude.{◌≡◌, ◌<◌};
 
 use spv_app::{Status, debug_main};
 use spv_base::{Files, NoMemory, Probe, Sink, Source, Steps};

@@ -1,6 +1,4 @@
 //! How much input is taken, and in which pieces output is offered.
-ghost use Rattle.std.specs.Prelude.{◌≡◌, ◌≤◌, vec_len};
-
 use crate::calls::{DEBUG, TEN_ROUNDS, call, files, sum, words};
 use spv_app::Status;
 use spv_base::{Failed, MemoryFiles, MemorySink, MemorySource, Sink, Source};
@@ -9,7 +7,7 @@ use std::test::Fail;
 /// One more byte than the input may have.
 const TOO_LONG: usize = 16_777_217;
 
-/// Input in memory, and the lengths of the longest buffer and of all.
+/// Input in memory, and the length of the longest buffer that was to be filled.
 #[derive(Drop)]
 struct Watched {
     held: MemorySource,
