@@ -15,7 +15,7 @@ use Rattle.spv_types.proofs.TypeLemmas.{in_first-found, in_first-missing, in_fir
 
 -- what the first types give for an id of one of them, by its number
 module _ {A : Type 0} (none : A) (step : (ℕ → A) → Form → A) where
-  value_at : (ts : Types) (limit n id : ℕ) → number_of ts id ≡ Some n → n < limit → in_first none step ts limit id ≡ step (in_first none step ts n) (form_at ts n)
+  pub value_at : (ts : Types) (limit n id : ℕ) → number_of ts id ≡ Some n → n < limit → in_first none step ts limit id ≡ step (in_first none step ts n) (form_at ts n)
   value_at ts limit n id h l = in_first-found none step ts limit n id h l ∙ rw (number_form ts id n (0, Void) h) refl
 
 pub size_known : (ts : Types) (sizes : List ℕ) (n id : ℕ) → AreSizes ts sizes → number_of ts id ≡ Some n → n < length sizes → get_or sizes n 0 ≡ size_among ts (length sizes) id

@@ -10,3 +10,4 @@ pub mod RuleLemmas
 pub mod BuildLemmas
 pub mod LayoutLemmas
 pub mod BlockLemmas
+pub mod LimitLemmas

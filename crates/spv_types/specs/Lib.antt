@@ -12,3 +12,4 @@ pub mod Layout
 pub mod Measured
 pub mod Blocks
 pub mod Shapes
+pub mod Limits

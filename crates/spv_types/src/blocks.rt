@@ -151,14 +151,14 @@ impl TypeTable {
         alloc: Global,
         facts: &Facts,
         laid: &[bool],
-        module: &[Inst],
+        front: &[Inst],
     ) -> Result<(), Fail<Refusal>>
         requires laid { AreLaid self.now laid.now }
         requires all { length laid.now ≡ length self.now }
-        ensures { Answers (unless_refused tt (module_breaches facts.now self.now [] module.now)) result }
+        ensures { Answers (unless_refused tt (module_breaches facts.now self.now [] front.now)) result }
     {
         let mut places = BTreeMap::new(alloc);
-        for inst in module {
+        for inst in front {
             if !self.keeps_layout(facts, laid, &places, inst) {
                 return Err(breach(inst));
             }

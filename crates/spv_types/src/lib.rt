@@ -9,6 +9,7 @@ mod facts;
 pub mod forms;
 mod layout;
 pub mod leaves;
+pub mod limits;
 pub mod opcodes;
 mod operands;
 pub mod places;
@@ -20,4 +21,5 @@ mod tests;
 mod typing;
 
 pub use forms::{Form, Member};
+pub use limits::Limit;
 pub use table::TypeTable;

@@ -1,4 +1,5 @@
 //! Types and blocks, built from instructions.
+use crate::limits::Limit;
 use crate::opcodes::{
     ARRAY_STRIDE, BINDING, BLOCK, BUFFER_BLOCK, CONSTANT, DECORATE, DESCRIPTOR_SET, FUNCTION,
     MEMBER_DECORATE, OFFSET, TYPE_ARRAY, TYPE_BOOL, TYPE_INT, TYPE_POINTER, TYPE_RUNTIME_ARRAY,
@@ -92,6 +93,14 @@ fn leaves_and_places_of_a_block(rt: HostRuntime) -> Result<(), Fail> {
     if table.is_unset(3) {
         table.set_length(3, 3);
     }
+    let limits = table.limits(alloc)?;
+    assert!(rt;
+        table.limit(limits.as_slice(), 4)
+            == Limit {
+                nesting: 4,
+                cells: 7
+            }
+    );
     let copy = table.copy(alloc)?;
     for table in [&table, &copy] {
         assert!(rt; table.cells(4) == Some(7));

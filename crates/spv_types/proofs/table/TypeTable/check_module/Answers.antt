@@ -7,13 +7,13 @@ loop-inst-init c = record { places = λ set binding. rw c.new-places.ensures.emp
 
 pub returns-then-not-keeps_layout : goal.returns-then-not-keeps_layout
 returns-then-not-keeps_layout c =
-    rw (c.breach.ensures) (module_refused c.args.facts.now c.args.self.now c.args.module.now c.loop-inst.inst-index c.inst-item.result c.loop-inst-test.true c.inst-item.is (c.if-not-keeps_layout.ensures (take c.loop-inst.inst-index c.args.module.now) c.loop-inst.invariant.places) c.loop-inst.invariant.refusals)
+    rw (c.breach.ensures) (module_refused c.args.facts.now c.args.self.now c.args.front.now c.loop-inst.inst-index c.inst-item.result c.loop-inst-test.true c.inst-item.is (c.if-not-keeps_layout.ensures (take c.loop-inst.inst-index c.args.front.now) c.loop-inst.invariant.places) c.loop-inst.invariant.refusals)
 
 pub loop-inst-preserved : goal.loop-inst-preserved
 loop-inst-preserved c = record {
-  places = λ set binding. c.in_ok-note_place.ensures set binding ∙ rw (c.loop-inst.invariant.places set binding) (taken_next c.args.facts.now c.args.module.now c.loop-inst.inst-index c.inst-item.result set binding c.loop-inst-test.true c.inst-item.is);
-  refusals = module_kept c.args.facts.now c.args.self.now c.args.module.now c.loop-inst.inst-index c.inst-item.result c.loop-inst-test.true c.inst-item.is (c.if-not-keeps_layout.ensures (take c.loop-inst.inst-index c.args.module.now) c.loop-inst.invariant.places) c.loop-inst.invariant.refusals;
+  places = λ set binding. c.in_ok-note_place.ensures set binding ∙ rw (c.loop-inst.invariant.places set binding) (taken_next c.args.facts.now c.args.front.now c.loop-inst.inst-index c.inst-item.result set binding c.loop-inst-test.true c.inst-item.is);
+  refusals = module_kept c.args.facts.now c.args.self.now c.args.front.now c.loop-inst.inst-index c.inst-item.result c.loop-inst-test.true c.inst-item.is (c.if-not-keeps_layout.ensures (take c.loop-inst.inst-index c.args.front.now) c.loop-inst.invariant.places) c.loop-inst.invariant.refusals;
 }
 
 pub returns : goal.returns
-returns c = module_done c.args.facts.now c.args.self.now c.args.module.now c.loop-inst.inst-index c.loop-inst-test.false c.loop-inst.invariant.refusals
+returns c = module_done c.args.facts.now c.args.self.now c.args.front.now c.loop-inst.inst-index c.loop-inst-test.false c.loop-inst.invariant.refusals

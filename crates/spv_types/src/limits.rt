@@ -1,0 +1,125 @@
+//! What the limits on types count.
+ghost use Rattle.std.specs.Prelude.{◌≡◌, length, IfOk};
+ghost use Rattle.spv_types.specs.Limits.{AreLimits, limit_among, limit_of, limit_step, members_limit, repeated_limit, struct_limit};
+
+use crate::forms::{Form, Member};
+use crate::table::TypeTable;
+use spv_base::NoMemory;
+use std::alloc::Global;
+
+/// How deep a type is nested, and how many cells it counts as. Both stop at the greatest u64.
+#[derive(Clone, Copy, Debug, PartialEq, Eq)]
+pub struct Limit {
+    pub nesting: u64,
+    pub cells: u64,
+}
+
+/// A scalar type.
+fn alone(cells: u64) -> Limit
+    ensures { result ≡ record { nesting = 1; cells = cells } }
+{
+    Limit { nesting: 1, cells }
+}
+
+impl Limit {
+    /// So many parts of a type.
+    fn repeated(self, count: u32) -> Limit
+        ensures { result ≡ repeated_limit self count }
+    {
+        Limit {
+            nesting: self.nesting.saturating_add(1),
+            cells: self.cells.saturating_mul(u64::from(count)),
+        }
+    }
+}
+
+impl TypeTable {
+    /// What a type among the first counts as, where it is known of them.
+    fn known_limit(&self, limits: &[Limit], ty: u32) -> Limit
+        requires { AreLimits self.now limits.now }
+        ensures { result ≡ limit_among self.now (length limits.now) ty }
+    {
+        match self.number(ty) {
+            Some(n) if n < limits.len() => limits[n],
+            _ => Limit {
+                nesting: 0,
+                cells: 0,
+            },
+        }
+    }
+
+    /// The deepest of some members, and their cells together.
+    fn members_limit(&self, limits: &[Limit], members: &[Member]) -> Limit
+        requires { AreLimits self.now limits.now }
+        ensures { result ≡ members_limit (limit_among self.now (length limits.now)) members.now }
+    {
+        let mut nesting: u64 = 0;
+        let mut cells: u64 = 0;
+        for member in members {
+            let limit = self.known_limit(limits, member.ty);
+            nesting = nesting.max(limit.nesting);
+            cells = cells.saturating_add(limit.cells);
+        }
+        Limit { nesting, cells }
+    }
+
+    /// What a struct counts as; one without members is a cell.
+    fn struct_limit(&self, limits: &[Limit], members: &[Member]) -> Limit
+        requires { AreLimits self.now limits.now }
+        ensures { result ≡ struct_limit (limit_among self.now (length limits.now)) members.now }
+    {
+        if members.is_empty() {
+            return alone(1);
+        }
+        let inside = self.members_limit(limits, members);
+        Limit {
+            nesting: inside.nesting.saturating_add(1),
+            cells: inside.cells,
+        }
+    }
+
+    /// What a form counts as, where it is known of the types before it.
+    fn form_limit(&self, limits: &[Limit], form: &Form) -> Limit
+        requires { AreLimits self.now limits.now }
+        ensures { result ≡ limit_step (limit_among self.now (length limits.now)) form.now }
+    {
+        match form {
+            Form::Void | Form::Function { .. } => alone(0),
+            Form::Bool | Form::Int { .. } | Form::Pointer { .. } => alone(1),
+            Form::Vector { component, count } => self
+                .known_limit(limits, *component)
+                .repeated(*count),
+            Form::Array {
+                element,
+                length,
+                ..
+            } => self
+                .known_limit(limits, *element)
+                .repeated(length.unwrap_or(0)),
+            Form::Runtime { element, .. } => self.known_limit(limits, *element).repeated(0),
+            Form::Struct { members, .. } => self.struct_limit(limits, members.as_slice()),
+        }
+    }
+
+    /// The nesting and the cells of each type, by its number.
+    pub fn limits(&self, alloc: Global) -> Result<Vec<Limit>, NoMemory>
+        ensures limits { IfOk result (λ limits. AreLimits self.now limits.items) }
+        ensures all { IfOk result (λ limits. length limits.items ≡ length self.now) }
+    {
+        let mut limits = Vec::new(alloc);
+        for n in 0..self.len() {
+            limits.push(self.form_limit(limits.as_slice(), self.form_at(n)))?;
+        }
+        Ok(limits)
+    }
+
+    /// The nesting and the cells of a type, where they are known of all.
+    #[tactic(auto, unfolding(crate::specs::Limits::limit_of))]
+    pub fn limit(&self, limits: &[Limit], ty: u32) -> Limit
+        requires limits { AreLimits self.now limits.now }
+        requires all { length limits.now ≡ length self.now }
+        ensures { result ≡ limit_of self.now ty }
+    {
+        self.known_limit(limits, ty)
+    }
+}
