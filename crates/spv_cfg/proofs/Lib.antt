@@ -4,3 +4,4 @@ pub mod Backwards
 pub mod Orders
 pub mod Chains
 pub mod FlowLemmas
+pub mod LongestChains

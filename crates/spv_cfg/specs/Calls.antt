@@ -1,6 +1,6 @@
 -- Chains of calls: which function calls which, and how long a chain of calls may become.
-use Rattle.std.specs.Prelude.{ℕ, zero, suc, Bool, List, [], ◌∷◌, ◌++◌, ◌==◌, ◌&&◌, nat_lt, if◌then◌else◌, Option, Some, None, max}
-use Rattle.std.specs.List.{flat_map}
+use Rattle.std.specs.Prelude.{◌≡◌, ◌≤◌, length, ℕ, zero, suc, Bool, List, [], ◌∷◌, ◌++◌, ◌==◌, ◌&&◌, nat_lt, if◌then◌else◌, Option, Some, None, max}
+use Rattle.std.specs.List.{flat_map, Contains}
 use Rattle.spv_base.specs.Entries.{reads}
 use Rattle.spv_base.specs.declared.instructions.Inst.{Inst}
 use Rattle.spv_cfg.specs.Roles.{number_at, sets_of}
@@ -70,3 +70,17 @@ abbrev pub too_deep : List (ℕ × ℕ) → List ℕ → List ℕ
 too_deep [] ns = []
 too_deep (f ∷ fs) [] = []
 too_deep (f ∷ fs) (n ∷ ns) = over f.1 n ++ too_deep fs ns
+
+-- ---- what longest means
+
+-- functions after a first one, each of which the one before calls
+abbrev pub IsChain : List (ℕ × ℕ) → ℕ → List ℕ → Type 0
+IsChain calls f [] = Unit {0}
+IsChain calls f (g ∷ more) = Contains calls (f, g) × IsChain calls g more
+
+-- a chain from a function has n functions with this one, and no chain from it has more
+pub record IsLongest (calls : List (ℕ × ℕ)) (f n : ℕ) : Type 0 where
+  pub chain : List ℕ
+  pub is_chain : IsChain calls f chain
+  pub functions : suc (length chain) ≡ n
+  pub most_functions : (other : List ℕ) → IsChain calls f other → suc (length other) ≤ n

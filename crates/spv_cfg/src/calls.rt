@@ -1,5 +1,5 @@
 //! Chains of calls: which function calls which, and how long a chain of calls may become.
-ghost use Rattle.std.specs.Prelude.{◌≡◌, ◌<◌, ◌≤◌, ℕ, suc, IfOk, length, slice_index};
+ghost use Rattle.std.specs.Prelude.{◌≡◌, ◌<◌, ◌≤◌, ◌++◌, ◌∷◌, [], List, ℕ, suc, IfOk, length, slice_index};
 ghost use Rattle.std.specs.List.{All};
 ghost use Rattle.spv_cfg.specs.Lowest.{lowest};
 ghost use Rattle.spv_cfg.specs.Calls as spec;
@@ -147,3 +147,14 @@ pub fn call_breach(functions: &[(u32, u32)], lengths: &[u32]) -> Option<u32>
     }
     least
 }
+
+/// A law, with nothing to run: the depth of a function is the number of functions in the longest chain of calls from it,
+/// and a function is refused exactly where a chain of more than 64 functions starts at it; that is so where a chain from
+/// it comes to a function of a cycle.
+pub fn depths_are_longest_chains()
+    ensures longest { (calls : List (ℕ × ℕ)) (f : ℕ) → spec.longest spec.limit calls f ≤ 64 → spec.IsLongest calls f (spec.longest spec.limit calls f) }
+    ensures long { (calls : List (ℕ × ℕ)) (f : ℕ) → 64 < spec.longest spec.limit calls f → (chain : List ℕ) × spec.IsChain calls f chain × (suc (length chain) ≡ 65) }
+    ensures refused { (calls : List (ℕ × ℕ)) (f : ℕ) (chain : List ℕ) → spec.IsChain calls f chain → 64 < suc (length chain) → 64 < spec.longest spec.limit calls f }
+    ensures cycle { (calls : List (ℕ × ℕ)) (f g : ℕ) (front round : List ℕ) → spec.IsChain calls f (front ++ g ∷ []) → spec.IsChain calls g (round ++ g ∷ [])
+        → 64 < spec.longest spec.limit calls f }
+{}

@@ -1,5 +1,5 @@
 //! The functions and blocks of a module, for a debugger that goes through them.
-ghost use Rattle.std.specs.Prelude.{◌≡◌, Some, IsSome, IfOk, length};
+ghost use Rattle.std.specs.Prelude.{◌≡◌, ◌↔◌, Some, IsSome, IsTrue, IfOk, length};
 ghost use Rattle.spv_base.specs.Answers.{Answers};
 ghost use Rattle.spv_base.specs.Entries.{reads};
 ghost use Rattle.spv_cfg.specs.Lowest.{lowest};
@@ -121,6 +121,27 @@ impl Code {
             nexts,
             depths,
         })
+    }
+
+    /// Whether this is the word number of an executable.
+    pub fn is_pc(&self, word: u32) -> bool
+        ensures { IsTrue result ↔ IsSome (reads word self.now.nexts) }
+    {
+        self.nexts.get(word).is_some()
+    }
+
+    /// Whether this is the label of a block.
+    pub fn is_block(&self, label: u32) -> bool
+        ensures { IsTrue result ↔ IsSome (reads label self.now.blocks) }
+    {
+        self.blocks.get(label).is_some()
+    }
+
+    /// Whether this is the id of a function.
+    pub fn is_function(&self, id: u32) -> bool
+        ensures { IsTrue result ↔ IsSome (reads id self.now.depths) }
+    {
+        self.depths.get(id).is_some()
     }
 
     /// The executable after a pc in its block. There is none exactly where the pc is the last one of its block.

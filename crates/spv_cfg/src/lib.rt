@@ -16,5 +16,8 @@ mod roles;
 mod sites;
 mod switches;
 mod table;
+#[cfg(test)]
+mod tests;
 
+pub use calls::depths_are_longest_chains;
 pub use code::Code;

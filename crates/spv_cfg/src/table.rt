@@ -42,13 +42,6 @@ impl<V: Copy> Table<V> {
         Ok(Table { entries, index })
     }
 
-    /// The entries in their order.
-    pub fn entries(&self) -> &[(u32, V)]
-        ensures { result.now ≡ self.now }
-    {
-        self.entries.as_slice()
-    }
-
     /// What stands under a number.
     pub fn get(&self, key: u32) -> Option<V>
         ensures { result ≡ reads key self.now }
