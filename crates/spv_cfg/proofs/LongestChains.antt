@@ -1,9 +1,9 @@
 -- The longest chains of calls are chains, and no chain is longer; chains through a cycle have any length.
-use Rattle.std.proofs.Common.{◌≡◌, ◌<◌, ◌≤◌, ◌+◌, ℕ, zero, suc, List, [], ◌∷◌, ◌++◌, length, take, max, eqb, cond, inl, inr, ◌⊎◌, ⊎_elim, subst, refl, sym, ap, ◌∙◌, arith, true, false, length-append}
+use Rattle.std.proofs.Common.{◌≡◌, ◌<◌, ◌≤◌, ◌+◌, ℕ, zero, suc, List, [], ◌∷◌, ◌++◌, length, take, max, eqb, cond, inl, inr, ◌⊎◌, ⊎_elim, subst, refl, sym, ap, arith, true, false, length-append}
 use Rattle.std.proofs.lemmas.Bool.{cases_lt, cases_Bool, eq-eqb, eqb-true}
 use Rattle.std.specs.List.{Contains}
 use Rattle.spv_cfg.specs.Calls.{most, longest, limit, IsChain, IsLongest}
-use Rattle.spv_cfg.proofs.Chains.{longest-suc, longest-zero, longest-le, most-le}
+use Rattle.spv_cfg.proofs.Chains.{longest-suc, longest-le, most-le}
 
 most-ge : (level : ℕ → ℕ) (f g : ℕ) (calls : List (ℕ × ℕ)) → Contains calls (f, g) → level g ≤ most level f calls
 most-ge level f g [] (k, lt, is) = absurd (omega arith)
