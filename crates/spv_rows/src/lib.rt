@@ -8,6 +8,8 @@ mod calls;
 #[cfg(test)]
 mod faults;
 #[cfg(test)]
+mod layouts;
+#[cfg(test)]
 mod limits;
 #[cfg(test)]
 mod rows;

@@ -8,7 +8,7 @@ use Rattle.spv_types.specs.declared.forms.Member.{Member}
 use Rattle.spv_types.specs.declared.forms.Form.{Form}
 use Rattle.spv_types.specs.Types.{Types, found_among, in_first}
 use Rattle.spv_types.specs.Cuts.{cut}
-use Rattle.spv_types.specs.Places.{place_among, place_step, place_in_members, place_in_elements, place_in_row, row_number}
+use Rattle.spv_types.specs.Places.{place_among, place_step, place_by, place_in_member, place_in_members, place_in_elements, place_in_row, row_number}
 use Rattle.spv_types.specs.Cells.{cells_of}
 use Rattle.spv_types.proofs.TypeLemmas.{in_first-is}
 
@@ -51,11 +51,15 @@ rem_cut leaf w l = elim (cases_lt w (2 ^ 64)) [
   | inr more ↦ let e : cut w ≡ 18446744073709551615 = omega arith in rw (e, mod-eq_of_lt {n = leaf} {m = 18446744073709551615} (omega arith), mod-eq_of_lt {n = leaf} {m = w} (omega arith)) refl
 ]
 
-here : (o : Option ℕ) (left k : ℕ) (x : Option ℕ) (f : ℕ → Option ℕ) → option_map cut o ≡ Some k → left < k → option_and_then (λ n. if nat_lt left n then x else f n) o ≡ x
+here : (o : Option ℕ) (left k : ℕ) (x : Option ℕ) (f : ℕ → Option ℕ) → option_map cut o ≡ Some k → left < k → place_by left x f o ≡ x
 here None left k x f h l = cc
 here (Some n) left k x f h l = let e : cut n ≡ k = cc in let t : nat_lt left n ≡ true = less left n (omega arith) in rw t refl
 
-later : (o : Option ℕ) (left k : ℕ) (x : Option ℕ) (f : ℕ → Option ℕ) → left < 67108864 → option_map cut o ≡ Some k → k ≤ left → option_and_then (λ n. if nat_lt left n then x else f n) o ≡ f k
+any : (o : Option ℕ) (left : ℕ) (x : Option ℕ) (f : ℕ → Option ℕ) → option_map cut o ≡ None → place_by left x f o ≡ x
+any None left x f h = refl
+any (Some n) left x f h = cc
+
+later : (o : Option ℕ) (left k : ℕ) (x : Option ℕ) (f : ℕ → Option ℕ) → left < 67108864 → option_map cut o ≡ Some k → k ≤ left → place_by left x f o ≡ f (left - k)
 later None left k x f b h l = cc
 later (Some n) left k x f b h l = let e : cut n ≡ k = cc in let s : n ≡ k = omega arith in let t : nat_lt left n ≡ false = not_less left n (omega arith) in rw (t, s) refl
 
@@ -64,22 +68,22 @@ module _ (cells : ℕ → Option ℕ) (place : ℕ → ℕ → Option ℕ) where
   unfolding place_in_members
   in_members_end leaf = refl
 
-  pub in_members_unknown : (ms : List Member) (i left : ℕ) (d : Member) → i < length ms → cells (get_or ms i d).ty ≡ None → place_in_members cells place (drop i ms) left ≡ None
+  pub in_members_any : (ms : List Member) (i left : ℕ) (d : Member) → i < length ms → option_map cut (cells (get_or ms i d).ty) ≡ None → place_in_members cells place (drop i ms) left ≡ place_in_member place (get_or ms i d) left
   unfolding place_in_members
-  in_members_unknown [] i left d l h = absurd (omega arith)
-  in_members_unknown (m ∷ ms) zero left d l h = rw h refl
-  in_members_unknown (m ∷ ms) (suc i) left d l h = in_members_unknown ms i left d (omega arith) h
+  in_members_any [] i left d l h = absurd (omega arith)
+  in_members_any (m ∷ ms) zero left d l h = any (cells m.ty) left _ (place_in_members cells place ms) h
+  in_members_any (m ∷ ms) (suc i) left d l h = in_members_any ms i left d (omega arith) h
 
-  pub in_members_here : (ms : List Member) (i left k : ℕ) (d : Member) → i < length ms → option_map cut (cells (get_or ms i d).ty) ≡ Some k → left < k → place_in_members cells place (drop i ms) left ≡ option_map (λ b. unwrap_or (get_or ms i d).offset 0 + b) (place (get_or ms i d).ty left)
+  pub in_members_here : (ms : List Member) (i left k : ℕ) (d : Member) → i < length ms → option_map cut (cells (get_or ms i d).ty) ≡ Some k → left < k → place_in_members cells place (drop i ms) left ≡ place_in_member place (get_or ms i d) left
   unfolding place_in_members
   in_members_here [] i left k d l h b = absurd (omega arith)
-  in_members_here (m ∷ ms) zero left k d l h b = here (cells m.ty) left k _ (λ n. place_in_members cells place ms (left - n)) h b
+  in_members_here (m ∷ ms) zero left k d l h b = here (cells m.ty) left k _ (place_in_members cells place ms) h b
   in_members_here (m ∷ ms) (suc i) left k d l h b = in_members_here ms i left k d (omega arith) h b
 
   pub in_members_later : (ms : List Member) (i left k : ℕ) (d : Member) → i < length ms → left < 67108864 → option_map cut (cells (get_or ms i d).ty) ≡ Some k → k ≤ left → place_in_members cells place (drop i ms) left ≡ place_in_members cells place (drop (i + 1) ms) (left - k)
   unfolding place_in_members
   in_members_later [] i left k d l n h b = absurd (omega arith)
-  in_members_later (m ∷ ms) zero left k d l n h b = later (cells m.ty) left k _ (λ n. place_in_members cells place ms (left - n)) n h b
+  in_members_later (m ∷ ms) zero left k d l n h b = later (cells m.ty) left k _ (place_in_members cells place ms) n h b
   in_members_later (m ∷ ms) (suc i) left k d l n h b = let e : suc i + 1 ≡ suc (i + 1) = omega arith in rw e (in_members_later ms i left k d (omega arith) n h b)
 
 pub elements_at : (ts : Types) (place : ℕ → ℕ → Option ℕ) (element : ℕ) (count : Option ℕ) (stride leaf k w : ℕ) → leaf < 67108864 → Some w ≡ option_map cut (cells_of ts element) → Some k ≡ row_number w count leaf

@@ -33,10 +33,20 @@ row_number cells count leaf = if nat_lt 0 cells && option_map_or (nat_lt (leaf /
 abbrev pub place_in_row : ℕ → Option ℕ → ℕ → (ℕ → Option ℕ) → ℕ → Option ℕ
 place_in_row cells count stride place leaf = option_and_then (λ k. option_map (λ n. k * stride + n) (place (leaf % cells))) (row_number cells count leaf)
 
--- a leaf of some members, each at its offset
+-- a leaf of a member, which begins at its offset
+abbrev pub place_in_member : (ℕ → ℕ → Option ℕ) → Member → ℕ → Option ℕ
+place_in_member place m leaf = option_map (λ b. unwrap_or m.offset 0 + b) (place m.ty leaf)
+
+-- A leaf is in a member or behind it, where the member has so many leaves. A runtime array has any number of them, and is the
+-- last member.
+abbrev pub place_by : ℕ → Option ℕ → (ℕ → Option ℕ) → Option ℕ → Option ℕ
+place_by leaf here behind None = here
+place_by leaf here behind (Some n) = if nat_lt leaf n then here else behind (leaf - n)
+
+-- a leaf of some members
 unfoldable pub place_in_members : (ℕ → Option ℕ) → (ℕ → ℕ → Option ℕ) → List Member → ℕ → Option ℕ
 place_in_members cells place [] leaf = None
-place_in_members cells place (m ∷ ms) leaf = option_and_then (λ n. if nat_lt leaf n then option_map (λ b. unwrap_or m.offset 0 + b) (place m.ty leaf) else place_in_members cells place ms (leaf - n)) (cells m.ty)
+place_in_members cells place (m ∷ ms) leaf = place_by leaf (place_in_member place m leaf) (place_in_members cells place ms) (cells m.ty)
 
 -- a leaf of a row of elements of the type with an id
 abbrev pub place_in_elements : Types → (ℕ → ℕ → Option ℕ) → ℕ → Option ℕ → ℕ → ℕ → Option ℕ

@@ -2,7 +2,7 @@
 ghost use Rattle.std.specs.Prelude.{◌≡◌, ◌<◌, option_map};
 ghost use Rattle.spv_types.specs.Cells.{cells_of};
 ghost use Rattle.spv_types.specs.Types.{form_of};
-ghost use Rattle.spv_types.specs.Places.{place_among, place_in_elements, place_in_members, place_of, place_step, row_number, scalar_bytes};
+ghost use Rattle.spv_types.specs.Places.{place_among, place_in_elements, place_in_member, place_in_members, place_of, place_step, row_number, scalar_bytes};
 ghost use Rattle.spv_types.specs.Cuts.{cut};
 
 use crate::forms::{Form, Member};
@@ -95,15 +95,26 @@ impl TypeTable {
     {
         let mut left = leaf;
         for member in members {
-            let cells = self.cells(member.ty)?;
+            let Some(cells) = self.cells(member.ty) else {
+                return self.leaf_place(limit, member, left);
+            };
             if left < cells {
-                let within = self.place_among(limit, member.ty, left)?;
-                let start = u64::from(member.offset.unwrap_or(0));
-                return Some(start.saturating_add(within));
+                return self.leaf_place(limit, member, left);
             }
             left -= cells;
         }
         None
+    }
+
+    /// The place of a leaf of a member, which begins at its offset.
+    #[cycle(place)]
+    fn leaf_place(&self, limit: usize, member: &Member, leaf: u64) -> Option<u64>
+        requires { leaf < 67108864 }
+        ensures { result ≡ option_map cut (place_in_member (place_among self.now limit) member.now leaf) }
+    {
+        let within = self.place_among(limit, member.ty, leaf)?;
+        let start = u64::from(member.offset.unwrap_or(0));
+        Some(start.saturating_add(within))
     }
 }
 
