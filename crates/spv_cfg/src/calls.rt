@@ -7,8 +7,8 @@ ghost use Rattle.spv_cfg.specs.Calls as spec;
 use crate::lowest::sooner;
 use crate::roles::{number_at, role_of};
 use crate::sites::Site;
-use crate::table::Table;
 use spv_base::{Inst, NoMemory};
+use spv_index::Table;
 use std::alloc::Global;
 
 /// The functions: the id and the word of each OpFunction.

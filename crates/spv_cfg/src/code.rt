@@ -15,8 +15,8 @@ use crate::layout::layout_breach;
 use crate::lowest::sooner;
 use crate::names::{Names, names_of};
 use crate::phis::phi_breach;
-use crate::table::Table;
 use spv_base::{Fail, Inst, NoMemory, Refusal};
+use spv_index::Table;
 use std::alloc::Global;
 use std::marker::Model;
 

@@ -4,8 +4,8 @@ ghost use Rattle.spv_cfg.specs.Executables as spec;
 
 use crate::roles::role_of;
 use crate::sites::Site;
-use crate::table::Table;
 use spv_base::{Inst, NoMemory};
+use spv_index::Table;
 use std::alloc::Global;
 
 /// The executables of all blocks: the label of the block, and the word of the executable.

@@ -6,8 +6,8 @@ ghost use Rattle.spv_cfg.specs.Layout as spec;
 use crate::lowest::sooner;
 use crate::roles::{Role, role_of};
 use crate::sites::Site;
-use crate::table::Table;
 use spv_base::Inst;
+use spv_index::Table;
 
 /// The OpLabel of the block at hand, where it has no terminator and should have ended.
 fn unended(site: Site, role: Role) -> Option<u32>

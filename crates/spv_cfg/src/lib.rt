@@ -3,7 +3,7 @@
 #![tactic(auto)]
 
 mod branches;
-mod calls;
+pub mod calls;
 mod code;
 mod distinct;
 mod edges;
@@ -12,10 +12,9 @@ mod layout;
 mod lowest;
 mod names;
 mod phis;
-mod roles;
-mod sites;
+pub mod roles;
+pub mod sites;
 mod switches;
-mod table;
 #[cfg(test)]
 mod tests;
 

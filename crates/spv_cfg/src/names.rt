@@ -6,8 +6,8 @@ ghost use Rattle.spv_cfg.specs.Phis.{is_within};
 
 use crate::roles::{number_at, role_of, sets_of};
 use crate::sites::Site;
-use crate::table::Table;
 use spv_base::{Inst, NoMemory};
+use spv_index::Table;
 use std::alloc::Global;
 
 /// The id of a label's function, and whether the label is the first one there.

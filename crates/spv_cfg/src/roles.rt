@@ -6,8 +6,8 @@ ghost use Rattle.spv_cfg.specs.Roles as spec;
 ghost use Rattle.spv_cfg.specs.Branches.{is_label, is_terminator};
 ghost use Rattle.spv_cfg.specs.Phis.{is_phi};
 
-use crate::table::Table;
 use spv_base::{Inst, NoMemory, Operand};
+use spv_index::Table;
 use std::alloc::Global;
 
 /// What an instruction is to its function.

@@ -3,23 +3,26 @@
 #![tactic(auto)]
 
 mod blocks;
-mod build;
+pub mod build;
 pub mod counts;
-mod facts;
+pub mod facts;
 pub mod forms;
 mod layout;
 pub mod leaves;
 pub mod limits;
 pub mod opcodes;
-mod operands;
+pub mod operands;
 pub mod places;
-mod rules;
+pub mod rules;
 mod spans;
 pub mod table;
 #[cfg(test)]
 mod tests;
 mod typing;
 
+pub use build::functions_start;
+pub use facts::Facts;
 pub use forms::{Form, Member};
 pub use limits::Limit;
+pub use operands::{id_at, id_of, lit_at};
 pub use table::TypeTable;

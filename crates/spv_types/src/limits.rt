@@ -35,7 +35,7 @@ impl Limit {
 
 impl TypeTable {
     /// What a type among the first counts as, where it is known of them.
-    fn known_limit(&self, limits: &[Limit], ty: u32) -> Limit
+    pub fn known_limit(&self, limits: &[Limit], ty: u32) -> Limit
         requires { AreLimits self.now limits.now }
         ensures { result ≡ limit_among self.now (length limits.now) ty }
     {
@@ -79,7 +79,7 @@ impl TypeTable {
     }
 
     /// What a form counts as, where it is known of the types before it.
-    fn form_limit(&self, limits: &[Limit], form: &Form) -> Limit
+    pub fn form_limit(&self, limits: &[Limit], form: &Form) -> Limit
         requires { AreLimits self.now limits.now }
         ensures { result ≡ limit_step (limit_among self.now (length limits.now)) form.now }
     {

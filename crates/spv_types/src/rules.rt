@@ -62,14 +62,14 @@ fn last_type(members: &[Member]) -> u32
 }
 
 impl TypeTable {
-    fn is_scalar(&self, ty: u32) -> bool
+    pub fn is_scalar(&self, ty: u32) -> bool
         ensures { result ≡ is_scalar (form_of self.now ty) }
     {
         matches!(self.form(ty), Some(Form::Bool | Form::Int { .. }))
     }
 
     /// Whether a type is of data: not void, a pointer or a function.
-    fn is_data(&self, ty: u32) -> bool
+    pub fn is_data(&self, ty: u32) -> bool
         ensures { result ≡ is_data (form_of self.now ty) }
     {
         match self.form(ty) {
@@ -78,20 +78,20 @@ impl TypeTable {
         }
     }
 
-    pub(crate) fn is_runtime(&self, ty: u32) -> bool
+    pub fn is_runtime(&self, ty: u32) -> bool
         ensures { result ≡ is_runtime (form_of self.now ty) }
     {
         matches!(self.form(ty), Some(Form::Runtime { .. }))
     }
 
-    fn is_block(&self, ty: u32) -> bool
+    pub fn is_block(&self, ty: u32) -> bool
         ensures { result ≡ is_block (form_of self.now ty) }
     {
         matches!(self.form(ty), Some(Form::Struct { block: true, .. }))
     }
 
     /// Whether a type is an integer of 32 bits.
-    fn is_word(&self, ty: u32) -> bool
+    pub fn is_word(&self, ty: u32) -> bool
         ensures { result ≡ is_word (form_of self.now ty) }
     {
         match self.form(ty) {
@@ -101,7 +101,7 @@ impl TypeTable {
     }
 
     /// Whether a type is a vector of three integers of 32 bits.
-    fn is_three_words(&self, ty: u32) -> bool
+    pub fn is_three_words(&self, ty: u32) -> bool
         ensures { result ≡ is_three_words self.now (form_of self.now ty) }
     {
         match self.form(ty) {
@@ -111,7 +111,7 @@ impl TypeTable {
     }
 
     /// Whether a type is a runtime array or has one as its last member.
-    fn has_runtime(&self, ty: u32) -> bool
+    pub fn has_runtime(&self, ty: u32) -> bool
         ensures { result ≡ has_runtime self.now ty }
     {
         match self.form(ty) {
@@ -122,7 +122,7 @@ impl TypeTable {
     }
 
     /// Whether a type is of data without a runtime array.
-    fn is_sized_data(&self, ty: u32) -> bool
+    pub fn is_sized_data(&self, ty: u32) -> bool
         ensures { result ≡ is_sized_data self.now ty }
     {
         self.is_data(ty) && !self.has_runtime(ty)

@@ -130,7 +130,7 @@ impl TypeTable {
     }
 
     /// The form of the type with a number.
-    pub(crate) fn form_at(&self, number: usize) -> &Form
+    pub fn form_at(&self, number: usize) -> &Form
         requires { number < length self.now }
         ensures { result.now ≡ form_at self.now number }
     {

@@ -2,7 +2,7 @@ use Rattle.std.proofs.Common.{◌≡◌, ◌≤◌, ℕ, drop, length}
 use Rattle.std.specs.Ordering.{nat_cmp}
 use Rattle.std.specs.BTreeMap as tree
 use Rattle.spv_base.specs.Entries.{reads}
-use Rattle.spv_cfg.proofs.table.Table.new.Given as goal
+use Rattle.spv_index.proofs.table.Table.new.Given as goal
 
 -- the entries from place i on are in the index
 abbrev pub invariant-back : goal.invariant-back

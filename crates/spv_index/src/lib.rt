@@ -1,0 +1,8 @@
+//! The instructions of a module by the ids that they define, and tables under ids.
+#![tactic(auto)]
+
+mod index;
+mod table;
+
+pub use index::Index;
+pub use table::Table;
