@@ -9,7 +9,7 @@ use Rattle.spv_types.specs.declared.forms.Member.{Member}
 use Rattle.spv_types.specs.Types.{Types, form_of}
 use Rattle.spv_typing.specs.declared.lanes.Lanes.{Lanes}
 use Rattle.spv_typing.specs.declared.rules.Rule.{Rule}
-use Rattle.spv_typing.specs.declared.rules.Rule.TheVariants.{Convert, Bitcast, Integer, Integers, Shift, Boolean, Booleans, Reduce, Compare, Extended, Select, InsertField, ExtractField}
+use Rattle.spv_typing.specs.declared.rules.Rule.TheVariants.{Convert, Bitcast, Integer, Integers, Clamp, Shift, Boolean, Booleans, Reduce, Compare, Extended, Select, InsertField, ExtractField}
 use Rattle.spv_typing.specs.Lanes.{lanes_of, are_booleans, are_integers, are_several, is_single, same_count, same_lanes, same_size}
 use Rattle.spv_typing.specs.Rules.{rule_of}
 
@@ -83,6 +83,10 @@ fits_integer result a = are_integers result && same_lanes a result
 abbrev pub fits_integers : Option Lanes → Option Lanes → Option Lanes → Bool
 fits_integers result a b = fits_integer result a && same_lanes b result
 
+-- clamps: integers of the result's width
+abbrev pub fits_clamp : Option Lanes → Option Lanes → Option Lanes → Option Lanes → Bool
+fits_clamp result a least greatest = fits_integers result a least && same_lanes greatest result
+
 -- shifts: the amounts have any width
 abbrev pub fits_shift : Option Lanes → Option Lanes → Option Lanes → Bool
 fits_shift result base shift = fits_integer result base && are_counted result shift
@@ -121,6 +125,7 @@ fits_rule ts Convert result ty = fits_convert (lanes_of ts result) (lanes_of ts 
 fits_rule ts Bitcast result ty = fits_bitcast (lanes_of ts result) (lanes_of ts (ty 0))
 fits_rule ts Integer result ty = fits_integer (lanes_of ts result) (lanes_of ts (ty 0))
 fits_rule ts Integers result ty = fits_integers (lanes_of ts result) (lanes_of ts (ty 0)) (lanes_of ts (ty 1))
+fits_rule ts Clamp result ty = fits_clamp (lanes_of ts result) (lanes_of ts (ty 0)) (lanes_of ts (ty 1)) (lanes_of ts (ty 2))
 fits_rule ts Shift result ty = fits_shift (lanes_of ts result) (lanes_of ts (ty 0)) (lanes_of ts (ty 1))
 fits_rule ts Boolean result ty = fits_boolean (lanes_of ts result) (lanes_of ts (ty 0))
 fits_rule ts Booleans result ty = fits_booleans (lanes_of ts result) (lanes_of ts (ty 0)) (lanes_of ts (ty 1))

@@ -1,3 +1,4 @@
 pub mod Lanes
 pub mod Rules
 pub mod Fitting
+pub mod Glsl

@@ -5,7 +5,7 @@ use Rattle.std.specs.Prelude.{ℕ, ◌==◌, ◌&&◌, ◌||◌, not, Bool, true
 use Rattle.std.specs.Option.{option_map_or, option_and_then}
 use Rattle.spv_base.specs.Entries.{reads}
 use Rattle.spv_typing.specs.declared.rules.Rule.{Rule}
-use Rattle.spv_typing.specs.declared.rules.Rule.TheVariants.{Convert, Bitcast, Integer, Integers, Shift, Boolean, Booleans, Reduce, Compare, Extended, Select, InsertField, ExtractField}
+use Rattle.spv_typing.specs.declared.rules.Rule.TheVariants.{Convert, Bitcast, Integer, Integers, Clamp, Shift, Boolean, Booleans, Reduce, Compare, Extended, Select, InsertField, ExtractField}
 
 -- UConvert 113, SConvert 114, Bitcast 124, SNegate 126, IAdd 128, ISub 130, IMul 132, UDiv 134, SDiv 135, UMod 137,
 -- SRem 138, SMod 139, IAddCarry 149, ISubBorrow 150, UMulExtended 151, SMulExtended 152, Any 154, All 155,
@@ -26,12 +26,13 @@ rules =
 unfoldable pub rule_of : ℕ → Option Rule
 rule_of op = reads op rules
 
--- the operands of the unary and binary operations and of Select; none for the bit fields
+-- how many operands there are; not said of the bit fields
 abbrev pub rule_count : Rule → Option ℕ
 rule_count Convert = Some 1
 rule_count Bitcast = Some 1
 rule_count Integer = Some 1
 rule_count Integers = Some 2
+rule_count Clamp = Some 3
 rule_count Shift = Some 2
 rule_count Boolean = Some 1
 rule_count Booleans = Some 2
@@ -42,6 +43,7 @@ rule_count Select = Some 3
 rule_count InsertField = None
 rule_count ExtractField = None
 
+-- the operands of the unary and binary operations and of Select
 abbrev pub operand_count : ℕ → Option ℕ
 operand_count op = option_and_then rule_count (rule_of op)
 
@@ -51,6 +53,7 @@ is_constant_rule Convert = true
 is_constant_rule Bitcast = false
 is_constant_rule Integer = true
 is_constant_rule Integers = true
+is_constant_rule Clamp = false
 is_constant_rule Shift = true
 is_constant_rule Boolean = true
 is_constant_rule Booleans = true

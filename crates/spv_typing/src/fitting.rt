@@ -3,55 +3,18 @@ ghost use Rattle.std.specs.Prelude.{◌≡◌, ◌+◌};
 ghost use Rattle.spv_index.specs.Definitions.{type_of};
 ghost use Rattle.spv_types.specs.Operands.{id_at};
 ghost use Rattle.spv_types.specs.Types.{form_of};
-ghost use Rattle.spv_typing.specs.Lanes.{lanes_of};
 ghost use Rattle.spv_typing.specs.Fitting as spec;
 
 use crate::lanes::{
     Lanes, are_booleans, are_integers, are_several, is_single, lanes_of, same_count, same_lanes,
     same_size,
 };
+use crate::operands::Operands;
 use crate::rules::{Rule, rule_of};
 use spv_base::Inst;
 use spv_index::Index;
 use spv_types::forms::Member;
-use spv_types::{Form, TypeTable, id_at};
-
-/// The id at a place after the first `from` operands, or 0.
-#[tactic(auto, using(std::proofs::lemmas::Option::slice_get_past))]
-fn id_from(inst: &Inst, from: usize, place: usize) -> u32
-    ensures { result ≡ id_at inst.now.operands (from + place) }
-{
-    let count = inst.operands.len();
-    if from >= count || place >= count - from {
-        return 0;
-    }
-    id_at(inst, from + place)
-}
-
-/// The operands of an operation, of which the first `from` operands of an instruction are none.
-#[derive(Clone, Copy)]
-struct Taken<'a> {
-    types: &'a TypeTable,
-    index: &'a Index<'a>,
-    inst: &'a Inst,
-    from: usize,
-}
-
-impl<'a> Taken<'a> {
-    /// The type of an operand, or 0.
-    fn ty(&self, place: usize) -> u32
-        ensures { result ≡ type_of self.now.index.now (id_at self.now.inst.now.operands (self.now.from + place)) }
-    {
-        self.index.type_of(id_from(self.inst, self.from, place))
-    }
-
-    /// The lanes of an operand.
-    fn lanes(&self, place: usize) -> Option<Lanes>
-        ensures { result ≡ lanes_of self.now.types.now (type_of self.now.index.now (id_at self.now.inst.now.operands (self.now.from + place))) }
-    {
-        lanes_of(self.types, self.ty(place))
-    }
-}
+use spv_types::{Form, TypeTable};
 
 /// Whether the lanes are integers, and as many as of the outcome.
 fn are_counted(outcome: Option<Lanes>, operand: Option<Lanes>) -> bool
@@ -139,6 +102,17 @@ fn fits_integers(outcome: Option<Lanes>, a: Option<Lanes>, b: Option<Lanes>) -> 
     fits_integer(outcome, a) && same_lanes(b, outcome)
 }
 
+fn fits_clamp(
+    outcome: Option<Lanes>,
+    a: Option<Lanes>,
+    least: Option<Lanes>,
+    greatest: Option<Lanes>,
+) -> bool
+    ensures { result ≡ spec.fits_clamp outcome a least greatest }
+{
+    fits_integers(outcome, a, least) && same_lanes(greatest, outcome)
+}
+
 fn fits_shift(outcome: Option<Lanes>, base: Option<Lanes>, shift: Option<Lanes>) -> bool
     ensures { result ≡ spec.fits_shift outcome base shift }
 {
@@ -191,9 +165,9 @@ fn is_field(offset: Option<Lanes>, count: Option<Lanes>) -> bool
     is_one_integer(offset) && is_one_integer(count)
 }
 
-impl<'a> Taken<'a> {
+impl<'a> Operands<'a> {
     /// Whether the operands fit an outcome of a type, by a rule.
-    fn fit(&self, rule: Rule, outcome: u32) -> bool
+    pub(crate) fn fit(&self, rule: Rule, outcome: u32) -> bool
         ensures { result ≡ spec.fits_rule self.now.types.now rule outcome (λ k. type_of self.now.index.now (id_at self.now.inst.now.operands (self.now.from + k))) }
     {
         let types = self.types;
@@ -203,6 +177,7 @@ impl<'a> Taken<'a> {
             Rule::Bitcast => fits_bitcast(lanes, self.lanes(0)),
             Rule::Integer => fits_integer(lanes, self.lanes(0)),
             Rule::Integers => fits_integers(lanes, self.lanes(0), self.lanes(1)),
+            Rule::Clamp => fits_clamp(lanes, self.lanes(0), self.lanes(1), self.lanes(2)),
             Rule::Shift => fits_shift(lanes, self.lanes(0), self.lanes(1)),
             Rule::Boolean => fits_boolean(lanes, self.lanes(0)),
             Rule::Booleans => fits_booleans(lanes, self.lanes(0), self.lanes(1)),
@@ -226,7 +201,7 @@ impl<'a> Taken<'a> {
 pub fn fits(types: &TypeTable, index: &Index, inst: &Inst, op: u16, from: usize) -> bool
     ensures { result ≡ spec.fits types.now op inst.now.ty (λ k. type_of index.now (id_at inst.now.operands (from + k))) }
 {
-    let operands = Taken {
+    let operands = Operands {
         types,
         index,
         inst,

@@ -3,9 +3,12 @@
 #![tactic(auto)]
 
 pub mod fitting;
+pub mod glsl;
 pub mod lanes;
+mod operands;
 pub mod rules;
 
 pub use fitting::fits;
+pub use glsl::fits_glsl;
 pub use lanes::{Element, Lanes, lanes_of};
 pub use rules::{Rule, is_constant_operation, operand_count};

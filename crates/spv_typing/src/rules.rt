@@ -13,6 +13,8 @@ pub enum Rule {
     Integer,
     /// Two integers give an integer of their width.
     Integers,
+    /// Three integers give an integer of their width.
+    Clamp,
     /// An integer and an amount of any width give an integer.
     Shift,
     /// A Boolean gives a Boolean.
@@ -57,8 +59,8 @@ pub fn rule_of(op: u16) -> Option<Rule>
 }
 
 impl Rule {
-    /// The number of operands of unary and binary operations and of Select; none for the bit fields.
-    fn count(self) -> Option<u32>
+    /// How many operands there are; not said of the bit fields.
+    pub(crate) fn count(self) -> Option<u32>
         ensures { result ≡ spec.rule_count self }
     {
         match self {
@@ -66,7 +68,7 @@ impl Rule {
             Rule::Integers | Rule::Shift | Rule::Booleans | Rule::Compare | Rule::Extended => Some(
                 2,
             ),
-            Rule::Select => Some(3),
+            Rule::Clamp | Rule::Select => Some(3),
             Rule::InsertField | Rule::ExtractField => None,
         }
     }
@@ -84,6 +86,7 @@ impl Rule {
             | Rule::Compare
             | Rule::Select => true,
             Rule::Bitcast
+            | Rule::Clamp
             | Rule::Reduce
             | Rule::Extended
             | Rule::InsertField
