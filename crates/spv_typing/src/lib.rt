@@ -7,6 +7,8 @@ pub mod glsl;
 pub mod lanes;
 mod operands;
 pub mod rules;
+#[cfg(test)]
+mod tests;
 
 pub use fitting::fits;
 pub use glsl::fits_glsl;
