@@ -17,32 +17,35 @@ use spv_types::forms::Member;
 use spv_types::{Form, TypeTable};
 
 /// Whether the lanes are integers, and as many as of the outcome.
-fn are_counted(outcome: Option<Lanes>, operand: Option<Lanes>) -> bool
+pub fn are_counted(outcome: Option<Lanes>, operand: Option<Lanes>) -> bool
     ensures { result ≡ spec.are_counted outcome operand }
 {
     are_integers(operand) && same_count(operand, outcome)
 }
 
-fn is_one_integer(operand: Option<Lanes>) -> bool
+/// Whether the lanes are one integer.
+pub fn is_one_integer(operand: Option<Lanes>) -> bool
     ensures { result ≡ spec.is_one_integer operand }
 {
     are_integers(operand) && is_single(operand)
 }
 
-fn is_one_boolean(lanes: Option<Lanes>) -> bool
+/// Whether the lanes are one Boolean.
+pub fn is_one_boolean(lanes: Option<Lanes>) -> bool
     ensures { result ≡ spec.is_one_boolean lanes }
 {
     are_booleans(lanes) && is_single(lanes)
 }
 
-fn is_boolean_vector(lanes: Option<Lanes>) -> bool
+/// Whether the lanes are a vector of Booleans.
+pub fn is_boolean_vector(lanes: Option<Lanes>) -> bool
     ensures { result ≡ spec.is_boolean_vector lanes }
 {
     are_booleans(lanes) && are_several(lanes)
 }
 
 /// Whether these are two members of one type.
-fn is_pair(ty: u32, members: &[Member]) -> bool
+pub fn is_pair(ty: u32, members: &[Member]) -> bool
     ensures { result ≡ spec.is_pair ty members.now }
 {
     match members {
@@ -52,7 +55,7 @@ fn is_pair(ty: u32, members: &[Member]) -> bool
 }
 
 /// Whether a type is a struct of two members of a type.
-fn is_pair_of(types: &TypeTable, ty: u32, outcome: u32) -> bool
+pub fn is_pair_of(types: &TypeTable, ty: u32, outcome: u32) -> bool
     ensures { result ≡ spec.is_pair_of ty (form_of types.now outcome) }
 {
     match types.form(outcome) {
@@ -62,7 +65,7 @@ fn is_pair_of(types: &TypeTable, ty: u32, outcome: u32) -> bool
 }
 
 /// Whether Select may choose values of a type: no pointers.
-fn is_selectable(types: &TypeTable, ty: u32) -> bool
+pub fn is_selectable(types: &TypeTable, ty: u32) -> bool
     ensures { result ≡ spec.is_selectable (form_of types.now ty) }
 {
     match types.form(ty) {
@@ -72,37 +75,42 @@ fn is_selectable(types: &TypeTable, ty: u32) -> bool
 }
 
 /// Whether there is one Boolean for the whole, or one for each component of a vector.
-fn is_condition(outcome: Option<Lanes>, condition: Option<Lanes>) -> bool
+pub fn is_condition(outcome: Option<Lanes>, condition: Option<Lanes>) -> bool
     ensures { result ≡ spec.is_condition outcome condition }
 {
     is_one_boolean(condition) || is_boolean_vector(condition) && same_count(condition, outcome)
 }
 
-fn fits_convert(outcome: Option<Lanes>, a: Option<Lanes>) -> bool
+/// UConvert and SConvert: integers of any width, as many as of the outcome.
+pub fn fits_convert(outcome: Option<Lanes>, a: Option<Lanes>) -> bool
     ensures { result ≡ spec.fits_convert outcome a }
 {
     are_integers(outcome) && are_counted(outcome, a)
 }
 
-fn fits_bitcast(outcome: Option<Lanes>, a: Option<Lanes>) -> bool
+/// Bitcast: integers with as many bits together.
+pub fn fits_bitcast(outcome: Option<Lanes>, a: Option<Lanes>) -> bool
     ensures { result ≡ spec.fits_bitcast outcome a }
 {
     are_integers(outcome) && are_integers(a) && same_size(a, outcome)
 }
 
-fn fits_integer(outcome: Option<Lanes>, a: Option<Lanes>) -> bool
+/// SNegate, Not, BitReverse and BitCount: integers of the outcome's width.
+pub fn fits_integer(outcome: Option<Lanes>, a: Option<Lanes>) -> bool
     ensures { result ≡ spec.fits_integer outcome a }
 {
     are_integers(outcome) && same_lanes(a, outcome)
 }
 
-fn fits_integers(outcome: Option<Lanes>, a: Option<Lanes>, b: Option<Lanes>) -> bool
+/// Arithmetic and bitwise operations: integers of the outcome's width.
+pub fn fits_integers(outcome: Option<Lanes>, a: Option<Lanes>, b: Option<Lanes>) -> bool
     ensures { result ≡ spec.fits_integers outcome a b }
 {
     fits_integer(outcome, a) && same_lanes(b, outcome)
 }
 
-fn fits_clamp(
+/// Clamps: integers of the outcome's width.
+pub fn fits_clamp(
     outcome: Option<Lanes>,
     a: Option<Lanes>,
     least: Option<Lanes>,
@@ -113,43 +121,50 @@ fn fits_clamp(
     fits_integers(outcome, a, least) && same_lanes(greatest, outcome)
 }
 
-fn fits_shift(outcome: Option<Lanes>, base: Option<Lanes>, shift: Option<Lanes>) -> bool
+/// Shifts: the amounts have any width.
+pub fn fits_shift(outcome: Option<Lanes>, base: Option<Lanes>, shift: Option<Lanes>) -> bool
     ensures { result ≡ spec.fits_shift outcome base shift }
 {
     fits_integer(outcome, base) && are_counted(outcome, shift)
 }
 
-fn fits_boolean(outcome: Option<Lanes>, a: Option<Lanes>) -> bool
+/// LogicalNot: Booleans.
+pub fn fits_boolean(outcome: Option<Lanes>, a: Option<Lanes>) -> bool
     ensures { result ≡ spec.fits_boolean outcome a }
 {
     are_booleans(outcome) && same_lanes(a, outcome)
 }
 
-fn fits_booleans(outcome: Option<Lanes>, a: Option<Lanes>, b: Option<Lanes>) -> bool
+/// Logical operations: Booleans.
+pub fn fits_booleans(outcome: Option<Lanes>, a: Option<Lanes>, b: Option<Lanes>) -> bool
     ensures { result ≡ spec.fits_booleans outcome a b }
 {
     fits_boolean(outcome, a) && same_lanes(b, outcome)
 }
 
-fn fits_reduce(outcome: Option<Lanes>, a: Option<Lanes>) -> bool
+/// Any and All: a vector of Booleans gives one.
+pub fn fits_reduce(outcome: Option<Lanes>, a: Option<Lanes>) -> bool
     ensures { result ≡ spec.fits_reduce outcome a }
 {
     is_one_boolean(outcome) && is_boolean_vector(a)
 }
 
-fn fits_compare(outcome: Option<Lanes>, a: Option<Lanes>, b: Option<Lanes>) -> bool
+/// Comparisons: integers of one width give Booleans.
+pub fn fits_compare(outcome: Option<Lanes>, a: Option<Lanes>, b: Option<Lanes>) -> bool
     ensures { result ≡ spec.fits_compare outcome a b }
 {
     are_booleans(outcome) && are_counted(outcome, a) && same_lanes(b, a)
 }
 
-fn fits_extended(types: &TypeTable, outcome: u32, a: u32, b: u32) -> bool
+/// IAddCarry, ISubBorrow, UMulExtended and SMulExtended: integers of one type give a struct of two of it.
+pub fn fits_extended(types: &TypeTable, outcome: u32, a: u32, b: u32) -> bool
     ensures { result ≡ spec.fits_extended types.now outcome a b }
 {
     are_integers(lanes_of(types, a)) && b == a && is_pair_of(types, a, outcome)
 }
 
-fn fits_select(types: &TypeTable, outcome: u32, condition: u32, a: u32, b: u32) -> bool
+/// Select: both objects have the outcome's type, which is no pointer.
+pub fn fits_select(types: &TypeTable, outcome: u32, condition: u32, a: u32, b: u32) -> bool
     ensures { result ≡ spec.fits_select types.now outcome condition a b }
 {
     is_selectable(types, outcome)
@@ -159,7 +174,7 @@ fn fits_select(types: &TypeTable, outcome: u32, condition: u32, a: u32, b: u32) 
 }
 
 /// Whether the offset and the number of bits of a bit field are one integer each.
-fn is_field(offset: Option<Lanes>, count: Option<Lanes>) -> bool
+pub fn is_field(offset: Option<Lanes>, count: Option<Lanes>) -> bool
     ensures { result ≡ spec.is_field offset count }
 {
     is_one_integer(offset) && is_one_integer(count)

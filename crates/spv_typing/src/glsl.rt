@@ -12,7 +12,7 @@ use spv_index::Index;
 use spv_types::TypeTable;
 
 /// The rule of an instruction's number; none where there is no such instruction.
-fn glsl_rule(number: u32) -> Option<Rule>
+pub fn glsl_rule(number: u32) -> Option<Rule>
     ensures { result ≡ spec.glsl_rule number }
 {
     match number {
