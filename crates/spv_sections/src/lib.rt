@@ -2,6 +2,8 @@
 //! section 2.4), the ids (sections 2.2.1 and 2.16.1), and what a module declares that it needs (sections 3.31 and 3.42.2).
 #![tactic(auto)]
 
+mod capabilities;
 mod sections;
 
+pub use capabilities::check_capabilities;
 pub use sections::check_sections;
