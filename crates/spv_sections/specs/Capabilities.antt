@@ -1,6 +1,6 @@
 -- What a module declares that it needs, and whether this project has it (SPIR-V 1.6 sections 3.4, 3.5, 3.31 and 3.42.2 to 3.42.4).
 -- Which of them there are is this project's profile.
-use Rattle.std.specs.Prelude.{ℕ, Bool, true, false, not, List, [], ◌∷◌, ◌++◌, ◌==◌, ◌&&◌, ◌||◌, nat_eq, if◌then◌else◌, codes, Result}
+use Rattle.std.specs.Prelude.{ℕ, Bool, not, List, [], ◌∷◌, ◌==◌, ◌&&◌, ◌||◌, nat_eq, if◌then◌else◌, codes, Result}
 use Rattle.std.specs.List.{list_any, starts_with, flat_map}
 use Rattle.std.specs.Str.{bytes_eq}
 use Rattle.spv_base.specs.declared.instructions.Inst.{Inst}

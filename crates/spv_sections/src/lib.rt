@@ -3,7 +3,11 @@
 #![tactic(auto)]
 
 mod capabilities;
+mod definitions;
+mod ids;
+mod kinds;
 mod sections;
 
 pub use capabilities::check_capabilities;
+pub use ids::check_ids;
 pub use sections::check_sections;
