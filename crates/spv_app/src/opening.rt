@@ -5,11 +5,11 @@ ghost use Rattle.spv_session.specs.Settings.{settings_of};
 ghost use Rattle.spv_session.specs.View.{first_view};
 ghost use Rattle.spv_app.specs.Opening.{opening, program_in, of_setup, of_module};
 
+use crate::acceptance::accepted;
 use spv_base::{Fail, Refusal, SetupRefusal};
 use spv_machine::{Module, first};
-use spv_ops::decode_all;
 use spv_session::{Group, Setup};
-use spv_words::{raw, words};
+use spv_words::words;
 use std::alloc::Global;
 use std::fmt;
 
@@ -41,13 +41,12 @@ impl fmt::Display for OpeningRefusal {
 }
 
 /// The module of these bytes, or the first rule that is broken. Rules of a later pass are looked at only where
-/// the one before finds nothing: the header, the cuts, the instructions, the form of the whole.
+/// the one before finds nothing: the header, acceptance, the form of the whole.
 fn module_of(alloc: Global, bytes: &[u8]) -> Result<Module, Fail<Refusal>>
     ensures { Answers (program_in bytes.now) result }
 {
     let list = words(alloc, bytes)?;
-    let raws = raw(alloc, &list)?;
-    let insts = decode_all(alloc, &raws)?;
+    let insts = accepted(alloc, &list)?;
     first(alloc, insts, list.bound())
 }
 
