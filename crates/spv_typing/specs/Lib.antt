@@ -1,0 +1,5 @@
+pub mod Lanes
+pub mod Rules
+pub mod Fitting
+pub mod Glsl
+pub mod Laws
