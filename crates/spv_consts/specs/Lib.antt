@@ -1,1 +1,5 @@
 pub mod Table
+pub mod Values
+pub mod Literals
+pub mod Overrides
+pub mod Lanes

@@ -2,6 +2,11 @@
 //! sections 2.9, 3.42.6 and 3.42.7).
 #![tactic(auto)]
 
+mod lanes;
+mod literals;
+pub mod numbers;
+mod overrides;
 pub mod table;
+mod values;
 
 pub use table::ConstTable;

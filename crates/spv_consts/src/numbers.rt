@@ -1,0 +1,9 @@
+//! The numbers that the rules of constants name (SPIR-V 1.6 section 3.20, and this project's limits).
+
+pub const SPEC_ID: u32 = 1;
+
+/// How deep a type may be nested.
+pub const MOST_NESTING: u64 = 32;
+
+/// How many cells a type, and all constants together, may have.
+pub const MOST_CELLS: u64 = 4_194_304;
