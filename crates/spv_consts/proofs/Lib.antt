@@ -1,3 +1,4 @@
 pub mod TableLemmas
 pub mod ValueLemmas
 pub mod OverrideLemmas
+pub mod OperationLemmas

@@ -3,3 +3,4 @@ pub mod Values
 pub mod Literals
 pub mod Overrides
 pub mod Lanes
+pub mod Operations

@@ -5,6 +5,7 @@
 mod lanes;
 mod literals;
 pub mod numbers;
+mod operations;
 mod overrides;
 pub mod table;
 mod values;

@@ -7,3 +7,5 @@ pub const MOST_NESTING: u64 = 32;
 
 /// How many cells a type, and all constants together, may have.
 pub const MOST_CELLS: u64 = 4_194_304;
+
+pub const SELECT: u16 = 169;
