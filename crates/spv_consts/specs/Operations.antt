@@ -1,17 +1,14 @@
 -- The value of an operation of OpSpecConstantOp on values: lane by lane, where a scalar condition of Select chooses for each
 -- leaf of any value (SPIR-V 1.6 sections 3.42.7, OpSpecConstantOp, and 3.42.15, OpSelect).
-use Rattle.std.specs.Prelude.{ℕ, min, ◌==◌, if◌then◌else◌, List, [], ◌∷◌, Option, Some, None}
-use Rattle.std.specs.Option.{is_some}
+use Rattle.std.specs.Prelude.{ℕ, min, List, [], ◌∷◌, Option, Some, None}
 use Rattle.spv_base.specs.Lane.{Lane}
 use Rattle.spv_base.specs.declared.values.Value.{Value, Scalar, List as Many, out-Value, fold-Value}
 use Rattle.spv_base.specs.declared.values.Value.TheOpen.{Value-F}
 use Rattle.spv_types.specs.declared.forms.Form.{Form}
 use Rattle.spv_types.specs.declared.forms.Form.TheVariants.{Void, Bool as Boolean, Int, Vector, Array, Runtime, Struct, Pointer, Function}
 use Rattle.spv_types.specs.Types.{Types, form_of}
-use Rattle.spv_alu.specs.Unary.{unary_op}
 use Rattle.spv_consts.specs.declared.operations.LaneOp.{LaneOp}
 use Rattle.spv_consts.specs.declared.operations.LaneOp.TheVariants.{Unary, Binary, Select}
-use Rattle.spv_consts.specs.declared.numbers.TheConstants.{SELECT}
 use Rattle.spv_consts.specs.Lanes.{unary_lane, binary_lane, select_lane}
 
 -- an operation on two lanes, of which a unary one looks at the first
@@ -100,10 +97,3 @@ lane_width ts (Some (Runtime element stride)) = 0
 lane_width ts (Some (Struct members block)) = 0
 lane_width ts (Some (Pointer class target)) = 0
 lane_width ts (Some (Function returns parameters)) = 0
-
--- what an operation gives of its operands, where width is that of the result's lanes
-abbrev pub operation_value : ℕ → ℕ → Value → Value → Value → Value
-operation_value op width a b c =
-    if op == SELECT then selected a b c
-    else (if is_some (unary_op op) then joined (Unary op width) a a
-    else joined (Binary op) a b)

@@ -9,3 +9,9 @@ pub const MOST_NESTING: u64 = 32;
 pub const MOST_CELLS: u64 = 4_194_304;
 
 pub const SELECT: u16 = 169;
+
+/// The code of the rules of constants.
+pub const RULES_CODE: u8 = 14;
+
+/// The code of the limits on types and constants.
+pub const LIMITS_CODE: u8 = 18;

@@ -46,7 +46,7 @@ fn with_scalar(alloc: Global, op: LaneOp, a: Cell, b: &Value) -> Result<Value, N
 /// An operation on the leaves of two values of one shape. Values of other shapes give the second.
 #[tactic(auto, using(crate::proofs::OperationLemmas::joined_scalar, crate::proofs::OperationLemmas::joined_pointer))]
 #[cycle(joined)]
-fn joined(alloc: Global, op: LaneOp, a: &Value, b: &Value) -> Result<Value, NoMemory>
+pub(crate) fn joined(alloc: Global, op: LaneOp, a: &Value, b: &Value) -> Result<Value, NoMemory>
     ensures { IfOk result (λ value. value ≡ spec.joined op a.now b.now) }
 {
     match a {
@@ -141,7 +141,12 @@ fn chosen_parts(
 
 /// Select: one condition for all leaves, or one for each component.
 #[tactic(auto, unfolding(crate::specs::Operations::selected))]
-fn selected(alloc: Global, condition: &Value, a: &Value, b: &Value) -> Result<Value, NoMemory>
+pub(crate) fn selected(
+    alloc: Global,
+    condition: &Value,
+    a: &Value,
+    b: &Value,
+) -> Result<Value, NoMemory>
     ensures { IfOk result (λ value. value ≡ spec.selected condition.now a.now b.now) }
 {
     match condition {
