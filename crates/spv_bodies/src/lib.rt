@@ -1,0 +1,14 @@
+//! The typing rules of function bodies (SPIR-V 1.6 sections 3.42.8 to 3.42.20, and this project's profile).
+#![tactic(auto)]
+
+mod atomics;
+mod calls;
+mod chains;
+mod composites;
+mod control;
+mod lanes;
+mod memory;
+mod opcodes;
+mod operands;
+mod setting;
+mod views;
