@@ -7,7 +7,7 @@ use Rattle.spv_bodies.specs.Composites.{are_members}
 use Rattle.spv_bodies.specs.Setting.{Known, type_in}
 use Rattle.spv_bodies.specs.Calls.{are_of}
 
-and_false : (b c : Bool) → false ≡ c → false ≡ (b && c)
+pub and_false : (b c : Bool) → false ≡ c → false ≡ (b && c)
 and_false true c h = h
 and_false false c h = refl
 

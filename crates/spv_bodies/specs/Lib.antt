@@ -7,3 +7,4 @@ pub mod Control
 pub mod Calls
 pub mod Lanes
 pub mod Composites
+pub mod Alike

@@ -1,6 +1,7 @@
 //! The typing rules of function bodies (SPIR-V 1.6 sections 3.42.8 to 3.42.20, and this project's profile).
 #![tactic(auto)]
 
+mod alike;
 mod atomics;
 mod calls;
 mod chains;
