@@ -1,5 +1,5 @@
 -- Operands and their types, one after another.
-use Rattle.std.proofs.Common.{◌≡◌, ◌≢◌, ℕ, suc, Bool, true, false, List, [], ◌∷◌, length, refl, sym, ap}
+use Rattle.std.proofs.Common.{◌≡◌, ◌≢◌, ℕ, suc, Bool, true, false, List, [], ◌∷◌, length, refl, ap}
 use Rattle.std.specs.Prelude.{◌&&◌, ◌==◌}
 use Rattle.spv_base.specs.declared.instructions.Operand.{Operand}
 use Rattle.spv_types.specs.declared.forms.Member.{Member}

@@ -1,6 +1,6 @@
 -- The rules of atomics and barriers (SPIR-V 1.6 sections 3.42.18 and 3.42.20, and this project's profile: an atomic is on one
 -- integer in StorageBuffer or Workgroup, scopes and semantics are constants, and a barrier's Execution is Workgroup).
-use Rattle.std.specs.Prelude.{ℕ, ◌==◌, ◌&&◌, ◌||◌, Bool, false, Option}
+use Rattle.std.specs.Prelude.{ℕ, ◌==◌, ◌&&◌, ◌||◌, Bool, false}
 use Rattle.std.specs.Option.{option_map_or}
 use Rattle.spv_base.specs.Entries.{reads}
 use Rattle.spv_base.specs.Lane.{Lane}

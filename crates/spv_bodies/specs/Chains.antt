@@ -1,5 +1,5 @@
 -- The rules of access chains (SPIR-V 1.6 section 3.42.8, "OpAccessChain"). A struct is indexed by an OpConstant alone.
-use Rattle.std.specs.Prelude.{ℕ, ◌-◌, ◌^◌, ◌==◌, ◌&&◌, nat_lt, Bool, true, false, if◌then◌else◌, List, [], ◌∷◌, drop, Option, Some, None}
+use Rattle.std.specs.Prelude.{ℕ, ◌-◌, ◌^◌, ◌==◌, ◌&&◌, nat_lt, Bool, false, if◌then◌else◌, List, [], ◌∷◌, drop, Option, Some, None}
 use Rattle.std.specs.Option.{option_map_or, option_and_then}
 use Rattle.spv_base.specs.Entries.{reads}
 use Rattle.spv_base.specs.Lane.{Lane}

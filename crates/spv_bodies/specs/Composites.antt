@@ -1,5 +1,5 @@
 -- The rules of composite operations and copies (SPIR-V 1.6 section 3.42.12).
-use Rattle.std.specs.Prelude.{ℕ, ◌+◌, ◌-◌, ◌==◌, ◌&&◌, ◌||◌, not, nat_le, nat_lt, Bool, true, false, if◌then◌else◌, List, [], ◌∷◌, length, drop, map, Option, Some, None}
+use Rattle.std.specs.Prelude.{ℕ, ◌+◌, ◌-◌, ◌==◌, ◌&&◌, ◌||◌, nat_le, nat_lt, Bool, true, false, if◌then◌else◌, List, [], ◌∷◌, length, drop, Option, Some, None}
 use Rattle.std.specs.Option.{option_map_or, option_and_then}
 use Rattle.std.specs.List.{list_all}
 use Rattle.spv_base.specs.declared.instructions.Inst.{Inst}
@@ -7,7 +7,7 @@ use Rattle.spv_base.specs.declared.instructions.Operand.{Operand}
 use Rattle.spv_types.specs.declared.forms.Form.{Form}
 use Rattle.spv_types.specs.declared.forms.Form.TheVariants.{Void, Bool as Boolean, Int, Vector, Array, Runtime, Struct, Pointer, Function}
 use Rattle.spv_types.specs.declared.forms.Member.{Member}
-use Rattle.spv_types.specs.Operands.{id_at, lit_of}
+use Rattle.spv_types.specs.Operands.{lit_of}
 use Rattle.spv_types.specs.Rules.{is_data}
 use Rattle.spv_types.specs.Types.{form_of}
 use Rattle.spv_bodies.specs.declared.views.Components.{Components}
@@ -38,7 +38,7 @@ is_shuffle os a b r = (a.ty == r.ty && b.ty == r.ty) && (length os == r.count &&
 abbrev pub keeps_shuffle : Known → Inst → Bool
 keeps_shuffle k i =
     option_map_or (λ a. option_map_or (λ b. option_map_or (is_shuffle (drop 2 i.operands) a b)
-        (components_in (form_of k.types i.ty)) false) (components_in (form_at k i 1)) false) (components_in (form_at k i 0)) false
+    (components_in (form_of k.types i.ty)) false) (components_in (form_at k i 1)) false) (components_in (form_at k i 0)) false
 
 -- ---- whole composites
 

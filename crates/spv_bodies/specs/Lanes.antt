@@ -1,6 +1,6 @@
 -- The rules of lane-wise operations (SPIR-V 1.6 sections 3.42.11 and 3.42.13 to 3.42.15), and of the instructions of an
 -- imported set.
-use Rattle.std.specs.Prelude.{ℕ, ◌+◌, ◌-◌, ◌||◌, Bool, length}
+use Rattle.std.specs.Prelude.{◌+◌, ◌-◌, ◌||◌, Bool, length}
 use Rattle.spv_base.specs.declared.instructions.Inst.{Inst}
 use Rattle.spv_types.specs.Operands.{id_at, lit_at}
 use Rattle.spv_index.specs.Definitions.{type_of}

@@ -8,3 +8,5 @@ pub mod Calls
 pub mod Lanes
 pub mod Composites
 pub mod Alike
+pub mod Rules
+pub mod Bodies

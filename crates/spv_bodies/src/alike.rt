@@ -65,10 +65,12 @@ impl Setting<'_> {
                 ..
             } => self.is_array_like(limit, *element, *length, other),
             Form::Struct { members, .. } => match other {
-                Some(Form::Struct {
-                    members: others,
-                    ..
-                }) => self.are_alike_members(limit, members.as_slice(), others.as_slice()),
+                Some(
+                    Form::Struct {
+                        members: others,
+                        ..
+                    },
+                ) => self.are_alike_members(limit, members.as_slice(), others.as_slice()),
                 _ => false,
             },
         }
@@ -80,11 +82,13 @@ impl Setting<'_> {
         ensures { result ≡ spec.is_array_like (same_or (like_among self.now.types limit)) ty count (option_copied other.entry) }
     {
         match other {
-            Some(Form::Array {
-                element,
-                length,
-                ..
-            }) => same_length(count, *length) && self.is_same_or_like(limit, ty, *element),
+            Some(
+                Form::Array {
+                    element,
+                    length,
+                    ..
+                },
+            ) => same_length(count, *length) && self.is_same_or_like(limit, ty, *element),
             _ => false,
         }
     }

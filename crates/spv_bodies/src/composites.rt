@@ -181,11 +181,13 @@ impl Setting<'_> {
     {
         match form {
             Some(Form::Vector { component, count }) => self.fill(*component, *count, operands),
-            Some(Form::Array {
-                element,
-                length,
-                ..
-            }) => self.are_elements(*element, *length, operands),
+            Some(
+                Form::Array {
+                    element,
+                    length,
+                    ..
+                },
+            ) => self.are_elements(*element, *length, operands),
             Some(Form::Struct { members, .. }) => self.are_members(members.as_slice(), operands),
             _ => false,
         }
