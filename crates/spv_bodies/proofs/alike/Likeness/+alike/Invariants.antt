@@ -1,6 +1,6 @@
 use Rattle.std.proofs.Common.{◌≡◌, ◌+◌, ◌*◌, drop}
 use Rattle.spv_bodies.specs.Alike.{are_alike_members, like_among, same_or}
-use Rattle.spv_bodies.proofs.setting.Setting.+alike.Given as goal
+use Rattle.spv_bodies.proofs.alike.Likeness.+alike.Given as goal
 
 -- the parts of a type stand before it
 abbrev pub decreases-is_same_or_like : goal.decreases-is_same_or_like
@@ -8,6 +8,9 @@ decreases-is_same_or_like l = 3 * l.limit
 
 abbrev pub decreases-is_like : goal.decreases-is_like
 decreases-is_like l = 3 * l.limit + 2
+
+abbrev pub decreases-is_vector_like : goal.decreases-is_vector_like
+decreases-is_vector_like l = 3 * l.limit + 1
 
 abbrev pub decreases-is_array_like : goal.decreases-is_array_like
 decreases-is_array_like l = 3 * l.limit + 1
@@ -17,5 +20,8 @@ decreases-are_alike_members l = 3 * l.limit + 1
 
 -- the members so far agree
 abbrev pub invariant-are_alike_members-loop-n : goal.invariant-are_alike_members-loop-n
-invariant-are_alike_members-loop-n l = are_alike_members (same_or (like_among l.self.types l.limit)) (drop l.n l.members) (drop l.n l.others)
-    ≡ are_alike_members (same_or (like_among l.self.types l.limit)) l.members l.others
+invariant-are_alike_members-loop-n l = record {
+  same : l.self ≡ l.initial.self;
+  alike : are_alike_members (same_or (like_among l.initial.self l.limit)) (drop l.n l.members) (drop l.n l.others)
+      ≡ are_alike_members (same_or (like_among l.initial.self l.limit)) l.members l.others;
+}
