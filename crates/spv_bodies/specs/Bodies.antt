@@ -12,7 +12,15 @@ use Rattle.spv_types.specs.Types.{Types}
 use Rattle.spv_types.specs.Typing.{before_functions}
 use Rattle.spv_bodies.specs.declared.opcodes.TheConstants.{FUNCTION_PARAMETER}
 use Rattle.spv_bodies.specs.declared.rules.Rule.{Rule}
-use Rattle.spv_bodies.specs.declared.rules.Rule.TheVariants.{Free, Lanes, Extended, Undef, Variable, Load, Store, CopyMemory, ArrayLength, Chain, AtomicRead, AtomicStore, AtomicUpdate, AtomicCompare, ControlBarrier, MemoryBarrier, ExtractDynamic, InsertDynamic, Shuffle, Construct, Extract, Insert, CopyObject, CopyLogical, Phi, Branch, Switch, Return, ReturnValue, Function, Parameter, Call, Missing}
+use Rattle.spv_bodies.specs.declared.rules.Rule.TheVariants.{Free, Lanes, Extended, Memory, Atomic, Composite, Control, Missing}
+use Rattle.spv_bodies.specs.declared.rules.MemoryRule.{MemoryRule}
+use Rattle.spv_bodies.specs.declared.rules.MemoryRule.TheVariants.{Undef, Variable, Load, Store, CopyMemory, ArrayLength, Chain}
+use Rattle.spv_bodies.specs.declared.rules.AtomicRule.{AtomicRule}
+use Rattle.spv_bodies.specs.declared.rules.AtomicRule.TheVariants.{Read, Store as AtomicStore, Update, Compare, ControlBarrier, MemoryBarrier}
+use Rattle.spv_bodies.specs.declared.rules.CompositeRule.{CompositeRule}
+use Rattle.spv_bodies.specs.declared.rules.CompositeRule.TheVariants.{ExtractDynamic, InsertDynamic, Shuffle, Construct, Extract, Insert, CopyObject, CopyLogical}
+use Rattle.spv_bodies.specs.declared.rules.ControlRule.{ControlRule}
+use Rattle.spv_bodies.specs.declared.rules.ControlRule.TheVariants.{Phi, Branch, Switch, Return, ReturnValue, Function, Parameter, Call}
 use Rattle.spv_bodies.specs.declared.within.Within.{Within}
 use Rattle.spv_bodies.specs.Setting.{Known, known_of}
 use Rattle.spv_bodies.specs.Alike.{keeps_copy_logical}
@@ -25,40 +33,53 @@ use Rattle.spv_bodies.specs.Lanes.{keeps_extended, keeps_lanes}
 use Rattle.spv_bodies.specs.Memory.{keeps_array_length, keeps_copy_memory, keeps_load, keeps_store, keeps_undef, keeps_variable}
 use Rattle.spv_bodies.specs.Rules.{rule_of}
 
--- an instruction keeps a rule, in the function at hand and before the rest of the instructions
+abbrev pub keeps_memory : Known → Inst → MemoryRule → Bool
+keeps_memory k i Undef = keeps_undef k i
+keeps_memory k i Variable = keeps_variable k i
+keeps_memory k i Load = keeps_load k i
+keeps_memory k i Store = keeps_store k i
+keeps_memory k i CopyMemory = keeps_copy_memory k i
+keeps_memory k i ArrayLength = keeps_array_length k i
+keeps_memory k i Chain = keeps_chain k i
+
+abbrev pub keeps_atomic : Known → Inst → AtomicRule → Bool
+keeps_atomic k i Read = keeps_atomic_read k i
+keeps_atomic k i AtomicStore = keeps_atomic_store k i
+keeps_atomic k i Update = keeps_atomic_update k i
+keeps_atomic k i Compare = keeps_atomic_compare k i
+keeps_atomic k i ControlBarrier = keeps_control_barrier k i
+keeps_atomic k i MemoryBarrier = keeps_memory_barrier k i
+
+abbrev pub keeps_composite : Known → Inst → CompositeRule → Bool
+keeps_composite k i ExtractDynamic = keeps_extract_dynamic k i
+keeps_composite k i InsertDynamic = keeps_insert_dynamic k i
+keeps_composite k i Shuffle = keeps_shuffle k i
+keeps_composite k i Construct = keeps_construct k i
+keeps_composite k i Extract = keeps_extract k i
+keeps_composite k i Insert = keeps_insert k i
+keeps_composite k i CopyObject = keeps_copy_object k i
+keeps_composite k i CopyLogical = keeps_copy_logical k i
+
+-- in the function at hand, and before the rest of the instructions
+abbrev pub keeps_control : Known → Within → Inst → List Inst → ControlRule → Bool
+keeps_control k w i rest Phi = keeps_phi k i
+keeps_control k w i rest Branch = keeps_branch k i
+keeps_control k w i rest Switch = keeps_switch k i
+keeps_control k w i rest Return = keeps_return k w.returns
+keeps_control k w i rest ReturnValue = keeps_return_value k w.returns i
+keeps_control k w i rest Function = keeps_function k i rest
+keeps_control k w i rest Parameter = keeps_parameter k w.ty w.parameters i
+keeps_control k w i rest Call = keeps_call k i
+
+-- an instruction keeps a rule
 abbrev pub keeps : Known → Within → Inst → List Inst → Rule → Bool
 keeps k w i rest Free = true
 keeps k w i rest Lanes = keeps_lanes k i
 keeps k w i rest Extended = keeps_extended k i
-keeps k w i rest Undef = keeps_undef k i
-keeps k w i rest Variable = keeps_variable k i
-keeps k w i rest Load = keeps_load k i
-keeps k w i rest Store = keeps_store k i
-keeps k w i rest CopyMemory = keeps_copy_memory k i
-keeps k w i rest ArrayLength = keeps_array_length k i
-keeps k w i rest Chain = keeps_chain k i
-keeps k w i rest AtomicRead = keeps_atomic_read k i
-keeps k w i rest AtomicStore = keeps_atomic_store k i
-keeps k w i rest AtomicUpdate = keeps_atomic_update k i
-keeps k w i rest AtomicCompare = keeps_atomic_compare k i
-keeps k w i rest ControlBarrier = keeps_control_barrier k i
-keeps k w i rest MemoryBarrier = keeps_memory_barrier k i
-keeps k w i rest ExtractDynamic = keeps_extract_dynamic k i
-keeps k w i rest InsertDynamic = keeps_insert_dynamic k i
-keeps k w i rest Shuffle = keeps_shuffle k i
-keeps k w i rest Construct = keeps_construct k i
-keeps k w i rest Extract = keeps_extract k i
-keeps k w i rest Insert = keeps_insert k i
-keeps k w i rest CopyObject = keeps_copy_object k i
-keeps k w i rest CopyLogical = keeps_copy_logical k i
-keeps k w i rest Phi = keeps_phi k i
-keeps k w i rest Branch = keeps_branch k i
-keeps k w i rest Switch = keeps_switch k i
-keeps k w i rest Return = keeps_return k w.returns
-keeps k w i rest ReturnValue = keeps_return_value k w.returns i
-keeps k w i rest Function = keeps_function k i rest
-keeps k w i rest Parameter = keeps_parameter k w.ty w.parameters i
-keeps k w i rest Call = keeps_call k i
+keeps k w i rest (Memory rule) = keeps_memory k i rule
+keeps k w i rest (Atomic rule) = keeps_atomic k i rule
+keeps k w i rest (Composite rule) = keeps_composite k i rule
+keeps k w i rest (Control rule) = keeps_control k w i rest rule
 keeps k w i rest Missing = false
 
 -- no result is of a type with a runtime array, and the rule of the opcode is kept

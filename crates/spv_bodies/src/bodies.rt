@@ -5,7 +5,7 @@ ghost use Rattle.spv_types.specs.Build.{unless_refused};
 ghost use Rattle.spv_bodies.specs.Bodies as spec;
 
 use crate::alike::Likeness;
-use crate::rules::{Rule, rule_of};
+use crate::rules::{AtomicRule, CompositeRule, ControlRule, MemoryRule, Rule, rule_of};
 use crate::setting::Setting;
 use crate::within::Within;
 use spv_base::{Fail, Inst, NoMemory, Refusal};
@@ -17,6 +17,71 @@ use std::alloc::Global;
 const TYPE_CODE: u8 = 12;
 
 impl Setting<'_> {
+    fn keeps_memory(&self, inst: &Inst, rule: MemoryRule) -> bool
+        ensures { result ≡ spec.keeps_memory self.now inst.now rule }
+    {
+        match rule {
+            MemoryRule::Undef => self.keeps_undef(inst),
+            MemoryRule::Variable => self.keeps_variable(inst),
+            MemoryRule::Load => self.keeps_load(inst),
+            MemoryRule::Store => self.keeps_store(inst),
+            MemoryRule::CopyMemory => self.keeps_copy_memory(inst),
+            MemoryRule::ArrayLength => self.keeps_array_length(inst),
+            MemoryRule::Chain => self.keeps_chain(inst),
+        }
+    }
+
+    fn keeps_atomic(&self, inst: &Inst, rule: AtomicRule) -> bool
+        ensures { result ≡ spec.keeps_atomic self.now inst.now rule }
+    {
+        match rule {
+            AtomicRule::Read => self.keeps_atomic_read(inst),
+            AtomicRule::Store => self.keeps_atomic_store(inst),
+            AtomicRule::Update => self.keeps_atomic_update(inst),
+            AtomicRule::Compare => self.keeps_atomic_compare(inst),
+            AtomicRule::ControlBarrier => self.keeps_control_barrier(inst),
+            AtomicRule::MemoryBarrier => self.keeps_memory_barrier(inst),
+        }
+    }
+
+    fn keeps_composite(
+        &self,
+        likeness: &mut Likeness,
+        inst: &Inst,
+        rule: CompositeRule,
+    ) -> Result<bool, NoMemory>
+        requires { likeness.old ≡ self.now.types }
+        ensures same { likeness.new ≡ likeness.old }
+        ensures kept { IfOk result (λ kept. kept ≡ spec.keeps_composite self.now inst.now rule) }
+    {
+        match rule {
+            CompositeRule::ExtractDynamic => Ok(self.keeps_extract_dynamic(inst)),
+            CompositeRule::InsertDynamic => Ok(self.keeps_insert_dynamic(inst)),
+            CompositeRule::Shuffle => Ok(self.keeps_shuffle(inst)),
+            CompositeRule::Construct => Ok(self.keeps_construct(inst)),
+            CompositeRule::Extract => Ok(self.keeps_extract(inst)),
+            CompositeRule::Insert => Ok(self.keeps_insert(inst)),
+            CompositeRule::CopyObject => Ok(self.keeps_copy_object(inst)),
+            CompositeRule::CopyLogical => self.keeps_copy_logical(likeness, inst),
+        }
+    }
+
+    /// Whether a rule is kept in the function at hand and before the rest of the instructions.
+    fn keeps_control(&self, within: Within, inst: &Inst, rest: &[Inst], rule: ControlRule) -> bool
+        ensures { result ≡ spec.keeps_control self.now within inst.now rest.now rule }
+    {
+        match rule {
+            ControlRule::Phi => self.keeps_phi(inst),
+            ControlRule::Branch => self.keeps_branch(inst),
+            ControlRule::Switch => self.keeps_switch(inst),
+            ControlRule::Return => self.keeps_return(within.returns),
+            ControlRule::ReturnValue => self.keeps_return_value(within.returns, inst),
+            ControlRule::Function => self.keeps_function(inst, rest),
+            ControlRule::Parameter => self.keeps_parameter(within.ty, within.parameters, inst),
+            ControlRule::Call => self.keeps_call(inst),
+        }
+    }
+
     /// Whether an instruction keeps a rule, in the function at hand and before the rest of the instructions.
     fn keeps(
         &self,
@@ -34,35 +99,10 @@ impl Setting<'_> {
             Rule::Free => Ok(true),
             Rule::Lanes => Ok(self.keeps_lanes(inst)),
             Rule::Extended => Ok(self.keeps_extended(inst)),
-            Rule::Undef => Ok(self.keeps_undef(inst)),
-            Rule::Variable => Ok(self.keeps_variable(inst)),
-            Rule::Load => Ok(self.keeps_load(inst)),
-            Rule::Store => Ok(self.keeps_store(inst)),
-            Rule::CopyMemory => Ok(self.keeps_copy_memory(inst)),
-            Rule::ArrayLength => Ok(self.keeps_array_length(inst)),
-            Rule::Chain => Ok(self.keeps_chain(inst)),
-            Rule::AtomicRead => Ok(self.keeps_atomic_read(inst)),
-            Rule::AtomicStore => Ok(self.keeps_atomic_store(inst)),
-            Rule::AtomicUpdate => Ok(self.keeps_atomic_update(inst)),
-            Rule::AtomicCompare => Ok(self.keeps_atomic_compare(inst)),
-            Rule::ControlBarrier => Ok(self.keeps_control_barrier(inst)),
-            Rule::MemoryBarrier => Ok(self.keeps_memory_barrier(inst)),
-            Rule::ExtractDynamic => Ok(self.keeps_extract_dynamic(inst)),
-            Rule::InsertDynamic => Ok(self.keeps_insert_dynamic(inst)),
-            Rule::Shuffle => Ok(self.keeps_shuffle(inst)),
-            Rule::Construct => Ok(self.keeps_construct(inst)),
-            Rule::Extract => Ok(self.keeps_extract(inst)),
-            Rule::Insert => Ok(self.keeps_insert(inst)),
-            Rule::CopyObject => Ok(self.keeps_copy_object(inst)),
-            Rule::CopyLogical => self.keeps_copy_logical(likeness, inst),
-            Rule::Phi => Ok(self.keeps_phi(inst)),
-            Rule::Branch => Ok(self.keeps_branch(inst)),
-            Rule::Switch => Ok(self.keeps_switch(inst)),
-            Rule::Return => Ok(self.keeps_return(within.returns)),
-            Rule::ReturnValue => Ok(self.keeps_return_value(within.returns, inst)),
-            Rule::Function => Ok(self.keeps_function(inst, rest)),
-            Rule::Parameter => Ok(self.keeps_parameter(within.ty, within.parameters, inst)),
-            Rule::Call => Ok(self.keeps_call(inst)),
+            Rule::Memory(rule) => Ok(self.keeps_memory(inst, rule)),
+            Rule::Atomic(rule) => Ok(self.keeps_atomic(inst, rule)),
+            Rule::Composite(rule) => self.keeps_composite(likeness, inst, rule),
+            Rule::Control(rule) => Ok(self.keeps_control(within, inst, rest, rule)),
             Rule::Missing => Ok(false),
         }
     }
