@@ -14,7 +14,7 @@ use Rattle.spv_app.specs.Debug.{SaysLine, binary_limit}
 
 -- how many words and instructions a module has that is accepted, or why it is refused
 unfoldable pub checking : List ℕ → Result Report Refusal
-checking bytes = then (words_of bytes) (λ words. then (accepted_of words) (λ insts. Ok (record { words = length words.items; instructions = length insts })))
+checking bytes = then (words_of bytes) (λ words. then (accepted_of words) (λ accepted. Ok (record { words = length words.items; instructions = length accepted.insts })))
 
 -- the text that tells it
 abbrev pub report_text : Report → List ℕ

@@ -38,9 +38,9 @@ pub fn check_bytes(alloc: Global, bytes: &[u8]) -> Result<Report, Fail<Refusal>>
     ensures { Answers (checking bytes.now) result }
 {
     let list = words(alloc, bytes)?;
-    let insts = accepted(alloc, &list)?;
+    let module = accepted(alloc, &list)?;
     Ok(Report {
         words: list.items().len(),
-        instructions: insts.len(),
+        instructions: module.insts().len(),
     })
 }

@@ -1,7 +1,7 @@
-//! Accepted modules.
+//! Accepted modules in the first form.
 ghost use Rattle.std.specs.Prelude.{◌↔◌, ℕ, List, Ok, ◌≡◌, ◌==◌, find, option_copied, length};
 ghost use Rattle.spv_base.specs.Answers.{Answers};
-ghost use Rattle.spv_base.specs.declared.instructions.Inst.{Inst as InstType};
+ghost use Rattle.spv_valid.specs.Acceptance.{Accepted};
 ghost use Rattle.spv_machine.specs.Program as program;
 ghost use Rattle.spv_machine.specs.Form as form;
 ghost use Rattle.spv_machine.specs.Valid.{IsValid};
@@ -10,17 +10,18 @@ use crate::actions::{Action, action_of, is_executable};
 use crate::form::{entry_of, is_first_form};
 use crate::opcodes::{Opcode, defines, opcode_of};
 use spv_base::{Fail, Inst, Refusal};
+use spv_valid::Module;
 use std::alloc::Global;
 use std::marker::Model;
 
-/// A module that was accepted.
+/// An accepted module in the first form, which can be run.
 #[derive(Drop)]
-pub struct Module {
-    insts: Vec<Inst>,
+pub struct Runnable {
+    accepted: Module,
     entry: u32,
 }
 
-impl Model for Module {
+impl Model for Runnable {
     ghost use Rattle.std.specs.Prelude.{◌≡◌};
     ghost use Rattle.spv_machine.specs.Program.{Program};
     ghost use Rattle.spv_machine.specs.Form as form;
@@ -28,9 +29,9 @@ impl Model for Module {
 
     ghost Value = { Program };
 
-    ghost view = { λ m. record { insts = m.insts.items } };
+    ghost view = { λ r. record { insts = r.accepted.insts } };
 
-    ghost invariant = { λ m. (m.entry ≡ form.entry_of m.insts.items) × IsValid m.insts.items };
+    ghost invariant = { λ r. (r.entry ≡ form.entry_of r.accepted.insts) × IsValid r.accepted.insts };
 }
 
 /// Whether the instruction defines this id.
@@ -54,30 +55,30 @@ fn is_function(inst: &Inst, id: u32) -> bool
     matches!(opcode_of(inst.op), Opcode::Function) && inst.id == id
 }
 
-/// The module of these instructions, where they are in the first form under this Bound; else refusal 0, at word 5, where
-/// the first instruction stands.
-pub fn first(alloc: Global, insts: Vec<Inst>, bound: u32) -> Result<Module, Fail<Refusal>>
-    ensures { Answers (program.program_of insts.items bound) result }
-{
-    if !is_first_form(alloc, insts.as_slice(), bound)? {
-        return Err(Fail::Refused(Refusal { code: 0, word: 5 }));
-    }
-    let entry = entry_of(insts.as_slice());
-    Ok(Module { insts, entry })
-}
-
-/// A list of instructions is a program exactly where it is in the first form.
+/// An accepted module is a program exactly where it is in the first form, and the program has its instructions.
 pub fn first_form()
-    ensures { (insts : List InstType) (bound : ℕ) (p : program.Program) → (program.program_of insts bound ≡ Ok p) ↔ (form.IsFirstForm insts bound × (p.insts ≡ insts)) }
+    ensures { (accepted : Accepted) (bound : ℕ) (p : program.Program) → (program.program_of accepted bound ≡ Ok p) ↔ (form.IsFirstForm accepted.insts bound × (p.insts ≡ accepted.insts)) }
 {}
 
-impl Module {
+impl Runnable {
+    /// This module, where it is in the first form under this Bound; else refusal 0, at word 5, where the first instruction
+    /// stands.
+    pub fn of(alloc: Global, accepted: Module, bound: u32) -> Result<Runnable, Fail<Refusal>>
+        ensures { Answers (program.program_of accepted bound) result }
+    {
+        if !is_first_form(alloc, accepted.insts(), bound)? {
+            return Err(Fail::Refused(Refusal { code: 0, word: 5 }));
+        }
+        let entry = entry_of(accepted.insts());
+        Ok(Runnable { accepted, entry })
+    }
+
     /// The instructions.
     pub fn insts(&self) -> &[Inst]
         ensures value { result.now ≡ self.now.insts }
         ensures valid { IsValid self.now.insts }
     {
-        self.insts.as_slice()
+        self.accepted.insts()
     }
 
     /// The id of the entry function.
@@ -91,7 +92,7 @@ impl Module {
     fn definition(&self, id: u32) -> Option<&Inst>
         ensures { option_copied result ≡ program.definition self.now.insts id }
     {
-        self.insts.iter().find(|inst| is_definition(inst, id))
+        self.insts().iter().find(|inst| is_definition(inst, id))
     }
 
     /// What the id that an instruction defines stands for.
@@ -109,14 +110,14 @@ impl Module {
         ensures valid { IsValid self.now.insts }
         ensures value { option_copied result ≡ program.inst_at self.now.insts word }
     {
-        self.insts.iter().find(|inst| inst.word == word)
+        self.insts().iter().find(|inst| inst.word == word)
     }
 
     /// The word of the next executable behind a word, and 0 where there is none.
     pub fn next(&self, word: u32) -> u32
         ensures { result ≡ program.next_of self.now.insts word }
     {
-        match self.insts.iter().find(|inst| is_next(inst, word)) {
+        match self.insts().iter().find(|inst| is_next(inst, word)) {
             Some(inst) => inst.word,
             None => 0,
         }
@@ -126,7 +127,7 @@ impl Module {
     fn function_word(&self, id: u32) -> u32
         ensures { result ≡ program.function_word self.now.insts id }
     {
-        match self.insts.iter().find(|inst| is_function(inst, id)) {
+        match self.insts().iter().find(|inst| is_function(inst, id)) {
             Some(inst) => inst.word,
             None => 0,
         }
@@ -137,7 +138,7 @@ impl Module {
         ensures valid { IsValid self.now.insts }
         ensures value { result ≡ program.first_of self.now.insts id }
     {
-        let _insts = &self.insts;
+        let _accepted = &self.accepted;
         self.next(self.function_word(id))
     }
 }

@@ -2,7 +2,7 @@ use Rattle.std.proofs.Common.{rules, ◌≡◌, true, sym, ap, ◌∙◌}
 use Rattle.spv_machine.specs.Form.{is_first_form, entry_of}
 use Rattle.spv_machine.specs.Program.{program_of}
 use Rattle.spv_machine.proofs.Valid.{valid}
-use Rattle.spv_machine.proofs.module.first.Goals as goal
+use Rattle.spv_machine.proofs.runnable.Runnable.of.Goals as goal
 
 pub returns-then-not-branch : goal.returns-then-not-branch
 unfolding program_of
@@ -10,8 +10,8 @@ returns-then-not-branch c = search rules
 
 pub invariant_of-result : goal.invariant_of-result
 invariant_of-result c =
-    let yes' : is_first_form c.args.insts.items c.args.bound ≡ true = sym (c.in_ok-is_first_form.ensures ∙ ap (λ l. is_first_form l c.args.bound) c.as_slice.ensures.value) ∙ c.if-not-branch.false in
-    (c.entry_of-entry.ensures ∙ ap entry_of c.as_slice-2.ensures.value, valid c.args.insts.items c.args.bound yes')
+    let yes' : is_first_form c.args.accepted.insts c.args.bound ≡ true = sym (c.in_ok-is_first_form.ensures ∙ ap (λ l. is_first_form l c.args.bound) c.insts.ensures.insts) ∙ c.if-not-branch.false in
+    (c.entry_of-entry.ensures ∙ ap entry_of c.insts-2.ensures.insts, valid c.args.accepted.insts c.args.bound yes')
 
 pub returns : goal.returns
 unfolding program_of
