@@ -14,6 +14,8 @@ mod opcodes;
 mod operands;
 mod rules;
 mod setting;
+#[cfg(test)]
+mod tests;
 mod views;
 mod within;
 
