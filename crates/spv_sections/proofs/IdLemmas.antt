@@ -1,0 +1,92 @@
+-- The refusals of ids, one operand and one instruction after another.
+use Rattle.std.proofs.Common.{◌≡◌, ◌∙◌, ℕ, ◌+◌, ◌<◌, ◌≤◌, Bool, true, false, ◌&&◌, List, [], ◌∷◌, ◌++◌, length, get_or, drop, drop-cons, drop_of_length-le, add-one, Ok, Err, refl, sym, arith}
+use Rattle.spv_base.specs.declared.causes.Refusal.{Refusal}
+use Rattle.spv_base.specs.declared.instructions.Inst.{Inst}
+use Rattle.spv_base.specs.declared.instructions.Operand.{Operand}
+use Rattle.spv_base.specs.declared.instructions.Operand.TheVariants.{Id, Lit, Text}
+use Rattle.spv_cfg.specs.declared.roles.Role.{Role}
+use Rattle.spv_cfg.specs.declared.sites.Site.{Site}
+use Rattle.spv_cfg.specs.Roles.{role_of}
+use Rattle.spv_cfg.specs.Sites.{outside, site_after}
+use Rattle.spv_types.specs.Build.{unless_refused}
+use Rattle.spv_types.specs.Blocks.{nothing}
+use Rattle.spv_sections.specs.declared.ids.Scope.{Scope}
+use Rattle.spv_sections.specs.declared.kinds.Uses.{Uses}
+use Rattle.spv_sections.specs.declared.kinds.Wanted.{Wanted}
+use Rattle.spv_sections.specs.Kinds.{wanted}
+use Rattle.spv_sections.specs.Definitions.{Ids}
+use Rattle.spv_sections.specs.Ids.{breaches_at, has_begun, id_breaches, id_count, operand_names, operands_name, scope_of}
+
+-- ---- the operands of an instruction
+
+operand_at : (ids : Ids) (scope : Scope) (uses : Uses) (number : ℕ) (operands : List Operand) (n : ℕ) (operand : Operand) → n < length operands → operand ≡ get_or operands n operand
+    → operands_name ids scope uses number (drop n operands)
+    ≡ operand_names ids scope (wanted uses number) operand && operands_name ids scope uses (number + id_count operand) (drop (n + 1) operands)
+unfolding operands_name
+operand_at ids scope uses number operands n operand l e = rw (drop-cons operands n operand l, ← e, add-one) refl
+
+-- no operand before number n is of something else
+abbrev pub AreNamed : Ids → Scope → Uses → ℕ → List Operand → ℕ → Type 0
+AreNamed ids scope uses number operands n = operands_name ids scope uses number (drop n operands) ≡ operands_name ids scope uses 0 operands
+
+pub operand_refused : (ids : Ids) (scope : Scope) (uses : Uses) (number : ℕ) (operands : List Operand) (n : ℕ) (operand : Operand) (what : Wanted) → n < length operands → operand ≡ get_or operands n operand
+    → what ≡ wanted uses number → false ≡ operand_names ids scope what operand
+    → AreNamed ids scope uses number operands n → false ≡ operands_name ids scope uses 0 operands
+operand_refused ids scope uses number operands n operand what l e w t h =
+    sym (sym h ∙ operand_at ids scope uses number operands n operand l e ∙ rw (← w, ← t) refl)
+
+pub operand_kept : (ids : Ids) (scope : Scope) (uses : Uses) (number : ℕ) (operands : List Operand) (n : ℕ) (operand : Operand) (what : Wanted) (count : ℕ) → n < length operands → operand ≡ get_or operands n operand
+    → what ≡ wanted uses number → count ≡ id_count operand → true ≡ operand_names ids scope what operand
+    → AreNamed ids scope uses number operands n → AreNamed ids scope uses (number + count) operands (n + 1)
+operand_kept ids scope uses number operands n operand what count l e w k t h =
+    sym (operand_at ids scope uses number operands n operand l e ∙ rw (← w, ← t, ← k) refl) ∙ h
+
+pub operands_done : (ids : Ids) (scope : Scope) (uses : Uses) (number : ℕ) (operands : List Operand) (n : ℕ) → length operands ≤ n
+    → AreNamed ids scope uses number operands n → true ≡ operands_name ids scope uses 0 operands
+unfolding operands_name
+operands_done ids scope uses number operands n l h = rw (drop_of_length-le operands l) at h
+
+pub few : (operand : Operand) (count number n : ℕ) → count ≡ id_count operand → number ≤ n → number + count ≤ n + 1
+few (Id id) count number n e l = omega arith
+few (Lit word) count number n e l = omega arith
+few (Text bytes) count number n e l = omega arith
+
+-- ---- instructions
+
+-- none of the instructions before number n is refused
+abbrev pub AreInOrder : Ids → List (ℕ × Bool) → List Inst → Bool → Site → ℕ → Type 0
+AreInOrder ids sets insts begun site n = id_breaches ids sets false outside insts ≡ id_breaches ids sets begun site (drop n insts)
+
+inst_at : (ids : Ids) (sets : List (ℕ × Bool)) (begun : Bool) (site : Site) (insts : List Inst) (n : ℕ) (inst : Inst) → n < length insts → inst ≡ get_or insts n inst
+    → id_breaches ids sets begun site (drop n insts)
+    ≡ breaches_at ids (scope_of (has_begun begun inst) site inst) (role_of sets inst) inst
+    ++ id_breaches ids sets (has_begun begun inst) (site_after site (role_of sets inst) inst) (drop (n + 1) insts)
+unfolding id_breaches
+inst_at ids sets begun site insts n inst l e = rw (drop-cons insts n inst l, ← e, add-one) refl
+
+stopped : (refusals more : List Refusal) (refusal : Refusal) → Err refusal ≡ unless_refused nothing refusals → Err refusal ≡ unless_refused nothing (refusals ++ more)
+stopped [] more refusal e = absurd (cc)
+stopped (r ∷ rs) more refusal e = e
+
+went_on : (refusals more : List Refusal) → Ok nothing ≡ unless_refused nothing refusals → refusals ++ more ≡ more
+went_on [] more e = refl
+went_on (r ∷ rs) more e = absurd (cc)
+
+pub inst_refused : (ids : Ids) (sets : List (ℕ × Bool)) (begun now : Bool) (site : Site) (insts : List Inst) (n : ℕ) (inst : Inst) (role : Role) (scope : Scope) (refusal : Refusal)
+    → n < length insts → inst ≡ get_or insts n inst → role ≡ role_of sets inst → now ≡ has_begun begun inst → scope ≡ scope_of now site inst
+    → Err refusal ≡ unless_refused nothing (breaches_at ids scope role inst)
+    → AreInOrder ids sets insts begun site n → Err refusal ≡ unless_refused nothing (id_breaches ids sets false outside insts)
+inst_refused ids sets begun now site insts n inst role scope refusal l e r b s t h =
+    rw (h, inst_at ids sets begun site insts n inst l e, ← r, ← b, ← s) (stopped (breaches_at ids scope role inst) _ refusal t)
+
+pub inst_kept : (ids : Ids) (sets : List (ℕ × Bool)) (begun now : Bool) (site after : Site) (insts : List Inst) (n : ℕ) (inst : Inst) (role : Role) (scope : Scope)
+    → n < length insts → inst ≡ get_or insts n inst → role ≡ role_of sets inst → now ≡ has_begun begun inst → scope ≡ scope_of now site inst → after ≡ site_after site role inst
+    → Ok nothing ≡ unless_refused nothing (breaches_at ids scope role inst)
+    → AreInOrder ids sets insts begun site n → AreInOrder ids sets insts now after (n + 1)
+inst_kept ids sets begun now site after insts n inst role scope l e r b s a t h =
+    h ∙ inst_at ids sets begun site insts n inst l e ∙ rw (← r, ← b, ← s, ← a) (went_on (breaches_at ids scope role inst) _ t)
+
+pub insts_done : (ids : Ids) (sets : List (ℕ × Bool)) (begun : Bool) (site : Site) (insts : List Inst) (n : ℕ) → length insts ≤ n
+    → AreInOrder ids sets insts begun site n → Ok nothing ≡ unless_refused nothing (id_breaches ids sets false outside insts)
+unfolding id_breaches
+insts_done ids sets begun site insts n l h = rw (h, drop_of_length-le insts l) refl

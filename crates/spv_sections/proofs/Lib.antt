@@ -1,0 +1,4 @@
+pub mod OrderLemmas
+pub mod CapabilityLemmas
+pub mod DefinitionLemmas
+pub mod IdLemmas

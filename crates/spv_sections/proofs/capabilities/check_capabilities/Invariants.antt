@@ -1,0 +1,6 @@
+use Rattle.spv_sections.proofs.CapabilityLemmas.{AreHere}
+use Rattle.spv_sections.proofs.capabilities.check_capabilities.Given as goal
+
+-- no instruction so far is refused
+abbrev pub invariant-loop-inst : goal.invariant-loop-inst
+invariant-loop-inst l = AreHere l.insts l.inst-index

@@ -1,0 +1,60 @@
+-- What each id of a module stands for, and from where it can be named (SPIR-V 1.6 section 2.16.1): the ids that are defined
+-- before the functions and the functions themselves from anywhere, and the others from within their function.
+use Rattle.std.specs.Prelude.{◌≡◌, ◌<◌, ℕ, Bool, true, false, List, ◌==◌, ◌&&◌, nat_lt, if◌then◌else◌, length, map, Option, None, slice_index_or}
+use Rattle.spv_base.specs.Entries.{reads}
+use Rattle.spv_base.specs.declared.instructions.Inst.{Inst}
+use Rattle.spv_cfg.specs.declared.sites.Site.{Site}
+use Rattle.spv_cfg.specs.Roles.{sets_of}
+use Rattle.spv_cfg.specs.Sites.{Stand, stands, outside, in_function}
+use Rattle.spv_sections.specs.declared.definitions.Home.{Home}
+use Rattle.spv_sections.specs.declared.definitions.Home.TheVariants.{Module, Within}
+use Rattle.spv_sections.specs.declared.definitions.Definition.{Definition}
+use Rattle.spv_sections.specs.Kinds.{kind_of}
+
+-- where an instruction stands: in a function, by the word of its OpFunction, or in none
+abbrev pub home_of : Site → Home
+home_of site = if in_function site.place then Within site.begin else Module
+
+-- an id of the second home can be named from the first
+abbrev pub sees : Home → Home → Bool
+sees Module Module = true
+sees Module (Within there) = false
+sees (Within here) Module = true
+sees (Within here) (Within there) = here == there
+
+-- what the result of an instruction stands for: a function (54) can be named from anywhere
+abbrev pub definition_at : Site → Inst → Definition
+definition_at site inst = record { kind = kind_of (in_function site.place) inst.op; home = if inst.op == 54 then Module else home_of site; word = inst.word }
+
+abbrev pub definition_of : Stand → ℕ × Definition
+definition_of s = (s.inst.id, definition_at s.site s.inst)
+
+-- the definitions of ids, in their order: the first under an id counts
+abbrev pub definitions_from : List (ℕ × Bool) → Site → List Inst → List (ℕ × Definition)
+definitions_from sets site insts = map definition_of (stands sets site insts)
+
+unfoldable pub definitions_of : List Inst → List (ℕ × Definition)
+definitions_of insts = definitions_from (sets_of insts) outside insts
+
+-- a module's Bound and its instructions
+pub record Ids : Type 0 where
+  pub bound : ℕ
+  pub insts : List Inst
+
+-- an id is not 0, and below the Bound
+abbrev pub is_id : ℕ → ℕ → Bool
+is_id bound id = nat_lt 0 id && nat_lt id bound
+
+-- the first definition of an id
+unfoldable pub first : Ids → ℕ → Option Definition
+first ids id = if is_id ids.bound id then reads id (definitions_of ids.insts) else None
+
+-- ---- by ids
+
+-- what a list has for an id
+abbrev pub slot : List (Option Definition) → ℕ → Option Definition
+slot slots id = slice_index_or slots id None
+
+-- a list has, by ids, the first definitions
+abbrev pub AreSlots : List (ℕ × Definition) → List (Option Definition) → Type 0
+AreSlots definitions slots = (id : ℕ) → id < length slots → slot slots id ≡ reads id definitions

@@ -1,0 +1,5 @@
+pub mod Sections
+pub mod Capabilities
+pub mod Kinds
+pub mod Definitions
+pub mod Ids

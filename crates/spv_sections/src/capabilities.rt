@@ -1,0 +1,80 @@
+//! What a module declares that it needs (SPIR-V 1.6 sections 3.4, 3.5, 3.31 and 3.42.2 to 3.42.4).
+ghost use Rattle.std.specs.Prelude.{◌≡◌};
+ghost use Rattle.spv_cfg.specs.Roles.{name_of};
+ghost use Rattle.spv_sections.specs.Capabilities as spec;
+
+use spv_base::{Inst, Operand, Refusal};
+use spv_cfg::roles::number_at;
+
+/// The code of the rules of capabilities, extensions, imports and memory models.
+const CAPABILITY_CODE: u8 = 11;
+
+/// The name that an instruction declares.
+fn name_of(inst: &Inst) -> &[u8]
+    ensures { result.now ≡ name_of inst.now }
+{
+    match inst.operands.get(0) {
+        Some(Operand::Text(name)) => name.as_slice(),
+        Some(Operand::Id(_)) => &[],
+        Some(Operand::Lit(_)) => &[],
+        None => &[],
+    }
+}
+
+fn is_capability(number: u32) -> bool
+    ensures { result ≡ spec.is_capability number }
+{
+    matches!(
+        number,
+        0 | 1 | 11 | 12 | 22 | 39 | 4433 | 4434 | 4448 | 4449
+    )
+}
+
+fn is_extension(name: &[u8]) -> bool
+    ensures { result ≡ spec.is_extension name.now }
+{
+    name == b"SPV_KHR_non_semantic_info".as_slice()
+        || name == b"SPV_KHR_storage_buffer_storage_class".as_slice()
+        || name == b"SPV_KHR_16bit_storage".as_slice()
+        || name == b"SPV_KHR_8bit_storage".as_slice()
+        || name == b"SPV_KHR_variable_pointers".as_slice()
+}
+
+/// Whether a name is of a set of instructions that has a meaning here, or of one with no meaning at run time.
+fn is_set(name: &[u8]) -> bool
+    ensures { result ≡ spec.is_set name.now }
+{
+    name == b"GLSL.std.450".as_slice() || name.starts_with(b"NonSemantic.")
+}
+
+/// Whether an instruction asks for nothing that is not here.
+fn is_here(inst: &Inst) -> bool
+    ensures { result ≡ spec.is_here inst.now }
+{
+    match inst.op {
+        10 => is_extension(name_of(inst)),
+        11 => is_set(name_of(inst)),
+        14 => number_at(inst, 0) == 0 && number_at(inst, 1) == 1,
+        17 => is_capability(number_at(inst, 0)),
+        67 | 401 | 402 => false,
+        _ => true,
+    }
+}
+
+/// Checks what a module declares that it needs.
+///
+/// Refuses M11: at a capability, an extension, an import or a memory model that is not accepted, and at an instruction
+/// that needs such a capability.
+pub fn check_capabilities(insts: &[Inst]) -> Result<(), Refusal>
+    ensures { result ≡ spec.capabilities_of insts.now }
+{
+    for inst in insts {
+        if !is_here(inst) {
+            return Err(Refusal {
+                code: CAPABILITY_CODE,
+                word: inst.word,
+            });
+        }
+    }
+    Ok(())
+}

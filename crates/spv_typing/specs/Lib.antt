@@ -1,0 +1,4 @@
+pub mod Lanes
+pub mod Rules
+pub mod Fitting
+pub mod Glsl

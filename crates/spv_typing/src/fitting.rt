@@ -1,0 +1,229 @@
+//! Whether the types of an operation's operands fit the type of its result.
+ghost use Rattle.std.specs.Prelude.{◌≡◌, ◌+◌};
+ghost use Rattle.spv_index.specs.Definitions.{type_of};
+ghost use Rattle.spv_types.specs.Operands.{id_at};
+ghost use Rattle.spv_types.specs.Types.{form_of};
+ghost use Rattle.spv_typing.specs.Fitting as spec;
+
+use crate::lanes::{
+    Lanes, are_booleans, are_integers, are_several, is_single, lanes_of, same_count, same_lanes,
+    same_size,
+};
+use crate::operands::Operands;
+use crate::rules::{Rule, rule_of};
+use spv_base::Inst;
+use spv_index::Index;
+use spv_types::forms::Member;
+use spv_types::{Form, TypeTable};
+
+/// Whether the lanes are integers, and as many as of the outcome.
+pub fn are_counted(outcome: Option<Lanes>, operand: Option<Lanes>) -> bool
+    ensures { result ≡ spec.are_counted outcome operand }
+{
+    are_integers(operand) && same_count(operand, outcome)
+}
+
+/// Whether the lanes are one integer.
+pub fn is_one_integer(operand: Option<Lanes>) -> bool
+    ensures { result ≡ spec.is_one_integer operand }
+{
+    are_integers(operand) && is_single(operand)
+}
+
+/// Whether the lanes are one Boolean.
+pub fn is_one_boolean(lanes: Option<Lanes>) -> bool
+    ensures { result ≡ spec.is_one_boolean lanes }
+{
+    are_booleans(lanes) && is_single(lanes)
+}
+
+/// Whether the lanes are a vector of Booleans.
+pub fn is_boolean_vector(lanes: Option<Lanes>) -> bool
+    ensures { result ≡ spec.is_boolean_vector lanes }
+{
+    are_booleans(lanes) && are_several(lanes)
+}
+
+/// Whether these are two members of one type.
+pub fn is_pair(ty: u32, members: &[Member]) -> bool
+    ensures { result ≡ spec.is_pair ty members.now }
+{
+    match members {
+        [first, second] => first.ty == ty && second.ty == ty,
+        _ => false,
+    }
+}
+
+/// Whether a type is a struct of two members of a type.
+pub fn is_pair_of(types: &TypeTable, ty: u32, outcome: u32) -> bool
+    ensures { result ≡ spec.is_pair_of ty (form_of types.now outcome) }
+{
+    match types.form(outcome) {
+        Some(Form::Struct { members, .. }) => is_pair(ty, members.as_slice()),
+        _ => false,
+    }
+}
+
+/// Whether Select may choose values of a type: no pointers.
+pub fn is_selectable(types: &TypeTable, ty: u32) -> bool
+    ensures { result ≡ spec.is_selectable (form_of types.now ty) }
+{
+    match types.form(ty) {
+        None | Some(Form::Pointer { .. } | Form::Function { .. }) => false,
+        _ => true,
+    }
+}
+
+/// Whether there is one Boolean for the whole, or one for each component of a vector.
+pub fn is_condition(outcome: Option<Lanes>, condition: Option<Lanes>) -> bool
+    ensures { result ≡ spec.is_condition outcome condition }
+{
+    is_one_boolean(condition) || is_boolean_vector(condition) && same_count(condition, outcome)
+}
+
+/// UConvert and SConvert: integers of any width, as many as of the outcome.
+pub fn fits_convert(outcome: Option<Lanes>, a: Option<Lanes>) -> bool
+    ensures { result ≡ spec.fits_convert outcome a }
+{
+    are_integers(outcome) && are_counted(outcome, a)
+}
+
+/// Bitcast: integers with as many bits together.
+pub fn fits_bitcast(outcome: Option<Lanes>, a: Option<Lanes>) -> bool
+    ensures { result ≡ spec.fits_bitcast outcome a }
+{
+    are_integers(outcome) && are_integers(a) && same_size(a, outcome)
+}
+
+/// SNegate, Not, BitReverse and BitCount: integers of the outcome's width.
+pub fn fits_integer(outcome: Option<Lanes>, a: Option<Lanes>) -> bool
+    ensures { result ≡ spec.fits_integer outcome a }
+{
+    are_integers(outcome) && same_lanes(a, outcome)
+}
+
+/// Arithmetic and bitwise operations: integers of the outcome's width.
+pub fn fits_integers(outcome: Option<Lanes>, a: Option<Lanes>, b: Option<Lanes>) -> bool
+    ensures { result ≡ spec.fits_integers outcome a b }
+{
+    fits_integer(outcome, a) && same_lanes(b, outcome)
+}
+
+/// Clamps: integers of the outcome's width.
+pub fn fits_clamp(
+    outcome: Option<Lanes>,
+    a: Option<Lanes>,
+    least: Option<Lanes>,
+    greatest: Option<Lanes>,
+) -> bool
+    ensures { result ≡ spec.fits_clamp outcome a least greatest }
+{
+    fits_integers(outcome, a, least) && same_lanes(greatest, outcome)
+}
+
+/// Shifts: the amounts have any width.
+pub fn fits_shift(outcome: Option<Lanes>, base: Option<Lanes>, shift: Option<Lanes>) -> bool
+    ensures { result ≡ spec.fits_shift outcome base shift }
+{
+    fits_integer(outcome, base) && are_counted(outcome, shift)
+}
+
+/// LogicalNot: Booleans.
+pub fn fits_boolean(outcome: Option<Lanes>, a: Option<Lanes>) -> bool
+    ensures { result ≡ spec.fits_boolean outcome a }
+{
+    are_booleans(outcome) && same_lanes(a, outcome)
+}
+
+/// Logical operations: Booleans.
+pub fn fits_booleans(outcome: Option<Lanes>, a: Option<Lanes>, b: Option<Lanes>) -> bool
+    ensures { result ≡ spec.fits_booleans outcome a b }
+{
+    fits_boolean(outcome, a) && same_lanes(b, outcome)
+}
+
+/// Any and All: a vector of Booleans gives one.
+pub fn fits_reduce(outcome: Option<Lanes>, a: Option<Lanes>) -> bool
+    ensures { result ≡ spec.fits_reduce outcome a }
+{
+    is_one_boolean(outcome) && is_boolean_vector(a)
+}
+
+/// Comparisons: integers of one width give Booleans.
+pub fn fits_compare(outcome: Option<Lanes>, a: Option<Lanes>, b: Option<Lanes>) -> bool
+    ensures { result ≡ spec.fits_compare outcome a b }
+{
+    are_booleans(outcome) && are_counted(outcome, a) && same_lanes(b, a)
+}
+
+/// IAddCarry, ISubBorrow, UMulExtended and SMulExtended: integers of one type give a struct of two of it.
+pub fn fits_extended(types: &TypeTable, outcome: u32, a: u32, b: u32) -> bool
+    ensures { result ≡ spec.fits_extended types.now outcome a b }
+{
+    are_integers(lanes_of(types, a)) && b == a && is_pair_of(types, a, outcome)
+}
+
+/// Select: both objects have the outcome's type, which is no pointer.
+pub fn fits_select(types: &TypeTable, outcome: u32, condition: u32, a: u32, b: u32) -> bool
+    ensures { result ≡ spec.fits_select types.now outcome condition a b }
+{
+    is_selectable(types, outcome)
+        && a == outcome
+        && b == outcome
+        && is_condition(lanes_of(types, outcome), lanes_of(types, condition))
+}
+
+/// Whether the offset and the number of bits of a bit field are one integer each.
+pub fn is_field(offset: Option<Lanes>, count: Option<Lanes>) -> bool
+    ensures { result ≡ spec.is_field offset count }
+{
+    is_one_integer(offset) && is_one_integer(count)
+}
+
+impl<'a> Operands<'a> {
+    /// Whether the operands fit an outcome of a type, by a rule.
+    pub(crate) fn fit(&self, rule: Rule, outcome: u32) -> bool
+        ensures { result ≡ spec.fits_rule self.now.types.now rule outcome (λ k. type_of self.now.index.now (id_at self.now.inst.now.operands (self.now.from + k))) }
+    {
+        let types = self.types;
+        let lanes = lanes_of(types, outcome);
+        match rule {
+            Rule::Convert => fits_convert(lanes, self.lanes(0)),
+            Rule::Bitcast => fits_bitcast(lanes, self.lanes(0)),
+            Rule::Integer => fits_integer(lanes, self.lanes(0)),
+            Rule::Integers => fits_integers(lanes, self.lanes(0), self.lanes(1)),
+            Rule::Clamp => fits_clamp(lanes, self.lanes(0), self.lanes(1), self.lanes(2)),
+            Rule::Shift => fits_shift(lanes, self.lanes(0), self.lanes(1)),
+            Rule::Boolean => fits_boolean(lanes, self.lanes(0)),
+            Rule::Booleans => fits_booleans(lanes, self.lanes(0), self.lanes(1)),
+            Rule::Reduce => fits_reduce(lanes, self.lanes(0)),
+            Rule::Compare => fits_compare(lanes, self.lanes(0), self.lanes(1)),
+            Rule::Extended => fits_extended(types, outcome, self.ty(0), self.ty(1)),
+            Rule::Select => fits_select(types, outcome, self.ty(0), self.ty(1), self.ty(2)),
+            Rule::InsertField => {
+                fits_integers(lanes, self.lanes(0), self.lanes(1))
+                    && is_field(self.lanes(2), self.lanes(3))
+            }
+            Rule::ExtractField => {
+                fits_integer(lanes, self.lanes(0)) && is_field(self.lanes(1), self.lanes(2))
+            }
+        }
+    }
+}
+
+/// Whether the types of an operation's operands fit the type of its result. The operation's first operand is the operand
+/// of the instruction after the first `from`.
+pub fn fits(types: &TypeTable, index: &Index, inst: &Inst, op: u16, from: usize) -> bool
+    ensures { result ≡ spec.fits types.now op inst.now.ty (λ k. type_of index.now (id_at inst.now.operands (from + k))) }
+{
+    let operands = Operands {
+        types,
+        index,
+        inst,
+        from,
+    };
+    match rule_of(op) {
+        Some(rule) => operands.fit(rule, inst.ty),
+        None => false,
+    }
+}
