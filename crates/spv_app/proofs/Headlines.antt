@@ -23,7 +23,7 @@ pub record NothingFails (status : Status) : Type 0 where
   pub memory : status ≢ NoMemory
 
 -- what a sink holds after more was written
-held_now : (before put : List ℕ) (held : Option (List ℕ)) → Appends (Some before) held put → held ≡ Some (before ++ put)
+pub held_now : (before put : List ℕ) (held : Option (List ℕ)) → Appends (Some before) held put → held ≡ Some (before ++ put)
 held_now before put None h = absurd h
 held_now before put (Some ys) h = ap Some h
 
@@ -33,10 +33,10 @@ all_of xs got None h = absurd h
 all_of xs got (Some ys) h = sym h
 
 -- a name has one content
-same_content : (m : List ℕ → Option (List ℕ)) (name xs ys : List ℕ) → m name ≡ Some xs → m name ≡ Some ys → xs ≡ ys
+pub same_content : (m : List ℕ → Option (List ℕ)) (name xs ys : List ℕ) → m name ≡ Some xs → m name ≡ Some ys → xs ≡ ys
 same_content m name xs ys p q = cc
 
-not_more : (m : List ℕ → Option (List ℕ)) (name xs : List ℕ) (limit : ℕ) → m name ≡ Some xs → length xs ≤ limit → HoldsMore (Some m) name limit → ⊥
+pub not_more : (m : List ℕ → Option (List ℕ)) (name xs : List ℕ) (limit : ℕ) → m name ≡ Some xs → length xs ≤ limit → HoldsMore (Some m) name limit → ⊥
 not_more m name xs limit p few more =
     let e : length more.0 ≡ length xs = ap length (same_content m name more.0 xs more.1 p) in
     omega arith
@@ -47,7 +47,7 @@ not_too_long m names binary setup taken p q few_binary few_setup (inl h) = not_m
 not_too_long m names binary setup taken p q few_binary few_setup (inr h) = not_more m names.setup setup setup_limit q few_setup h.1
 
 -- the line was written whole
-line_whole : (due status : Status) (line put : List ℕ) → NothingFails status → SaysLine due line status put → (status ≡ due) × (put ≡ line)
+pub line_whole : (due status : Status) (line put : List ℕ) → NothingFails status → SaysLine due line status put → (status ≡ due) × (put ≡ line)
 line_whole due status line put ok (inl h) = h
 line_whole due status line put ok (inr (inl h)) = absurd (ok.write h.0)
 line_whole due status line put ok (inr (inr h)) = absurd (ok.memory h.0)
@@ -95,7 +95,7 @@ module _ (m : List ℕ → Option (List ℕ)) (names : Names) (taken : ℕ) (fai
       subst Due (sym opened ∙ same_pair b s pair) (held_now before ran.put held_new ran.written ∙ ap (λ l. Some (before ++ l)) whole.1, whole.0)
 
 -- a status that tells faults isn't it where none was counted
-not_counted : (status fault : Status) (old new : ℕ) → (status ≡ fault) ↔ (old < new) → new ≡ old → status ≢ fault
+pub not_counted : (status fault : Status) (old new : ℕ) → (status ≡ fault) ↔ (old < new) → new ≡ old → status ≢ fault
 not_counted status fault old new told same h =
     let more : old < new = told.0 h in
     absurd (omega arith)

@@ -3,5 +3,6 @@ pub mod Pieces
 pub mod Cuts
 pub mod Runs
 pub mod Headlines
+pub mod Checks
 pub mod Splits
 pub mod Openings

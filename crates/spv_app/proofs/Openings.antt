@@ -8,7 +8,8 @@ use Rattle.spv_machine.specs.Program.{Program}
 use Rattle.spv_session.specs.Settings.{Settings, settings_of}
 use Rattle.spv_session.specs.View.{View, first_view}
 use Rattle.spv_app.specs.declared.opening.OpeningRefusal.{OpeningRefusal}
-use Rattle.spv_app.specs.Opening.{opening, program_in, then, of_setup, of_module}
+use Rattle.spv_app.specs.Acceptance.{then}
+use Rattle.spv_app.specs.Opening.{opening, program_in, of_setup, of_module}
 
 -- a failure that is handed on as it is
 handed_on : {T R : Type 0} (due : Result T R) (result : Result T (Fail R)) (fail : Fail R) → IsErrAnd result (λ e. e ≡ fail) → Answers due (Err fail) → Answers due result

@@ -16,3 +16,8 @@ abbrev pub debug_names : List (String Global) → Option Names
 debug_names (program ∷ command ∷ binary ∷ setup ∷ []) =
     if bytes_eq (string_bytes command) (codes "debug") then Some (record { binary = string_bytes binary; setup = string_bytes setup }) else None
 debug_names words = None
+
+-- the name of a module, where the words are the program's name, `check`, and the name
+abbrev pub check_name : List (String Global) → Option (List ℕ)
+check_name (program ∷ command ∷ binary ∷ []) = if bytes_eq (string_bytes command) (codes "check") then Some (string_bytes binary) else None
+check_name words = None

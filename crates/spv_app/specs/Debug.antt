@@ -70,7 +70,7 @@ status_of_file error.Failed = FileFault
 status_of_file error.TooLong = FileTooLong
 status_of_file error.NoMemory = NoMemory
 
--- ---- a whole call
+-- ---- a whole call of `debug`
 
 -- A run of `debug`, by what the files are, how many bytes their last call took, which name failed last, whether the input was left
 -- as it was, and by what the input has left and the output holds before and after the call.

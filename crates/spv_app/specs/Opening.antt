@@ -1,25 +1,19 @@
 -- Which pair of a module and a setup is opened, and which refusal is due else.
-use Rattle.std.specs.Prelude.{ℕ, List, ◌++◌, slice_index, codes, decimal, Result, Ok, Err}
+use Rattle.std.specs.Prelude.{ℕ, List, ◌++◌, codes, decimal, Result, Ok, Err}
 use Rattle.spv_base.specs.declared.causes.Refusal.{Refusal}
 use Rattle.spv_base.specs.declared.causes.SetupRefusal.{SetupRefusal}
 use Rattle.spv_words.specs.Words.{words_of}
-use Rattle.spv_words.specs.Cuts.{raw_of}
-use Rattle.spv_ops.specs.Reading.{insts_of}
 use Rattle.spv_machine.specs.Program.{Program, program_of}
 use Rattle.spv_session.specs.Settings.{settings_of}
 use Rattle.spv_session.specs.View.{View, first_view}
 use Rattle.spv_app.specs.declared.opening.OpeningRefusal.{OpeningRefusal}
 use Rattle.spv_app.specs.declared.opening.OpeningRefusal.TheVariants.{Module, Setup}
+use Rattle.spv_app.specs.Acceptance.{then, accepted_of, bound_of}
 
--- a later pass, which is read only where the one before refuses nothing
-abbrev pub then : {A B R : Type 0} → Result A R → (A → Result B R) → Result B R
-then (Ok x) pass = pass x
-then (Err refusal) pass = Err refusal
-
--- the program of a module's bytes: its words, its instructions as words, its instructions, and the form that can be run
+-- the program of a module's bytes: its words, the accepted module of them, and the form that can be run
 abbrev pub program_in : List ℕ → Result Program Refusal
 program_in bytes =
-    then (words_of bytes) (λ words. then (raw_of words.items) (λ raws. then (insts_of raws) (λ insts. program_of insts (slice_index words.items 3))))
+    then (words_of bytes) (λ words. then (accepted_of words) (λ accepted. program_of accepted (bound_of words)))
 
 -- whose refusal it is
 abbrev pub of_setup : {A : Type 0} → Result A SetupRefusal → Result A OpeningRefusal

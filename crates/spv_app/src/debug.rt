@@ -1,10 +1,12 @@
 //! The top call.
 ghost use Rattle.std.specs.Prelude.{◌≡◌, ◌≢◌, ◌↔◌, ◌⊎◌, ◌<◌, ◌≤◌, ◌-◌, ◌^◌, ◌++◌, List, ℕ, Option, Some, None, All, vec_len, length, IfOk, IfErr, IsErrOf};
 ghost use Rattle.std.specs.Io.KnownBytes.{Appends};
-ghost use Rattle.spv_app.specs.Command_line.{Names, debug_names, usage_line};
+ghost use Rattle.spv_app.specs.Command_line.{Names, debug_names, check_name, usage_line};
 ghost use Rattle.spv_app.specs.Opening.{opening, refusal_line};
 ghost use Rattle.spv_app.specs.Debug.{Debugged, IsPair, IsOneOf, binary_limit, setup_limit, SaysLine, SaysUnopened, status_of_file, status_of_refusal, due_text, due_status};
+ghost use Rattle.spv_app.specs.Checking.{Checked, checking, check_line, check_status, report_line};
 
+use crate::checking::{Report, check_bytes};
 use crate::command_loop::run;
 use crate::opening::{OpeningRefusal, open};
 use crate::status::Status;
@@ -116,6 +118,41 @@ fn debug<F: Files, I: Source, K: Sink, L: Ledger>(
     run(alloc, &mut session, input, out, steps)
 }
 
+/// Writes the line that tells how much an accepted module holds.
+fn tell_report<K: Sink>(alloc: Global, report: Report, out: &mut K) -> Status
+    requires { K.faults out.old < 2 ^ 64 - 1 }
+    ensures says { (put : List ℕ) × Appends (K.taken out.old) (K.taken out.new) put × SaysLine Status.Done (report_line report) result put }
+    ensures count { (result ≡ Status.WriteFault) ↔ (K.faults out.old < K.faults out.new) }
+    ensures counted { K.faults out.old ≤ K.faults out.new }
+{
+    match format!(in alloc; "{report}\n") {
+        Ok(line) => tell(out, line.as_bytes(), Status::Done),
+        Err(_) => Status::NoMemory,
+    }
+}
+
+/// Reads a module, and tells whether it is accepted.
+fn check<F: Files, K: Sink>(alloc: Global, binary_name: &str, files: &mut F, out: &mut K) -> Status
+    requires files { F.faults files.old < 2 ^ 64 - 1 }
+    requires out { K.faults out.old < 2 ^ 64 - 1 }
+    ensures checked { Checked (F.contents files.old) binary_name.now (F.taken files.new) (F.failed_name files.new) (K.taken out.old) (K.taken out.new) result }
+    ensures file_fault { (result ≡ Status.FileFault) ↔ (F.faults files.old < F.faults files.new) }
+    ensures file_name { result ≡ Status.FileFault → F.failed_name files.new ≡ binary_name.now }
+    ensures no_read { result ≢ Status.ReadFault }
+    ensures write_fault { (result ≡ Status.WriteFault) ↔ (K.faults out.old < K.faults out.new) }
+    ensures counted { (F.faults files.old ≤ F.faults files.new) × (K.faults out.old ≤ K.faults out.new) }
+{
+    let binary = match files.read_all(alloc, binary_name, BINARY_LIMIT) {
+        Ok(binary) => binary,
+        Err(error) => return Status::from(error),
+    };
+    match check_bytes(alloc, &binary) {
+        Ok(report) => tell_report(alloc, report, out),
+        Err(Fail::Refused(refusal)) => tell_refusal(alloc, OpeningRefusal::Module(refusal), out),
+        Err(Fail::NoMemory) => Status::NoMemory,
+    }
+}
+
 /// Writes the line that says which words there are.
 fn tell_usage<K: Sink>(out: &mut K) -> Status
     requires { K.faults out.old < 2 ^ 64 - 1 }
@@ -128,7 +165,8 @@ fn tell_usage<K: Sink>(out: &mut K) -> Status
 }
 
 /// Does what the words say: `debug MODULE SETUP` reads the module and the setup, opens the pair, and answers the lines of the
-/// input, to its end or to `quit`. The first word is the program's name. Each answer is named by its status.
+/// input, to its end or to `quit`; `check MODULE` reads the module, and tells whether it is accepted. The first word is the
+/// program's name. Each answer is named by its status.
 pub fn debug_main<F: Files, I: Source, K: Sink, L: Ledger>(
     alloc: Global,
     words: &[String],
@@ -153,15 +191,25 @@ pub fn debug_main<F: Files, I: Source, K: Sink, L: Ledger>(
         → result ≢ Status.NoMemory
         → (K.taken out.new ≡ Some (before ++ due_text (opening binary setup) xs)) × (result ≡ due_status (opening binary setup)) }
 
+    // For `check` they are the line that is due for the module: how much it holds, or its refusal.
+    ensures check_headline { (name : List ℕ) (m : List ℕ → Option (List ℕ)) (binary before : List ℕ)
+        → check_name words.now ≡ Some name → F.contents files.old ≡ Some m → m name ≡ Some binary → length binary ≤ binary_limit
+        → K.taken out.old ≡ Some before
+        → F.faults files.new ≡ F.faults files.old → K.faults out.new ≡ K.faults out.old → result ≢ Status.NoMemory
+        → (K.taken out.new ≡ Some (before ++ check_line (checking binary))) × (result ≡ check_status (checking binary)) }
+
     // What each status says, whatever was told and whatever failed.
     ensures debugged { (names : Names) → debug_names words.now ≡ Some names
         → Debugged (F.contents files.old) names (F.taken files.new) (F.failed_name files.new) (input.new ≡ input.old) (I.left input.old) (I.left input.new) (K.taken out.old) (K.taken out.new) result }
-    ensures usage { debug_names words.now ≡ None
+    ensures checked { (name : List ℕ) → check_name words.now ≡ Some name
+        → (input.new ≡ input.old) × (steps.new ≡ steps.old)
+        × Checked (F.contents files.old) name (F.taken files.new) (F.failed_name files.new) (K.taken out.old) (K.taken out.new) result }
+    ensures usage { debug_names words.now ≡ None → check_name words.now ≡ None
         → (files.new ≡ files.old) × (input.new ≡ input.old) × ((put : List ℕ) × Appends (K.taken out.old) (K.taken out.new) put × SaysLine Status.Usage usage_line result put) }
 
     // Faults are told exactly where they were counted.
     ensures file_fault { (result ≡ Status.FileFault) ↔ (F.faults files.old < F.faults files.new) }
-    ensures file_name { result ≡ Status.FileFault → IsOneOf (debug_names words.now) (F.failed_name files.new) }
+    ensures file_name { result ≡ Status.FileFault → IsOneOf (debug_names words.now) (F.failed_name files.new) ⊎ (check_name words.now ≡ Some (F.failed_name files.new)) }
     ensures read_fault { (result ≡ Status.ReadFault) ↔ (I.faults input.old < I.faults input.new) }
     ensures write_fault { (result ≡ Status.WriteFault) ↔ (K.faults out.old < K.faults out.new) }
     ensures counted { (F.faults files.old ≤ F.faults files.new) × (I.faults input.old ≤ I.faults input.new) × (K.faults out.old ≤ K.faults out.new) }
@@ -177,6 +225,9 @@ pub fn debug_main<F: Files, I: Source, K: Sink, L: Ledger>(
             kit,
             steps,
         ),
+        [_, command, binary] if command.as_str() == "check" => {
+            check(alloc, binary.as_str(), files, out)
+        }
         _ => tell_usage(out),
     }
 }

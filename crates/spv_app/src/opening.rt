@@ -5,11 +5,11 @@ ghost use Rattle.spv_session.specs.Settings.{settings_of};
 ghost use Rattle.spv_session.specs.View.{first_view};
 ghost use Rattle.spv_app.specs.Opening.{opening, program_in, of_setup, of_module};
 
+use crate::acceptance::accepted;
 use spv_base::{Fail, Refusal, SetupRefusal};
-use spv_machine::{Module, first};
-use spv_ops::decode_all;
+use spv_machine::Runnable;
 use spv_session::{Group, Setup};
-use spv_words::{raw, words};
+use spv_words::words;
 use std::alloc::Global;
 use std::fmt;
 
@@ -40,15 +40,14 @@ impl fmt::Display for OpeningRefusal {
     }
 }
 
-/// The module of these bytes, or the first rule that is broken. Rules of a later pass are looked at only where
-/// the one before finds nothing: the header, the cuts, the instructions, the form of the whole.
-fn module_of(alloc: Global, bytes: &[u8]) -> Result<Module, Fail<Refusal>>
+/// The module of these bytes that can be run, or the first rule that is broken. Rules of a later pass are looked at only
+/// where the one before finds nothing: the header, the passes of acceptance, the form of the whole.
+fn module_of(alloc: Global, bytes: &[u8]) -> Result<Runnable, Fail<Refusal>>
     ensures { Answers (program_in bytes.now) result }
 {
     let list = words(alloc, bytes)?;
-    let raws = raw(alloc, &list)?;
-    let insts = decode_all(alloc, &raws)?;
-    first(alloc, insts, list.bound())
+    let module = accepted(alloc, &list)?;
+    Runnable::of(alloc, module, list.bound())
 }
 
 /// The setup of this text.
@@ -63,7 +62,7 @@ fn parse_setup(alloc: Global, text: &[u8]) -> Result<Setup, Fail<OpeningRefusal>
 }
 
 /// The module of these bytes.
-fn read_module(alloc: Global, bytes: &[u8]) -> Result<Module, Fail<OpeningRefusal>>
+fn read_module(alloc: Global, bytes: &[u8]) -> Result<Runnable, Fail<OpeningRefusal>>
     ensures { Answers (of_module (program_in bytes.now)) result }
 {
     match module_of(alloc, bytes) {
@@ -74,7 +73,7 @@ fn read_module(alloc: Global, bytes: &[u8]) -> Result<Module, Fail<OpeningRefusa
 }
 
 /// The group of a module and a setup that fits it, at the first position.
-fn fit(alloc: Global, module: Module, setup: Setup) -> Result<Group, Fail<OpeningRefusal>>
+fn fit(alloc: Global, module: Runnable, setup: Setup) -> Result<Group, Fail<OpeningRefusal>>
     ensures view { Answers (Ok (first_view «module» setup)) result }
     ensures start { IfOk result (λ group. group.position ≡ 0) }
 {

@@ -25,7 +25,7 @@ pub fn functions_of(alloc: Global, insts: &[Inst]) -> Result<Vec<(u32, u32)>, No
 }
 
 /// The numbers of the functions by their ids.
-fn numbers_by_id(alloc: Global, functions: &[(u32, u32)]) -> Result<Table<usize>, NoMemory>
+pub fn numbers_by_id(alloc: Global, functions: &[(u32, u32)]) -> Result<Table<usize>, NoMemory>
     ensures { IfOk result (λ numbers. numbers ≡ spec.numbered 0 functions.now) }
 {
     let mut numbers = Vec::new(alloc);
@@ -35,8 +35,8 @@ fn numbers_by_id(alloc: Global, functions: &[(u32, u32)]) -> Result<Table<usize>
     Table::new(alloc, numbers)
 }
 
-/// The calls, each by the numbers of its two functions.
-fn calls_of(
+/// The calls, each by the number of the function that it stands in and the number of the one that it names.
+pub fn calls_of(
     alloc: Global,
     sets: &Table<bool>,
     numbers: &Table<usize>,

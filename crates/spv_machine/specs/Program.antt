@@ -1,7 +1,8 @@
--- A program: the instructions of an accepted module, and what a run reads from them.
+-- A program: the instructions of an accepted module in the first form, and what a run reads from them.
 use Rattle.std.specs.Prelude.{ℕ, Bool, true, false, map, filter, ◌&&◌, ◌==◌, if◌then◌else◌, nat_lt, List, Option, Result, Ok, Err, find, unwrap_or, option_map}
 use Rattle.spv_base.specs.declared.causes.Refusal.{Refusal}
 use Rattle.spv_base.specs.declared.instructions.Inst.{Inst}
+use Rattle.spv_valid.specs.Acceptance.{Accepted}
 use Rattle.spv_machine.specs.declared.opcodes.Opcode.{Opcode}
 use Rattle.spv_machine.specs.declared.opcodes.Opcode.TheVariants.{Function}
 use Rattle.spv_machine.specs.Opcode.{opcode_of}
@@ -12,9 +13,9 @@ use Rattle.spv_machine.specs.Form as form
 pub record Program : Type 0 where
   pub insts : List Inst
 
--- A module in the first form is a program. Any other is refused at the first instruction's word.
-unfoldable pub program_of : List Inst → ℕ → Result Program Refusal
-program_of insts bound = if form.is_first_form insts bound then Ok (record { insts = insts }) else Err (record { code = 0; word = 5 })
+-- An accepted module in the first form, under a Bound, is a program. Any other is refused at the first instruction's word.
+unfoldable pub program_of : Accepted → ℕ → Result Program Refusal
+program_of accepted bound = if form.is_first_form accepted.insts bound then Ok (record { insts = accepted.insts }) else Err (record { code = 0; word = 5 })
 
 -- the entry function's id
 abbrev pub entry_of : Program → ℕ

@@ -7,7 +7,7 @@ ghost use Rattle.spv_machine.specs.Action as action;
 
 use crate::actions::{Action, action_of};
 use crate::lanes;
-use crate::module::Module;
+use crate::runnable::Runnable;
 use crate::world::World;
 use spv_base::{Cell, Fail, Inst, NoMemory, Path, Pointer, Root, Value};
 use std::alloc::Global;
@@ -32,7 +32,7 @@ pub struct Effect {
 }
 
 /// The value of an operand, or fault 4.
-fn operand(alloc: Global, m: &Module, w: &World, inv: u32, id: u32) -> Result<Value, Fail<u8>>
+fn operand(alloc: Global, m: &Runnable, w: &World, inv: u32, id: u32) -> Result<Value, Fail<u8>>
     requires { inv < length w.now.stacks }
     ensures { Answers (effect.operand m.now w.now inv id) result }
 {
@@ -95,7 +95,7 @@ fn loaded(alloc: Global, w: &World, inv: u32, pointer: &Pointer) -> Result<Value
 }
 
 /// A result, and on to the next executable.
-fn result_effect(m: &Module, pc: u32, id: u32, value: Value) -> Effect
+fn result_effect(m: &Runnable, pc: u32, id: u32, value: Value) -> Effect
     ensures { result ≡ effect.result_effect m.now pc id value }
 {
     Effect {
@@ -107,7 +107,7 @@ fn result_effect(m: &Module, pc: u32, id: u32, value: Value) -> Effect
 
 fn load(
     alloc: Global,
-    m: &Module,
+    m: &Runnable,
     w: &World,
     inv: u32,
     pc: u32,
@@ -125,7 +125,7 @@ fn load(
 
 fn store(
     alloc: Global,
-    m: &Module,
+    m: &Runnable,
     w: &World,
     inv: u32,
     pc: u32,
@@ -150,7 +150,7 @@ fn store(
 
 fn add(
     alloc: Global,
-    m: &Module,
+    m: &Runnable,
     w: &World,
     inv: u32,
     pc: u32,
@@ -170,7 +170,7 @@ fn add(
 /// What an instruction at a word does, or the code of its fault.
 pub fn effect_of(
     alloc: Global,
-    m: &Module,
+    m: &Runnable,
     w: &World,
     inv: u32,
     pc: u32,

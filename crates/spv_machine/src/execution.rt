@@ -10,7 +10,7 @@ ghost use Rattle.spv_machine.specs.Does.{Does};
 ghost use Rattle.spv_machine.specs.Sound.{IsSound, LeadsSoundly};
 
 use crate::effects::{Control, Effect, effect_of};
-use crate::module::Module;
+use crate::runnable::Runnable;
 use crate::world::World;
 use spv_base::{Fail, Fault, Happening, Kind, NoMemory, Pointer, Status4, Steps, Value};
 use std::alloc::Global;
@@ -91,7 +91,7 @@ fn apply(w: &mut World, inv: u32, effect: Effect)
 }
 
 /// The word at which an invocation stands that is not finished.
-fn word_of(m: &Module, w: &World, inv: u32) -> u32
+fn word_of(m: &Runnable, w: &World, inv: u32) -> u32
     requires inv { inv < length w.now.statuses }
     requires sound { IsSound m.now w.now }
     requires stands { spec.HasFrames (slice_get w.now.statuses inv) }
@@ -104,7 +104,7 @@ fn word_of(m: &Module, w: &World, inv: u32) -> u32
 }
 
 /// What the next event of a Ready invocation does, or the code of its fault. What it does may be done.
-fn due(alloc: Global, m: &Module, w: &World, inv: u32, pc: u32) -> Result<Effect, Fail<u8>>
+fn due(alloc: Global, m: &Runnable, w: &World, inv: u32, pc: u32) -> Result<Effect, Fail<u8>>
     requires inv { inv < length w.now.statuses }
     requires ready { slice_get w.now.statuses inv ≡ Some Status4.Ready }
     requires pc { state.top_pc (state.frames_of w.now inv) ≡ Some pc }
@@ -119,7 +119,7 @@ fn due(alloc: Global, m: &Module, w: &World, inv: u32, pc: u32) -> Result<Effect
 }
 
 /// The event of a Ready invocation.
-fn ready(alloc: Global, m: &Module, w: &mut World, inv: u32) -> Result<Did, StepErr>
+fn ready(alloc: Global, m: &Runnable, w: &mut World, inv: u32) -> Result<Did, StepErr>
     requires inv { inv < length w.old.statuses }
     requires ready { slice_get w.old.statuses inv ≡ Some Status4.Ready }
     requires sound { IsSound m.now w.old }
@@ -141,7 +141,7 @@ fn ready(alloc: Global, m: &Module, w: &mut World, inv: u32) -> Result<Did, Step
 }
 
 /// The event of a Passed invocation.
-fn pass(m: &Module, w: &mut World, inv: u32) -> Did
+fn pass(m: &Runnable, w: &mut World, inv: u32) -> Did
     requires inv { inv < length w.old.statuses }
     requires passed { slice_get w.old.statuses inv ≡ Some Status4.Passed }
     requires sound { IsSound m.now w.old }
@@ -154,7 +154,7 @@ fn pass(m: &Module, w: &mut World, inv: u32) -> Did
 }
 
 /// The event of an invocation, not counted.
-fn event(alloc: Global, m: &Module, w: &mut World, inv: u32) -> Result<Did, StepErr>
+fn event(alloc: Global, m: &Runnable, w: &mut World, inv: u32) -> Result<Did, StepErr>
     requires inv { inv < length w.old.statuses }
     requires sound { IsSound m.now w.old }
     ensures { Does (spec.step_of m.now w.old inv) result w.old w.new }
@@ -171,7 +171,7 @@ fn event(alloc: Global, m: &Module, w: &mut World, inv: u32) -> Result<Did, Step
 /// After an error the world is as before.
 pub fn step<L: Ledger>(
     alloc: Global,
-    m: &Module,
+    m: &Runnable,
     w: &mut World,
     inv: u32,
     steps: &mut Steps<L>,
@@ -188,7 +188,7 @@ pub fn step<L: Ledger>(
 }
 
 /// The fault of an invocation's next event, if it faults. It counts no step.
-pub fn fault_of(alloc: Global, m: &Module, w: &World, inv: u32) -> Result<Option<Fault>, NoMemory>
+pub fn fault_of(alloc: Global, m: &Runnable, w: &World, inv: u32) -> Result<Option<Fault>, NoMemory>
     requires inv { inv < length w.now.statuses }
     requires sound { IsSound m.now w.now }
     ensures { IfOk result (λ f. f ≡ spec.fault_in (spec.step_of m.now w.now inv)) }
@@ -201,7 +201,7 @@ pub fn fault_of(alloc: Global, m: &Module, w: &World, inv: u32) -> Result<Option
     }
 }
 
-fn ready_fault(alloc: Global, m: &Module, w: &World, inv: u32) -> Result<Option<Fault>, NoMemory>
+fn ready_fault(alloc: Global, m: &Runnable, w: &World, inv: u32) -> Result<Option<Fault>, NoMemory>
     requires inv { inv < length w.now.statuses }
     requires ready { slice_get w.now.statuses inv ≡ Some Status4.Ready }
     requires sound { IsSound m.now w.now }
@@ -220,7 +220,7 @@ fn ready_fault(alloc: Global, m: &Module, w: &World, inv: u32) -> Result<Option<
 }
 
 /// Each step of a sound state leads to a sound state, with as many invocations.
-pub fn step_sound(m: &Module)
+pub fn step_sound(m: &Runnable)
     ensures { (s : state.State) (i : ℕ) → IsSound m.now s → LeadsSoundly m.now s (spec.step_of m.now s i) }
 {
     let _insts = m.insts();

@@ -1,4 +1,4 @@
-//! The machine: accepted modules, the state of a workgroup, and one step of an invocation.
+//! The machine: modules that can be run, the state of a workgroup, and one step of an invocation.
 #![tactic(auto)]
 
 pub mod actions;
@@ -8,13 +8,13 @@ pub mod form;
 pub mod frames;
 pub mod lanes;
 pub mod memory;
-pub mod module;
 pub mod opcodes;
+pub mod runnable;
 pub mod world;
 
 pub use execution::{Did, StepErr, fault_of, step};
 pub use frames::{Frame, Stack};
-pub use module::{Module, first};
+pub use runnable::Runnable;
 pub use world::World;
 
 #[cfg(test)]

@@ -1,15 +1,22 @@
-//! The module of the worked example, run to its end, and lists that are not in the first form.
+//! The module of the worked example, run to its end, and modules that are not in the first form.
 ghost use Rattle.std.specs.Prelude.{◌≡◌, ◌<◌};
 ghost use Rattle.spv_machine.specs.Sound.{IsSound};
 
 use crate::execution::{Did, StepErr, fault_of, step};
-use crate::module::{Module, first};
+use crate::runnable::Runnable;
 use crate::world::World;
-use spv_base::{Inst, Items, Kind, NoMemory, Operand, Status4, Steps, Text, Value};
+use spv_base::{
+    Fail as Cause, Inst, Items, Kind, NoMemory, Operand, Overrides, Refusal, Status4, Steps, Text,
+    Value,
+};
+use spv_valid::accept;
 use std::alloc::{AllocError, Global};
 use std::marker::Brand;
 use std::sync::ledger::{Blank, Ledger};
 use std::test::Fail;
+
+/// The opcode OpIAdd.
+const ADD: u16 = 128;
 
 fn inst(word: u32, op: u16, ty: u32, id: u32, operands: Vec<Operand>) -> Inst {
     Inst {
@@ -55,25 +62,31 @@ fn declarations(alloc: Global) -> Result<Vec<Inst>, Fail> {
     ]?)
 }
 
-/// The worked example: a variable is set to 40, loaded, and 2 is added. The load is from `from`, the sum has the id `sum`.
-fn example(alloc: Global, from: u32, sum: u32) -> Result<Vec<Inst>, Fail> {
+/// The worked example: a variable is set to 40 and loaded, and `op` is done with it and 2.
+fn example(alloc: Global, op: u16) -> Result<Vec<Inst>, Fail> {
     let mut insts = declarations(alloc)?;
     let function = vec![in alloc; Operand::Lit(0), Operand::Id(2)]?;
     insts.push(inst(42, 54, 1, 7, function))?;
     insts.push(inst(47, 248, 0, 8, Vec::new(alloc)))?;
     insts.push(inst(49, 59, 4, 9, lits(alloc, &[7])?))?;
     insts.push(inst(53, 62, 0, 0, ids(alloc, &[9, 5])?))?;
-    insts.push(inst(56, 61, 3, 10, ids(alloc, &[from])?))?;
-    insts.push(inst(60, 128, 3, sum, ids(alloc, &[10, 6])?))?;
+    insts.push(inst(56, 61, 3, 10, ids(alloc, &[9])?))?;
+    insts.push(inst(60, op, 3, 11, ids(alloc, &[10, 6])?))?;
     insts.push(inst(65, 253, 0, 0, Vec::new(alloc)))?;
     insts.push(inst(66, 56, 0, 0, Vec::new(alloc)))?;
     Ok(insts)
 }
 
+/// The module of these instructions, where it is accepted under the Bound 12 and in the first form.
+fn runnable(alloc: Global, insts: Vec<Inst>) -> Result<Runnable, Cause<Refusal>> {
+    let module = accept(alloc, insts, 12, None, &Overrides::new(alloc))?;
+    Runnable::of(alloc, module, 12)
+}
+
 /// One event of the invocation, as its word, or 0 where it is idle.
 fn event<L: Ledger>(
     alloc: Global,
-    m: &Module,
+    m: &Runnable,
     w: &mut World,
     steps: &mut Steps<L>,
 ) -> Result<u32, StepErr>
@@ -103,7 +116,7 @@ fn event<L: Ledger>(
 /// The words of five events, the values of the two registers after the third, and the status after the last.
 fn run<L: Ledger>(
     alloc: Global,
-    m: &Module,
+    m: &Runnable,
     blank: Blank,
 ) -> Result<([u32; 5], [u64; 2], bool), StepErr>
     requires name { blank.name ≡ L.name }
@@ -126,7 +139,7 @@ fn run<L: Ledger>(
 }
 
 /// The number in a register of the top frame, and 0 where there is none.
-fn register(m: &Module, w: &World, id: u32) -> u64
+fn register(m: &Runnable, w: &World, id: u32) -> u64
     requires { IsSound m.now w.now }
 {
     if w.invocations() == 0 {
@@ -142,7 +155,7 @@ fn register(m: &Module, w: &World, id: u32) -> u64
 #[test]
 fn runs_to_its_end(rt: HostRuntime) -> Result<(), Fail> {
     let alloc = rt.alloc();
-    let m = first(alloc, example(alloc, 9, 11)?, 12).map_err(|_| "refused")?;
+    let m = runnable(alloc, example(alloc, ADD)?).map_err(|_| "refused")?;
     assert_eq!(rt; m.entry(), 7);
     let (words, values, finished) = run::<Brand>(alloc, &m, Blank::new(1)).map_err(|_| "stopped")?;
     assert_eq!(rt; words, [53, 56, 60, 65, 0]);
@@ -152,20 +165,16 @@ fn runs_to_its_end(rt: HostRuntime) -> Result<(), Fail> {
 }
 
 #[test]
-fn refuses_other_lists(rt: HostRuntime) -> Result<(), Fail> {
+fn refuses_other_forms(rt: HostRuntime) -> Result<(), Fail> {
     let alloc = rt.alloc();
-    // a load of a constant, an id at Bound, a second definition, an id 0
-    for (from, sum, bound) in [
-        (5, 11, 12),
-        (9, 12, 12),
-        (9, 10, 12),
-        (9, 0, 12),
-        (9, 11, 11),
-    ] {
-        assert!(rt;
-            first(alloc, example(alloc, from, sum)?, bound).is_err(),
-            "at {from}, {sum}, {bound}"
-        );
+    // a difference, a product, an exclusive or
+    for op in [130, 132, 198] {
+        match runnable(alloc, example(alloc, op)?) {
+            Err(Cause::Refused(refusal)) => {
+                assert_eq!(rt; (refusal.code, refusal.word), (0, 5), "{op}");
+            }
+            _ => assert!(rt; false, "{op}"),
+        }
     }
     Ok(())
 }

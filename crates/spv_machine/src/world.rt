@@ -10,7 +10,7 @@ ghost use Rattle.spv_machine.specs.Valid.{IsValid};
 use crate::actions::{action_of, has_register, is_variable};
 use crate::frames::{Frame, Stack};
 use crate::memory::{Locals, Memory, Variables};
-use crate::module::Module;
+use crate::runnable::Runnable;
 use spv_base::{Cell, NoMemory, Pointer, Status4, Value};
 use std::alloc::Global;
 use std::marker::Model;
@@ -40,7 +40,7 @@ impl Model for World {
 }
 
 /// The registers of a frame, none with a value.
-fn registers(alloc: Global, m: &Module) -> Result<Vec<(u32, Option<Value>)>, NoMemory>
+fn registers(alloc: Global, m: &Runnable) -> Result<Vec<(u32, Option<Value>)>, NoMemory>
     ensures { IfOk result (λ registers. registers.items ≡ spec.no_registers m.now.insts) }
 {
     let registers = m
@@ -53,7 +53,7 @@ fn registers(alloc: Global, m: &Module) -> Result<Vec<(u32, Option<Value>)>, NoM
 }
 
 /// The ids of a frame's variables, in the order of the module.
-fn variable_ids(alloc: Global, m: &Module) -> Result<Vec<u32>, NoMemory>
+fn variable_ids(alloc: Global, m: &Runnable) -> Result<Vec<u32>, NoMemory>
     ensures { IfOk result (λ ids. ids.items ≡ program.variables_of m.now.insts) }
 {
     let ids = m
@@ -66,7 +66,7 @@ fn variable_ids(alloc: Global, m: &Module) -> Result<Vec<u32>, NoMemory>
 }
 
 /// The variables of a frame, each undefined.
-fn variables(alloc: Global, m: &Module) -> Result<Variables, NoMemory>
+fn variables(alloc: Global, m: &Runnable) -> Result<Variables, NoMemory>
     ensures { IfOk result (λ variables. variables ≡ spec.fresh_variables m.now.insts) }
 {
     let undefined = Cell {
@@ -83,7 +83,7 @@ fn variables(alloc: Global, m: &Module) -> Result<Variables, NoMemory>
 }
 
 /// A frame of the entry function at its first executable.
-fn entry_frame(alloc: Global, m: &Module) -> Result<Frame, NoMemory>
+fn entry_frame(alloc: Global, m: &Runnable) -> Result<Frame, NoMemory>
     ensures valid { IsValid m.now.insts }
     ensures frame { IfOk result (λ frame. frame ≡ spec.entry_frame m.now) }
 {
@@ -108,7 +108,7 @@ impl World {
     }
 
     /// The world at the start of a run.
-    pub fn start(alloc: Global, m: &Module) -> Result<World, NoMemory>
+    pub fn start(alloc: Global, m: &Runnable) -> Result<World, NoMemory>
         ensures start { IfOk result (λ w. w ≡ spec.start_of m.now) }
         ensures sound { IfOk result (λ w. IsSound m.now w) }
     {

@@ -2,7 +2,9 @@
 ghost use Rattle.std.specs.Prelude.{◌≡◌, ◌<◌};
 
 use spv_app::{Status, debug_main};
-use spv_base::{Files, NoMemory, Probe, Sink, Source, Steps};
+use spv_base::{
+    Files, MemoryFiles, MemorySink, MemorySource, NoMemory, Probe, Sink, Source, Steps,
+};
 use std::alloc::Global;
 use std::collections::BTreeMap;
 use std::marker::Brand;
@@ -78,6 +80,9 @@ const SUM: [u32; 67] = [
     0x0001_00FD,
     0x0001_0038,
 ];
+
+/// The line that tells which words there are.
+pub const USAGE: &str = "usage: spvdbg debug MODULE SETUP | check MODULE | make N | text MODULE\n";
 
 /// The words of each call that is not about words.
 pub const DEBUG: &str = "spvdbg debug module.spv module.setup";
@@ -162,4 +167,20 @@ pub fn call<F: Files, I: Source, K: Sink>(
     requires out { K.faults out.old ≡ 0 }
 {
     call_counted::<F, I, K, Brand>(alloc, words, files, input, out, Blank::new(1))
+}
+
+/// The status of one call over these bytes, and what it wrote.
+pub fn outcome(
+    alloc: Global,
+    line: &str,
+    module: Vec<u8>,
+    setup: &str,
+    commands: &[u8],
+) -> Result<(Status, Vec<u8>), NoMemory> {
+    let mut held = MemoryFiles::new(alloc, files(alloc, module, setup)?);
+    let mut input = MemorySource::new(commands.to_vec(alloc)?);
+    let mut out = MemorySink::new(alloc);
+    let words = words(alloc, line)?;
+    let status = call(alloc, &words, &mut held, &mut input, &mut out);
+    Ok((status, out.bytes))
 }

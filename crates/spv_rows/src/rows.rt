@@ -1,11 +1,7 @@
 //! Worked runs: a module, a setup and commands, and what is written.
-use crate::calls::{DEBUG, TEN_ROUNDS, call, files, sum, sum_with, words};
+use crate::calls::{DEBUG, TEN_ROUNDS, USAGE, outcome, sum, sum_with};
 use spv_app::Status;
-use spv_base::{MemoryFiles, MemorySink, MemorySource, NoMemory};
-use std::alloc::Global;
 use std::test::Fail;
-
-const USAGE: &str = "usage: spvdbg debug MODULE SETUP | check MODULE | make N | text MODULE\n";
 
 const UNKNOWN: &str = "refused: C1 unknown command\n";
 
@@ -131,22 +127,6 @@ const WRONG_WORDS: [(&str, Status, &str); 8] = [
     ("spvdbg debug nothing module.setup", Status::FileFault, ""),
     ("spvdbg debug module.spv nothing", Status::FileFault, ""),
 ];
-
-/// The status of one call over these bytes, and what it wrote.
-fn outcome(
-    alloc: Global,
-    line: &str,
-    module: Vec<u8>,
-    setup: &str,
-    commands: &[u8],
-) -> Result<(Status, Vec<u8>), NoMemory> {
-    let mut held = MemoryFiles::new(alloc, files(alloc, module, setup)?);
-    let mut input = MemorySource::new(commands.to_vec(alloc)?);
-    let mut out = MemorySink::new(alloc);
-    let words = words(alloc, line)?;
-    let status = call(alloc, &words, &mut held, &mut input, &mut out);
-    Ok((status, out.bytes))
-}
 
 #[test]
 fn commands_are_answered(rt: HostRuntime) -> Result<(), Fail> {

@@ -9,6 +9,7 @@ use spv_base::{Inst, NoMemory};
 use spv_cfg::roles::role_of;
 use spv_cfg::sites::Site;
 use spv_index::Table;
+use spv_types::opcodes::FUNCTION;
 use std::alloc::Global;
 use std::marker::Model;
 
@@ -80,7 +81,7 @@ impl Definition {
     {
         Definition {
             kind: Kind::of(site.place.in_function(), inst.op),
-            home: if inst.op == 54 {
+            home: if inst.op == FUNCTION {
                 Home::Module
             } else {
                 Home::of(site)

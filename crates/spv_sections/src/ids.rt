@@ -14,6 +14,7 @@ use spv_cfg::roles::{Role, role_of, sets_of};
 use spv_cfg::sites::Site;
 use spv_index::Table;
 use spv_ops::{Head, opcode_of};
+use spv_types::opcodes::FUNCTION;
 use std::alloc::Global;
 
 /// The code of the rules of ids as numbers.
@@ -21,6 +22,9 @@ const NUMBER_CODE: u8 = 8;
 
 /// The code of the rules of what ids stand for.
 const NAMING_CODE: u8 = 9;
+
+/// OpExtInst, an instruction of an imported set.
+const EXT_INST: u16 = 12;
 
 /// From where an instruction names ids.
 #[derive(Clone, Copy, Debug, PartialEq, Eq)]
@@ -59,7 +63,7 @@ fn looked_at(role: Role, inst: &Inst) -> &[Operand]
     ensures { result.now ≡ spec.looked_at role inst.now }
 {
     let operands = inst.operands.as_slice();
-    if matches!(role, Role::Line) && inst.op == 12 && operands.len() > 2 {
+    if matches!(role, Role::Line) && inst.op == EXT_INST && operands.len() > 2 {
         &operands[..2]
     } else {
         operands
@@ -88,7 +92,7 @@ fn id_count(operand: &Operand) -> usize
 fn has_begun(begun: bool, inst: &Inst) -> bool
     ensures { result ≡ spec.has_begun begun inst.now }
 {
-    begun || inst.op == 54
+    begun || inst.op == FUNCTION
 }
 
 /// Whether an id was defined by an instruction before this word.

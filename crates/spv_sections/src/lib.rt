@@ -7,6 +7,8 @@ mod definitions;
 mod ids;
 mod kinds;
 mod sections;
+#[cfg(test)]
+mod tests;
 
 pub use capabilities::check_capabilities;
 pub use ids::check_ids;

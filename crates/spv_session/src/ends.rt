@@ -7,7 +7,7 @@ ghost use Rattle.spv_session.specs.Run.{is_finished, is_arrived, can_go, all_fin
 ghost use Rattle.spv_machine.specs.Sound.{IsSound};
 
 use spv_base::{EndCause, NoMemory, Status4};
-use spv_machine::{Module, World, fault_of};
+use spv_machine::{Runnable, World, fault_of};
 use std::alloc::Global;
 
 fn is_finished(status: Status4) -> bool
@@ -69,7 +69,7 @@ pub fn is_stuck(world: &World) -> bool
 /// Why a run ends here, where it does: `next` is the next entry of the schedule. It takes no step.
 pub fn cause_here(
     alloc: Global,
-    m: &Module,
+    m: &Runnable,
     world: &World,
     next: Option<u32>,
 ) -> Result<Option<EndCause>, NoMemory>

@@ -10,7 +10,7 @@ use crate::motion::{Back, Forth};
 use crate::run::Run;
 use crate::setup::Setup;
 use spv_base::{EndCause, Fail, NoMemory, SetupRefusal, Status4, Steps};
-use spv_machine::{Module, World};
+use spv_machine::{Runnable, World};
 use std::alloc::Global;
 use std::marker::Model;
 use std::sync::ledger::Ledger;
@@ -19,7 +19,7 @@ use std::sync::ledger::Ledger;
 #[derive(Drop)]
 pub struct Group {
     alloc: Global,
-    module: Module,
+    module: Runnable,
     setup: Setup,
     run: Run,
 }
@@ -37,7 +37,7 @@ impl Model for Group {
 
 impl Group {
     /// The run of a module by a setup, at its start. Only memory can be wanting.
-    pub fn open(alloc: Global, m: Module, setup: Setup) -> Result<Group, Fail<SetupRefusal>>
+    pub fn open(alloc: Global, m: Runnable, setup: Setup) -> Result<Group, Fail<SetupRefusal>>
         ensures group { IfOk result (λ g. g ≡ first_view m setup) }
         ensures error { IfErr result (λ e. e ≡ fail.NoMemory) }
     {
@@ -66,7 +66,7 @@ impl Group {
     }
 
     /// The module that runs.
-    pub fn module(&self) -> &Module
+    pub fn module(&self) -> &Runnable
         ensures { result.now ≡ self.now.program }
     {
         &self.module

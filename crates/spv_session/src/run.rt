@@ -9,7 +9,7 @@ use crate::motion::Forth;
 use crate::setup::Setup;
 use spv_base::{EndCause, Happening, Kind, NoMemory, Steps};
 use spv_machine::execution::step_sound;
-use spv_machine::{Did, Module, StepErr, World, step};
+use spv_machine::{Did, Runnable, StepErr, World, step};
 use std::alloc::Global;
 use std::sync::ledger::Ledger;
 
@@ -38,7 +38,7 @@ fn idle(inv: u32) -> Happening
 #[tactic(auto, using(crate::proofs::Runs::idled, crate::proofs::Runs::moved))]
 fn event<L: Ledger>(
     alloc: Global,
-    m: &Module,
+    m: &Runnable,
     world: &mut World,
     inv: u32,
     steps: &mut Steps<L>,
@@ -60,7 +60,7 @@ fn event<L: Ledger>(
 
 impl Run {
     /// The start of a run.
-    pub fn start(alloc: Global, m: &Module, setup: &Setup) -> Result<Run, NoMemory>
+    pub fn start(alloc: Global, m: &Runnable, setup: &Setup) -> Result<Run, NoMemory>
         ensures run { IfOk result (λ r. IsRun m.now setup.now r.world r.position r.last) }
         ensures position { IfOk result (λ r. r.position ≡ 0) }
     {
@@ -76,7 +76,7 @@ impl Run {
     pub fn forth<L: Ledger>(
         &mut self,
         alloc: Global,
-        m: &Module,
+        m: &Runnable,
         setup: &Setup,
         steps: &mut Steps<L>,
     ) -> Result<Forth, NoMemory>
@@ -109,7 +109,7 @@ impl Run {
     pub fn run_to<L: Ledger>(
         &mut self,
         alloc: Global,
-        m: &Module,
+        m: &Runnable,
         setup: &Setup,
         target: u64,
         steps: &mut Steps<L>,

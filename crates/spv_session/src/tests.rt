@@ -2,8 +2,9 @@
 ghost use Rattle.std.specs.Prelude.{◌≡◌, ◌<◌, IfOk, IfSome};
 
 use crate::{Group, Next, Session, Setup};
-use spv_base::{Inst, Items, NoMemory, Operand, Steps, Text};
-use spv_machine::{Module, first};
+use spv_base::{Inst, Items, NoMemory, Operand, Overrides, Steps, Text};
+use spv_machine::Runnable;
+use spv_valid::accept;
 use std::alloc::Global;
 use std::marker::Brand;
 use std::sync::ledger::{Blank, Ledger};
@@ -32,7 +33,7 @@ fn operands(alloc: Global, parts: &[Part]) -> Result<Items<Operand>, NoMemory> {
 }
 
 /// Stores 40, loads it and adds 2. The first executable is at word 53, the return at word 65.
-fn sample(alloc: Global) -> Result<Option<Module>, NoMemory> {
+fn sample(alloc: Global) -> Result<Option<Runnable>, NoMemory> {
     let rows: [(u32, u16, u32, u32, &[Part]); 18] = [
         (5, 17, 0, 0, &[Word(1)]),
         (7, 14, 0, 0, &[Word(0), Word(1)]),
@@ -63,10 +64,10 @@ fn sample(alloc: Global) -> Result<Option<Module>, NoMemory> {
             operands: operands(alloc, *parts)?,
         })?;
     }
-    match first(alloc, insts, 12) {
-        Ok(module) => Ok(Some(module)),
-        Err(_) => Ok(None),
-    }
+    let Ok(module) = accept(alloc, insts, 12, None, &Overrides::new(alloc)) else {
+        return Ok(None);
+    };
+    Ok(Runnable::of(alloc, module, 12).ok())
 }
 
 fn group(alloc: Global, setup: &str) -> Result<Option<Group>, NoMemory>

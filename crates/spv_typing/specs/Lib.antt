@@ -2,3 +2,4 @@ pub mod Lanes
 pub mod Rules
 pub mod Fitting
 pub mod Glsl
+pub mod Laws

@@ -5,6 +5,7 @@
 pub mod fitting;
 pub mod glsl;
 pub mod lanes;
+pub mod laws;
 mod operands;
 pub mod rules;
 #[cfg(test)]

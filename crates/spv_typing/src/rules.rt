@@ -64,12 +64,12 @@ impl Rule {
         ensures { result ≡ spec.rule_count self }
     {
         match self {
-            Rule::Convert | Rule::Bitcast | Rule::Integer | Rule::Boolean | Rule::Reduce => Some(1),
-            Rule::Integers | Rule::Shift | Rule::Booleans | Rule::Compare | Rule::Extended => Some(
-                2,
-            ),
-            Rule::Clamp | Rule::Select => Some(3),
             Rule::InsertField | Rule::ExtractField => None,
+            Rule::Clamp | Rule::Select => Some(3),
+            Rule::Convert | Rule::Bitcast | Rule::Integer | Rule::Boolean | Rule::Reduce => Some(1),
+            Rule::Integers | Rule::Shift | Rule::Booleans | Rule::Compare | Rule::Extended => {
+                Some(2)
+            }
         }
     }
 

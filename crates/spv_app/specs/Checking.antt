@@ -1,0 +1,57 @@
+-- What `check` tells of a module, and what a call of it may have written when it ends with a status.
+use Rattle.std.specs.Prelude.{◌≡◌, ◌⊎◌, ℕ, ◌≤◌, ◌<◌, List, ◌++◌, length, codes, decimal, Option, Result, Ok, Err}
+use Rattle.std.specs.Io.KnownBytes.{Appends, Keeps}
+use Rattle.spv_base.specs.Outside.{Told, Holds, HoldsMore}
+use Rattle.spv_base.specs.declared.causes.Refusal.{Refusal}
+use Rattle.spv_words.specs.Words.{words_of}
+use Rattle.spv_app.specs.declared.checking.Report.{Report}
+use Rattle.spv_app.specs.declared.opening.OpeningRefusal.TheVariants.{Module}
+use Rattle.spv_app.specs.declared.status.Status.{Status}
+use Rattle.spv_app.specs.declared.status.Status.TheVariants.{Done, ModuleRefused, FileFault, NoMemory, FileTooLong}
+use Rattle.spv_app.specs.Acceptance.{then, accepted_of}
+use Rattle.spv_app.specs.Opening.{refusal_line}
+use Rattle.spv_app.specs.Debug.{SaysLine, binary_limit}
+
+-- how many words and instructions a module has that is accepted, or why it is refused
+unfoldable pub checking : List ℕ → Result Report Refusal
+checking bytes = then (words_of bytes) (λ words. then (accepted_of words) (λ accepted. Ok (record { words = length words.items; instructions = length accepted.insts })))
+
+-- the text that tells it
+abbrev pub report_text : Report → List ℕ
+report_text report = codes "accepted: words " ++ decimal report.words ++ codes ", instructions " ++ decimal report.instructions
+
+-- the line of it
+abbrev pub report_line : Report → List ℕ
+report_line report = report_text report ++ codes "\n"
+
+-- ---- what is due where nothing fails
+
+abbrev pub check_line : Result Report Refusal → List ℕ
+check_line (Ok report) = report_line report
+check_line (Err refusal) = refusal_line (Module refusal)
+
+abbrev pub check_status : Result Report Refusal → Status
+check_status (Ok report) = Done
+check_status (Err refusal) = ModuleRefused
+
+-- ---- a whole call of `check`
+
+-- the module that was read
+pub record IsModule (told : Told) (name binary : List ℕ) : Type 0 where
+  pub content : Holds told name binary
+  pub fits : length binary ≤ binary_limit
+
+-- why no module was read, or none was checked though no rule is broken
+abbrev pub SaysUnread : Told → (name : List ℕ) (taken : ℕ) (failed : List ℕ) → Status → Type 0
+SaysUnread told name taken failed status =
+    ((status ≡ FileFault) × (failed ≡ name)) ⊎ (((status ≡ FileTooLong) × (binary_limit < taken) × HoldsMore told name binary_limit) ⊎ (status ≡ NoMemory))
+
+-- A run of `check`, by what the files are, how many bytes their last call took, which name failed last, and by what the output
+-- holds before and after the call.
+pub data Checked (told : Told) (name : List ℕ) (taken : ℕ) (failed : List ℕ) (held_old held_new : Option (List ℕ)) : Status → Type 0 where
+  -- no module is read, and none is refused: nothing is written
+  Unread : (status : Status) → SaysUnread told name taken failed status → Keeps held_old held_new → Checked told name taken failed held_old held_new status
+  -- the module is read: the line is due that tells whether it is accepted
+  Read : (status : Status) (binary put : List ℕ) → IsModule told name binary → Appends held_old held_new put
+      → SaysLine (check_status (checking binary)) (check_line (checking binary)) status put
+      → Checked told name taken failed held_old held_new status

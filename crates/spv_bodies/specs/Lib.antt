@@ -1,0 +1,12 @@
+pub mod Views
+pub mod Setting
+pub mod Memory
+pub mod Chains
+pub mod Atomics
+pub mod Control
+pub mod Calls
+pub mod Lanes
+pub mod Composites
+pub mod Alike
+pub mod Rules
+pub mod Bodies

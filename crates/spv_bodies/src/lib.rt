@@ -1,0 +1,22 @@
+//! The typing rules of function bodies (SPIR-V 1.6 sections 3.42.1 and 3.42.8 to 3.42.20, and this project's profile).
+#![tactic(auto)]
+
+mod alike;
+mod atomics;
+mod bodies;
+mod calls;
+mod chains;
+mod composites;
+mod control;
+mod lanes;
+mod memory;
+mod opcodes;
+mod operands;
+mod rules;
+mod setting;
+#[cfg(test)]
+mod tests;
+mod views;
+mod within;
+
+pub use bodies::check_bodies;

@@ -1,0 +1,23 @@
+//! The constants of a module in its order, with overrides, and the lengths of arrays that they give (SPIR-V 1.6
+//! sections 2.9, 3.42.6 and 3.42.7).
+#![tactic(auto)]
+
+mod build;
+mod context;
+mod evaluation;
+mod lanes;
+mod lengths;
+mod literals;
+pub mod numbers;
+mod operations;
+mod overrides;
+mod rules;
+mod spec_ids;
+mod steps;
+pub mod table;
+#[cfg(test)]
+mod tests;
+mod values;
+mod walk;
+
+pub use table::ConstTable;

@@ -1,0 +1,109 @@
+//! Modules that are only checked, and the line that is written for each.
+use crate::calls::{DEBUG, MODULE, TEN_ROUNDS, USAGE, call, files, outcome, sum, sum_with, words};
+use spv_app::Status;
+use spv_base::{FailingFiles, FailingSink, FailingSource};
+use std::test::Fail;
+
+const CHECK: &str = "spvdbg check module.spv";
+
+const ACCEPTED: &str = "accepted: words 67, instructions 18\n";
+
+/// A word of the shader and what it becomes, how many bytes of it there are, and the line of its refusal.
+const REFUSED: [(usize, u32, usize, &str); 5] = [
+    (67, 0, 0, "module refused: M1 at word 0\n"),
+    (67, 0, 19, "module refused: M1 at word 0\n"),
+    (66, 0x0002_0038, 268, "module refused: M5 at word 66\n"),
+    (60, 0x0005_0081, 268, "module refused: M6 at word 60\n"),
+    (67, 0, 264, "module refused: M15 at word 42\n"),
+];
+
+#[test]
+fn modules_are_refused(rt: HostRuntime) -> Result<(), Fail> {
+    let alloc = rt.alloc();
+    for (place, word, length, written) in REFUSED {
+        for line in [CHECK, DEBUG] {
+            let mut module = sum_with(alloc, place, word)?;
+            module.truncate(length);
+            let (status, bytes) = outcome(alloc, line, module, TEN_ROUNDS, b"goto 1\n")?;
+            assert_eq!(rt; status, Status::ModuleRefused, "{line}: {written}");
+            assert_eq!(rt; bytes.as_slice(), written.as_bytes(), "{line}: {written}");
+        }
+    }
+    Ok(())
+}
+
+/// Words of the shader and what they become, that `check` accepts. The second one can't be run.
+const CHANGED: [(usize, u32); 2] = [(67, 0), (60, 0x0005_0082)];
+
+#[test]
+fn modules_are_accepted(rt: HostRuntime) -> Result<(), Fail> {
+    let alloc = rt.alloc();
+    for (place, word) in CHANGED {
+        let module = sum_with(alloc, place, word)?;
+        let (status, bytes) = outcome(alloc, CHECK, module, TEN_ROUNDS, b"goto 1\n")?;
+        assert_eq!(rt; status, Status::Done, "{place}");
+        assert_eq!(rt; bytes.as_slice(), ACCEPTED.as_bytes(), "{place}");
+    }
+    let mut swapped = sum(alloc)?;
+    for word in swapped.chunks_exact_mut(4) {
+        word.reverse();
+    }
+    let (status, bytes) = outcome(alloc, CHECK, swapped, "", b"")?;
+    assert_eq!(rt; status, Status::Done);
+    assert_eq!(rt; bytes.as_slice(), ACCEPTED.as_bytes());
+    Ok(())
+}
+
+/// Words that are no command line, or name a file that is not there.
+const WRONG_WORDS: [(&str, Status, &str); 5] = [
+    ("spvdbg check", Status::Usage, USAGE),
+    ("spvdbg check module.spv module.setup", Status::Usage, USAGE),
+    ("spvdbg Check module.spv", Status::Usage, USAGE),
+    ("check module.spv", Status::Usage, USAGE),
+    ("spvdbg check nothing", Status::FileFault, ""),
+];
+
+#[test]
+fn words_are_refused(rt: HostRuntime) -> Result<(), Fail> {
+    let alloc = rt.alloc();
+    for (line, due, written) in WRONG_WORDS {
+        let (status, bytes) = outcome(alloc, line, sum(alloc)?, TEN_ROUNDS, b"goto 1\n")?;
+        assert_eq!(rt; status, due, "{line}");
+        assert_eq!(rt; bytes.as_slice(), written.as_bytes(), "{line}");
+    }
+    let long = vec![in alloc; 0u8; 4_194_305]?;
+    let (status, bytes) = outcome(alloc, CHECK, long, TEN_ROUNDS, b"goto 1\n")?;
+    assert_eq!(rt; status, Status::FileTooLong);
+    assert_eq!(rt; bytes.len(), 0);
+    Ok(())
+}
+
+/// The numbers of the readings and of the writes that fail, the most bytes of a write, how the call ends, and the name
+/// that failed.
+const FAULTS: [(&[u64], &[u64], usize, Status, &str, &str); 5] = [
+    (&[], &[], 4096, Status::Done, ACCEPTED, ""),
+    (&[1], &[1], 4096, Status::Done, ACCEPTED, ""),
+    (&[0], &[], 4096, Status::FileFault, "", MODULE),
+    (&[], &[0], 4096, Status::WriteFault, "", ""),
+    (&[], &[8], 1, Status::WriteFault, "accepted", ""),
+];
+
+#[test]
+fn files_and_output_fail(rt: HostRuntime) -> Result<(), Fail> {
+    let alloc = rt.alloc();
+    let words = words(alloc, CHECK)?;
+    for (readings, writes, most_written, status, written, name) in FAULTS {
+        let held = files(alloc, sum(alloc)?, TEN_ROUNDS)?;
+        let mut held = FailingFiles::new(alloc, held, readings.to_vec(alloc)?);
+        let mut input = FailingSource::new(b"goto 3\n".to_vec(alloc)?, 1, Vec::new(alloc));
+        let mut out = FailingSink::new(alloc, most_written.max(1), writes.to_vec(alloc)?);
+        assert_eq!(rt;
+            call(alloc, &words, &mut held, &mut input, &mut out),
+            status
+        );
+        assert_eq!(rt; out.bytes.as_slice(), written.as_bytes());
+        assert_eq!(rt; held.held.failed_name.as_str(), name);
+        assert_eq!(rt; input.calls, 0);
+    }
+    Ok(())
+}

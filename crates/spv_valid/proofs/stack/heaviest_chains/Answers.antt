@@ -1,0 +1,23 @@
+use Rattle.std.proofs.Common.{get_or, rules, ◌∙◌, ap, List, ℕ, arith}
+use Rattle.std.proofs.lemmas.Grind.{common_steps}
+use Rattle.std.proofs.lemmas.List.{get_or-replicate}
+use Rattle.spv_valid.proofs.StackLemmas.{heaviest-zero, heavier}
+use Rattle.spv_valid.proofs.stack.heaviest_chains.Goals as goal
+
+pub heavier-init : goal.heavier-init
+heavier-init c = record {
+  few = omega arith;
+  len = grind (arith, common_steps, c.in_ok-heaviest.ensures.items);
+  heaviest_are = λ weigh are f lt. rw heaviest-zero (ap (λ (xs : List ℕ). get_or xs f 0) (c.in_ok-heaviest.ensures.items_if_clones_equal (search rules)) ∙ get_or-replicate {A = ℕ} _ f 0 0 lt);
+}
+
+pub heavier-preserved : goal.heavier-preserved
+heavier-preserved c =
+    let slice = c.as_slice.ensures.value in
+    record {
+      few = omega arith;
+      len = c.in_ok-heavier.ensures.len;
+      heaviest_are = λ weigh are. heavier c.args.calls.now weigh c.args.weights.now c.heavier.heaviest.items c.in_ok-called.called.items c.in_ok-heavier.heavier.items c.heavier.most
+          c.heavier.invariant.len c.requires are (c.heavier.invariant.heaviest_are weigh are) (rw slice at c.in_ok-called.ensures.called)
+          (rw c.as_slice-in-heavier.ensures.value at c.in_ok-heavier.ensures.sums);
+    }

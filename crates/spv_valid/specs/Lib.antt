@@ -1,0 +1,4 @@
+pub mod Entry
+pub mod Stack
+pub mod Acceptance
+pub mod Modules

@@ -1,0 +1,54 @@
+-- How many cells the frames of an invocation have at most: those of the registers and variables of each function in a chain
+-- of calls (this project's profile). A pointer is one cell. Numbers stop at the greatest of 64 bits.
+use Rattle.std.specs.Prelude.{ℕ, zero, suc, ◌+◌, ◌==◌, if◌then◌else◌, Bool, List, [], ◌∷◌, Option, Some, None, unwrap_or}
+use Rattle.std.specs.Option.{option_map, option_map_or}
+use Rattle.std.specs.List.{flat_map}
+use Rattle.spv_base.specs.Entries.{reads}
+use Rattle.spv_base.specs.declared.instructions.Inst.{Inst}
+use Rattle.spv_types.specs.declared.opcodes.TheConstants.{VARIABLE}
+use Rattle.spv_types.specs.Types.{Types, form_of}
+use Rattle.spv_types.specs.Cells.{cells_of}
+use Rattle.spv_types.specs.Cuts.{cut}
+use Rattle.spv_types.specs.Blocks.{target_of}
+use Rattle.spv_cfg.specs.Roles.{sets_of}
+use Rattle.spv_cfg.specs.Sites.{Stand, stands, outside, in_function}
+use Rattle.spv_cfg.specs.Calls.{calls_of, functions_of, limit, most, numbered}
+
+-- what a variable keeps has the target of its pointer type; any other result has its own type, and without one there is none
+abbrev pub kept_type : Types → Inst → ℕ
+kept_type ts i = if i.op == VARIABLE then target_of (form_of ts i.ty) else i.ty
+
+-- the cells of an instruction's register or variable
+abbrev pub kept_cells : Types → Inst → ℕ
+kept_cells ts i = unwrap_or (option_map cut (cells_of ts (kept_type ts i))) 0
+
+-- a function's number with some cells of it
+abbrev pub kept_by : Option ℕ → ℕ → List (ℕ × ℕ)
+kept_by None cells = []
+kept_by (Some f) cells = (f, cells) ∷ []
+
+-- the cells of each instruction in a function, with the number of the function
+abbrev pub kept_in : Types → List (ℕ × ℕ) → Stand → List (ℕ × ℕ)
+kept_in ts numbers s = if in_function s.site.place then kept_by (reads s.site.function numbers) (kept_cells ts s.inst) else []
+
+abbrev pub kept : Types → List (ℕ × Bool) → List (ℕ × ℕ) → List Inst → List (ℕ × ℕ)
+kept ts sets numbers insts = flat_map (kept_in ts numbers) (stands sets outside insts)
+
+-- the cells of the function with a number
+unfoldable pub weight : List (ℕ × ℕ) → ℕ → ℕ
+weight [] f = 0
+weight (e ∷ es) f = (if e.0 == f then e.1 else 0) + weight es f
+
+-- the most cells of a chain of calls from a function, of the chains of at most k functions
+unfoldable pub heaviest : ℕ → (ℕ → ℕ) → List (ℕ × ℕ) → ℕ → ℕ
+heaviest zero weigh calls f = 0
+heaviest (suc k) weigh calls f = weigh f + most (λ g. heaviest k weigh calls g) f calls
+
+-- the cells of each function of a module
+abbrev pub weights_of : Types → List Inst → ℕ → ℕ
+weights_of ts insts = weight (kept ts (sets_of insts) (numbered 0 (functions_of insts)) insts)
+
+-- the most cells of a chain of calls from the function with an id; where a module is accepted no chain is longer than that
+unfoldable pub stack_cells : Types → List Inst → ℕ → ℕ
+stack_cells ts insts function =
+    cut (option_map_or (heaviest limit (weights_of ts insts) (calls_of insts)) (reads function (numbered 0 (functions_of insts))) 0)

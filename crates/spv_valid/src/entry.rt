@@ -1,0 +1,337 @@
+//! The entry point, its function, and the size of its workgroup.
+ghost use Rattle.std.specs.Prelude.{◌≡◌, Some, None, find, if◌then◌else◌, option_copied};
+ghost use Rattle.spv_base.specs.Answers.{Answers};
+ghost use Rattle.spv_base.specs.Entries.{reads};
+ghost use Rattle.spv_valid.specs.Entry as spec;
+
+use crate::opcodes::{
+    ENTRY_POINT, EXECUTION_MODE, EXECUTION_MODE_ID, GL_COMPUTE, LOCAL_SIZE, LOCAL_SIZE_ID,
+    WORKGROUP_SIZE,
+};
+use spv_base::{Fail, Inst, Operand, Refusal, Value};
+use spv_cfg::Code;
+use spv_consts::ConstTable;
+use spv_types::facts::is_constant;
+use spv_types::opcodes::{BUILT_IN, FUNCTION};
+use spv_types::{Facts, Form, TypeTable, id_at, lit_at};
+use std::alloc::Global;
+
+/// The most invocations of a workgroup.
+const MAX_INVOCATIONS: u64 = 1024;
+
+/// A breach of these rules, which stands at the first word.
+const ENTRY_BREACH: Refusal = Refusal { code: 17, word: 0 };
+
+/// The function of an entry point, the size of its workgroup, and how many functions the longest chain of calls from it
+/// has.
+#[derive(Clone, Copy, Debug, PartialEq, Eq)]
+pub struct Entry {
+    pub function: u32,
+    pub size: (u32, u32, u32),
+    pub depth: u32,
+}
+
+/// Whether an entry point's execution model is GLCompute.
+fn is_compute(inst: &Inst) -> bool
+    ensures { result ≡ spec.is_compute inst.now }
+{
+    lit_at(inst, 0) == GL_COMPUTE
+}
+
+/// Whether an instruction is a GLCompute entry point of this name.
+fn is_named(name: &[u8], inst: &Inst) -> bool
+    ensures { result ≡ spec.is_named name.now inst.now }
+{
+    if inst.op != ENTRY_POINT || !is_compute(inst) {
+        return false;
+    }
+    match inst.operands.get(2) {
+        Some(Operand::Text(text)) => text.as_slice() == name,
+        _ => false,
+    }
+}
+
+/// The first entry point.
+fn first_entry_point(insts: &[Inst]) -> Option<&Inst>
+    ensures { option_copied result ≡ find spec.is_entry_point insts.now }
+{
+    for inst in insts {
+        if inst.op == ENTRY_POINT {
+            return Some(inst);
+        }
+    }
+    None
+}
+
+/// The first GLCompute entry point of a name.
+fn named_entry_point<'a>(insts: &'a [Inst], name: &[u8]) -> Option<&'a Inst>
+    ensures { option_copied result ≡ find (spec.is_named name.now) insts.now }
+{
+    for inst in insts {
+        if is_named(name, inst) {
+            return Some(inst);
+        }
+    }
+    None
+}
+
+/// Without a name the first entry point, which has to be a GLCompute one; with a name the first GLCompute one of this name.
+fn entry_point<'a>(insts: &'a [Inst], name: Option<&[u8]>) -> Option<&'a Inst>
+    ensures { option_copied result ≡ spec.entry_point insts.now (option_copied name.entry) }
+{
+    match name {
+        Some(name) => named_entry_point(insts, name),
+        None => {
+            let first = first_entry_point(insts)?;
+            if is_compute(first) { Some(first) } else { None }
+        }
+    }
+}
+
+/// The OpFunction with an id.
+fn function_at(insts: &[Inst], id: u32) -> Option<&Inst>
+    ensures { option_copied result ≡ find (spec.is_function id) insts.now }
+{
+    for inst in insts {
+        if inst.op == FUNCTION && inst.id == id {
+            return Some(inst);
+        }
+    }
+    None
+}
+
+/// Whether a type is void.
+fn is_void(form: Option<&Form>) -> bool
+    ensures { result ≡ spec.is_void (option_copied form.entry) }
+{
+    matches!(form, Some(Form::Void))
+}
+
+/// Whether a type is that of functions without parameters that return void.
+fn is_plain(types: &TypeTable, form: Option<&Form>) -> bool
+    ensures { result ≡ spec.is_plain types.now (option_copied form.entry) }
+{
+    match form {
+        Some(
+            Form::Function {
+                returns,
+                parameters,
+            },
+        ) => is_void(types.form(*returns)) && parameters.len() == 0,
+        _ => false,
+    }
+}
+
+/// Whether the function with an id has no parameters and returns void.
+fn is_plain_function(types: &TypeTable, insts: &[Inst], id: u32) -> bool
+    ensures { result ≡ spec.is_plain_function types.now insts.now id }
+{
+    match function_at(insts, id) {
+        Some(inst) => is_plain(types, types.form(id_at(inst, 1))),
+        None => false,
+    }
+}
+
+/// The number of a defined scalar.
+fn number_in(value: &Value) -> Option<u64>
+    ensures { result ≡ spec.number_in value.now }
+{
+    match value {
+        Value::Scalar(cell) => if cell.defined { Some(cell.bits) } else { None },
+        _ => None,
+    }
+}
+
+/// Three numbers, where all are there.
+fn all_three(x: Option<u64>, y: Option<u64>, z: Option<u64>) -> Option<(u64, u64, u64)>
+    ensures { result ≡ spec.all_three x y z }
+{
+    Some((x?, y?, z?))
+}
+
+/// The numbers of three scalars.
+fn numbers_in(values: &[Value]) -> Option<(u64, u64, u64)>
+    ensures { result ≡ spec.numbers_in values.now }
+{
+    match values {
+        [x, y, z] => all_three(number_in(x), number_in(y), number_in(z)),
+        _ => None,
+    }
+}
+
+/// The first constant decorated with the built-in WorkgroupSize.
+fn size_constant<'a>(facts: &Facts, insts: &'a [Inst]) -> Option<&'a Inst>
+    ensures { option_copied result ≡ find (spec.is_size_constant facts.now) insts.now }
+{
+    for inst in insts {
+        if is_constant(inst.op) && facts.decoration(inst.id, BUILT_IN) == Some(WORKGROUP_SIZE) {
+            return Some(inst);
+        }
+    }
+    None
+}
+
+/// The first instruction that gives an execution mode to the entry point of a function.
+fn mode_of(insts: &[Inst], op: u16, mode: u32, function: u32) -> Option<&Inst>
+    ensures { option_copied result ≡ find (spec.is_mode op mode function) insts.now }
+{
+    for inst in insts {
+        if inst.op == op && id_at(inst, 0) == function && lit_at(inst, 1) == mode {
+            return Some(inst);
+        }
+    }
+    None
+}
+
+/// The size that a constant gives, which has to be a vector of three 32-bit integers.
+fn constant_size(types: &TypeTable, consts: &ConstTable, inst: &Inst) -> Option<(u64, u64, u64)>
+    ensures { result ≡ spec.constant_size types.now consts.now inst.now }
+{
+    if !types.is_three_words(inst.ty) {
+        return None;
+    }
+    match consts.value(inst.id)? {
+        Value::List(values) => numbers_in(values.as_slice()),
+        _ => None,
+    }
+}
+
+/// The number of a constant that is a 32-bit integer.
+fn word_constant(types: &TypeTable, consts: &ConstTable, facts: &Facts, id: u32) -> Option<u64>
+    ensures { result ≡ spec.word_constant types.now consts.now facts.now id }
+{
+    if !types.is_word(facts.constant_type(id)?) {
+        return None;
+    }
+    number_in(consts.value(id)?)
+}
+
+/// The size that a LocalSizeId gives.
+fn size_by_ids(
+    types: &TypeTable,
+    consts: &ConstTable,
+    facts: &Facts,
+    inst: &Inst,
+) -> Option<(u64, u64, u64)>
+    ensures { result ≡ spec.size_by_ids types.now consts.now facts.now inst.now }
+{
+    all_three(
+        word_constant(types, consts, facts, id_at(inst, 2)),
+        word_constant(types, consts, facts, id_at(inst, 3)),
+        word_constant(types, consts, facts, id_at(inst, 4)),
+    )
+}
+
+/// The size that a LocalSize gives.
+fn size_by_literals(inst: &Inst) -> Option<(u64, u64, u64)>
+    ensures { result ≡ spec.size_by_literals inst.now }
+{
+    Some((
+        u64::from(lit_at(inst, 2)),
+        u64::from(lit_at(inst, 3)),
+        u64::from(lit_at(inst, 4)),
+    ))
+}
+
+/// The size of a workgroup, by a constant decorated WorkgroupSize, else by LocalSizeId, else by LocalSize.
+fn size_of(
+    types: &TypeTable,
+    consts: &ConstTable,
+    facts: &Facts,
+    insts: &[Inst],
+    function: u32,
+) -> Option<(u64, u64, u64)>
+    requires { facts.now ≡ insts.now }
+    ensures { result ≡ spec.size_of types.now consts.now insts.now function }
+{
+    if let Some(inst) = size_constant(facts, insts) {
+        return constant_size(types, consts, inst);
+    }
+    if let Some(inst) = mode_of(insts, EXECUTION_MODE_ID, LOCAL_SIZE_ID, function) {
+        return size_by_ids(types, consts, facts, inst);
+    }
+    match mode_of(insts, EXECUTION_MODE, LOCAL_SIZE, function) {
+        Some(inst) => size_by_literals(inst),
+        None => None,
+    }
+}
+
+/// The size, where there is at least one invocation in each direction, and at most 1,024 together.
+fn allowed(size: (u64, u64, u64)) -> Option<(u32, u32, u32)>
+    ensures { result ≡ (if spec.is_size size then Some size else None) }
+{
+    let (x, y, z) = size;
+    if x < 1 || y < 1 || z < 1 {
+        return None;
+    }
+    if x > MAX_INVOCATIONS || y > MAX_INVOCATIONS || z > MAX_INVOCATIONS {
+        return None;
+    }
+    if x * y * z > MAX_INVOCATIONS {
+        return None;
+    }
+    Some((x as u32, y as u32, z as u32))
+}
+
+/// How many functions the longest chain of calls from a function has, where there is such a function.
+fn depth_of(code: &Code, function: u32) -> Option<u32>
+    ensures { result ≡ reads function code.now.depths }
+{
+    if code.is_function(function) {
+        Some(code.depth(function))
+    } else {
+        None
+    }
+}
+
+/// The entry whose function has this id, where it keeps the rules.
+fn entry_in(
+    types: &TypeTable,
+    consts: &ConstTable,
+    code: &Code,
+    facts: &Facts,
+    insts: &[Inst],
+    function: u32,
+) -> Option<Entry>
+    requires { facts.now ≡ insts.now }
+    ensures { result ≡ spec.entry_in types.now consts.now code.now insts.now function }
+{
+    let depth = depth_of(code, function)?;
+    let size = size_of(types, consts, facts, insts, function)?;
+    if !is_plain_function(types, insts, function) {
+        return None;
+    }
+    let size = allowed(size)?;
+    Some(Entry {
+        function,
+        size,
+        depth,
+    })
+}
+
+/// The entry of a name, or the first one.
+///
+/// Refuses M17 at the first word: where there is no such entry point with the execution model GLCompute, where its function
+/// has parameters or returns a value, and where its workgroup has no size, one with a component 0 or undefined, or one of
+/// more than 1,024 invocations.
+#[tactic(auto, unfolding(crate::specs::Entry::entry_of))]
+pub fn entry_of(
+    alloc: Global,
+    types: &TypeTable,
+    consts: &ConstTable,
+    code: &Code,
+    insts: &[Inst],
+    name: Option<&[u8]>,
+) -> Result<Entry, Fail<Refusal>>
+    ensures { Answers (spec.entry_of types.now consts.now code.now insts.now (option_copied name.entry)) result }
+{
+    let facts = Facts::of(alloc, insts)?;
+    let entry = match entry_point(insts, name) {
+        Some(inst) => entry_in(types, consts, code, &facts, insts, id_at(inst, 1)),
+        None => None,
+    };
+    match entry {
+        Some(entry) => Ok(entry),
+        None => Err(Fail::Refused(ENTRY_BREACH)),
+    }
+}

@@ -1,0 +1,99 @@
+//! Modules that broke no rule.
+ghost use Rattle.std.specs.Prelude.{◌≡◌, Some};
+ghost use Rattle.spv_base.specs.Entries.{reads};
+ghost use Rattle.spv_valid.specs.Acceptance.{IsAccepted};
+
+use crate::entry::Entry;
+use spv_base::Inst;
+use spv_cfg::Code;
+use spv_consts::ConstTable;
+use spv_types::TypeTable;
+use std::marker::Model;
+
+/// A module that broke no rule, and what was read off it.
+#[derive(Drop)]
+pub struct Module {
+    pub(crate) insts: Vec<Inst>,
+    pub(crate) types: TypeTable,
+    pub(crate) consts: ConstTable,
+    pub(crate) code: Code,
+    pub(crate) entry: Entry,
+    pub(crate) stack_cells: u64,
+}
+
+impl Model for Module {
+    ghost use Rattle.std.specs.Prelude.{◌≡◌};
+    ghost use Rattle.spv_valid.specs.Acceptance.{Accepted, IsAccepted};
+    ghost use Rattle.std.specs.Coded.{codes};
+    ghost use Rattle.spv_base.specs.contracts.values.Value as value;
+
+    ghost Value = { Accepted };
+
+    ghost coded = { Prim.hlevel (codes, value.the_row.coded) };
+
+    ghost use Rattle.spv_valid.specs.Modules.{view_of};
+
+    ghost view = { view_of };
+
+    ghost invariant = { λ m. ∥ IsAccepted (view_of m) ∥₁ };
+}
+
+impl Module {
+    /// The instructions.
+    pub fn insts(&self) -> &[Inst]
+        ensures insts { result.now ≡ self.now.insts }
+        ensures accepted { ∥ IsAccepted self.now ∥₁ }
+    {
+        self.insts.as_slice()
+    }
+
+    /// The types.
+    pub fn types(&self) -> &TypeTable
+        ensures { result.now ≡ self.now.types }
+    {
+        &self.types
+    }
+
+    /// The constants, in the order of the module.
+    pub fn consts(&self) -> &ConstTable
+        ensures { result.now ≡ self.now.constants }
+    {
+        &self.consts
+    }
+
+    /// The functions and blocks.
+    pub fn code(&self) -> &Code
+        ensures { result.now ≡ self.now.flow }
+    {
+        &self.code
+    }
+
+    /// The id of the entry point's function.
+    pub fn entry(&self) -> u32
+        ensures entry { result ≡ self.now.entry }
+        ensures depth { reads result self.now.flow.depths ≡ Some self.now.depth }
+    {
+        self.entry.function
+    }
+
+    /// How many invocations a workgroup has in each of the three directions.
+    pub fn size(&self) -> (u32, u32, u32)
+        ensures { result ≡ self.now.size }
+    {
+        self.entry.size
+    }
+
+    /// How many functions the longest chain of calls from the entry point has, from 1 to 64.
+    pub fn depth(&self) -> u32
+        ensures { result ≡ self.now.depth }
+    {
+        self.entry.depth
+    }
+
+    /// The most cells that the frames of an invocation have together. It stops at the greatest u64.
+    pub fn stack_cells(&self) -> u64
+        ensures { result ≡ self.now.stack_cells }
+    {
+        self.stack_cells
+    }
+}
