@@ -5,7 +5,7 @@ use Rattle.spv_base.specs.declared.instructions.Inst.{Inst}
 use Rattle.spv_base.specs.declared.causes.Refusal.{Refusal}
 use Rattle.spv_types.specs.Types.{Types}
 use Rattle.spv_types.specs.Typing.{before_functions}
-use Rattle.spv_consts.specs.declared.numbers.TheConstants.{RULES_CODE}
+use Rattle.spv_consts.specs.Numbers.{rules_code}
 use Rattle.spv_consts.specs.Table.{Constants}
 use Rattle.spv_consts.specs.Overrides.{Numbers, held_of}
 use Rattle.spv_consts.specs.Context.{Context}
@@ -28,8 +28,8 @@ built_of (Err r) = Err r
 -- a result, or a breach of the rules of SpecId, where that is not after a refusal
 abbrev pub unless_earlier : {T : Type 0} → Option ℕ → Result T Refusal → Result T Refusal
 unless_earlier None r = r
-unless_earlier (Some word) (Ok x) = Err (record { code = RULES_CODE; word = word })
-unless_earlier (Some word) (Err r) = if nat_le word r.word then Err (record { code = RULES_CODE; word = word }) else Err r
+unless_earlier (Some word) (Ok x) = Err (record { code = rules_code; word = word })
+unless_earlier (Some word) (Err r) = if nat_le word r.word then Err (record { code = rules_code; word = word }) else Err r
 
 -- The types with the lengths of arrays and the constants of a module, or the first breach. Constants and types stand before the
 -- functions; a SpecId may stand on an instruction in them.

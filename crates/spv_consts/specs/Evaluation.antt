@@ -13,7 +13,7 @@ use Rattle.spv_consts.specs.Values.{no_leaves, null_of}
 use Rattle.spv_consts.specs.Literals.{integer_width, literal_lane}
 use Rattle.spv_consts.specs.Overrides.{overridden, override_of}
 use Rattle.spv_alu.specs.Unary.{unary_op}
-use Rattle.spv_consts.specs.declared.numbers.TheConstants.{SELECT}
+use Rattle.spv_consts.specs.Numbers.{select}
 use Rattle.spv_consts.specs.declared.operations.LaneOp.TheVariants.{Unary, Binary}
 use Rattle.spv_consts.specs.Operations.{joined, lane_width, selected}
 use Rattle.spv_consts.specs.Context.{Context}
@@ -43,7 +43,7 @@ binary_value m s i op = joined (Binary op) (operand_at m s i 1) (operand_at m s 
 -- the value of an OpSpecConstantOp, by its opcode
 abbrev pub computed_value : Context → State → Inst → ℕ → Value
 computed_value m s i op =
-    if op == SELECT then select_value m s i
+    if op == select then select_value m s i
     else (if is_some (unary_op op) then unary_value m s i op
     else binary_value m s i op)
 

@@ -14,7 +14,7 @@ use Rattle.spv_types.specs.Operands.{id_at}
 use Rattle.spv_types.specs.Types.{form_of, with_length}
 use Rattle.spv_alu.specs.Integers.{signed}
 use Rattle.spv_index.specs.Definitions.{type_of}
-use Rattle.spv_consts.specs.declared.numbers.TheConstants.{MOST_CELLS}
+use Rattle.spv_consts.specs.Numbers.{most_cells}
 use Rattle.spv_consts.specs.Context.{Context}
 use Rattle.spv_consts.specs.State.{State, is_next}
 
@@ -71,7 +71,7 @@ with_array s id n = if is_next s id && is_unset (form_of s.types id) then record
 
 abbrev pub with_length_if : State → ℕ → Option ℕ → Option State
 with_length_if s id None = Some s
-with_length_if s id (Some n) = if nat_lt MOST_CELLS n then None else Some (with_array s id n)
+with_length_if s id (Some n) = if nat_lt most_cells n then None else Some (with_array s id n)
 
 -- The state with the length that an instruction sets. There is none where the array is longer than a type may have cells,
 -- since each element has a cell at least.

@@ -13,7 +13,7 @@ use Rattle.spv_types.specs.Types.{Types, form_of}
 use Rattle.spv_types.specs.Facts.{decoration}
 use Rattle.spv_types.specs.Rules.{is_width}
 use Rattle.spv_alu.specs.Results.{integer}
-use Rattle.spv_consts.specs.declared.numbers.TheConstants.{SPEC_ID}
+use Rattle.spv_consts.specs.Numbers.{spec_id}
 
 -- pairs of a SpecId and the number for it; the first of a SpecId counts
 abbrev pub Numbers : Type 0
@@ -25,7 +25,7 @@ is_specializable op = op == SPEC_CONSTANT_TRUE || (op == SPEC_CONSTANT_FALSE || 
 
 -- the SpecId of a constant: its first decoration SpecId
 abbrev pub spec_id_of : List Inst → Inst → Option ℕ
-spec_id_of all i = if is_specializable i.op then decoration all i.id SPEC_ID else None
+spec_id_of all i = if is_specializable i.op then decoration all i.id spec_id else None
 
 abbrev pub is_between : ℤ → ℤ → ℤ → Bool
 is_between least greatest n = int_le least n && int_le n greatest

@@ -7,12 +7,12 @@ use Rattle.spv_base.specs.declared.instructions.Inst.{Inst}
 use Rattle.spv_types.specs.declared.opcodes.TheConstants.{DECORATE, MEMBER_DECORATE}
 use Rattle.spv_types.specs.Operands.{id_at, lit_at}
 use Rattle.spv_index.specs.Definitions.{defining}
-use Rattle.spv_consts.specs.declared.numbers.TheConstants.{SPEC_ID}
+use Rattle.spv_consts.specs.Numbers.{spec_id}
 use Rattle.spv_consts.specs.Overrides.{is_specializable}
 
 -- a decoration SpecId, of an id or of a member
 abbrev pub is_spec_id : Inst → Bool
-is_spec_id d = (d.op == DECORATE && lit_at d.operands 1 == SPEC_ID) || (d.op == MEMBER_DECORATE && lit_at d.operands 2 == SPEC_ID)
+is_spec_id d = (d.op == DECORATE && lit_at d.operands 1 == spec_id) || (d.op == MEMBER_DECORATE && lit_at d.operands 2 == spec_id)
 
 -- it stands on an instruction that takes one
 abbrev pub takes_spec_id : Inst → Inst → Bool

@@ -9,7 +9,7 @@ use Rattle.spv_types.specs.Cuts.{cut}
 use Rattle.spv_types.specs.Types.{form_of}
 use Rattle.spv_types.specs.Facts.{is_constant}
 use Rattle.spv_types.specs.Limits.{limit_among, limit_step}
-use Rattle.spv_consts.specs.declared.numbers.TheConstants.{RULES_CODE, LIMITS_CODE, MOST_CELLS, MOST_NESTING}
+use Rattle.spv_consts.specs.Numbers.{rules_code, limits_code, most_cells, most_nesting}
 use Rattle.spv_consts.specs.Context.{Context}
 use Rattle.spv_consts.specs.State.{State, is_next}
 use Rattle.spv_consts.specs.Lengths.{lengthened}
@@ -20,7 +20,7 @@ abbrev pub breach : ℕ → Inst → Refusal
 breach code i = record { code = code; word = i.word }
 
 abbrev pub is_great : Limit → Bool
-is_great limit = nat_lt MOST_NESTING limit.nesting || nat_lt MOST_CELLS limit.cells
+is_great limit = nat_lt most_nesting limit.nesting || nat_lt most_cells limit.cells
 
 -- the type with an id is nested too deep or has too many cells, by the types before it
 abbrev pub is_great_type : State → ℕ → Bool
@@ -34,7 +34,7 @@ cells_with s ty = cut (s.cells + (limit_among s.types s.known ty).cells)
 abbrev pub passes_limit : State → Inst → Bool
 passes_limit s i =
     if is_next s i.id then is_great_type s i.id
-    else (if is_constant i.op then nat_lt MOST_CELLS (cells_with s i.ty)
+    else (if is_constant i.op then nat_lt most_cells (cells_with s i.ty)
     else false)
 
 -- one more type is passed
@@ -53,12 +53,12 @@ entered m s i =
 
 -- what comes of an instruction, where it sets a length that is in the limits
 abbrev pub limited : Context → Inst → Option State → Result State Refusal
-limited m i None = Err (breach LIMITS_CODE i)
-limited m i (Some s) = if passes_limit s i then Err (breach LIMITS_CODE i) else Ok (entered m s i)
+limited m i None = Err (breach limits_code i)
+limited m i (Some s) = if passes_limit s i then Err (breach limits_code i) else Ok (entered m s i)
 
 -- the state after an instruction, or its breach
 unfoldable pub stepped : Context → State → Inst → Result State Refusal
-stepped m s i = if keeps_rules m s i then limited m i (lengthened m s i) else Err (breach RULES_CODE i)
+stepped m s i = if keeps_rules m s i then limited m i (lengthened m s i) else Err (breach rules_code i)
 
 abbrev pub and_then : Result State Refusal → (State → Result State Refusal) → Result State Refusal
 and_then (Ok s) next = next s

@@ -8,7 +8,7 @@ mod evaluation;
 mod lanes;
 mod lengths;
 mod literals;
-pub mod numbers;
+mod numbers;
 mod operations;
 mod overrides;
 mod rules;

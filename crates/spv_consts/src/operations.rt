@@ -14,7 +14,7 @@ use std::alloc::Global;
 
 /// An operation on two lanes. A unary one looks at the first alone, and gives a lane of a width.
 #[derive(Clone, Copy, Debug, PartialEq)]
-pub enum LaneOp {
+pub(crate) enum LaneOp {
     Unary { op: u16, width: u8 },
     Binary { op: u16 },
     Select { condition: Cell },
