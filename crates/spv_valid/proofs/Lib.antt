@@ -1,2 +1,5 @@
 pub mod StackLemmas
 pub mod AcceptedLemmas
+pub mod OrderLemmas
+pub mod LeastLemmas
+pub mod PassLemmas

@@ -2,3 +2,4 @@ pub mod Entry
 pub mod Stack
 pub mod Acceptance
 pub mod Modules
+pub mod Breaches

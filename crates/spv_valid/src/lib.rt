@@ -2,10 +2,12 @@
 #![tactic(auto)]
 
 mod acceptance;
+mod breaches;
 mod entry;
 mod modules;
 pub mod opcodes;
 mod stack;
 
 pub use acceptance::accept;
+pub use breaches::refusals_are_least_breaches;
 pub use modules::Module;

@@ -1,0 +1,211 @@
+-- What each pass tells of its breaches, and all of them together.
+use Rattle.std.proofs.Common.{◌≡◌, ◌≤◌, ℕ, ℤ, Bool, true, false, cond, List, [], ◌∷◌, length, Option, Some, None, Result, Ok, Err, refl, sym, ap, arith}
+use Rattle.std.proofs.lemmas.Bool.Decides.{nat_tests}
+use Rattle.std.specs.Prelude.{nat_le, nat_lt}
+use Rattle.std.specs.List.{flat_map}
+use Rattle.std.specs.Option.{option_map, option_to_list}
+use Rattle.std.specs.Result.{result_err, result_unwrap_or}
+use Rattle.spv_base.specs.declared.causes.Refusal.{Refusal}
+use Rattle.spv_base.specs.declared.instructions.Inst.{Inst}
+use Rattle.spv_types.specs.Types.{Types}
+use Rattle.spv_types.specs.Typing.{before_functions}
+use Rattle.spv_types.specs.Build.{type_breaches, types_of, unless_refused}
+use Rattle.spv_types.specs.Blocks.{layout_of, nothing}
+use Rattle.spv_cfg.specs.Roles.{sets_of}
+use Rattle.spv_cfg.specs.Sites.{outside}
+use Rattle.spv_cfg.specs.Lowest.{lowest, sooner}
+use Rattle.spv_cfg.specs.Flow.{Flow, block_breaches, call_breaches, flow_in, flow_of, refusal, unless_refused as flow_unless}
+use Rattle.spv_cfg.proofs.LowestLemmas.{lowest-append}
+use Rattle.spv_sections.specs.Sections.{order_breaches, sections_of}
+use Rattle.spv_sections.specs.Ids.{id_breaches, ids_of}
+use Rattle.spv_sections.specs.Capabilities.{capabilities_of, capability_breaches}
+use Rattle.spv_consts.specs.Table.{Constants}
+use Rattle.spv_consts.specs.declared.numbers.TheConstants.{LIMITS_CODE, RULES_CODE}
+use Rattle.spv_consts.specs.Context.{Context}
+use Rattle.spv_consts.specs.State.{State}
+use Rattle.spv_consts.specs.Lengths.{lengthened}
+use Rattle.spv_consts.specs.Rules.{keeps_rules}
+use Rattle.spv_consts.specs.SpecIds.{lower, lowest_wrong, wrong_spec_id}
+use Rattle.spv_consts.specs.Steps.{and_then, breach, entered, limited, passes_limit, stepped, walked}
+use Rattle.spv_consts.specs.Build.{built_of, constants_of, context_of, start_of, unless_earlier}
+use Rattle.spv_bodies.specs.Setting.{known_of}
+use Rattle.spv_bodies.specs.Bodies.{bodies_of, nowhere}
+use Rattle.spv_valid.specs.Entry.{entry_of}
+use Rattle.spv_valid.specs.Acceptance.{Accepted, acceptance, accepted, after}
+use Rattle.spv_valid.specs.Breaches.{Ascend, IsLeast, at_words, bodies_breaches, breaches, constant_breaches, first_with, flow_breaches, known_read, layout_breaches, refused_in, types_read}
+use Rattle.spv_valid.proofs.OrderLemmas.{bodies_in_order, capabilities_in_order, ids_in_order, layout_in_order, order_in_order, types_in_order}
+use Rattle.spv_valid.proofs.LeastLemmas.{IsLeastOf, Tells, earlier, joined_least, lowest_least, tells_after, tells_led, tells_refused}
+
+tells_sections : (insts : List Inst) → Ascend 0 insts → Tells (sections_of insts) (order_breaches (sets_of insts) outside 0 insts)
+unfolding sections_of
+tells_sections insts ascend = tells_led nothing _ (order_in_order (sets_of insts) outside 0 0 insts ascend).led
+
+tells_ids : (bound : ℕ) (insts : List Inst) → Ascend 0 insts → Tells (ids_of bound insts) (id_breaches (record { bound = bound; insts = insts }) (sets_of insts) false outside insts)
+unfolding ids_of
+tells_ids bound insts ascend = tells_led nothing _ (ids_in_order (record { bound = bound; insts = insts }) (sets_of insts) false outside 0 insts ascend).led
+
+tells_capabilities : (insts : List Inst) → Ascend 0 insts → Tells (capabilities_of insts) (capability_breaches insts)
+unfolding capabilities_of
+tells_capabilities insts ascend = tells_led nothing _ (capabilities_in_order 0 insts ascend).led
+
+tells_types : (insts : List Inst) → Ascend 0 insts → Tells (types_of insts) (type_breaches insts [] (before_functions insts))
+unfolding types_of
+tells_types insts ascend = tells_led _ _ (types_in_order 0 insts ascend).led
+
+tells_layout : (ts : Types) (insts : List Inst) → Ascend 0 insts → Tells (layout_of ts insts) (layout_breaches ts insts)
+unfolding layout_of
+tells_layout ts insts ascend = tells_led nothing _ (layout_in_order ts 0 insts ascend).led
+
+tells_bodies : (known : Types × Constants) (insts : List Inst) → Ascend 0 insts → Tells (bodies_of known.0 known.1 insts) (bodies_breaches known insts)
+unfolding bodies_of
+tells_bodies known insts ascend = tells_led nothing _ (bodies_in_order (known_of known.0 known.1 insts) nowhere (length (before_functions insts)) 0 insts ascend).led
+
+-- ---- functions and calls
+
+code_of_some : (code : ℕ) (o : Option ℕ) (r : Refusal) → option_map (λ (w : ℕ). record { code = code; word = w }) o ≡ Some r → r.code ≡ code
+code_of_some code None r is = absurd (cc)
+code_of_some code (Some w) r is = let same : record { code = code; word = w } ≡ r = cc in sym (ap (λ (x : Refusal). x.code) same)
+
+tells_flow : (insts : List Inst) → Tells (flow_of insts) (flow_breaches insts)
+unfolding flow_of
+tells_flow insts = by_words (lowest (block_breaches insts)) (lowest (call_breaches insts)) (joined_least _ _ _ _ (lowest_least 15 (block_breaches insts)) (lowest_least 16 (call_breaches insts)) codes)
+  where
+    codes : (r s : Refusal) → option_map (λ (w : ℕ). record { code = 15; word = w }) (lowest (block_breaches insts)) ≡ Some r
+        → option_map (λ (w : ℕ). record { code = 16; word = w }) (lowest (call_breaches insts)) ≡ Some s → r.code ≤ s.code
+    codes r s one other = let a : r.code ≡ 15 = code_of_some 15 _ r one in let b : s.code ≡ 16 = code_of_some 16 _ s other in omega arith
+
+    by_words : (block call : Option ℕ) → IsLeastOf (earlier (option_map (λ (w : ℕ). record { code = 15; word = w }) block) (option_map (λ (w : ℕ). record { code = 16; word = w }) call)) (flow_breaches insts)
+        → Tells (flow_unless (refusal block call) (flow_in insts)) (flow_breaches insts)
+    by_words None None least = least
+    by_words None (Some c) least = least
+    by_words (Some b) None least = least
+    by_words (Some b) (Some c) least = least
+
+-- ---- constants
+
+lower-sooner : (o p : Option ℕ) → lower o p ≡ sooner (lowest (option_to_list o)) p
+lower-sooner None p = refl
+lower-sooner (Some a) None = refl
+lower-sooner (Some a) (Some b) = refl
+
+lowest_wrong_is : (all insts : List Inst) → lowest_wrong all insts ≡ lowest (flat_map (λ i. option_to_list (wrong_spec_id all i)) insts)
+unfolding lowest_wrong
+lowest_wrong_is all [] = refl
+lowest_wrong_is all (i ∷ is) =
+    let words : List ℕ = flat_map (λ (x : Inst). option_to_list (wrong_spec_id all x)) is in
+    rw (lowest_wrong_is all is, lower-sooner (wrong_spec_id all i) (lowest words), lowest-append (option_to_list (wrong_spec_id all i)) words) refl
+
+-- the codes of constants
+stepped_code : (m : Context) (s : State) (i : Inst) (r : Refusal) → stepped m s i ≡ Err r → 14 ≤ r.code
+unfolding stepped
+stepped_code m s i r is = by_rules (keeps_rules m s i) is
+  where
+    by_limit : (b : Bool) (t : State) → cond b (Err (breach LIMITS_CODE i)) (Ok t) ≡ Err r → 14 ≤ r.code
+    by_limit true t e = let same : breach LIMITS_CODE i ≡ r = cc in let code : 18 ≡ r.code = ap (λ (x : Refusal). x.code) same in omega arith
+    by_limit false t e = absurd (cc)
+
+    by_length : (o : Option State) → limited m i o ≡ Err r → 14 ≤ r.code
+    by_length None e = let same : breach LIMITS_CODE i ≡ r = cc in let code : 18 ≡ r.code = ap (λ (x : Refusal). x.code) same in omega arith
+    by_length (Some t) e = by_limit (passes_limit t i) (entered m t i) e
+
+    by_rules : (b : Bool) → cond b (limited m i (lengthened m s i)) (Err (breach RULES_CODE i)) ≡ Err r → 14 ≤ r.code
+    by_rules true e = by_length (lengthened m s i) e
+    by_rules false e = let same : breach RULES_CODE i ≡ r = cc in let code : 14 ≡ r.code = ap (λ (x : Refusal). x.code) same in omega arith
+
+walked_on : (m : Context) (is : List Inst) (r : Refusal) (due : Result State Refusal) → ((e : Refusal) → due ≡ Err e → 14 ≤ e.code)
+    → ((t : State) → walked m t is ≡ Err r → 14 ≤ r.code) → and_then due (λ t. walked m t is) ≡ Err r → 14 ≤ r.code
+walked_on m is r (Ok t) here behind e = behind t e
+walked_on m is r (Err x) here behind e = here r (cc)
+
+walked_code : (m : Context) (s : State) (insts : List Inst) (r : Refusal) → walked m s insts ≡ Err r → 14 ≤ r.code
+unfolding walked
+walked_code m s [] r is = absurd (cc)
+walked_code m s (i ∷ is) r e = walked_on m is r (stepped m s i) (stepped_code m s i) (λ t. walked_code m t is r) e
+
+walk_least : (due : Result State Refusal) → IsLeastOf (result_err due) (refused_in due)
+walk_least (Ok s) = refl
+walk_least (Err r) = tells_refused {T = State} (Err r)
+
+choice_turned : (w v : ℕ) (x y : Refusal) → cond (nat_le w v) x y ≡ cond (nat_lt v w) y x
+choice_turned w v x y = grind (arith, nat_tests)
+
+refused_by : (due : Result State Refusal) (r : Refusal) → result_err due ≡ Some r → due ≡ Err r
+refused_by (Ok s) r is = absurd (cc)
+refused_by (Err e) r is = cc
+
+earlier_tells : (o : Option ℕ) (due : Result State Refusal) (rs : List Refusal) → IsLeastOf (earlier (option_map (λ (w : ℕ). record { code = 14; word = w }) o) (result_err due)) rs
+    → Tells (unless_earlier o (built_of due)) rs
+earlier_tells None (Ok s) rs least = least
+earlier_tells None (Err r) rs least = least
+earlier_tells (Some w) (Ok s) rs least = least
+earlier_tells (Some w) (Err r) rs least =
+    let at : Refusal = record { code = 14; word = w } in
+    let chosen : IsLeast rs (cond (nat_le w r.word) at r) = rw (choice_turned w r.word at r) least in
+    elim (nat_le w r.word) as (λ b. IsLeast rs (cond b at r) → Tells {T = Types × Constants} (cond b (Err at) (Err r)) rs) [ true ↦ λ x. x | false ↦ λ x. x ] chosen
+
+tells_constants : (ts : Types) (insts : List Inst) (over : List (ℕ × ℤ)) → Tells (constants_of ts insts over) (constant_breaches ts insts over)
+unfolding constants_of
+tells_constants ts insts over =
+    let words : List ℕ = flat_map (λ (i : Inst). option_to_list (wrong_spec_id insts i)) insts in
+    let due : Result State Refusal = walked (context_of ts insts over) (start_of ts) (before_functions insts) in
+    let codes : (r s : Refusal) → option_map (λ (w : ℕ). record { code = 14; word = w }) (lowest words) ≡ Some r → result_err due ≡ Some s → r.code ≤ s.code
+    = λ r s one other.
+    let a : r.code ≡ 14 = code_of_some 14 (lowest words) r one in
+    let b : 14 ≤ s.code = walked_code (context_of ts insts over) (start_of ts) (before_functions insts) s (refused_by due s other) in
+    omega arith in
+    rw lowest_wrong_is (earlier_tells (lowest words) due (constant_breaches ts insts over)
+    (joined_least (option_map (λ (w : ℕ). record { code = 14; word = w }) (lowest words)) (result_err due) (at_words 14 words) (refused_in due) (lowest_least 14 words) (walk_least due) codes))
+
+-- ---- all passes
+
+types_are : (insts : List Inst) (types : Types) → types_of insts ≡ Ok types → types ≡ types_read insts
+unfolding types_of
+types_are insts types is = by_list (type_breaches insts [] (before_functions insts)) is
+  where
+    by_list : (rs : List Refusal) → unless_refused (types_read insts) rs ≡ Ok types → types ≡ types_read insts
+    by_list [] e = cc
+    by_list (r ∷ rs) e = absurd (cc)
+
+flow_is : (insts : List Inst) (flow : Flow) → flow_of insts ≡ Ok flow → flow ≡ flow_in insts
+unfolding flow_of
+flow_is insts flow is = by_refusal (refusal (lowest (block_breaches insts)) (lowest (call_breaches insts))) is
+  where
+    by_refusal : (o : Option Refusal) → flow_unless o (flow_in insts) ≡ Ok flow → flow ≡ flow_in insts
+    by_refusal None e = cc
+    by_refusal (Some r) e = absurd (cc)
+
+tells_entry : (insts : List Inst) (name : Option (List ℕ)) (known : Types × Constants) (flow : Flow) → flow ≡ flow_in insts
+    → Tells (after (entry_of known.0 known.1 flow insts name) (λ entry. Ok (accepted insts known flow entry)))
+    (first_with (refused_in (entry_of known.0 known.1 (flow_in insts) insts name) ∷ []))
+tells_entry insts name known flow is =
+    rw is (tells_after {U = Accepted} (entry_of known.0 known.1 (flow_in insts) insts name) (λ entry. Ok (accepted insts known (flow_in insts) entry)) (refused_in (entry_of known.0 known.1 (flow_in insts) insts name)) [] (tells_refused (entry_of known.0 known.1 (flow_in insts) insts name)) (λ entry same. refl))
+
+tells_code : (insts : List Inst) (name : Option (List ℕ)) (known : Types × Constants) → Ascend 0 insts
+    → Tells (after (flow_of insts) (λ flow. after (bodies_of known.0 known.1 insts) (λ _. after (entry_of known.0 known.1 flow insts name) (λ entry. Ok (accepted insts known flow entry)))))
+    (first_with (flow_breaches insts ∷ bodies_breaches known insts ∷ refused_in (entry_of known.0 known.1 (flow_in insts) insts name) ∷ []))
+tells_code insts name known ascend =
+    tells_after {U = Accepted} (flow_of insts) _ (flow_breaches insts) _ (tells_flow insts) (λ flow is.
+    tells_after {U = Accepted} (bodies_of known.0 known.1 insts) _ (bodies_breaches known insts) _ (tells_bodies known insts ascend) (λ _ _.
+    tells_entry insts name known flow (flow_is insts flow is)))
+
+known_is : (insts : List Inst) (over : List (ℕ × ℤ)) (known : Types × Constants) → constants_of (types_read insts) insts over ≡ Ok known → known_read insts over ≡ known
+known_is insts over known same = ap (λ (r : Result (Types × Constants) Refusal). result_unwrap_or r ([], [])) same
+
+tells_known : (insts : List Inst) (name : Option (List ℕ)) (over : List (ℕ × ℤ)) (types : Types) → types ≡ types_read insts → Ascend 0 insts
+    → Tells (after (constants_of types insts over) (λ known. after (layout_of known.0 insts) (λ _. after (flow_of insts) (λ flow.
+    after (bodies_of known.0 known.1 insts) (λ _. after (entry_of known.0 known.1 flow insts name) (λ entry. Ok (accepted insts known flow entry)))))))
+    (first_with (constant_breaches (types_read insts) insts over ∷ layout_breaches (known_read insts over).0 insts ∷ flow_breaches insts ∷ bodies_breaches (known_read insts over) insts
+    ∷ refused_in (entry_of (known_read insts over).0 (known_read insts over).1 (flow_in insts) insts name) ∷ []))
+tells_known insts name over types is ascend =
+    rw is (tells_after {U = Accepted} (constants_of (types_read insts) insts over) _ (constant_breaches (types_read insts) insts over) _ (tells_constants (types_read insts) insts over) (λ known same.
+    rw (known_is insts over known same)
+    (tells_after {U = Accepted} (layout_of known.0 insts) _ (layout_breaches known.0 insts) _ (tells_layout known.0 insts ascend) (λ _ _. tells_code insts name known ascend))))
+
+pub tells_all : (insts : List Inst) (bound : ℕ) (name : Option (List ℕ)) (over : List (ℕ × ℤ)) → Ascend 0 insts → Tells (acceptance insts bound name over) (breaches insts bound name over)
+unfolding acceptance breaches
+tells_all insts bound name over ascend =
+    tells_after {U = Accepted} (sections_of insts) _ _ _ (tells_sections insts ascend) (λ _ _.
+    tells_after {U = Accepted} (ids_of bound insts) _ _ _ (tells_ids bound insts ascend) (λ _ _.
+    tells_after {U = Accepted} (capabilities_of insts) _ _ _ (tells_capabilities insts ascend) (λ _ _.
+    tells_after {U = Accepted} (types_of insts) _ _ _ (tells_types insts ascend) (λ types is.
+    tells_known insts name over types (types_are insts types is) ascend))))

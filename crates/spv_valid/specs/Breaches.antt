@@ -1,0 +1,97 @@
+-- The breaches of a module's rules, and which of them is the least: first by pass, then by word, then by code.
+use Rattle.std.specs.Prelude.{◌≡◌, ◌<◌, ◌≤◌, ◌⊎◌, ℕ, ℤ, suc, false, List, [], ◌∷◌, ◌++◌, length, drop, map, Option, Result, Ok, Err}
+use Rattle.std.specs.List.{All, Contains, flat_map}
+use Rattle.std.specs.Option.{option_to_list}
+use Rattle.std.specs.Result.{result_unwrap_or}
+use Rattle.spv_base.specs.declared.causes.Refusal.{Refusal}
+use Rattle.spv_base.specs.declared.instructions.Inst.{Inst}
+use Rattle.spv_types.specs.Types.{Types}
+use Rattle.spv_types.specs.Typing.{before_functions, types_in}
+use Rattle.spv_types.specs.Build.{type_breaches}
+use Rattle.spv_types.specs.Blocks.{function_breaches, module_breaches}
+use Rattle.spv_cfg.specs.Roles.{sets_of}
+use Rattle.spv_cfg.specs.Sites.{outside}
+use Rattle.spv_cfg.specs.Flow.{block_breaches, call_breaches, flow_in}
+use Rattle.spv_sections.specs.Sections.{order_breaches}
+use Rattle.spv_sections.specs.Ids.{id_breaches}
+use Rattle.spv_sections.specs.Capabilities.{capability_breaches}
+use Rattle.spv_consts.specs.Table.{Constants}
+use Rattle.spv_consts.specs.declared.numbers.TheConstants.{RULES_CODE}
+use Rattle.spv_consts.specs.SpecIds.{wrong_spec_id}
+use Rattle.spv_consts.specs.Steps.{walked}
+use Rattle.spv_consts.specs.Build.{constants_of, context_of, start_of}
+use Rattle.spv_bodies.specs.Bodies.{body_breaches, nowhere}
+use Rattle.spv_bodies.specs.Setting.{known_of}
+use Rattle.spv_valid.specs.Entry.{entry_of}
+
+-- the breaches of the first list that has any
+abbrev pub first_with : List (List Refusal) → List Refusal
+first_with [] = []
+first_with ([] ∷ later) = first_with later
+first_with ((r ∷ rs) ∷ later) = r ∷ rs
+
+-- what a result refuses
+abbrev pub refused_in : {T : Type 0} → Result T Refusal → List Refusal
+refused_in (Ok x) = []
+refused_in (Err r) = r ∷ []
+
+-- words, each with a code
+abbrev pub at_words : ℕ → List ℕ → List Refusal
+at_words code words = map (λ word. record { code = code; word = word }) words
+
+-- ---- pass by pass
+
+-- The SpecIds on what takes none, and the first instruction that breaks a rule or passes a limit of constants: what comes
+-- behind it is read with what it defines.
+abbrev pub constant_breaches : Types → List Inst → List (ℕ × ℤ) → List Refusal
+constant_breaches ts insts over =
+    at_words RULES_CODE (flat_map (λ i. option_to_list (wrong_spec_id insts i)) insts) ++ refused_in (walked (context_of ts insts over) (start_of ts) (before_functions insts))
+
+abbrev pub layout_breaches : Types → List Inst → List Refusal
+layout_breaches ts insts = module_breaches insts ts [] (before_functions insts) ++ function_breaches (drop (length (before_functions insts)) insts)
+
+abbrev pub flow_breaches : List Inst → List Refusal
+flow_breaches insts = at_words 15 (block_breaches insts) ++ at_words 16 (call_breaches insts)
+
+abbrev pub bodies_breaches : Types × Constants → List Inst → List Refusal
+bodies_breaches known insts = body_breaches (known_of known.0 known.1 insts) nowhere (drop (length (before_functions insts)) insts)
+
+-- the passes in their order, by the types that a module has, and by those with the lengths of their arrays and its constants
+abbrev pub breaches_by : List Inst → ℕ → Option (List ℕ) → List (ℕ × ℤ) → Types → Types × Constants → List (List Refusal)
+breaches_by insts bound name over types known =
+    order_breaches (sets_of insts) outside 0 insts
+    ∷ id_breaches (record { bound = bound; insts = insts }) (sets_of insts) false outside insts
+    ∷ capability_breaches insts
+    ∷ type_breaches insts [] (before_functions insts)
+    ∷ constant_breaches types insts over
+    ∷ layout_breaches known.0 insts
+    ∷ flow_breaches insts
+    ∷ bodies_breaches known insts
+    ∷ refused_in (entry_of known.0 known.1 (flow_in insts) insts name)
+    ∷ []
+
+abbrev pub types_read : List Inst → Types
+types_read insts = types_in insts (before_functions insts)
+
+abbrev pub known_read : List Inst → List (ℕ × ℤ) → Types × Constants
+known_read insts over = result_unwrap_or (constants_of (types_read insts) insts over) ([], [])
+
+-- The breaches of a module: those of a later pass only where the passes before it have none.
+unfoldable pub breaches : List Inst → ℕ → Option (List ℕ) → List (ℕ × ℤ) → List Refusal
+breaches insts bound name over = first_with (breaches_by insts bound name over (types_read insts) (known_read insts over))
+
+-- ---- the least
+
+-- a breach at a lower word than another, or at its word with no greater code
+abbrev pub IsBefore : Refusal → Refusal → Type 0
+IsBefore r s = (r.word < s.word) ⊎ ((r.word ≡ s.word) × (r.code ≤ s.code))
+
+-- one of some breaches, which none of them is before
+pub record IsLeast (rs : List Refusal) (r : Refusal) : Type 0 where
+  pub among : Contains rs r
+  pub least : All (IsBefore r) rs
+
+-- the words of instructions ascend, from a word on
+abbrev pub Ascend : ℕ → List Inst → Type 0
+Ascend from [] = Unit {0}
+Ascend from (i ∷ is) = (from ≤ i.word) × Ascend (suc i.word) is
