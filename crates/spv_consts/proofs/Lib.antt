@@ -1,1 +1,9 @@
 pub mod TableLemmas
+pub mod ValueLemmas
+pub mod OverrideLemmas
+pub mod OperationLemmas
+pub mod SpecIdLemmas
+pub mod LengthLemmas
+pub mod RuleLemmas
+pub mod StepLemmas
+pub mod BuildLemmas

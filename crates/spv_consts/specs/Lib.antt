@@ -1,1 +1,14 @@
 pub mod Table
+pub mod Values
+pub mod Literals
+pub mod Overrides
+pub mod Lanes
+pub mod Operations
+pub mod Context
+pub mod State
+pub mod SpecIds
+pub mod Lengths
+pub mod Rules
+pub mod Evaluation
+pub mod Steps
+pub mod Build

@@ -2,6 +2,20 @@
 //! sections 2.9, 3.42.6 and 3.42.7).
 #![tactic(auto)]
 
+mod build;
+mod context;
+mod evaluation;
+mod lanes;
+mod lengths;
+mod literals;
+pub mod numbers;
+mod operations;
+mod overrides;
+mod rules;
+mod spec_ids;
+mod steps;
 pub mod table;
+mod values;
+mod walk;
 
 pub use table::ConstTable;

@@ -1,32 +1,40 @@
 -- Modules in which no pass has a breach.
-use Rattle.std.proofs.Common.{◌≡◌, ℕ, ℤ, Bool, true, false, cond, List, [], Option, Some, None, Result, Ok, Err, refl, subst}
+use Rattle.std.proofs.Common.{◌≡◌, ℕ, ℤ, Bool, true, false, cond, List, Option, Some, None, Result, Ok, Err, refl, subst}
 use Rattle.std.proofs.lemmas.Option.{option_and_then_some}
 use Rattle.spv_base.specs.Entries.{reads}
 use Rattle.spv_base.specs.declared.causes.Refusal.{Refusal}
 use Rattle.spv_base.specs.declared.instructions.Inst.{Inst}
 use Rattle.spv_types.specs.Operands.{id_at}
 use Rattle.spv_types.specs.Types.{Types}
-use Rattle.spv_types.specs.Build.{types_of}
-use Rattle.spv_types.specs.Blocks.{layout_of}
-use Rattle.spv_cfg.specs.Flow.{Flow, flow_of}
+use Rattle.spv_cfg.specs.Flow.{Flow}
+use Rattle.spv_consts.specs.Table.{Constants}
 use Rattle.spv_valid.specs.declared.entry.Entry.{Entry}
-use Rattle.spv_valid.specs.Entry.{Constants, Size, entry_in, entry_of, entry_point, entry_with, required, size_of}
+use Rattle.spv_valid.specs.Entry.{Size, entry_in, entry_of, entry_point, entry_with, required, size_of}
 use Rattle.spv_valid.specs.Stack.{stack_cells}
-use Rattle.spv_valid.specs.Acceptance.{Accepted, IsAccepted, acceptance, accepted, after}
+use Rattle.spv_valid.specs.Acceptance.{Accepted, IsAccepted, acceptance, accepted, after, code_of, front_of, known_of}
+
+after-after : {T U V : Type 0} (due : Result T Refusal) (next : T → Result U Refusal) (last : U → Result V Refusal)
+    → after (after due next) last ≡ after due (λ x. after (next x) last)
+after-after (Ok x) next last = refl
+after-after (Err r) next last = refl
+
+-- the passes, some of them together
+pub in_parts : (insts : List Inst) (bound : ℕ) (name : Option (List ℕ)) (over : List (ℕ × ℤ)) → acceptance insts bound name over ≡
+    after (front_of bound insts) (λ _. after (known_of insts over) (λ known. after (code_of known insts) (λ flow.
+    after (entry_of known.0 known.1 flow insts name) (λ entry. Ok (accepted insts known flow entry)))))
+unfolding acceptance
+in_parts insts bound name over = simp after-after
 
 -- what a pass gave, where all went on to the end
 pub after_ok : {T U : Type 0} (due : Result T Refusal) (next : T → Result U Refusal) (y : U) → after due next ≡ Ok y → (x : T) × (due ≡ Ok x) × (next x ≡ Ok y)
 after_ok (Ok x) next y is = (x, refl, is)
 after_ok (Err r) next y is = absurd (cc)
 
-pub none_refused : (insts : List Inst) (bound : ℕ) (name : Option (List ℕ)) (over : List (ℕ × ℤ)) (types : Types) (flow : Flow) (entry : Entry) (cells : ℕ) (constants : Constants)
-    → constants ≡ [] → types_of insts ≡ Ok types → layout_of types insts ≡ Ok tt → flow_of insts ≡ Ok flow → entry_of types constants flow insts name ≡ Ok entry
-    → cells ≡ stack_cells types insts entry.function
-    → acceptance insts bound name over ≡ Ok (record (accepted insts (types, constants) flow entry) { stack_cells = cells })
-unfolding acceptance
-none_refused insts bound name over types flow entry cells constants none types_are laid flow_is entry_is cells_are =
-    let entry_here : entry_of types [] flow insts name ≡ Ok entry = rw none at entry_is in
-    rw (none, types_are, laid, flow_is, entry_here, cells_are) refl
+pub none_refused : (insts : List Inst) (bound : ℕ) (name : Option (List ℕ)) (over : List (ℕ × ℤ)) (known : Types × Constants) (flow : Flow) (entry : Entry) (cells : ℕ)
+    → front_of bound insts ≡ Ok tt → known_of insts over ≡ Ok known → code_of known insts ≡ Ok flow → entry_of known.0 known.1 flow insts name ≡ Ok entry
+    → cells ≡ stack_cells known.0 insts entry.function
+    → acceptance insts bound name over ≡ Ok (record (accepted insts known flow entry) { stack_cells = cells })
+none_refused insts bound name over known flow entry cells front known_is code entry_is cells_are = rw (in_parts, front, known_is, code, entry_is, cells_are) refl
 
 -- ---- what the pass of the entry point says
 
@@ -56,13 +64,13 @@ unfolding entry_of
 entry_depth ts constants flow insts name e is =
     option_and_then_some _ (entry_point insts name) e (required_some _ e is) (λ i found rest. entry_in-depth ts constants flow insts (id_at i.operands 1) e rest)
 
+depth-carried : (b a : Accepted) → b ≡ a → reads b.entry b.flow.depths ≡ Some b.depth → reads a.entry a.flow.depths ≡ Some a.depth
+depth-carried b a same depth = subst (λ (x : Accepted). reads x.entry x.flow.depths ≡ Some x.depth) same depth
+
 pub accepted_depth : (a : Accepted) → IsAccepted a → reads a.entry a.flow.depths ≡ Some a.depth
-unfolding acceptance
 accepted_depth a h =
-    let types = after_ok (types_of a.insts) _ a h.is in
-    let laid = after_ok (layout_of types.0 a.insts) _ a types.2 in
-    let flow = after_ok (flow_of a.insts) _ a laid.2 in
-    let entry = after_ok (entry_of types.0 [] flow.0 a.insts h.name) _ a flow.2 in
-    let same : accepted a.insts (types.0, []) flow.0 entry.0 ≡ a = cc in
-    let depth : reads entry.0.function flow.0.depths ≡ Some entry.0.depth = entry_depth types.0 [] flow.0 a.insts h.name entry.0 entry.1 in
-    subst (λ (b : Accepted). reads b.entry b.flow.depths ≡ Some b.depth) same depth
+    let front = after_ok (front_of h.bound a.insts) _ a (rw in_parts at h.is) in
+    let known = after_ok (known_of a.insts h.over) _ a front.2 in
+    let flow = after_ok (code_of known.0 a.insts) _ a known.2 in
+    let entry = after_ok (entry_of known.0.0 known.0.1 flow.0 a.insts h.name) _ a flow.2 in
+    depth-carried (accepted a.insts known.0 flow.0 entry.0) a (cc) (entry_depth known.0.0 known.0.1 flow.0 a.insts h.name entry.0 entry.1)

@@ -1,14 +1,20 @@
 -- Which modules are accepted, and what an accepted module is: the rules of each pass over all instructions (SPIR-V 1.6
 -- section 2.16, and this project's profile), where a pass is read only where the passes before it have no breach.
-use Rattle.std.specs.Prelude.{◌≡◌, ℕ, ℤ, List, [], Option, Result, Ok, Err}
+use Rattle.std.specs.Prelude.{◌≡◌, ℕ, ℤ, List, Option, Result, Ok, Err}
 use Rattle.spv_base.specs.declared.causes.Refusal.{Refusal}
 use Rattle.spv_base.specs.declared.instructions.Inst.{Inst}
 use Rattle.spv_types.specs.Types.{Types}
 use Rattle.spv_types.specs.Build.{types_of}
 use Rattle.spv_types.specs.Blocks.{layout_of}
 use Rattle.spv_cfg.specs.Flow.{Flow, flow_of}
+use Rattle.spv_sections.specs.Sections.{sections_of}
+use Rattle.spv_sections.specs.Ids.{ids_of}
+use Rattle.spv_sections.specs.Capabilities.{capabilities_of}
+use Rattle.spv_consts.specs.Table.{Constants}
+use Rattle.spv_consts.specs.Build.{constants_of}
+use Rattle.spv_bodies.specs.Bodies.{bodies_of}
 use Rattle.spv_valid.specs.declared.entry.Entry.{Entry}
-use Rattle.spv_valid.specs.Entry.{Constants, Size, entry_of}
+use Rattle.spv_valid.specs.Entry.{Size, entry_of}
 use Rattle.spv_valid.specs.Stack.{stack_cells}
 
 -- what a debugger reads off an accepted module
@@ -40,14 +46,21 @@ accepted insts known flow entry = record {
   stack_cells = stack_cells known.0 insts entry.function;
 }
 
--- a module with a bound of its ids, for an entry point of a name or the first one, and values for its SpecIds
+-- A module with a Bound of its ids, for an entry point of a name or the first one, and values for its SpecIds: the order of
+-- its sections, its ids, what it declares, its types, its constants, the layout of its blocks, its functions and their
+-- blocks, the bodies of the functions, and its entry point.
 unfoldable pub acceptance : List Inst → ℕ → Option (List ℕ) → List (ℕ × ℤ) → Result Accepted Refusal
 acceptance insts bound name over =
+    after (sections_of insts) (λ _.
+    after (ids_of bound insts) (λ _.
+    after (capabilities_of insts) (λ _.
     after (types_of insts) (λ types.
-    after (layout_of types insts) (λ _.
+    after (constants_of types insts over) (λ known.
+    after (layout_of known.0 insts) (λ _.
     after (flow_of insts) (λ flow.
-    after (entry_of types [] flow insts name) (λ entry.
-    Ok (accepted insts (types, []) flow entry)))))
+    after (bodies_of known.0 known.1 insts) (λ _.
+    after (entry_of known.0 known.1 flow insts name) (λ entry.
+    Ok (accepted insts known flow entry))))))))))
 
 -- a module that is accepted with some bound, entry point and values
 pub record IsAccepted (a : Accepted) : Type 0 where
@@ -55,3 +68,17 @@ pub record IsAccepted (a : Accepted) : Type 0 where
   pub name : Option (List ℕ)
   pub over : List (ℕ × ℤ)
   pub is : acceptance a.insts bound name over ≡ Ok a
+
+-- ---- some passes together
+
+-- the order of the sections, the ids and what a module declares
+abbrev pub front_of : ℕ → List Inst → Result (Unit {0}) Refusal
+front_of bound insts = after (sections_of insts) (λ _. after (ids_of bound insts) (λ _. capabilities_of insts))
+
+-- the types with the lengths of their arrays, and the constants, where blocks are laid out
+abbrev pub known_of : List Inst → List (ℕ × ℤ) → Result (Types × Constants) Refusal
+known_of insts over = after (types_of insts) (λ types. after (constants_of types insts over) (λ known. after (layout_of known.0 insts) (λ _. Ok known)))
+
+-- the functions and their blocks, where their bodies keep the rules
+abbrev pub code_of : Types × Constants → List Inst → Result Flow Refusal
+code_of known insts = after (flow_of insts) (λ flow. after (bodies_of known.0 known.1 insts) (λ _. Ok flow))

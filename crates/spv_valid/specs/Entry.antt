@@ -21,12 +21,9 @@ use Rattle.spv_types.specs.Rules.{is_three_words, is_word}
 use Rattle.spv_types.specs.Blocks.{is_value}
 use Rattle.spv_types.specs.Shapes.{scalar_in}
 use Rattle.spv_cfg.specs.Flow.{Flow}
+use Rattle.spv_consts.specs.Table.{Constants}
 use Rattle.spv_valid.specs.declared.entry.Entry.{Entry}
 use Rattle.spv_valid.specs.declared.opcodes.TheConstants.{ENTRY_POINT, EXECUTION_MODE, EXECUTION_MODE_ID, GL_COMPUTE, LOCAL_SIZE, LOCAL_SIZE_ID, WORKGROUP_SIZE}
-
--- constants, each with its value
-abbrev pub Constants : Type 0
-Constants = List (ℕ × Value)
 
 -- how many invocations a workgroup has in each of the three directions
 abbrev pub Size : Type 0

@@ -1,15 +1,56 @@
 //! Which modules are accepted.
 ghost use Rattle.std.specs.Prelude.{◌≡◌, option_copied};
 ghost use Rattle.spv_base.specs.Answers.{Answers};
-ghost use Rattle.spv_valid.specs.Acceptance.{acceptance};
+ghost use Rattle.spv_valid.specs.Acceptance.{acceptance, code_of, front_of, known_of};
 
 use crate::entry::entry_of;
 use crate::modules::Module;
 use crate::stack::stack_cells;
 use spv_base::{Fail, Inst, Overrides, Refusal};
+use spv_bodies::check_bodies;
 use spv_cfg::Code;
+use spv_consts::ConstTable;
+use spv_sections::{check_capabilities, check_ids, check_sections};
 use spv_types::TypeTable;
 use std::alloc::Global;
+
+/// Checks the order of the sections, the ids and what a module declares.
+fn check_front(alloc: Global, insts: &[Inst], bound: u32) -> Result<(), Fail<Refusal>>
+    ensures { Answers (front_of bound insts.now) result }
+{
+    check_sections(alloc, insts)?;
+    check_ids(alloc, insts, bound)?;
+    check_capabilities(insts)?;
+    Ok(())
+}
+
+/// The types, with the lengths of their arrays, and the constants, where the blocks are laid out.
+fn read_types(
+    alloc: Global,
+    insts: &[Inst],
+    over: &Overrides,
+) -> Result<(TypeTable, ConstTable), Fail<Refusal>>
+    ensures { Answers (known_of insts.now over.now) result }
+{
+    let types = TypeTable::build(alloc, insts)?;
+    let (types, consts) = ConstTable::build(alloc, types, insts, over)?;
+    types.check_layout(alloc, insts)?;
+    Ok((types, consts))
+}
+
+/// The functions and their blocks, where the bodies keep the rules.
+fn read_code(
+    alloc: Global,
+    types: &TypeTable,
+    consts: &ConstTable,
+    insts: &[Inst],
+) -> Result<Code, Fail<Refusal>>
+    ensures { Answers (code_of (types.now, consts.now) insts.now) result }
+{
+    let code = Code::build(alloc, insts)?;
+    check_bodies(alloc, types, consts, insts)?;
+    Ok(code)
+}
 
 /// A module, where no rule is broken.
 ///
@@ -17,7 +58,7 @@ use std::alloc::Global;
 /// has values for its SpecIds.
 ///
 /// Refuses the breach of the first pass that has one: of those at the lowest word the one with the lowest code.
-#[tactic(auto, unfolding(crate::specs::Acceptance::acceptance))]
+#[tactic(auto, using(crate::proofs::AcceptedLemmas::in_parts))]
 pub fn accept(
     alloc: Global,
     insts: Vec<Inst>,
@@ -28,11 +69,10 @@ pub fn accept(
     ensures { Answers (acceptance insts.items bound (option_copied name.entry) over.now) result }
 {
     let list = insts.as_slice();
-    let types = TypeTable::build(alloc, list)?;
-    types.check_layout(alloc, list)?;
-    let code = Code::build(alloc, list)?;
-    let consts = Vec::new(alloc);
-    let entry = entry_of(alloc, &types, consts.as_slice(), &code, list, name)?;
+    check_front(alloc, list, bound)?;
+    let (types, consts) = read_types(alloc, list, over)?;
+    let code = read_code(alloc, &types, &consts, list)?;
+    let entry = entry_of(alloc, &types, &consts, &code, list, name)?;
     let stack_cells = stack_cells(alloc, &types, list, entry.function)?;
     Ok(Module {
         insts,

@@ -8,8 +8,9 @@ use crate::opcodes::{
     ENTRY_POINT, EXECUTION_MODE, EXECUTION_MODE_ID, GL_COMPUTE, LOCAL_SIZE, LOCAL_SIZE_ID,
     WORKGROUP_SIZE,
 };
-use spv_base::{Fail, Inst, Operand, Refusal, Value, find_entry};
+use spv_base::{Fail, Inst, Operand, Refusal, Value};
 use spv_cfg::Code;
+use spv_consts::ConstTable;
 use spv_types::facts::is_constant;
 use spv_types::opcodes::{BUILT_IN, FUNCTION};
 use spv_types::{Facts, Form, TypeTable, id_at, lit_at};
@@ -183,32 +184,32 @@ fn mode_of(insts: &[Inst], op: u16, mode: u32, function: u32) -> Option<&Inst>
 }
 
 /// The size that a constant gives, which has to be a vector of three 32-bit integers.
-fn constant_size(types: &TypeTable, consts: &[(u32, Value)], inst: &Inst) -> Option<(u64, u64, u64)>
+fn constant_size(types: &TypeTable, consts: &ConstTable, inst: &Inst) -> Option<(u64, u64, u64)>
     ensures { result ≡ spec.constant_size types.now consts.now inst.now }
 {
     if !types.is_three_words(inst.ty) {
         return None;
     }
-    match find_entry(consts, inst.id)? {
+    match consts.value(inst.id)? {
         Value::List(values) => numbers_in(values.as_slice()),
         _ => None,
     }
 }
 
 /// The number of a constant that is a 32-bit integer.
-fn word_constant(types: &TypeTable, consts: &[(u32, Value)], facts: &Facts, id: u32) -> Option<u64>
+fn word_constant(types: &TypeTable, consts: &ConstTable, facts: &Facts, id: u32) -> Option<u64>
     ensures { result ≡ spec.word_constant types.now consts.now facts.now id }
 {
     if !types.is_word(facts.constant_type(id)?) {
         return None;
     }
-    number_in(find_entry(consts, id)?)
+    number_in(consts.value(id)?)
 }
 
 /// The size that a LocalSizeId gives.
 fn size_by_ids(
     types: &TypeTable,
-    consts: &[(u32, Value)],
+    consts: &ConstTable,
     facts: &Facts,
     inst: &Inst,
 ) -> Option<(u64, u64, u64)>
@@ -235,7 +236,7 @@ fn size_by_literals(inst: &Inst) -> Option<(u64, u64, u64)>
 /// The size of a workgroup, by a constant decorated WorkgroupSize, else by LocalSizeId, else by LocalSize.
 fn size_of(
     types: &TypeTable,
-    consts: &[(u32, Value)],
+    consts: &ConstTable,
     facts: &Facts,
     insts: &[Inst],
     function: u32,
@@ -286,7 +287,7 @@ fn depth_of(code: &Code, function: u32) -> Option<u32>
 /// The entry whose function has this id, where it keeps the rules.
 fn entry_in(
     types: &TypeTable,
-    consts: &[(u32, Value)],
+    consts: &ConstTable,
     code: &Code,
     facts: &Facts,
     insts: &[Inst],
@@ -317,7 +318,7 @@ fn entry_in(
 pub fn entry_of(
     alloc: Global,
     types: &TypeTable,
-    consts: &[(u32, Value)],
+    consts: &ConstTable,
     code: &Code,
     insts: &[Inst],
     name: Option<&[u8]>,

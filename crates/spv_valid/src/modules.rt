@@ -4,8 +4,9 @@ ghost use Rattle.spv_base.specs.Entries.{reads};
 ghost use Rattle.spv_valid.specs.Acceptance.{IsAccepted};
 
 use crate::entry::Entry;
-use spv_base::{Inst, Value};
+use spv_base::Inst;
 use spv_cfg::Code;
+use spv_consts::ConstTable;
 use spv_types::TypeTable;
 use std::marker::Model;
 
@@ -14,7 +15,7 @@ use std::marker::Model;
 pub struct Module {
     pub(crate) insts: Vec<Inst>,
     pub(crate) types: TypeTable,
-    pub(crate) consts: Vec<(u32, Value)>,
+    pub(crate) consts: ConstTable,
     pub(crate) code: Code,
     pub(crate) entry: Entry,
     pub(crate) stack_cells: u64,
@@ -51,6 +52,13 @@ impl Module {
         ensures { result.now ≡ self.now.types }
     {
         &self.types
+    }
+
+    /// The constants, in the order of the module.
+    pub fn consts(&self) -> &ConstTable
+        ensures { result.now ≡ self.now.constants }
+    {
+        &self.consts
     }
 
     /// The functions and blocks.

@@ -1,0 +1,104 @@
+-- The length of an array changes what only types from that array on count as.
+use Rattle.std.proofs.Common.{◌≡◌, ◌≢◌, ◌∙◌, ℕ, zero, suc, ◌<◌, ◌≤◌, ◌==◌, Bool, true, false, List, [], ◌∷◌, length, Option, Some, None, pos, negsuc, ◌-◌, ◌*◌, ◌^◌, refl, sym, ap, arith}
+use Rattle.std.proofs.Math.Path.{fun_ext}
+use Rattle.std.specs.Prelude.{int_le, nat_le, nat_lt, ◌&&◌, if◌then◌else◌}
+use Rattle.std.specs.Option.{option_map, option_map_or}
+use Rattle.spv_base.specs.Lane.{Lane}
+use Rattle.spv_base.specs.Entries.{writes}
+use Rattle.spv_types.specs.declared.forms.Form.{Form}
+use Rattle.spv_types.specs.declared.limits.Limit.{Limit}
+use Rattle.spv_types.specs.Types.{Types, form_at, form_of, in_first, is_number, lengthened, number_of, with_length}
+use Rattle.spv_types.specs.Limits.{AreLimits, limit_among, limit_step, no_limit}
+use Rattle.spv_alu.specs.Integers.{signed}
+use Rattle.spv_consts.specs.Lengths.{number_in}
+
+-- ---- a form written under an id
+
+number_written : (ts : Types) (id q : ℕ) (f : Form) → number_of (writes id f ts) q ≡ number_of ts q
+number_written [] id q f = refl
+number_written (t ∷ ts) id q f = step (t.0 == id) (number_written ts id q f)
+  where
+    step : (b : Bool) → number_of (writes id f ts) q ≡ number_of ts q → number_of (if b then (t.0, f) ∷ ts else t ∷ writes id f ts) q ≡ number_of (t ∷ ts) q
+    step true h = refl
+    step false h = rw h refl
+
+same_id : (a b : ℕ) → (a == b) ≡ true → a ≡ b
+same_id a b e = grind arith
+
+not_same : (a b : ℕ) → a ≢ b → (a == b) ≡ false
+not_same a b h = grind arith
+
+form_written : (ts : Types) (id q : ℕ) (f : Form) → id ≢ q → form_of (writes id f ts) q ≡ form_of ts q
+form_written [] id q f h = refl
+form_written (t ∷ ts) id q f h = step (t.0 == id) refl (form_written ts id q f h)
+  where
+    step : (b : Bool) → (t.0 == id) ≡ b → form_of (writes id f ts) q ≡ form_of ts q → form_of (if b then (t.0, f) ∷ ts else t ∷ writes id f ts) q ≡ form_of (t ∷ ts) q
+    step true e g =
+        let s : t.0 ≡ id = same_id t.0 id e in
+        let d : (t.0 == q) ≡ false = rw s (not_same id q h) in
+        rw d refl
+    step false e g = rw g refl
+
+at_written : (ts : Types) (id n m : ℕ) (f : Form) → number_of ts id ≡ Some n → m < n → form_at (writes id f ts) m ≡ form_at ts m
+at_written [] id n m f h l = cc
+at_written (t ∷ ts) id n m f h l = step (t.0 == id) (number_of ts id) m n h l (λ k j g p. at_written ts id k j f g p)
+  where
+    step : (b : Bool) (o : Option ℕ) (m n : ℕ) → (if b then Some 0 else option_map suc o) ≡ Some n → m < n → ((k j : ℕ) → o ≡ Some k → j < k → form_at (writes id f ts) j ≡ form_at ts j)
+        → form_at (if b then (t.0, f) ∷ ts else t ∷ writes id f ts) m ≡ form_at (t ∷ ts) m
+    step true o m n h l ih = let e : 0 ≡ n = cc in absurd (omega arith)
+    step false None m n h l ih = cc
+    step false (Some k) zero n h l ih = refl
+    step false (Some k) (suc m) n h l ih = let e : suc k ≡ n = cc in ih k m refl (omega arith)
+
+-- ---- what the types before it give
+
+module _ {A : Type 0} (none : A) (step : (ℕ → A) → Form → A) where
+  first_written : (ts : Types) (id n m q : ℕ) (f : Form) → number_of ts id ≡ Some n → m ≤ n → in_first none step (writes id f ts) m q ≡ in_first none step ts m q
+  unfolding in_first
+  first_written ts id n zero q f h l = refl
+  first_written ts id n (suc m) q f h l = rw (number_written ts id q f) (go (λ p. first_written ts id n m p f h (omega arith)) (is_number m (number_of ts q)) refl)
+    where
+      other : (o : Option ℕ) → number_of ts q ≡ o → is_number m o ≡ true → id ≢ q
+      other None e g s = cc
+      other (Some k) e g s = let a : k ≡ m = same_id k m g in let b : number_of ts id ≡ Some k = rw s e in let c : k ≡ n = cc in omega arith
+
+      go : ((p : ℕ) → in_first none step (writes id f ts) m p ≡ in_first none step ts m p) → (b : Bool) → is_number m (number_of ts q) ≡ b
+          → (if b then option_map_or (step (in_first none step (writes id f ts) m)) (form_of (writes id f ts) q) none else in_first none step (writes id f ts) m q)
+          ≡ (if b then option_map_or (step (in_first none step ts m)) (form_of ts q) none else in_first none step ts m q)
+      go below true e =
+          let same : (λ (p : ℕ). in_first none step (writes id f ts) m p) ≡ (λ (p : ℕ). in_first none step ts m p) = fun_ext below in
+          rw (form_written ts id q f (other (number_of ts q) refl e)) (ap (λ (g : ℕ → A). option_map_or (step g) (form_of ts q) none) same)
+      go below false e = below q
+
+-- what the types before an array count as stays
+pub limits_kept : (ts : Types) (limits : List Limit) (id n : ℕ) → AreLimits ts limits → number_of ts id ≡ Some (length limits) → AreLimits (with_length ts id n) limits
+unfolding with_length limit_among
+limits_kept ts limits id n a h = by_form (form_of ts id)
+  where
+    kept : (f : Form) → AreLimits (writes id f ts) limits
+    kept f = record {
+      limits_are = λ m l.
+          let same : (λ (p : ℕ). in_first no_limit limit_step (writes id f ts) m p) ≡ (λ (p : ℕ). in_first no_limit limit_step ts m p) = fun_ext (λ p. first_written no_limit limit_step ts id (length limits) m p f h (omega arith)) in
+          a.limits_are m l ∙ sym (ap (limit_step (λ p. in_first no_limit limit_step (writes id f ts) m p)) (at_written ts id (length limits) m f h l) ∙ ap (λ (g : ℕ → Limit). limit_step g (form_at ts m)) same);
+    }
+
+    by_form : (o : Option Form) → AreLimits (option_map_or (λ f. writes id (lengthened n f) ts) o ts) limits
+    by_form None = a
+    by_form (Some f) = kept (lengthened n f)
+
+pub next_is : (n : ℕ) (o : Option ℕ) → true ≡ is_number n o → o ≡ Some n
+next_is n None h = cc
+next_is n (Some m) h = let e : m ≡ n = same_id m n (sym h) in ap Some e
+
+-- a number of at least 1 isn't 0
+pub length_positive : (sign : ℕ) (c : Lane) → int_le (pos 1) (number_in sign c) ≡ true → 1 ≤ c.bits
+unfolding signed
+length_positive sign c h = read (sign == 1 && nat_le 1 c.width) h
+  where
+    halved : (b : Bool) → int_le (pos 1) (if b then pos c.bits else negsuc (2 ^ c.width - 1 - c.bits)) ≡ true → 1 ≤ c.bits
+    halved true h = grind arith
+    halved false h = cc
+
+    read : (b : Bool) → int_le (pos 1) (if b then signed c.width c.bits else pos c.bits) ≡ true → 1 ≤ c.bits
+    read true h = halved (nat_lt (2 * c.bits) (2 ^ c.width)) h
+    read false h = grind arith

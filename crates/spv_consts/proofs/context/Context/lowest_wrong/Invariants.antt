@@ -1,0 +1,7 @@
+use Rattle.std.proofs.Common.{◌≡◌, drop}
+use Rattle.spv_consts.specs.SpecIds.{lower, lowest_wrong}
+use Rattle.spv_consts.proofs.context.Context.lowest_wrong.Given as goal
+
+-- the lowest so far, and the lowest of the rest
+abbrev pub invariant-loop-inst : goal.invariant-loop-inst
+invariant-loop-inst l = lower l.lowest (lowest_wrong l.self.all (drop l.inst-index l.insts)) ≡ lowest_wrong l.self.all l.insts

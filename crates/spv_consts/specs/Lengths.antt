@@ -1,0 +1,79 @@
+-- The length of an array type: a defined integer constant of at least 1, read by its type's sign (SPIR-V 1.6 section 3.42.6,
+-- OpTypeArray).
+use Rattle.std.specs.Prelude.{ℕ, ℤ, pos, int_le, nat_le, nat_lt, ◌==◌, ◌&&◌, if◌then◌else◌, Bool, true, false, Option, Some, None}
+use Rattle.std.specs.Option.{option_and_then}
+use Rattle.spv_base.specs.Lane.{Lane}
+use Rattle.spv_base.specs.Entries.{reads}
+use Rattle.spv_base.specs.declared.instructions.Inst.{Inst}
+use Rattle.spv_base.specs.declared.values.Value.{Value, out-Value}
+use Rattle.spv_base.specs.declared.values.Value.TheOpen.{Value-F}
+use Rattle.spv_types.specs.declared.forms.Form.{Form}
+use Rattle.spv_types.specs.declared.forms.Form.TheVariants.{Void, Bool as Boolean, Int, Vector, Array, Runtime, Struct, Pointer, Function}
+use Rattle.spv_types.specs.declared.opcodes.TheConstants.{TYPE_ARRAY}
+use Rattle.spv_types.specs.Operands.{id_at}
+use Rattle.spv_types.specs.Types.{form_of, with_length}
+use Rattle.spv_alu.specs.Integers.{signed}
+use Rattle.spv_index.specs.Definitions.{type_of}
+use Rattle.spv_consts.specs.declared.numbers.TheConstants.{MOST_CELLS}
+use Rattle.spv_consts.specs.Context.{Context}
+use Rattle.spv_consts.specs.State.{State, is_next}
+
+-- the sign of an integer type
+abbrev pub sign_of : Option Form → Option ℕ
+sign_of None = None
+sign_of (Some Void) = None
+sign_of (Some Boolean) = None
+sign_of (Some (Int width sign)) = Some sign
+sign_of (Some (Vector component count)) = None
+sign_of (Some (Array element n stride)) = None
+sign_of (Some (Runtime element stride)) = None
+sign_of (Some (Struct members block)) = None
+sign_of (Some (Pointer class target)) = None
+sign_of (Some (Function returns parameters)) = None
+
+-- the number of a lane, read as signed where the sign is 1
+abbrev pub number_in : ℕ → Lane → ℤ
+number_in sign c = if sign == 1 && nat_le 1 c.width then signed c.width c.bits else pos c.bits
+
+-- a defined number of at least 1, which its bits are
+abbrev pub lane_length : ℕ → Lane → Option ℕ
+lane_length sign c = if c.defined && int_le (pos 1) (number_in sign c) then Some c.bits else None
+
+abbrev pub value_length : ℕ → Value-F Value → Option ℕ
+value_length sign (Value-F.Scalar c) = lane_length sign c
+value_length sign (Value-F.List vs) = None
+value_length sign (Value-F.Ptr p) = None
+
+-- the length that the constant with an id gives
+abbrev pub constant_length : Context → State → ℕ → Option ℕ
+constant_length m s id = option_and_then (λ sign. option_and_then (λ v. value_length sign (out-Value v)) (reads id s.values)) (sign_of (form_of s.types (type_of m.all id)))
+
+-- the length of an array type, and none of another instruction
+abbrev pub length_at : Context → State → Inst → Option ℕ
+length_at m s i = if i.op == TYPE_ARRAY then constant_length m s (id_at i.operands 1) else None
+
+abbrev pub is_unset : Option Form → Bool
+is_unset None = false
+is_unset (Some Void) = false
+is_unset (Some Boolean) = false
+is_unset (Some (Int width sign)) = false
+is_unset (Some (Vector component count)) = false
+is_unset (Some (Array element None stride)) = true
+is_unset (Some (Array element (Some n) stride)) = false
+is_unset (Some (Runtime element stride)) = false
+is_unset (Some (Struct members block)) = false
+is_unset (Some (Pointer class target)) = false
+is_unset (Some (Function returns parameters)) = false
+
+-- the state with the length of the array type that comes next
+abbrev pub with_array : State → ℕ → ℕ → State
+with_array s id n = if is_next s id && is_unset (form_of s.types id) then record s { types = with_length s.types id n } else s
+
+abbrev pub with_length_if : State → ℕ → Option ℕ → Option State
+with_length_if s id None = Some s
+with_length_if s id (Some n) = if nat_lt MOST_CELLS n then None else Some (with_array s id n)
+
+-- The state with the length that an instruction sets. There is none where the array is longer than a type may have cells,
+-- since each element has a cell at least.
+abbrev pub lengthened : Context → State → Inst → Option State
+lengthened m s i = with_length_if s i.id (length_at m s i)

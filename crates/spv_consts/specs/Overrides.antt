@@ -1,0 +1,70 @@
+-- Overrides of specialization constants (SPIR-V 1.6 section 2.9): a number for each constant that has its SpecId. One that
+-- does not fit the type of some constant with its SpecId is left out of account (this project's profile).
+use Rattle.std.specs.Prelude.{ℕ, ◌-◌, ◌^◌, ◌==◌, ◌&&◌, ◌||◌, not, if◌then◌else◌, Bool, false, ℤ, pos, neg_ℤ, int_le, List, [], ◌∷◌, Option, Some, None}
+use Rattle.std.specs.List.{list_any}
+use Rattle.std.specs.Option.{option_map_or, option_and_then}
+use Rattle.spv_base.specs.Lane.{Lane}
+use Rattle.spv_base.specs.Entries.{reads}
+use Rattle.spv_base.specs.declared.instructions.Inst.{Inst}
+use Rattle.spv_types.specs.declared.forms.Form.{Form}
+use Rattle.spv_types.specs.declared.forms.Form.TheVariants.{Void, Bool as Boolean, Int, Vector, Array, Runtime, Struct, Pointer, Function}
+use Rattle.spv_types.specs.declared.opcodes.TheConstants.{SPEC_CONSTANT_TRUE, SPEC_CONSTANT_FALSE, SPEC_CONSTANT}
+use Rattle.spv_types.specs.Types.{Types, form_of}
+use Rattle.spv_types.specs.Facts.{decoration}
+use Rattle.spv_types.specs.Rules.{is_width}
+use Rattle.spv_alu.specs.Results.{integer}
+use Rattle.spv_consts.specs.declared.numbers.TheConstants.{SPEC_ID}
+
+-- pairs of a SpecId and the number for it; the first of a SpecId counts
+abbrev pub Numbers : Type 0
+Numbers = List (ℕ × ℤ)
+
+-- OpSpecConstantTrue, OpSpecConstantFalse and OpSpecConstant, which alone have a SpecId
+abbrev pub is_specializable : ℕ → Bool
+is_specializable op = op == SPEC_CONSTANT_TRUE || (op == SPEC_CONSTANT_FALSE || op == SPEC_CONSTANT)
+
+-- the SpecId of a constant: its first decoration SpecId
+abbrev pub spec_id_of : List Inst → Inst → Option ℕ
+spec_id_of all i = if is_specializable i.op then decoration all i.id SPEC_ID else None
+
+abbrev pub is_between : ℤ → ℤ → ℤ → Bool
+is_between least greatest n = int_le least n && int_le n greatest
+
+-- a number fits a Boolean where it is 0 or 1, and an integer where it is one of that width, signed or unsigned
+abbrev pub fits_form : Option Form → ℤ → Bool
+fits_form None n = false
+fits_form (Some Void) n = false
+fits_form (Some Boolean) n = is_between (pos 0) (pos 1) n
+fits_form (Some (Int width sign)) n = is_width width && is_between (neg_ℤ (pos (2 ^ (width - 1)))) (pos (2 ^ width - 1)) n
+fits_form (Some (Vector component count)) n = false
+fits_form (Some (Array element m stride)) n = false
+fits_form (Some (Runtime element stride)) n = false
+fits_form (Some (Struct members block)) n = false
+fits_form (Some (Pointer class target)) n = false
+fits_form (Some (Function returns parameters)) n = false
+
+abbrev pub is_same : ℕ → Option ℕ → Bool
+is_same n None = false
+is_same n (Some m) = m == n
+
+-- a constant with a SpecId whose type the number for that SpecId does not fit
+abbrev pub is_misfit : List Inst → Types → Numbers → ℕ → Inst → Bool
+is_misfit all ts over spec i = is_same spec (spec_id_of all i) && option_map_or (λ n. not (fits_form (form_of ts i.ty) n)) (reads spec over) false
+
+-- there is one
+unfoldable pub has_misfit : List Inst → Types → Numbers → List Inst → ℕ → Bool
+has_misfit all ts over insts spec = list_any (is_misfit all ts over spec) insts
+
+-- the overrides that hold: those that fit all the constants of their SpecId
+unfoldable pub held_of : List Inst → Types → Numbers → Numbers → Numbers
+held_of all ts over [] = []
+held_of all ts over (o ∷ os) = if has_misfit all ts over all o.0 then held_of all ts over os else o ∷ held_of all ts over os
+
+-- the number that overrides a constant, by the overrides that hold
+abbrev pub override_of : List Inst → Numbers → Inst → Option ℤ
+override_of all held i = option_and_then (λ spec. reads spec held) (spec_id_of all i)
+
+-- a constant's lane, or the low-order bits of the number that overrides it
+abbrev pub overridden : Lane → Option ℤ → Lane
+overridden lane None = lane
+overridden lane (Some n) = integer lane.width n

@@ -1,0 +1,37 @@
+-- Where a decoration SpecId stands on what takes none (SPIR-V 1.6 section 3.20): on a member, or on anything but
+-- OpSpecConstantTrue, OpSpecConstantFalse and OpSpecConstant. It stands at the later one of the decoration and of what it
+-- decorates. A decoration of an id that nothing defines is ignored.
+use Rattle.std.specs.Prelude.{ℕ, ◌==◌, ◌&&◌, ◌||◌, max, min, if◌then◌else◌, Bool, List, [], ◌∷◌, Option, Some, None}
+use Rattle.std.specs.Option.{option_and_then}
+use Rattle.spv_base.specs.declared.instructions.Inst.{Inst}
+use Rattle.spv_types.specs.declared.opcodes.TheConstants.{DECORATE, MEMBER_DECORATE}
+use Rattle.spv_types.specs.Operands.{id_at, lit_at}
+use Rattle.spv_index.specs.Definitions.{defining}
+use Rattle.spv_consts.specs.declared.numbers.TheConstants.{SPEC_ID}
+use Rattle.spv_consts.specs.Overrides.{is_specializable}
+
+-- a decoration SpecId, of an id or of a member
+abbrev pub is_spec_id : Inst → Bool
+is_spec_id d = (d.op == DECORATE && lit_at d.operands 1 == SPEC_ID) || (d.op == MEMBER_DECORATE && lit_at d.operands 2 == SPEC_ID)
+
+-- it stands on an instruction that takes one
+abbrev pub takes_spec_id : Inst → Inst → Bool
+takes_spec_id d i = d.op == DECORATE && is_specializable i.op
+
+abbrev pub wrong_on : Inst → Inst → Option ℕ
+wrong_on d i = if takes_spec_id d i then None else Some (max d.word i.word)
+
+-- the word where a decoration is a SpecId on what takes none
+abbrev pub wrong_spec_id : List Inst → Inst → Option ℕ
+wrong_spec_id all d = if is_spec_id d then option_and_then (wrong_on d) (defining all (id_at d.operands 0)) else None
+
+-- the lower of two words
+abbrev pub lower : Option ℕ → Option ℕ → Option ℕ
+lower None b = b
+lower (Some a) None = Some a
+lower (Some a) (Some b) = Some (min a b)
+
+-- the lowest of these words
+unfoldable pub lowest_wrong : List Inst → List Inst → Option ℕ
+lowest_wrong all [] = None
+lowest_wrong all (d ∷ ds) = lower (wrong_spec_id all d) (lowest_wrong all ds)

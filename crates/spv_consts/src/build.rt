@@ -1,0 +1,98 @@
+//! The constants of a module, and its types with the lengths of arrays.
+ghost use Rattle.std.specs.Prelude.{◌≡◌, IfOk, Result};
+ghost use Rattle.spv_base.specs.declared.causes.Refusal.{Refusal as Breach};
+ghost use Rattle.spv_types.specs.Types.{Types};
+ghost use Rattle.spv_base.specs.Answers.{Answers};
+ghost use Rattle.spv_consts.specs.Table.{Constants};
+ghost use Rattle.spv_consts.specs.Build.{built_of, constants_of, context_of, unless_earlier};
+ghost use Rattle.spv_consts.specs.Steps.{walked};
+
+use crate::context::Context;
+use crate::numbers::RULES_CODE;
+use crate::overrides::held;
+use crate::table::ConstTable;
+use crate::walk::Walk;
+use spv_base::{Fail, Inst, NoMemory, Overrides, Refusal};
+use spv_index::Index;
+use spv_types::{Facts, TypeTable, functions_start};
+use std::alloc::Global;
+
+/// What the constants of a module are read by.
+fn context_of<'a>(
+    alloc: Global,
+    types: &TypeTable,
+    insts: &'a [Inst],
+    over: &Overrides,
+) -> Result<Context<'a>, NoMemory>
+    ensures { IfOk result (λ context. context ≡ context_of types.now insts.now over.now) }
+{
+    let facts = Facts::of(alloc, insts)?;
+    let index = Index::of(alloc, insts)?;
+    let held = held(alloc, &facts, types, over, insts)?;
+    Ok(Context { facts, index, held })
+}
+
+/// A result, or a breach of the rules of SpecId at a word, where that is not after a refusal.
+fn unless_earlier(
+    word: Option<u32>,
+    outcome: Result<(TypeTable, ConstTable), Fail<Refusal>>,
+) -> Result<(TypeTable, ConstTable), Fail<Refusal>>
+    ensures { (due : Result (Types × Constants) Breach) → Answers due outcome → Answers (unless_earlier word due) result }
+{
+    let Some(word) = word else {
+        return outcome;
+    };
+    let earlier = Fail::Refused(Refusal {
+        code: RULES_CODE,
+        word,
+    });
+    match outcome {
+        Ok(_) => Err(earlier),
+        Err(Fail::NoMemory) => Err(Fail::NoMemory),
+        Err(Fail::Refused(refusal)) => {
+            if word <= refusal.word {
+                Err(earlier)
+            } else {
+                Err(Fail::Refused(refusal))
+            }
+        }
+    }
+}
+
+impl ConstTable {
+    /// The constants of a module by the instructions before its functions, with overrides by SpecId, and the types of
+    /// the module with the lengths of their arrays set.
+    ///
+    /// An override that does not fit each constant of its SpecId is left out of account. Refuses the lowest breach: M14
+    /// where an instruction breaks a rule of constants or array lengths, or takes no SpecId that it has, and M18 at a type
+    /// that is nested over 32 deep or has more than 4,194,304 cells, and at the constant with which all have more.
+    pub fn build(
+        alloc: Global,
+        types: TypeTable,
+        insts: &[Inst],
+        over: &Overrides,
+    ) -> Result<(TypeTable, ConstTable), Fail<Refusal>>
+        ensures { Answers (constants_of types insts.now over.now) result }
+    {
+        let context = context_of(alloc, &types, insts, over)?;
+        let word = context.lowest_wrong(insts);
+        let front = &insts[..functions_start(insts)];
+        let outcome = Walk::new(alloc, types).built(alloc, &context, front);
+        unless_earlier(word, outcome)
+    }
+}
+
+impl Walk {
+    /// The types and the constants after some instructions.
+    fn built(
+        self,
+        alloc: Global,
+        context: &Context,
+        insts: &[Inst],
+    ) -> Result<(TypeTable, ConstTable), Fail<Refusal>>
+        ensures { Answers (built_of (walked context.now self insts.now)) result }
+    {
+        let Walk { types, values, .. } = self.walked(alloc, context, insts)?;
+        Ok((types, values))
+    }
+}

@@ -1,0 +1,64 @@
+//! What the constants of a module are read by.
+ghost use Rattle.std.specs.Prelude.{◌≡◌};
+ghost use Rattle.spv_index.specs.Definitions.{type_of};
+ghost use Rattle.spv_consts.specs.Context.{has_undef_before, is_undef_before};
+ghost use Rattle.spv_consts.specs.Overrides.{override_of};
+
+use crate::overrides::spec_id_of;
+use spv_base::Inst;
+use spv_index::{Index, Table};
+use spv_types::Facts;
+use spv_types::opcodes::UNDEF;
+use std::marker::Model;
+
+/// The instructions of a module, with look-ups, and the overrides that hold.
+#[derive(Drop)]
+pub(crate) struct Context<'a> {
+    pub(crate) facts: Facts<'a>,
+    pub(crate) index: Index<'a>,
+    pub(crate) held: Table<i128>,
+}
+
+impl<'a> Model for Context<'a> {
+    ghost use Rattle.std.specs.Prelude.{◌≡◌};
+    ghost use Rattle.spv_consts.specs.Context as spec;
+
+    ghost Value = { spec.Context };
+
+    ghost view = { λ c. record { all = c.facts; held = c.held } };
+
+    ghost invariant = { λ c. c.index ≡ c.facts };
+}
+
+fn is_undef_before(word: u32, inst: &Inst) -> bool
+    ensures { result ≡ is_undef_before word inst.now }
+{
+    inst.op == UNDEF && inst.word < word
+}
+
+impl<'a> Context<'a> {
+    /// The type that an id's instruction has, or 0.
+    pub(crate) fn type_of(&self, id: u32) -> u32
+        ensures { result ≡ type_of self.now.all id }
+    {
+        self.index.type_of(id)
+    }
+
+    /// Whether an id is an OpUndef before a word.
+    pub(crate) fn has_undef_before(&self, word: u32, id: u32) -> bool
+        ensures { result ≡ has_undef_before self.now word id }
+    {
+        match self.index.defining(id) {
+            Some(inst) => is_undef_before(word, inst),
+            None => false,
+        }
+    }
+
+    /// The number that overrides a constant.
+    pub(crate) fn override_of(&self, inst: &Inst) -> Option<i128>
+        ensures { result ≡ override_of self.now.all self.now.held inst.now }
+    {
+        let spec = spec_id_of(&self.facts, inst)?;
+        self.held.get(spec)
+    }
+}

@@ -1,0 +1,113 @@
+//! The lengths of array types.
+ghost use Rattle.std.specs.Prelude.{◌≡◌, ◌≤◌, Some, IfSome};
+ghost use Rattle.spv_base.specs.declared.values.Value.{out-Value};
+ghost use Rattle.spv_types.specs.Types.{form_of};
+ghost use Rattle.spv_consts.specs.Lengths as spec;
+
+use crate::context::Context;
+use crate::numbers::MOST_CELLS;
+use crate::walk::Walk;
+use spv_alu::integers::signed;
+use spv_base::{Cell, Inst, Value};
+use spv_types::opcodes::TYPE_ARRAY;
+use spv_types::{Form, TypeTable, id_at};
+
+/// The sign of an integer type.
+fn sign_of(types: &TypeTable, ty: u32) -> Option<u32>
+    ensures { result ≡ spec.sign_of (form_of types.now ty) }
+{
+    match types.form(ty) {
+        Some(Form::Int { sign, .. }) => Some(*sign),
+        _ => None,
+    }
+}
+
+/// The number of a lane, read as signed where the sign is 1.
+fn number_in(sign: u32, cell: Cell) -> i128
+    ensures { result ≡ spec.number_in sign cell }
+{
+    if sign == 1 && cell.width >= 1 {
+        i128::from(signed(cell.bits, cell.width))
+    } else {
+        i128::from(cell.bits)
+    }
+}
+
+/// A defined number of at least 1.
+#[tactic(auto, using(crate::proofs::LengthLemmas::length_positive))]
+fn lane_length(sign: u32, cell: Cell) -> Option<u64>
+    ensures length { result ≡ spec.lane_length sign cell }
+    ensures positive { IfSome result (λ length. 1 ≤ length) }
+{
+    if cell.defined && number_in(sign, cell) >= 1 {
+        Some(cell.bits)
+    } else {
+        None
+    }
+}
+
+fn value_length(sign: u32, value: &Value) -> Option<u64>
+    ensures length { result ≡ spec.value_length sign (out-Value value.now) }
+    ensures positive { IfSome result (λ length. 1 ≤ length) }
+{
+    match value {
+        Value::Scalar(cell) => lane_length(sign, *cell),
+        Value::List(_) => None,
+        Value::Ptr(_) => None,
+    }
+}
+
+/// Whether a type is an array without a length.
+fn is_unset(types: &TypeTable, ty: u32) -> bool
+    ensures { result ≡ spec.is_unset (form_of types.now ty) }
+{
+    matches!(types.form(ty), Some(Form::Array { length: None, .. }))
+}
+
+impl Walk {
+    /// The length that the constant with an id gives.
+    fn constant_length(&self, context: &Context, id: u32) -> Option<u64>
+        ensures length { result ≡ spec.constant_length context.now self.now id }
+        ensures positive { IfSome result (λ length. 1 ≤ length) }
+    {
+        let sign = sign_of(&self.types, context.type_of(id))?;
+        let value = self.values.value(id)?;
+        value_length(sign, value)
+    }
+
+    /// The length of an array type.
+    pub(crate) fn length_at(&self, context: &Context, inst: &Inst) -> Option<u64>
+        ensures length { result ≡ spec.length_at context.now self.now inst.now }
+        ensures positive { IfSome result (λ length. 1 ≤ length) }
+    {
+        if inst.op == TYPE_ARRAY {
+            self.constant_length(context, id_at(inst, 1))
+        } else {
+            None
+        }
+    }
+
+    /// Gives a length to the array type that comes next.
+    fn with_array(mut self, id: u32, length: u32) -> Walk
+        requires { 1 ≤ length }
+        ensures { result ≡ spec.with_array self id length }
+    {
+        if self.is_next(id) && is_unset(&self.types, id) {
+            self.types.set_length(id, length);
+        }
+        self
+    }
+
+    /// Sets the length of an array type. There is no walk where it is longer than a type may have cells.
+    pub(crate) fn lengthened(self, context: &Context, inst: &Inst) -> Option<Walk>
+        ensures { result ≡ spec.lengthened context.now self inst.now }
+    {
+        let Some(length) = self.length_at(context, inst) else {
+            return Some(self);
+        };
+        if length > MOST_CELLS {
+            return None;
+        }
+        Some(self.with_array(inst.id, length as u32))
+    }
+}

@@ -1,0 +1,169 @@
+//! The rules of constants and of array lengths.
+ghost use Rattle.std.specs.Prelude.{◌≡◌, drop};
+ghost use Rattle.spv_types.specs.Types.{form_of};
+ghost use Rattle.spv_consts.specs.Rules as spec;
+
+use crate::context::Context;
+use crate::literals::{integer_width, keeps_literal};
+use crate::walk::Walk;
+use spv_base::{Inst, Operand};
+use spv_types::facts::is_constant;
+use spv_types::opcodes::{
+    CONSTANT, CONSTANT_COMPOSITE, CONSTANT_NULL, SPEC_CONSTANT, SPEC_CONSTANT_COMPOSITE,
+    SPEC_CONSTANT_OP, TYPE_ARRAY,
+};
+use spv_types::{Form, TypeTable, id_of, lit_at};
+use spv_typing::{fits, is_constant_operation, operand_count};
+
+/// The number of parts of a vector, array or struct.
+fn part_count(types: &TypeTable, ty: u32) -> Option<usize>
+    ensures { result ≡ spec.part_count (form_of types.now ty) }
+{
+    match types.form(ty) {
+        Some(Form::Vector { count, .. }) => Some(*count as usize),
+        Some(
+            Form::Array {
+                length: Some(length),
+                ..
+            },
+        ) => Some(*length as usize),
+        Some(Form::Struct { members, .. }) => Some(members.len()),
+        _ => None,
+    }
+}
+
+/// The type of a part.
+fn part_type(types: &TypeTable, ty: u32, part: usize) -> Option<u32>
+    ensures { result ≡ spec.part_type_of (form_of types.now ty) part }
+{
+    match types.form(ty) {
+        Some(Form::Vector { component, .. }) => Some(*component),
+        Some(Form::Array { element, .. }) => Some(*element),
+        Some(Form::Runtime { element, .. }) => Some(*element),
+        Some(Form::Struct { members, .. }) => Some(members.get(part)?.ty),
+        _ => None,
+    }
+}
+
+/// The opcode of an OpSpecConstantOp.
+pub(crate) fn opcode_of(inst: &Inst) -> Option<u16>
+    ensures { result ≡ spec.opcode_of inst.now }
+{
+    let op = lit_at(inst, 0);
+    if op < 65_536 { Some(op as u16) } else { None }
+}
+
+fn is_boolean(types: &TypeTable, ty: u32) -> bool
+    ensures { result ≡ spec.is_boolean (form_of types.now ty) }
+{
+    matches!(types.form(ty), Some(Form::Bool))
+}
+
+/// The operands of an OpSpecConstantOp after its opcode.
+fn operands_of(inst: &Inst) -> &[Operand]
+    ensures { result.now ≡ drop 1 inst.now.operands }
+{
+    let operands = inst.operands.as_slice();
+    if operands.is_empty() {
+        return operands;
+    }
+    &operands[1..]
+}
+
+/// Whether there are as many operands as an operation has, and its opcode.
+fn keeps_count(inst: &Inst, op: u16) -> bool
+    ensures { result ≡ spec.keeps_count inst.now op }
+{
+    match operand_count(op) {
+        Some(count) => inst.operands.len() == count as usize + 1,
+        None => false,
+    }
+}
+
+impl Walk {
+    /// Whether a constituent is a constant or an OpUndef before the composite, of a part's type.
+    fn keeps_part(&self, context: &Context, inst: &Inst, part: usize, id: u32) -> bool
+        ensures { result ≡ spec.keeps_part context.now self.now inst.now.word (spec.part_type_of (form_of self.now.types inst.now.ty) part) id }
+    {
+        self.is_operand(context, inst.word, id)
+            && part_type(&self.types, inst.ty, part) == Some(context.type_of(id))
+    }
+
+    /// Whether constituents are of the types of the parts.
+    fn keeps_parts(&self, context: &Context, inst: &Inst) -> bool
+        ensures { result ≡ spec.keeps_parts context.now self.now inst.now.word (form_of self.now.types inst.now.ty) 0 inst.now.operands }
+    {
+        for (part, operand) in inst.operands.as_slice().iter().enumerate() {
+            if !self.keeps_part(context, inst, part, id_of(operand)) {
+                return false;
+            }
+        }
+        true
+    }
+
+    /// Whether a composite has one constituent for each part.
+    fn keeps_composite(&self, context: &Context, inst: &Inst) -> bool
+        ensures { result ≡ spec.keeps_composite context.now self.now inst.now (form_of self.now.types inst.now.ty) }
+    {
+        part_count(&self.types, inst.ty) == Some(inst.operands.len())
+            && self.keeps_parts(context, inst)
+    }
+
+    /// Whether each operand is a constant or an OpUndef before a word.
+    fn are_operands(&self, context: &Context, word: u32, operands: &[Operand]) -> bool
+        ensures { result ≡ spec.are_operands context.now self.now word operands.now }
+    {
+        for operand in operands {
+            if !self.is_operand(context, word, id_of(operand)) {
+                return false;
+            }
+        }
+        true
+    }
+
+    /// Whether an operation has as many operands as it wants, of types that fit the result.
+    fn keeps_opcode(&self, context: &Context, inst: &Inst, op: u16) -> bool
+        ensures { result ≡ spec.keeps_opcode context.now self.now inst.now op }
+    {
+        is_constant_operation(op)
+            && keeps_count(inst, op)
+            && self.are_operands(context, inst.word, operands_of(inst))
+            && fits(&self.types, &context.index, inst, op, 1)
+    }
+
+    /// Whether an OpSpecConstantOp keeps its rules.
+    fn keeps_operation(&self, context: &Context, inst: &Inst) -> bool
+        ensures { result ≡ spec.keeps_operation context.now self.now inst.now }
+    {
+        match opcode_of(inst) {
+            Some(op) => self.keeps_opcode(context, inst, op),
+            None => false,
+        }
+    }
+
+    /// Whether a constant keeps the rule of its kind.
+    fn keeps_kind(&self, context: &Context, inst: &Inst) -> bool
+        ensures { result ≡ spec.keeps_kind context.now self.now inst.now }
+    {
+        match inst.op {
+            CONSTANT_COMPOSITE | SPEC_CONSTANT_COMPOSITE => self.keeps_composite(context, inst),
+            CONSTANT_NULL => true,
+            SPEC_CONSTANT_OP => self.keeps_operation(context, inst),
+            CONSTANT | SPEC_CONSTANT => keeps_literal(integer_width(&self.types, inst.ty), inst),
+            _ => is_boolean(&self.types, inst.ty),
+        }
+    }
+
+    /// Whether an instruction keeps the rules of constants and array lengths.
+    pub(crate) fn keeps_rules(&self, context: &Context, inst: &Inst) -> bool
+        ensures { result ≡ spec.keeps_rules context.now self.now inst.now }
+    {
+        if inst.op == TYPE_ARRAY {
+            return self.length_at(context, inst).is_some();
+        }
+        if !is_constant(inst.op) {
+            return true;
+        }
+        self.types.is_sized_data(inst.ty) && self.keeps_kind(context, inst)
+    }
+}
