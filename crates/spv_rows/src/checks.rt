@@ -9,12 +9,13 @@ const CHECK: &str = "spvdbg check module.spv";
 const ACCEPTED: &str = "accepted: words 67, instructions 18\n";
 
 /// A word of the shader and what it becomes, how many bytes of it there are, and the line of its refusal.
-const REFUSED: [(usize, u32, usize, &str); 17] = [
+const REFUSED: [(usize, u32, usize, &str); 19] = [
     (67, 0, 0, "module refused: M1 at word 0\n"),
     (67, 0, 19, "module refused: M1 at word 0\n"),
     (66, 0x0002_0038, 268, "module refused: M5 at word 66\n"),
     (60, 0x0005_0081, 268, "module refused: M6 at word 60\n"),
     (7, 0x0003_0003, 268, "module refused: M10 at word 10\n"),
+    (21, 0x0002_00F8, 268, "module refused: M10 at word 21\n"),
     (3, 5, 268, "module refused: M8 at word 10\n"),
     (36, 6, 268, "module refused: M8 at word 38\n"),
     (63, 12, 268, "module refused: M8 at word 60\n"),
@@ -22,6 +23,7 @@ const REFUSED: [(usize, u32, usize, &str); 17] = [
     (64, 8, 268, "module refused: M9 at word 60\n"),
     (6, 6, 268, "module refused: M11 at word 5\n"),
     (28, 33, 268, "module refused: M12 at word 26\n"),
+    (52, 12, 268, "module refused: M13 at word 49\n"),
     (35, 1, 268, "module refused: M14 at word 34\n"),
     (59, 5, 268, "module refused: M12 at word 56\n"),
     (67, 0, 264, "module refused: M15 at word 42\n"),
