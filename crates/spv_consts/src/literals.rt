@@ -1,5 +1,5 @@
 //! Literals of integer constants.
-ghost use Rattle.std.specs.Prelude.{◌≡◌, Some};
+ghost use Rattle.std.specs.Prelude.{◌≡◌};
 ghost use Rattle.spv_types.specs.Types.{form_of};
 ghost use Rattle.spv_consts.specs.Literals.{integer_width, keeps_literal, literal_lane, literal_number, word_count};
 

@@ -1,8 +1,6 @@
 //! The value of an operation of OpSpecConstantOp on values.
 ghost use Rattle.std.specs.Prelude.{◌≡◌, IfOk, map};
-ghost use Rattle.std.specs.Option.{is_some};
 ghost use Rattle.spv_base.specs.declared.values.Value.{out-Value};
-ghost use Rattle.spv_alu.specs.Unary.{unary_op};
 ghost use Rattle.spv_types.specs.Types.{form_of};
 ghost use Rattle.spv_consts.specs.Operations as spec;
 

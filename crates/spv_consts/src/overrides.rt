@@ -1,9 +1,8 @@
 //! Overrides of specialization constants.
-ghost use Rattle.std.specs.Prelude.{◌≡◌, ◌∷◌, ◌||◌, ℕ, [], IfOk, OnOk, pos, int_le};
+ghost use Rattle.std.specs.Prelude.{◌≡◌, ◌||◌, ℕ, IfOk, OnOk};
 ghost use Rattle.std.specs.BTreeMap.{get};
 ghost use Rattle.std.specs.Ordering.{nat_cmp};
 ghost use Rattle.std.specs.Option.{is_some};
-ghost use Rattle.spv_base.specs.Entries.{reads};
 ghost use Rattle.spv_types.specs.Types.{form_of};
 ghost use Rattle.spv_consts.specs.Overrides as spec;
 

@@ -1,5 +1,5 @@
 //! The table of the constants of a module.
-ghost use Rattle.std.specs.Prelude.{◌≡◌, [], ◌∷◌, ◌++◌, IfOk, OnOk, OnErr, option_copied};
+ghost use Rattle.std.specs.Prelude.{◌≡◌, [], ◌∷◌, ◌++◌, OnOk, OnErr, option_copied};
 ghost use Rattle.spv_base.specs.Entries.{reads};
 ghost use Rattle.spv_consts.specs.Table.{place_of};
 
@@ -17,7 +17,7 @@ pub struct ConstTable {
 }
 
 impl Model for ConstTable {
-    ghost use Rattle.std.specs.Prelude.{◌≡◌, ℕ, List};
+    ghost use Rattle.std.specs.Prelude.{◌≡◌, ℕ};
     ghost use Rattle.std.specs.Ordering.{nat_cmp};
     ghost use Rattle.std.specs.BTreeMap as tree;
     ghost use Rattle.std.specs.Coded.{codes};
