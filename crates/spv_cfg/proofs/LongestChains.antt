@@ -5,7 +5,7 @@ use Rattle.std.specs.List.{Contains}
 use Rattle.spv_cfg.specs.Calls.{most, longest, limit, IsChain, IsLongest}
 use Rattle.spv_cfg.proofs.Chains.{longest-suc, longest-le, most-le}
 
-most-ge : (level : ℕ → ℕ) (f g : ℕ) (calls : List (ℕ × ℕ)) → Contains calls (f, g) → level g ≤ most level f calls
+pub most-ge : (level : ℕ → ℕ) (f g : ℕ) (calls : List (ℕ × ℕ)) → Contains calls (f, g) → level g ≤ most level f calls
 most-ge level f g [] (k, lt, is) = absurd (omega arith)
 most-ge level f g (call ∷ calls) (zero, lt, is) =
     let test : eqb call.0 f ≡ true = eq-eqb call.0 f (ap (λ (c : ℕ × ℕ). c.0) is) in
@@ -17,10 +17,10 @@ most-ge level f g (call ∷ calls) (suc k, lt, is) =
     omega arith
 
 -- the most is none, or some callee's
-abbrev Comes : (ℕ → ℕ) → ℕ → List (ℕ × ℕ) → ℕ → Type 0
+abbrev pub Comes : (ℕ → ℕ) → ℕ → List (ℕ × ℕ) → ℕ → Type 0
 Comes level f calls m = (m ≡ 0) ⊎ ((g : ℕ) × Contains calls (f, g) × (level g ≡ m))
 
-most-comes : (level : ℕ → ℕ) (f : ℕ) (calls : List (ℕ × ℕ)) → Comes level f calls (most level f calls)
+pub most-comes : (level : ℕ → ℕ) (f : ℕ) (calls : List (ℕ × ℕ)) → Comes level f calls (most level f calls)
 most-comes level f [] = inl refl
 most-comes level f (call ∷ calls) =
     let P : ℕ → Type 0 = Comes level f (call ∷ calls) in

@@ -6,12 +6,19 @@ use Rattle.spv_base.specs.declared.causes.Refusal.{Refusal}
 use Rattle.spv_base.specs.declared.instructions.Inst.{Inst}
 use Rattle.spv_types.specs.Operands.{id_at}
 use Rattle.spv_types.specs.Types.{Types}
-use Rattle.spv_cfg.specs.Flow.{Flow}
+use Rattle.spv_types.specs.Build.{types_of}
+use Rattle.spv_types.specs.Blocks.{layout_of, nothing}
+use Rattle.spv_cfg.specs.Flow.{Flow, flow_of}
+use Rattle.spv_sections.specs.Sections.{sections_of}
+use Rattle.spv_sections.specs.Ids.{ids_of}
+use Rattle.spv_sections.specs.Capabilities.{capabilities_of}
+use Rattle.spv_consts.specs.Build.{constants_of}
+use Rattle.spv_bodies.specs.Bodies.{bodies_of}
 use Rattle.spv_consts.specs.Table.{Constants}
 use Rattle.spv_valid.specs.declared.entry.Entry.{Entry}
 use Rattle.spv_valid.specs.Entry.{Size, entry_in, entry_of, entry_point, entry_with, required, size_of}
 use Rattle.spv_valid.specs.Stack.{stack_cells}
-use Rattle.spv_valid.specs.Acceptance.{Accepted, IsAccepted, acceptance, accepted, after, code_of, front_of, known_of}
+use Rattle.spv_valid.specs.Acceptance.{Accepted, IsAccepted, Passes, acceptance, accepted, after, code_of, front_of, known_of}
 
 after-after : {T U V : Type 0} (due : Result T Refusal) (next : T → Result U Refusal) (last : U → Result V Refusal)
     → after (after due next) last ≡ after due (λ x. after (next x) last)
@@ -74,3 +81,46 @@ accepted_depth a h =
     let flow = after_ok (code_of known.0 a.insts) _ a known.2 in
     let entry = after_ok (entry_of known.0.0 known.0.1 flow.0 a.insts h.name) _ a flow.2 in
     depth-carried (accepted a.insts known.0 flow.0 entry.0) a (cc) (entry_depth known.0.0 known.0.1 flow.0 a.insts h.name entry.0 entry.1)
+
+-- ---- pass by pass
+
+passes_seen : (insts : List Inst) (bound : ℕ) (name : Option (List ℕ)) (over : List (ℕ × ℤ)) (declared : Types) (known : Types × Constants) (flow : Flow) (entry : Entry)
+    → sections_of insts ≡ Ok nothing → ids_of bound insts ≡ Ok nothing → capabilities_of insts ≡ Ok nothing → types_of insts ≡ Ok declared
+    → constants_of declared insts over ≡ Ok known → layout_of known.0 insts ≡ Ok nothing → flow_of insts ≡ Ok flow → bodies_of known.0 known.1 insts ≡ Ok nothing
+    → entry_of known.0 known.1 flow insts name ≡ Ok entry → Passes (accepted insts known flow entry) bound name over
+passes_seen insts bound name over declared known flow entry sections ids capabilities types constants layout code bodies start = record {
+  sections = sections;
+  ids = ids;
+  capabilities = capabilities;
+  declared = declared;
+  types = types;
+  constants = constants;
+  layout = layout;
+  flow = code;
+  bodies = bodies;
+  entry = start;
+  cells = refl;
+}
+
+passes_carried : (b a : Accepted) (bound : ℕ) (name : Option (List ℕ)) (over : List (ℕ × ℤ)) → b ≡ a → Passes b bound name over → Passes a bound name over
+passes_carried b a bound name over same passes = subst (λ (x : Accepted). Passes x bound name over) same passes
+
+pub accepted_passes : (a : Accepted) (bound : ℕ) (name : Option (List ℕ)) (over : List (ℕ × ℤ)) → acceptance a.insts bound name over ≡ Ok a → Passes a bound name over
+unfolding acceptance
+accepted_passes a bound name over is =
+    let sections = after_ok (sections_of a.insts) _ a is in
+    let ids = after_ok (ids_of bound a.insts) _ a sections.2 in
+    let capabilities = after_ok (capabilities_of a.insts) _ a ids.2 in
+    let types = after_ok (types_of a.insts) _ a capabilities.2 in
+    let constants = after_ok (constants_of types.0 a.insts over) _ a types.2 in
+    let layout = after_ok (layout_of constants.0.0 a.insts) _ a constants.2 in
+    let flow = after_ok (flow_of a.insts) _ a layout.2 in
+    let bodies = after_ok (bodies_of constants.0.0 constants.0.1 a.insts) _ a flow.2 in
+    let entry = after_ok (entry_of constants.0.0 constants.0.1 flow.0 a.insts name) _ a bodies.2 in
+    passes_carried (accepted a.insts constants.0 flow.0 entry.0) a bound name over (cc)
+    (passes_seen a.insts bound name over types.0 constants.0 flow.0 entry.0 sections.1 ids.1 capabilities.1 types.1 constants.1 layout.1 flow.1 bodies.1 entry.1)
+
+pub passed_accepted : (a : Accepted) (bound : ℕ) (name : Option (List ℕ)) (over : List (ℕ × ℤ)) → Passes a bound name over → acceptance a.insts bound name over ≡ Ok a
+unfolding acceptance
+passed_accepted a bound name over passes =
+    rw (passes.sections, passes.ids, passes.capabilities, passes.types, passes.constants, passes.layout, passes.flow, passes.bodies, passes.entry, ← passes.cells) refl

@@ -1,5 +1,5 @@
 -- Cells of functions, and of chains of calls, one more at a time.
-use Rattle.std.proofs.Common.{◌≡◌, ◌<◌, ◌≤◌, ◌+◌, ◌-◌, ◌^◌, ℕ, zero, suc, List, [], ◌∷◌, length, get_or, drop, set, max, min, eqb, cond, add-one, refl, ◌∙◌, arith, rules, Bool, true, false, IfSome, Option, Some, None}
+use Rattle.std.proofs.Common.{⊎_elim, ◌≡◌, ◌<◌, ◌≤◌, ◌+◌, ◌-◌, ◌^◌, ℕ, zero, suc, List, [], ◌∷◌, length, get_or, drop, set, max, min, eqb, cond, add-one, refl, ◌∙◌, arith, rules, Bool, true, false, IfSome, Option, Some, None}
 use Rattle.std.specs.List.{All, flat_map}
 use Rattle.std.proofs.lemmas.Grind.{common_steps}
 use Rattle.std.proofs.lemmas.List.Elements.{All-nil, All-append, All-head, All-tail}
@@ -10,10 +10,12 @@ use Rattle.spv_cfg.specs.Roles.{sets_of}
 use Rattle.spv_types.specs.Cuts.{cut}
 use Rattle.spv_types.specs.Types.{Types}
 use Rattle.spv_cfg.specs.Sites.{Stand, in_function}
-use Rattle.spv_cfg.specs.Calls.{calls_in, functions_of, limit, most, numbered}
+use Rattle.spv_cfg.specs.Calls.{IsChain, calls_in, functions_of, limit, longest, most, numbered}
 use Rattle.spv_cfg.proofs.Backwards.{drop_back}
-use Rattle.spv_cfg.proofs.Chains.{Within}
-use Rattle.spv_valid.specs.Stack.{heaviest, kept, kept_by, kept_cells, kept_in, stack_cells, weight}
+use Rattle.spv_cfg.proofs.Chains.{Within, most-le}
+use Rattle.spv_cfg.proofs.LongestChains.{long_is_refused, most-comes, most-ge}
+use Rattle.std.proofs.lemmas.Bool.{cases_lt}
+use Rattle.spv_valid.specs.Stack.{IsHeaviest, chain_cells, heaviest, kept, kept_by, kept_cells, kept_in, stack_cells, weight}
 
 pub weight-nil : (f : ℕ) → weight [] f ≡ 0
 unfolding weight
@@ -132,3 +134,41 @@ stack_cells-some ts insts id k v xs n sets numbers sets_are numbers_are read lt 
     let here : get_or xs k 0 ≡ cut (heaviest limit (weight (kept ts (sets_of insts) (numbered 0 (functions_of insts)) insts)) (calls_in (sets_of insts) (numbered 0 (functions_of insts)) insts) k)
     = heaviest_are k lt ∙ rw (sets_are, numbers_are) refl in
     at ∙ here ∙ rw read_here refl
+
+-- ---- the heaviest chains are chains, and no chain is heavier
+
+heaviest_is_reached : (k : ℕ) (weigh : ℕ → ℕ) (calls : List (ℕ × ℕ)) (f : ℕ)
+    → (chain : List ℕ) × IsChain calls f chain × (chain_cells weigh f chain ≡ heaviest (suc k) weigh calls f)
+heaviest_is_reached zero weigh calls f =
+    let none : most (λ g. heaviest zero weigh calls g) f calls ≤ 0 = most-le (λ g. heaviest zero weigh calls g) 0 f calls (λ g. rw heaviest-zero (omega arith)) in
+    ([], tt, rw heaviest-suc (omega arith))
+heaviest_is_reached (suc k) weigh calls f =
+    ⊎_elim
+    (λ (none : most (λ g. heaviest (suc k) weigh calls g) f calls ≡ 0). ([], tt, rw heaviest-suc (omega arith)))
+    (λ (g, has, same).
+    let behind = heaviest_is_reached k weigh calls g in
+    (g ∷ behind.0, (has, behind.1), rw heaviest-suc (omega (arith, behind.2, same))))
+    (most-comes (λ g. heaviest (suc k) weigh calls g) f calls)
+
+chain_is_no_heavier : (k : ℕ) (weigh : ℕ → ℕ) (calls : List (ℕ × ℕ)) (f : ℕ) (chain : List ℕ) → IsChain calls f chain → suc (length chain) ≤ k
+    → chain_cells weigh f chain ≤ heaviest k weigh calls f
+chain_is_no_heavier zero weigh calls f chain is_chain le = absurd (omega arith)
+chain_is_no_heavier (suc k) weigh calls f [] is_chain le = rw heaviest-suc (omega arith)
+chain_is_no_heavier (suc k) weigh calls f (g ∷ more) (has, rest) le =
+    let few : suc (length more) ≤ k = omega arith in
+    let behind : chain_cells weigh g more ≤ heaviest k weigh calls g = chain_is_no_heavier k weigh calls g more rest few in
+    let callee : heaviest k weigh calls g ≤ most (λ h. heaviest k weigh calls h) f calls = most-ge (λ h. heaviest k weigh calls h) f g calls has in
+    rw heaviest-suc (omega arith)
+
+pub heaviest_is_heaviest : (weigh : ℕ → ℕ) (calls : List (ℕ × ℕ)) (f : ℕ) → longest limit calls f ≤ 64 → IsHeaviest weigh calls f (heaviest limit weigh calls f)
+heaviest_is_heaviest weigh calls f le =
+    let reached = heaviest_is_reached 64 weigh calls f in
+    record {
+      chain = reached.0;
+      is_chain = reached.1;
+      cells = reached.2;
+      most_cells = λ other is_other. ⊎_elim
+          (λ (long : 64 < suc (length other)). let refused = long_is_refused calls f other is_other long in absurd (omega arith))
+          (λ (few : suc (length other) ≤ 64). let fewer : suc (length other) ≤ 65 = omega arith in chain_is_no_heavier 65 weigh calls f other is_other fewer)
+          (cases_lt 64 (suc (length other)));
+    }

@@ -5,7 +5,7 @@ use Rattle.spv_base.specs.declared.causes.Refusal.{Refusal}
 use Rattle.spv_base.specs.declared.instructions.Inst.{Inst}
 use Rattle.spv_types.specs.Types.{Types}
 use Rattle.spv_types.specs.Build.{types_of}
-use Rattle.spv_types.specs.Blocks.{layout_of}
+use Rattle.spv_types.specs.Blocks.{layout_of, nothing}
 use Rattle.spv_cfg.specs.Flow.{Flow, flow_of}
 use Rattle.spv_sections.specs.Sections.{sections_of}
 use Rattle.spv_sections.specs.Ids.{ids_of}
@@ -68,6 +68,20 @@ pub record IsAccepted (a : Accepted) : Type 0 where
   pub name : Option (List ℕ)
   pub over : List (ℕ × ℤ)
   pub is : acceptance a.insts bound name over ≡ Ok a
+
+-- no pass over a module has a breach, and what is read off it is what they give
+pub record Passes (a : Accepted) (bound : ℕ) (name : Option (List ℕ)) (over : List (ℕ × ℤ)) : Type 0 where
+  pub sections : sections_of a.insts ≡ Ok nothing
+  pub ids : ids_of bound a.insts ≡ Ok nothing
+  pub capabilities : capabilities_of a.insts ≡ Ok nothing
+  pub declared : Types
+  pub types : types_of a.insts ≡ Ok declared
+  pub constants : constants_of declared a.insts over ≡ Ok (a.types, a.constants)
+  pub layout : layout_of a.types a.insts ≡ Ok nothing
+  pub flow : flow_of a.insts ≡ Ok a.flow
+  pub bodies : bodies_of a.types a.constants a.insts ≡ Ok nothing
+  pub entry : entry_of a.types a.constants a.flow a.insts name ≡ Ok (record { function = a.entry; size = a.size; depth = a.depth })
+  pub cells : a.stack_cells ≡ stack_cells a.types a.insts a.entry
 
 -- ---- some passes together
 

@@ -1,6 +1,6 @@
 -- How many cells the frames of an invocation have at most: those of the registers and variables of each function in a chain
 -- of calls (this project's profile). A pointer is one cell. Numbers stop at the greatest of 64 bits.
-use Rattle.std.specs.Prelude.{ℕ, zero, suc, ◌+◌, ◌==◌, if◌then◌else◌, Bool, List, [], ◌∷◌, Option, Some, None, unwrap_or}
+use Rattle.std.specs.Prelude.{◌≡◌, ◌≤◌, ℕ, zero, suc, ◌+◌, ◌==◌, if◌then◌else◌, Bool, List, [], ◌∷◌, Option, Some, None, unwrap_or}
 use Rattle.std.specs.Option.{option_map, option_map_or}
 use Rattle.std.specs.List.{flat_map}
 use Rattle.spv_base.specs.Entries.{reads}
@@ -12,7 +12,7 @@ use Rattle.spv_types.specs.Cuts.{cut}
 use Rattle.spv_types.specs.Blocks.{target_of}
 use Rattle.spv_cfg.specs.Roles.{sets_of}
 use Rattle.spv_cfg.specs.Sites.{Stand, stands, outside, in_function}
-use Rattle.spv_cfg.specs.Calls.{calls_of, functions_of, limit, most, numbered}
+use Rattle.spv_cfg.specs.Calls.{IsChain, calls_of, functions_of, limit, most, numbered}
 
 -- what a variable keeps has the target of its pointer type; any other result has its own type, and without one there is none
 abbrev pub kept_type : Types → Inst → ℕ
@@ -52,3 +52,17 @@ weights_of ts insts = weight (kept ts (sets_of insts) (numbered 0 (functions_of 
 unfoldable pub stack_cells : Types → List Inst → ℕ → ℕ
 stack_cells ts insts function =
     cut (option_map_or (heaviest limit (weights_of ts insts) (calls_of insts)) (reads function (numbered 0 (functions_of insts))) 0)
+
+-- ---- what heaviest means
+
+-- the cells of a chain of calls: of a function, and of those that come after it
+abbrev pub chain_cells : (ℕ → ℕ) → ℕ → List ℕ → ℕ
+chain_cells weigh f [] = weigh f
+chain_cells weigh f (g ∷ more) = weigh f + chain_cells weigh g more
+
+-- a chain from a function has n cells, and no chain from it has more
+pub record IsHeaviest (weigh : ℕ → ℕ) (calls : List (ℕ × ℕ)) (f n : ℕ) : Type 0 where
+  pub chain : List ℕ
+  pub is_chain : IsChain calls f chain
+  pub cells : chain_cells weigh f chain ≡ n
+  pub most_cells : (other : List ℕ) → IsChain calls f other → chain_cells weigh f other ≤ n

@@ -1,7 +1,7 @@
 //! Which modules are accepted.
-ghost use Rattle.std.specs.Prelude.{◌≡◌, option_copied};
+ghost use Rattle.std.specs.Prelude.{◌≡◌, ◌↔◌, ℕ, ℤ, List, Option, Ok, option_copied};
 ghost use Rattle.spv_base.specs.Answers.{Answers};
-ghost use Rattle.spv_valid.specs.Acceptance.{acceptance, code_of, front_of, known_of};
+ghost use Rattle.spv_valid.specs.Acceptance.{Accepted, Passes, acceptance, code_of, front_of, known_of};
 
 use crate::entry::entry_of;
 use crate::modules::Module;
@@ -83,3 +83,9 @@ pub fn accept(
         stack_cells,
     })
 }
+
+/// A law, with nothing to run: a module is accepted, and is seen as it is, exactly where no pass over it has a breach and
+/// what is read off it is what the passes give.
+pub fn accepted_modules_pass()
+    ensures { (a : Accepted) (bound : ℕ) (name : Option (List ℕ)) (over : List (ℕ × ℤ)) → (acceptance a.insts bound name over ≡ Ok a) ↔ Passes a bound name over }
+{}

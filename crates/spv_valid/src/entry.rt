@@ -76,7 +76,7 @@ fn named_entry_point<'a>(insts: &'a [Inst], name: &[u8]) -> Option<&'a Inst>
 }
 
 /// Without a name the first entry point, which has to be a GLCompute one; with a name the first GLCompute one of this name.
-fn entry_point<'a>(insts: &'a [Inst], name: Option<&[u8]>) -> Option<&'a Inst>
+pub fn entry_point<'a>(insts: &'a [Inst], name: Option<&[u8]>) -> Option<&'a Inst>
     ensures { option_copied result ≡ spec.entry_point insts.now (option_copied name.entry) }
 {
     match name {
@@ -108,7 +108,7 @@ fn is_void(form: Option<&Form>) -> bool
 }
 
 /// Whether a type is that of functions without parameters that return void.
-fn is_plain(types: &TypeTable, form: Option<&Form>) -> bool
+pub fn is_plain(types: &TypeTable, form: Option<&Form>) -> bool
     ensures { result ≡ spec.is_plain types.now (option_copied form.entry) }
 {
     match form {
@@ -234,7 +234,7 @@ fn size_by_literals(inst: &Inst) -> Option<(u64, u64, u64)>
 }
 
 /// The size of a workgroup, by a constant decorated WorkgroupSize, else by LocalSizeId, else by LocalSize.
-fn size_of(
+pub fn size_of(
     types: &TypeTable,
     consts: &ConstTable,
     facts: &Facts,
@@ -257,7 +257,7 @@ fn size_of(
 }
 
 /// The size, where there is at least one invocation in each direction, and at most 1,024 together.
-fn allowed(size: (u64, u64, u64)) -> Option<(u32, u32, u32)>
+pub fn allowed_size(size: (u64, u64, u64)) -> Option<(u32, u32, u32)>
     ensures { result ≡ (if spec.is_size size then Some size else None) }
 {
     let (x, y, z) = size;
@@ -301,7 +301,7 @@ fn entry_in(
     if !is_plain_function(types, insts, function) {
         return None;
     }
-    let size = allowed(size)?;
+    let size = allowed_size(size)?;
     Some(Entry {
         function,
         size,

@@ -3,11 +3,14 @@
 
 mod acceptance;
 mod breaches;
-mod entry;
+pub mod entry;
 mod modules;
 pub mod opcodes;
-mod stack;
+pub mod stack;
+#[cfg(test)]
+mod tests;
 
-pub use acceptance::accept;
+pub use acceptance::{accept, accepted_modules_pass};
 pub use breaches::refusals_are_least_breaches;
 pub use modules::Module;
+pub use stack::counted_chains_are_heaviest;

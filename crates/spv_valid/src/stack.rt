@@ -1,11 +1,11 @@
 //! How many cells the frames of an invocation have at most.
-ghost use Rattle.std.specs.Prelude.{◌≡◌, ◌<◌, ◌+◌, ℕ, IfOk, IfSome, length, slice_index};
+ghost use Rattle.std.specs.Prelude.{◌≡◌, ◌<◌, ◌≤◌, ◌+◌, ℕ, List, IfOk, IfSome, length, slice_index};
 ghost use Rattle.std.specs.List.{All};
 ghost use Rattle.spv_base.specs.Entries.{reads};
 ghost use Rattle.spv_types.specs.Cuts.{cut};
 ghost use Rattle.spv_types.specs.Types.{form_of};
 ghost use Rattle.spv_types.specs.Blocks.{target_of};
-ghost use Rattle.spv_cfg.specs.Calls.{calls_in, limit, most};
+ghost use Rattle.spv_cfg.specs.Calls.{calls_in, limit, longest, most};
 ghost use Rattle.spv_valid.specs.Stack as spec;
 
 use spv_base::{Inst, NoMemory};
@@ -28,7 +28,7 @@ fn target_of(types: &TypeTable, ty: u32) -> u32
 }
 
 /// The cells of an instruction's register or variable.
-fn kept_cells(types: &TypeTable, inst: &Inst) -> u64
+pub fn kept_cells(types: &TypeTable, inst: &Inst) -> u64
     ensures { result ≡ spec.kept_cells types.now inst.now }
 {
     let ty = if inst.op == VARIABLE {
@@ -114,7 +114,7 @@ fn sums(alloc: Global, xs: &[u64], ys: &[u64]) -> Result<Vec<u64>, NoMemory>
 }
 
 /// By the number of a function, the most cells of a chain of calls from it, of the chains of at most 65 functions.
-fn heaviest_chains(
+pub fn heaviest_chains(
     alloc: Global,
     calls: &[(usize, usize)],
     weights: &[u64],
@@ -175,3 +175,9 @@ pub fn stack_cells(
         None => Ok(0),
     }
 }
+
+/// A law, with nothing to run: where no chain of calls from a function has more than 64 functions, the cells counted for it
+/// are those of a chain, and no chain from it has more.
+pub fn counted_chains_are_heaviest()
+    ensures { (weigh : ℕ → ℕ) (calls : List (ℕ × ℕ)) (f : ℕ) → longest limit calls f ≤ 64 → spec.IsHeaviest weigh calls f (spec.heaviest limit weigh calls f) }
+{}
