@@ -54,8 +54,8 @@ slot_more : (n : ℕ) (i : Inst) (is : List Inst) (id : ℕ) (places : List (Opt
     → get_or places id None ≡ place_from (suc n) is id → get_or (set places i.id (Some n)) id None ≡ place_from n (i ∷ is) id
 slot_more n i is id places all lt small old =
     elim (i.id == id) as (λ v. (i.id == id) ≡ v → get_or (set places i.id (Some n)) id None ≡ (if v then Some n else place_from (suc n) is id)) [
-      true ↦ λ h. (let e : i.id ≡ id = grind (arith, common_steps) in rw e (grind (arith, common_steps, get_or-set_same)))
-    | false ↦ λ h. get_or-set_other {A = Option ℕ} places i.id id (Some n) None (λ e. eq_apart i.id id h (sym e)) ∙ old
+      | true ↦ λ h. (let e : i.id ≡ id = grind (arith, common_steps) in rw e (grind (arith, common_steps, get_or-set_same)))
+      | false ↦ λ h. get_or-set_other {A = Option ℕ} places i.id id (Some n) None (λ e. eq_apart i.id id h (sym e)) ∙ old
     ] refl
 
 pub one_placed : (insts : List Inst) (n : ℕ) (places : List (Option ℕ)) (d : Inst) → 0 < n → n ≤ length insts → (get_or insts (n - 1) d).id < 1048576

@@ -3,6 +3,8 @@
 
 mod index;
 mod table;
+#[cfg(test)]
+mod tests;
 
 pub use index::Index;
 pub use table::Table;
