@@ -5,7 +5,6 @@ usage: bench/check.py PROGRAM, where PROGRAM is the built spvdbg (crates/spvdbg/
 Each time is the least of five runs, both programs in turn; memory is the greatest resident size.
 """
 import os
-import resource
 import struct
 import subprocess
 import sys
@@ -83,32 +82,32 @@ def functions(size):
     return module(body, ident)
 
 
-def run(command, patience=None):
-    """Seconds and greatest resident size in MiB of a command that succeeds; none where it takes longer than `patience`."""
-    if patience:
-        command = ["timeout", str(patience)] + command
+def seconds_of(command, patience=None):
+    """Seconds that a command takes, which has to succeed; none where it takes longer than `patience`."""
     start = time.perf_counter()
-    child = subprocess.Popen(command, stdout=subprocess.PIPE, stderr=subprocess.STDOUT)
-    out = child.stdout.read()
-    _, status, usage = os.wait4(child.pid, 0)
+    try:
+        done = subprocess.run(command, stdout=subprocess.PIPE, stderr=subprocess.STDOUT, timeout=patience)
+    except subprocess.TimeoutExpired:
+        return None
     seconds = time.perf_counter() - start
-    child.returncode = os.waitstatus_to_exitcode(status)
-    if patience and child.returncode == 124:
-        return None, 0.0
-    if child.returncode != 0:
-        sys.exit("%s: %s" % (" ".join(command), out.decode(errors="replace")))
-    return seconds, usage.ru_maxrss / 1024
+    if done.returncode != 0:
+        sys.exit("%s: %s" % (" ".join(command), done.stdout.decode(errors="replace")))
+    return seconds
+
+
+def memory_of(command):
+    """The greatest resident size of a command, in MiB, as GNU time tells it."""
+    done = subprocess.run(["/usr/bin/time", "-f", "%M"] + command, capture_output=True, text=True)
+    return int(done.stderr.split()[-1]) / 1024
 
 
 def measure(program, path):
-    ours, theirs, memory = [], [], 0.0
+    ours, theirs = [], []
     for _ in range(RUNS):
-        seconds, used = run([program, "check", path])
-        ours.append(seconds)
-        memory = max(memory, used)
+        ours.append(seconds_of([program, "check", path]))
         if None not in theirs:
-            theirs.append(run(["spirv-val", "--target-env", "spv1.6", path], PATIENCE)[0])
-    return min(ours), None if None in theirs else min(theirs), memory
+            theirs.append(seconds_of(["spirv-val", "--target-env", "spv1.6", path], PATIENCE))
+    return min(ours), None if None in theirs else min(theirs), memory_of([program, "check", path])
 
 
 def main():
