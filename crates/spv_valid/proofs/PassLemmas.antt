@@ -20,7 +20,7 @@ use Rattle.spv_sections.specs.Sections.{order_breaches, sections_of}
 use Rattle.spv_sections.specs.Ids.{id_breaches, ids_of}
 use Rattle.spv_sections.specs.Capabilities.{capabilities_of, capability_breaches}
 use Rattle.spv_consts.specs.Table.{Constants}
-use Rattle.spv_consts.specs.declared.numbers.TheConstants.{LIMITS_CODE, RULES_CODE}
+use Rattle.spv_consts.specs.Numbers.{limits_code, rules_code}
 use Rattle.spv_consts.specs.Context.{Context}
 use Rattle.spv_consts.specs.State.{State}
 use Rattle.spv_consts.specs.Lengths.{lengthened}
@@ -100,17 +100,17 @@ stepped_code : (m : Context) (s : State) (i : Inst) (r : Refusal) → stepped m 
 unfolding stepped
 stepped_code m s i r is = by_rules (keeps_rules m s i) is
   where
-    by_limit : (b : Bool) (t : State) → cond b (Err (breach LIMITS_CODE i)) (Ok t) ≡ Err r → 14 ≤ r.code
-    by_limit true t e = let same : breach LIMITS_CODE i ≡ r = cc in let code : 18 ≡ r.code = ap (λ (x : Refusal). x.code) same in omega arith
+    by_limit : (b : Bool) (t : State) → cond b (Err (breach limits_code i)) (Ok t) ≡ Err r → 14 ≤ r.code
+    by_limit true t e = let same : breach limits_code i ≡ r = cc in let code : 18 ≡ r.code = ap (λ (x : Refusal). x.code) same in omega arith
     by_limit false t e = absurd (cc)
 
     by_length : (o : Option State) → limited m i o ≡ Err r → 14 ≤ r.code
-    by_length None e = let same : breach LIMITS_CODE i ≡ r = cc in let code : 18 ≡ r.code = ap (λ (x : Refusal). x.code) same in omega arith
+    by_length None e = let same : breach limits_code i ≡ r = cc in let code : 18 ≡ r.code = ap (λ (x : Refusal). x.code) same in omega arith
     by_length (Some t) e = by_limit (passes_limit t i) (entered m t i) e
 
-    by_rules : (b : Bool) → cond b (limited m i (lengthened m s i)) (Err (breach RULES_CODE i)) ≡ Err r → 14 ≤ r.code
+    by_rules : (b : Bool) → cond b (limited m i (lengthened m s i)) (Err (breach rules_code i)) ≡ Err r → 14 ≤ r.code
     by_rules true e = by_length (lengthened m s i) e
-    by_rules false e = let same : breach RULES_CODE i ≡ r = cc in let code : 14 ≡ r.code = ap (λ (x : Refusal). x.code) same in omega arith
+    by_rules false e = let same : breach rules_code i ≡ r = cc in let code : 14 ≡ r.code = ap (λ (x : Refusal). x.code) same in omega arith
 
 walked_on : (m : Context) (is : List Inst) (r : Refusal) (due : Result State Refusal) → ((e : Refusal) → due ≡ Err e → 14 ≤ e.code)
     → ((t : State) → walked m t is ≡ Err r → 14 ≤ r.code) → and_then due (λ t. walked m t is) ≡ Err r → 14 ≤ r.code

@@ -16,7 +16,7 @@ use Rattle.spv_sections.specs.Sections.{order_breaches}
 use Rattle.spv_sections.specs.Ids.{id_breaches}
 use Rattle.spv_sections.specs.Capabilities.{capability_breaches}
 use Rattle.spv_consts.specs.Table.{Constants}
-use Rattle.spv_consts.specs.declared.numbers.TheConstants.{RULES_CODE}
+use Rattle.spv_consts.specs.Numbers.{rules_code}
 use Rattle.spv_consts.specs.SpecIds.{wrong_spec_id}
 use Rattle.spv_consts.specs.Steps.{walked}
 use Rattle.spv_consts.specs.Build.{constants_of, context_of, start_of}
@@ -45,7 +45,7 @@ at_words code words = map (λ word. record { code = code; word = word }) words
 -- behind it is read with what it defines.
 abbrev pub constant_breaches : Types → List Inst → List (ℕ × ℤ) → List Refusal
 constant_breaches ts insts over =
-    at_words RULES_CODE (flat_map (λ i. option_to_list (wrong_spec_id insts i)) insts) ++ refused_in (walked (context_of ts insts over) (start_of ts) (before_functions insts))
+    at_words rules_code (flat_map (λ i. option_to_list (wrong_spec_id insts i)) insts) ++ refused_in (walked (context_of ts insts over) (start_of ts) (before_functions insts))
 
 abbrev pub layout_breaches : Types → List Inst → List Refusal
 layout_breaches ts insts = module_breaches insts ts [] (before_functions insts) ++ function_breaches (drop (length (before_functions insts)) insts)
