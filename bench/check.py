@@ -2,7 +2,7 @@
 """Times `spvdbg check` beside Debian's `spirv-val` on generated modules, and writes the table into docs/BENCH.md.
 
 usage: bench/check.py PROGRAM, where PROGRAM is the built spvdbg (crates/spvdbg/out/spvdbg after `rt run` there).
-Each time is the least of five runs, both programs in turn; memory is the greatest resident size.
+Each time is the least of three runs, both programs in turn; memory is the greatest resident size.
 """
 import os
 import struct
@@ -14,8 +14,8 @@ import time
 HEADER = [0x07230203, 0x00010600, 0]
 VOID, FUNCTION_TYPE, UINT, ONE, BOOL, TRUE = 1, 2, 3, 4, 5, 6
 FIRST_FREE = 10
-RUNS = 5
-PATIENCE = 60
+RUNS = 3
+PATIENCE = 20
 SIZES = [40_960, 409_600, 4_194_304]
 
 
