@@ -8,3 +8,8 @@ abbrev pub Answers : {T R : Type 0} → Result T R → Result T (Fail R) → Typ
 Answers due (Ok x) = due ≡ Ok x
 Answers due (Err (Refused r)) = due ≡ Err r
 Answers due (Err NoMemory) = Unit {0}
+
+-- What comes after a result: a refusal stays, and what is read only where nothing was refused before.
+abbrev pub after : {T U R : Type 0} → Result T R → (T → Result U R) → Result U R
+after (Ok x) next = next x
+after (Err refusal) next = Err refusal

@@ -1,6 +1,6 @@
 -- An instruction that is read has the words that it is read from, and the words of an instruction are read again.
 use Rattle.std.proofs.Common.{map, ◌≡◌, ℕ, zero, suc, ◌^◌, ◌<◌, ◌≤◌, List, [], ◌∷◌, ◌++◌, length, Option, Some, None, Result, Ok, Err, refl, sym, ap, subst, ◌∙◌, arith, inl, inr}
-use Rattle.std.specs.Prelude.{◌⊎◌, IsSome, IfOk, IfErr}
+use Rattle.std.specs.Prelude.{◌⊎◌, Bool, true, false, nat_lt, if◌then◌else◌, IsSome, IfOk, IfErr}
 use Rattle.std.specs.List.{AllByRecursion}
 use Rattle.std.proofs.lemmas.Bool.{cases_lt, lt-ltb, le-ltb}
 use Rattle.spv_base.specs.Answers.{Answers}
@@ -251,6 +251,36 @@ pub insts_again : (insts : List Inst) → AllByRecursion IsInst insts → AllByR
 unfolding insts_of
 insts_again [] are bytes = refl
 insts_again (inst ∷ insts) are bytes = rw (inst_again inst are.0 bytes.0, insts_again insts are.1 bytes.1) refl
+
+-- ---- words
+
+by_stands : (row : Row) (raw : RawInst) (inst : Inst) → inst_by row raw ≡ Ok inst → inst.word ≡ raw.word
+unfolding inst_by
+by_stands row raw inst e =
+    let head = bind_ok (head_at row.2 raw.rest) (λ head. operands_of row.3 row.4 head.2 >>= λ operands. Ok (record { word = raw.word; op = raw.op; ty = head.0; id = head.1; operands = operands })) inst e in
+    let rest = bind_ok (operands_of row.3 row.4 head.0.2) (λ operands. Ok (record { word = raw.word; op = raw.op; ty = head.0.0; id = head.0.1; operands = operands })) inst head.2 in
+    word_is (record { word = raw.word; op = raw.op; ty = head.0.0; id = head.0.1; operands = rest.0 }) inst rest.2
+  where
+    word_is : (x y : Inst) → Path (Result Inst WrongForm) (Ok x) (Ok y) → y.word ≡ x.word
+    word_is x y same = cc
+
+in_stands : (o : Option Row) (raw : RawInst) (inst : Inst) → inst_in o raw ≡ Ok inst → inst.word ≡ raw.word
+in_stands None raw inst e = absurd cc
+in_stands (Some row) raw inst e = by_length (nat_lt (length raw.rest) 65535) e
+  where
+    by_length : (b : Bool) → (if b then or_wrong_form raw.word (inst_by row raw) else Err (wrong_form raw.word)) ≡ Ok inst → inst.word ≡ raw.word
+    by_length true is = by_stands row raw inst (or_ok raw.word (inst_by row raw) inst is)
+    by_length false is = absurd cc
+
+pub insts_stand : (raws : List RawInst) (insts : List Inst) → insts_of raws ≡ Ok insts → map (λ (i : Inst). i.word) insts ≡ map (λ (r : RawInst). r.word) raws
+unfolding insts_of inst_of
+insts_stand [] insts e = ap (map (λ (i : Inst). i.word)) (sym (list_is [] insts e))
+insts_stand (raw ∷ raws) insts e =
+    let a = bind_ok (inst_of raw) (λ inst. insts_of raws >>= λ more. Ok (inst ∷ more)) insts e in
+    let b = bind_ok (insts_of raws) (λ more. Ok (a.0 ∷ more)) insts a.2 in
+    let first : a.0.word ≡ raw.word = in_stands (row_of raw.op) raw a.0 a.1 in
+    let more = insts_stand raws b.0 b.1 in
+    subst (λ (is : List Inst). map (λ (i : Inst). i.word) is ≡ raw.word ∷ map (λ (r : RawInst). r.word) raws) (list_is (a.0 ∷ b.0) insts b.2) (rw (first, more) refl)
 
 -- ---- what was written
 

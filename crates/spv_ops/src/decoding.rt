@@ -96,9 +96,16 @@ pub fn one_list_reading()
         → AllByRecursion IsInst is × (map raw_of is ≡ rs) }
 {}
 
+/// Instructions stand where their words do.
+pub fn instructions_stand_at_their_words()
+    ensures { (rs : List RawInst) (is : List Inst) → insts_of rs ≡ Ok is → map (λ i. i.word) is ≡ map (λ r. r.word) rs }
+{}
+
 /// All instructions, or the refusal of the first that has one.
 pub fn decode_all(alloc: Global, raws: &[RawInst]) -> Result<Vec<Inst>, Fail<Refusal>>
-    ensures { Answers (insts_of raws.now) (seen (λ insts. insts.items) result) }
+    ensures due { Answers (insts_of raws.now) (seen (λ insts. insts.items) result) }
+    // They stand where their words do.
+    ensures words { IfOk result (λ insts. map (λ i. i.word) insts.items ≡ map (λ r. r.word) raws.now) }
 {
     let mut insts = Vec::new(alloc);
     for raw in raws {

@@ -9,7 +9,9 @@ mod opcodes;
 mod reading;
 mod rests;
 
-pub use decoding::{decode, decode_all, one_list_reading, one_reading};
+pub use decoding::{
+    decode, decode_all, instructions_stand_at_their_words, one_list_reading, one_reading,
+};
 pub use encoding::{encode, try_encode};
 pub use forms::{Head, Opcode, Part, Rest};
 pub use opcodes::{OPCODES, opcode_of};
