@@ -3,5 +3,9 @@ pub mod Walks
 pub mod Backwards
 pub mod Orders
 pub mod Chains
+pub mod LayoutLemmas
 pub mod FlowLemmas
+pub mod BlockLaws
+pub mod TargetLaws
+pub mod FunctionLaws
 pub mod LongestChains

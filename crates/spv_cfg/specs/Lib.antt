@@ -7,3 +7,4 @@ pub mod Branches
 pub mod Phis
 pub mod Calls
 pub mod Flow
+pub mod Laws

@@ -8,6 +8,7 @@ mod code;
 mod distinct;
 mod edges;
 mod executables;
+pub mod laws;
 mod layout;
 mod lowest;
 mod names;

@@ -36,7 +36,7 @@ before_all insts n b l h = let e : length insts ≡ n = omega arith in let d = d
 
 -- ---- the types
 
-types_push : (all is : List Inst) (i : Inst) → types_in all (is ++ i ∷ []) ≡ with_form (types_in all is) i.id (defined_form all i)
+pub types_push : (all is : List Inst) (i : Inst) → types_in all (is ++ i ∷ []) ≡ with_form (types_in all is) i.id (defined_form all i)
 unfolding types_in
 types_push all [] i = one (types_in all []) i.id (defined_form all i)
   where

@@ -11,3 +11,8 @@ pub mod BuildLemmas
 pub mod LayoutLemmas
 pub mod BlockLemmas
 pub mod LimitLemmas
+pub mod ShapeLemmas
+pub mod SoundLemmas
+pub mod LengthLemmas
+pub mod GrowthLemmas
+pub mod AcceptedLemmas

@@ -42,10 +42,10 @@ number_push (u ∷ ts) t id = step (u.0 == id) (t.0 == id) (length ts) (number_o
     step false false k None p h = rw h refl
     step false c k (Some m) p h = rw h refl
 
-number_same : (m n : ℕ) → (m == n) ≡ true → m ≡ n
+pub number_same : (m n : ℕ) → (m == n) ≡ true → m ≡ n
 number_same m n e = grind arith
 
-number_less : (m n : ℕ) → m < suc n → (m == n) ≡ false → m < n
+pub number_less : (m n : ℕ) → m < suc n → (m == n) ≡ false → m < n
 number_less m n l e = let apart : m ≢ n = grind arith in omega arith
 
 lt-by_test : (m n : ℕ) → ltb m n ≡ true → m < n

@@ -13,3 +13,5 @@ pub mod Measured
 pub mod Blocks
 pub mod Shapes
 pub mod Limits
+pub mod Views
+pub mod Laws

@@ -7,6 +7,7 @@ pub mod build;
 pub mod counts;
 pub mod facts;
 pub mod forms;
+pub mod laws;
 mod layout;
 pub mod leaves;
 pub mod limits;
@@ -19,6 +20,7 @@ pub mod table;
 #[cfg(test)]
 mod tests;
 mod typing;
+pub mod views;
 
 pub use build::functions_start;
 pub use facts::Facts;

@@ -1,0 +1,12 @@
+use Rattle.std.proofs.Common.{[], sym, ap}
+use Rattle.spv_cfg.specs.Roles.{sets_of}
+use Rattle.spv_cfg.specs.Sites.{outside}
+use Rattle.spv_cfg.specs.Flow.{Flow}
+use Rattle.spv_cfg.proofs.FlowLemmas.{flow_accepted}
+use Rattle.spv_cfg.proofs.BlockLaws.{blocks_are_entered}
+use Rattle.spv_cfg.proofs.laws.each_block_is_entered.Goals as goal
+
+pub returns : goal.returns
+returns c = λ insts f is.
+    let accepted = flow_accepted insts f is in
+    blocks_are_entered f (sets_of insts) outside insts [] accepted.whole (sym (ap (λ (g : Flow). g.blocks) accepted.flow))
