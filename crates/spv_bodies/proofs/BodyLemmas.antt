@@ -16,7 +16,8 @@ use Rattle.spv_types.proofs.BlockLemmas.{rest_is}
 use Rattle.spv_types.proofs.LayoutLemmas.{tail_is}
 use Rattle.spv_bodies.specs.declared.within.Within.{Within}
 use Rattle.spv_bodies.specs.Setting.{Known, known_of}
-use Rattle.spv_bodies.specs.Bodies.{bodies_of, body_breaches, breach, keeps_body, nothing, nowhere, within_after}
+use Rattle.spv_types.specs.Blocks.{nothing}
+use Rattle.spv_bodies.specs.Bodies.{bodies_of, body_breaches, breach, keeps_body, nowhere, within_after}
 
 body_at : (k : Known) (w : Within) (is : List Inst) (n : ℕ) (i : Inst) → n < length is → i ≡ get_or is n i
     → body_breaches k w (drop n is) ≡ (if keeps_body k w i (drop (n + 1) is) then [] else breach i ∷ []) ++ body_breaches k (within_after w i) (drop (n + 1) is)

@@ -1,3 +1,4 @@
 pub mod CallLemmas
 pub mod AlikeLemmas
 pub mod BodyLemmas
+pub mod RuleLaws

@@ -8,9 +8,9 @@ use Rattle.spv_types.specs.declared.forms.Form.TheVariants.{Void, Bool as Boolea
 use Rattle.spv_types.specs.declared.forms.Member.{Member}
 use Rattle.spv_types.specs.Rules.{is_data}
 use Rattle.spv_types.specs.Types.{Types, form_of, in_first}
-use Rattle.spv_bodies.specs.declared.views.Components.{Components}
+use Rattle.spv_types.specs.declared.views.Components.{Components}
 use Rattle.spv_bodies.specs.Setting.{Known, type_at}
-use Rattle.spv_bodies.specs.Views.{components_in, is_boolean}
+use Rattle.spv_types.specs.Views.{components_in, is_boolean}
 
 -- an integer of a width and sign
 abbrev pub is_int : ℕ → ℕ → Option Form → Bool

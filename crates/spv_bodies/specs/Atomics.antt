@@ -10,9 +10,9 @@ use Rattle.spv_base.specs.declared.values.Value.TheOpen.{Value-F}
 use Rattle.spv_types.specs.declared.opcodes.TheConstants.{STORAGE_BUFFER, WORKGROUP}
 use Rattle.spv_types.specs.Operands.{id_at}
 use Rattle.spv_types.specs.Types.{form_of}
-use Rattle.spv_bodies.specs.declared.views.Pointed.{Pointed}
+use Rattle.spv_types.specs.declared.views.Pointed.{Pointed}
 use Rattle.spv_bodies.specs.Setting.{Known, is_constant_at, is_integer_at, pointee_at, type_at}
-use Rattle.spv_bodies.specs.Views.{is_integer}
+use Rattle.spv_types.specs.Views.{is_integer}
 
 -- a pointer to a scalar integer in StorageBuffer or Workgroup
 abbrev pub is_shared : Known → Pointed → Bool

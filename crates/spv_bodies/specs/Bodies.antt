@@ -5,6 +5,7 @@ use Rattle.spv_base.specs.declared.causes.Refusal.{Refusal}
 use Rattle.spv_base.specs.declared.instructions.Inst.{Inst}
 use Rattle.spv_base.specs.declared.values.Value.{Value}
 use Rattle.spv_types.specs.declared.opcodes.TheConstants.{FUNCTION}
+use Rattle.spv_types.specs.Blocks.{nothing}
 use Rattle.spv_types.specs.Build.{unless_refused}
 use Rattle.spv_types.specs.Operands.{id_at}
 use Rattle.spv_types.specs.Rules.{has_runtime}
@@ -104,9 +105,6 @@ breach i = record { code = 12; word = i.word }
 unfoldable pub body_breaches : Known → Within → List Inst → List Refusal
 body_breaches k w [] = []
 body_breaches k w (i ∷ is) = (if keeps_body k w i is then [] else breach i ∷ []) ++ body_breaches k (within_after w i) is
-
-abbrev pub nothing : Unit {0}
-nothing = tt
 
 -- nothing, where the functions of a module keep the rules, or the first breach
 unfoldable pub bodies_of : Types → List (ℕ × Value) → List Inst → Result (Unit {0}) Refusal

@@ -11,7 +11,7 @@ use Rattle.spv_types.specs.Types.{form_of}
 use Rattle.spv_index.specs.Definitions.{defining}
 use Rattle.spv_bodies.specs.declared.opcodes.TheConstants.{FUNCTION_PARAMETER, LABEL}
 use Rattle.spv_bodies.specs.Setting.{Known, type_in}
-use Rattle.spv_bodies.specs.Views.{is_pointer, parameters_in, returned}
+use Rattle.spv_types.specs.Views.{is_pointer, parameters_in, returned}
 
 -- a function begins, or the first block of one
 abbrev pub ends_parameters : Inst → Bool

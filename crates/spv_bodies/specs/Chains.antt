@@ -13,9 +13,9 @@ use Rattle.spv_types.specs.declared.opcodes.TheConstants.{CONSTANT}
 use Rattle.spv_types.specs.Operands.{id_of}
 use Rattle.spv_types.specs.Types.{form_of}
 use Rattle.spv_index.specs.Definitions.{defining}
-use Rattle.spv_bodies.specs.declared.views.Pointed.{Pointed}
+use Rattle.spv_types.specs.declared.views.Pointed.{Pointed}
 use Rattle.spv_bodies.specs.Setting.{Known, form_in, pointee_at}
-use Rattle.spv_bodies.specs.Views.{is_integer, member_type, pointee}
+use Rattle.spv_types.specs.Views.{is_integer, member_type, pointee}
 
 -- a scalar's number, where it is defined and not below 0 when it is read as signed
 abbrev pub index_in : Lane → Option ℕ

@@ -1,7 +1,7 @@
 -- The rules of composite operations and copies (SPIR-V 1.6 section 3.42.12).
-use Rattle.std.specs.Prelude.{ℕ, ◌+◌, ◌-◌, ◌==◌, ◌&&◌, ◌||◌, nat_le, nat_lt, Bool, true, false, if◌then◌else◌, List, [], ◌∷◌, length, drop, Option, Some, None}
+use Rattle.std.specs.Prelude.{ℕ, ◌+◌, ◌==◌, ◌&&◌, ◌||◌, nat_lt, Bool, true, false, if◌then◌else◌, List, [], ◌∷◌, length, drop, Option, Some, None}
 use Rattle.std.specs.Option.{option_map_or, option_and_then}
-use Rattle.std.specs.List.{list_all}
+use Rattle.std.specs.List.{list_all, sum_by}
 use Rattle.spv_base.specs.declared.instructions.Inst.{Inst}
 use Rattle.spv_base.specs.declared.instructions.Operand.{Operand}
 use Rattle.spv_types.specs.declared.forms.Form.{Form}
@@ -10,9 +10,9 @@ use Rattle.spv_types.specs.declared.forms.Member.{Member}
 use Rattle.spv_types.specs.Operands.{lit_of}
 use Rattle.spv_types.specs.Rules.{is_data}
 use Rattle.spv_types.specs.Types.{form_of}
-use Rattle.spv_bodies.specs.declared.views.Components.{Components}
+use Rattle.spv_types.specs.declared.views.Components.{Components}
 use Rattle.spv_bodies.specs.Setting.{Known, form_at, is_integer_at, type_at, type_in}
-use Rattle.spv_bodies.specs.Views.{components_in, member_type}
+use Rattle.spv_types.specs.Views.{components_in, member_type}
 
 -- ---- vectors
 
@@ -48,10 +48,8 @@ given k component ty = if ty == component then 1 else option_map_or (λ (v : Com
 
 -- constituents that each give components, and together so many
 abbrev pub fill : Known → ℕ → ℕ → List Operand → Bool
-fill k component left [] = left == 0
-fill k component left (o ∷ os) =
-    (nat_lt 0 (given k component (type_in k o)) && nat_le (given k component (type_in k o)) left)
-    && fill k component (left - given k component (type_in k o)) os
+fill k component count os =
+    list_all (λ o. nat_lt 0 (given k component (type_in k o))) os && count == sum_by (λ o. given k component (type_in k o)) os
 
 -- one operand for each member, and of its type
 abbrev pub are_members : Known → List Member → List Operand → Bool

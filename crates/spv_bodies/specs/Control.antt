@@ -5,7 +5,7 @@ use Rattle.spv_base.specs.declared.instructions.Inst.{Inst}
 use Rattle.spv_base.specs.declared.instructions.Operand.{Operand}
 use Rattle.spv_types.specs.Types.{form_of}
 use Rattle.spv_bodies.specs.Setting.{Known, form_at, is_integer_at, type_at, type_in}
-use Rattle.spv_bodies.specs.Views.{is_boolean, is_pointer, is_void}
+use Rattle.spv_types.specs.Views.{is_boolean, is_pointer, is_void}
 
 -- operands of which every second one is a value, of one type
 abbrev pub are_values : Known → ℕ → Bool → List Operand → Bool

@@ -1,4 +1,3 @@
-pub mod Views
 pub mod Setting
 pub mod Memory
 pub mod Chains
@@ -10,3 +9,4 @@ pub mod Composites
 pub mod Alike
 pub mod Rules
 pub mod Bodies
+pub mod Laws

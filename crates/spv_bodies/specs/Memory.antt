@@ -7,9 +7,9 @@ use Rattle.spv_types.specs.declared.opcodes.TheConstants.{FUNCTION_CLASS, INPUT,
 use Rattle.spv_types.specs.Operands.{id_at, lit_at}
 use Rattle.spv_types.specs.Rules.{has_runtime, is_runtime, is_sized_data, is_word}
 use Rattle.spv_types.specs.Types.{form_of}
-use Rattle.spv_bodies.specs.declared.views.Pointed.{Pointed}
+use Rattle.spv_types.specs.declared.views.Pointed.{Pointed}
 use Rattle.spv_bodies.specs.Setting.{Known, constant_in, pointee_at, type_at}
-use Rattle.spv_bodies.specs.Views.{member_of, pointee}
+use Rattle.spv_types.specs.Views.{member_of, pointee}
 
 -- Undef is of data without a runtime array
 abbrev pub keeps_undef : Known → Inst → Bool

@@ -4,8 +4,8 @@ ghost use Rattle.spv_bodies.specs.Alike as spec;
 ghost use Rattle.spv_bodies.specs.Alike.{like_among, same_or};
 
 use crate::setting::Setting;
-use crate::views::{components_in, is_boolean};
 use spv_base::{Inst, NoMemory};
+use spv_types::views::{components_in, is_boolean};
 use spv_types::{Form, Member, TypeTable};
 use std::alloc::Global;
 use std::collections::BTreeMap;

@@ -3,10 +3,10 @@ ghost use Rattle.std.specs.Prelude.{◌≡◌};
 ghost use Rattle.spv_bodies.specs.Atomics as spec;
 
 use crate::setting::Setting;
-use crate::views::{Pointed, is_integer};
 use spv_base::{Inst, Value};
 use spv_types::id_at;
 use spv_types::opcodes::{STORAGE_BUFFER, WORKGROUP};
+use spv_types::views::{Pointed, is_integer};
 
 /// Scope Workgroup, as a number.
 const WORKGROUP_SCOPE: u64 = 2;

@@ -2,6 +2,7 @@
 ghost use Rattle.std.specs.Prelude.{◌≡◌, IfOk};
 ghost use Rattle.spv_base.specs.Answers.{Answers};
 ghost use Rattle.spv_types.specs.Build.{unless_refused};
+ghost use Rattle.spv_types.specs.Blocks.{nothing};
 ghost use Rattle.spv_bodies.specs.Bodies as spec;
 
 use crate::alike::Likeness;
@@ -128,7 +129,7 @@ impl Setting<'_> {
 
     /// Refuses the first instruction that breaks a rule.
     fn check(&self, alloc: Global, insts: &[Inst]) -> Result<(), Fail<Refusal>>
-        ensures { Answers (unless_refused spec.nothing (spec.body_breaches self.now spec.nowhere insts.now)) result }
+        ensures { Answers (unless_refused nothing (spec.body_breaches self.now spec.nowhere insts.now)) result }
     {
         let mut likeness = Likeness::of(alloc, self.types());
         let mut within = Within::nowhere();

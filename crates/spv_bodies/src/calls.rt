@@ -5,9 +5,9 @@ ghost use Rattle.spv_bodies.specs.Calls as spec;
 use crate::opcodes::{FUNCTION_PARAMETER, LABEL};
 use crate::operands::operands_from;
 use crate::setting::Setting;
-use crate::views::{is_pointer, parameters_in, returned};
 use spv_base::{Inst, Operand};
 use spv_types::opcodes::FUNCTION;
+use spv_types::views::{is_pointer, parameters_in, returned};
 use spv_types::{Form, id_at};
 
 /// How many parameters stand before the first block.

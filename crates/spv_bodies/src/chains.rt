@@ -5,9 +5,9 @@ ghost use Rattle.spv_bodies.specs.Chains as spec;
 
 use crate::operands::operands_from;
 use crate::setting::Setting;
-use crate::views::{Pointed, is_integer, member_type, pointee};
 use spv_base::{Cell, Inst, Operand, Value};
 use spv_types::opcodes::CONSTANT;
+use spv_types::views::{Pointed, is_integer, member_type, pointee};
 use spv_types::{Form, id_of};
 
 /// A scalar's number, where it is defined and not below 0 when it is read as signed.

@@ -6,8 +6,8 @@ ghost use Rattle.spv_bodies.specs.Setting.{type_in};
 
 use crate::operands::{lit_of, operands_from};
 use crate::setting::Setting;
-use crate::views::{Components, components_in, member_type};
 use spv_base::{Inst, Operand};
+use spv_types::views::{Components, components_in, member_type};
 use spv_types::{Form, Member};
 
 /// The literal of VectorShuffle that names no component.

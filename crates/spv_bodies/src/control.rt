@@ -3,8 +3,8 @@ ghost use Rattle.std.specs.Prelude.{◌≡◌, true};
 ghost use Rattle.spv_bodies.specs.Control as spec;
 
 use crate::setting::Setting;
-use crate::views::{is_boolean, is_pointer, is_void};
 use spv_base::{Inst, Operand};
+use spv_types::views::{is_boolean, is_pointer, is_void};
 
 impl Setting<'_> {
     /// Whether every second operand, the first among them, is a value of a type.

@@ -9,6 +9,7 @@ mod chains;
 mod composites;
 mod control;
 mod lanes;
+mod laws;
 mod memory;
 mod opcodes;
 mod operands;
@@ -16,7 +17,7 @@ mod rules;
 mod setting;
 #[cfg(test)]
 mod tests;
-mod views;
 mod within;
 
 pub use bodies::check_bodies;
+pub use laws::instructions_keep_their_rules;

@@ -3,9 +3,9 @@ ghost use Rattle.std.specs.Prelude.{◌≡◌};
 ghost use Rattle.spv_bodies.specs.Memory as spec;
 
 use crate::setting::Setting;
-use crate::views::{Pointed, member_of, pointee};
 use spv_base::Inst;
 use spv_types::opcodes::{FUNCTION_CLASS, INPUT, PUSH_CONSTANT, UNIFORM};
+use spv_types::views::{Pointed, member_of, pointee};
 use spv_types::{id_at, lit_at};
 
 /// Whether functions may write variables of a class.

@@ -3,12 +3,12 @@ ghost use Rattle.std.specs.Prelude.{◌≡◌, IfOk, option_copied};
 ghost use Rattle.spv_types.specs.Types.{form_of};
 ghost use Rattle.spv_bodies.specs.Setting as spec;
 
-use crate::views::{Pointed, is_integer, pointee};
 use spv_base::{Inst, NoMemory, Operand};
 use spv_cfg::roles::sets_of;
 use spv_consts::ConstTable;
 use spv_index::{Index, Table};
 use spv_types::facts::is_constant;
+use spv_types::views::{Pointed, is_integer, pointee};
 use spv_types::{Form, TypeTable, id_at, id_of};
 use std::alloc::Global;
 use std::marker::Model;

@@ -16,7 +16,8 @@ use Rattle.spv_types.specs.Limits.{AreLimits, limit_among, limit_step, no_limit}
 use Rattle.spv_types.proofs.TypeLemmas.{number_form}
 use Rattle.spv_consts.specs.Context.{Context}
 use Rattle.spv_consts.specs.State.{State}
-use Rattle.spv_consts.specs.Steps.{and_then, stepped, walked}
+use Rattle.spv_base.specs.Answers.{after}
+use Rattle.spv_consts.specs.Steps.{stepped, walked}
 
 -- the type that comes next has a form
 pub form_next : (ts : Types) (id n : ℕ) → number_of ts id ≡ Some n → None ≡ form_of ts id → ⊥
@@ -42,7 +43,7 @@ limits_more ts limits now limit id n f a same h e l more = rw more (record { lim
 -- ---- one instruction after another
 
 module _ (m : Context) where
-  walked_at : (s : State) (is : List Inst) (k : ℕ) (i : Inst) → k < length is → i ≡ get_or is k i → walked m s (drop k is) ≡ and_then (stepped m s i) (λ t. walked m t (drop (k + 1) is))
+  walked_at : (s : State) (is : List Inst) (k : ℕ) (i : Inst) → k < length is → i ≡ get_or is k i → walked m s (drop k is) ≡ after (stepped m s i) (λ t. walked m t (drop (k + 1) is))
   unfolding walked
   walked_at s is k i l e = rw (drop-cons is k i l, ← e, add-one) refl
 

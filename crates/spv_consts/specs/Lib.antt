@@ -13,3 +13,4 @@ pub mod Rules
 pub mod Evaluation
 pub mod Steps
 pub mod Build
+pub mod Laws

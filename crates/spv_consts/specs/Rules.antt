@@ -12,6 +12,7 @@ use Rattle.spv_types.specs.Types.{form_of}
 use Rattle.spv_types.specs.Facts.{is_constant}
 use Rattle.spv_types.specs.Rules.{is_sized_data}
 use Rattle.spv_types.specs.Shapes.{part_type}
+use Rattle.spv_types.specs.Views.{is_boolean}
 use Rattle.spv_index.specs.Definitions.{type_of}
 use Rattle.spv_typing.specs.Rules.{is_constant_operation, operand_count}
 use Rattle.spv_typing.specs.Fitting.{fits}
@@ -71,18 +72,6 @@ keeps_opcode m s i op = is_constant_operation op && (keeps_count i op && (are_op
 
 abbrev pub keeps_operation : Context → State → Inst → Bool
 keeps_operation m s i = option_map_or (keeps_opcode m s i) (opcode_of i) false
-
-abbrev pub is_boolean : Option Form → Bool
-is_boolean None = false
-is_boolean (Some Void) = false
-is_boolean (Some Boolean) = true
-is_boolean (Some (Int width sign)) = false
-is_boolean (Some (Vector component count)) = false
-is_boolean (Some (Array element n stride)) = false
-is_boolean (Some (Runtime element stride)) = false
-is_boolean (Some (Struct members block)) = false
-is_boolean (Some (Pointer class target)) = false
-is_boolean (Some (Function returns parameters)) = false
 
 abbrev pub is_composite : ℕ → Bool
 is_composite op = op == CONSTANT_COMPOSITE || op == SPEC_CONSTANT_COMPOSITE

@@ -2,6 +2,7 @@
 -- where no rule is broken, and the value of a constant is built once its cells are counted (this project's limits).
 use Rattle.std.specs.Prelude.{ℕ, ◌+◌, ◌||◌, nat_lt, if◌then◌else◌, Bool, false, List, [], ◌∷◌, ◌++◌, Option, Some, None, Result, Ok, Err}
 use Rattle.std.specs.Option.{option_map_or}
+use Rattle.spv_base.specs.Answers.{after}
 use Rattle.spv_base.specs.declared.instructions.Inst.{Inst}
 use Rattle.spv_base.specs.declared.causes.Refusal.{Refusal}
 use Rattle.spv_types.specs.declared.limits.Limit.{Limit}
@@ -60,11 +61,7 @@ limited m i (Some s) = if passes_limit s i then Err (breach limits_code i) else 
 unfoldable pub stepped : Context → State → Inst → Result State Refusal
 stepped m s i = if keeps_rules m s i then limited m i (lengthened m s i) else Err (breach rules_code i)
 
-abbrev pub and_then : Result State Refusal → (State → Result State Refusal) → Result State Refusal
-and_then (Ok s) next = next s
-and_then (Err r) next = Err r
-
 -- the state after some instructions, or the first breach
 unfoldable pub walked : Context → State → List Inst → Result State Refusal
 walked m s [] = Ok s
-walked m s (i ∷ is) = and_then (stepped m s i) (λ t. walked m t is)
+walked m s (i ∷ is) = after (stepped m s i) (λ t. walked m t is)

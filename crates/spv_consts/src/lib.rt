@@ -6,6 +6,7 @@ mod build;
 mod context;
 mod evaluation;
 mod lanes;
+pub mod laws;
 mod lengths;
 mod literals;
 mod numbers;

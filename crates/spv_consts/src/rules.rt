@@ -12,6 +12,7 @@ use spv_types::opcodes::{
     CONSTANT, CONSTANT_COMPOSITE, CONSTANT_NULL, SPEC_CONSTANT, SPEC_CONSTANT_COMPOSITE,
     SPEC_CONSTANT_OP, TYPE_ARRAY,
 };
+use spv_types::views::is_boolean;
 use spv_types::{Form, TypeTable, id_of, lit_at};
 use spv_typing::{fits, is_constant_operation, operand_count};
 
@@ -51,12 +52,6 @@ pub(crate) fn opcode_of(inst: &Inst) -> Option<u16>
 {
     let op = lit_at(inst, 0);
     if op < 65_536 { Some(op as u16) } else { None }
-}
-
-fn is_boolean(types: &TypeTable, ty: u32) -> bool
-    ensures { result ≡ spec.is_boolean (form_of types.now ty) }
-{
-    matches!(types.form(ty), Some(Form::Bool))
 }
 
 /// The operands of an OpSpecConstantOp after its opcode.
@@ -150,7 +145,7 @@ impl Walk {
             CONSTANT_NULL => true,
             SPEC_CONSTANT_OP => self.keeps_operation(context, inst),
             CONSTANT | SPEC_CONSTANT => keeps_literal(integer_width(&self.types, inst.ty), inst),
-            _ => is_boolean(&self.types, inst.ty),
+            _ => is_boolean(self.types.form(inst.ty)),
         }
     }
 

@@ -54,8 +54,8 @@ few (Text bytes) count number n e l = omega arith
 -- ---- instructions
 
 -- none of the instructions before number n is refused
-abbrev pub AreInOrder : Ids → List (ℕ × Bool) → List Inst → Bool → Site → ℕ → Type 0
-AreInOrder ids sets insts begun site n = id_breaches ids sets false outside insts ≡ id_breaches ids sets begun site (drop n insts)
+abbrev pub NoneRefused : Ids → List (ℕ × Bool) → List Inst → Bool → Site → ℕ → Type 0
+NoneRefused ids sets insts begun site n = id_breaches ids sets false outside insts ≡ id_breaches ids sets begun site (drop n insts)
 
 inst_at : (ids : Ids) (sets : List (ℕ × Bool)) (begun : Bool) (site : Site) (insts : List Inst) (n : ℕ) (inst : Inst) → n < length insts → inst ≡ get_or insts n inst
     → id_breaches ids sets begun site (drop n insts)
@@ -75,18 +75,18 @@ went_on (r ∷ rs) more e = absurd (cc)
 pub inst_refused : (ids : Ids) (sets : List (ℕ × Bool)) (begun now : Bool) (site : Site) (insts : List Inst) (n : ℕ) (inst : Inst) (role : Role) (scope : Scope) (refusal : Refusal)
     → n < length insts → inst ≡ get_or insts n inst → role ≡ role_of sets inst → now ≡ has_begun begun inst → scope ≡ scope_of now site inst
     → Err refusal ≡ unless_refused nothing (breaches_at ids scope role inst)
-    → AreInOrder ids sets insts begun site n → Err refusal ≡ unless_refused nothing (id_breaches ids sets false outside insts)
+    → NoneRefused ids sets insts begun site n → Err refusal ≡ unless_refused nothing (id_breaches ids sets false outside insts)
 inst_refused ids sets begun now site insts n inst role scope refusal l e r b s t h =
     rw (h, inst_at ids sets begun site insts n inst l e, ← r, ← b, ← s) (stopped (breaches_at ids scope role inst) _ refusal t)
 
 pub inst_kept : (ids : Ids) (sets : List (ℕ × Bool)) (begun now : Bool) (site after : Site) (insts : List Inst) (n : ℕ) (inst : Inst) (role : Role) (scope : Scope)
     → n < length insts → inst ≡ get_or insts n inst → role ≡ role_of sets inst → now ≡ has_begun begun inst → scope ≡ scope_of now site inst → after ≡ site_after site role inst
     → Ok nothing ≡ unless_refused nothing (breaches_at ids scope role inst)
-    → AreInOrder ids sets insts begun site n → AreInOrder ids sets insts now after (n + 1)
+    → NoneRefused ids sets insts begun site n → NoneRefused ids sets insts now after (n + 1)
 inst_kept ids sets begun now site after insts n inst role scope l e r b s a t h =
     h ∙ inst_at ids sets begun site insts n inst l e ∙ rw (← r, ← b, ← s, ← a) (went_on (breaches_at ids scope role inst) _ t)
 
 pub insts_done : (ids : Ids) (sets : List (ℕ × Bool)) (begun : Bool) (site : Site) (insts : List Inst) (n : ℕ) → length insts ≤ n
-    → AreInOrder ids sets insts begun site n → Ok nothing ≡ unless_refused nothing (id_breaches ids sets false outside insts)
+    → NoneRefused ids sets insts begun site n → Ok nothing ≡ unless_refused nothing (id_breaches ids sets false outside insts)
 unfolding id_breaches
 insts_done ids sets begun site insts n l h = rw (h, drop_of_length-le insts l) refl

@@ -1,6 +1,6 @@
 -- The rules of ids (SPIR-V 1.6 sections 2.2.1, 2.4 and 2.16.1). Every id is at least 1 and below the Bound, and is defined
 -- once. An id in an operand is defined where it can be named, and stands for what the operand asks.
-use Rattle.std.specs.Prelude.{ℕ, Bool, true, false, not, List, [], ◌∷◌, ◌++◌, ◌+◌, ◌==◌, ◌&&◌, ◌||◌, nat_lt, if◌then◌else◌, Option, Some, None, take, Result as Outcome}
+use Rattle.std.specs.Prelude.{ℕ, Bool, true, false, not, List, [], ◌∷◌, ◌++◌, ◌+◌, ◌==◌, ◌&&◌, ◌||◌, nat_lt, if◌then◌else◌, Option, Some, None, take, min, Result as Outcome}
 use Rattle.std.specs.Option.{option_map_or}
 use Rattle.std.specs.List.{list_all}
 use Rattle.spv_base.specs.declared.instructions.Inst.{Inst}
@@ -146,6 +146,10 @@ id_breaches ids sets begun site (inst ∷ insts) =
     breaches_at ids (scope_of (has_begun begun inst) site inst) (role_of sets inst) inst
     ++ id_breaches ids sets (has_begun begun inst) (site_after site (role_of sets inst) inst) insts
 
+-- the ids of a module with some Bound: no Bound counts as more than 1,048,576
+abbrev pub ids_in : ℕ → List Inst → Ids
+ids_in bound insts = record { bound = min bound 1048576; insts = insts }
+
 -- nothing, where the ids of a module are in order below its Bound, or the first breach
 unfoldable pub ids_of : ℕ → List Inst → Outcome (Unit {0}) Refusal
-ids_of bound insts = unless_refused nothing (id_breaches (record { bound = bound; insts = insts }) (sets_of insts) false outside insts)
+ids_of bound insts = unless_refused nothing (id_breaches (ids_in bound insts) (sets_of insts) false outside insts)

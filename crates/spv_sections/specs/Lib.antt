@@ -3,3 +3,4 @@ pub mod Capabilities
 pub mod Kinds
 pub mod Definitions
 pub mod Ids
+pub mod Laws

@@ -26,6 +26,9 @@ const NAMING_CODE: u8 = 9;
 /// OpExtInst, an instruction of an imported set.
 const EXT_INST: u16 = 12;
 
+/// No Bound counts as more than this.
+const ID_LIMIT: u32 = 1_048_576;
+
 /// From where an instruction names ids.
 #[derive(Clone, Copy, Debug, PartialEq, Eq)]
 pub struct Scope {
@@ -267,13 +270,14 @@ impl<'a> Definitions<'a> {
 /// Checks the ids of a module with some Bound.
 ///
 /// Refuses M8 at an instruction with an id that is 0, at or over the Bound, or defined before, and M9 at one that names
-/// an id which isn't defined where it can be named, or stands for something else than the operand asks.
+/// an id which isn't defined where it can be named, or stands for something else than the operand asks. A Bound over
+/// 1,048,576 counts as 1,048,576.
 #[tactic(auto, unfolding(crate::specs::Ids::ids_of))]
 pub fn check_ids(alloc: Global, insts: &[Inst], bound: u32) -> Result<(), Fail<Refusal>>
     ensures { Answers (spec.ids_of bound insts.now) result }
 {
     let sets = sets_of(alloc, insts)?;
-    let definitions = Definitions::of(alloc, &sets, insts, bound)?;
+    let definitions = Definitions::of(alloc, &sets, insts, bound.min(ID_LIMIT))?;
     definitions.check_all(&sets, insts)?;
     Ok(())
 }

@@ -6,6 +6,7 @@ mod capabilities;
 mod definitions;
 mod ids;
 mod kinds;
+pub mod laws;
 mod sections;
 #[cfg(test)]
 mod tests;

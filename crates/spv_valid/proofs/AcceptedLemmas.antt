@@ -18,7 +18,8 @@ use Rattle.spv_consts.specs.Table.{Constants}
 use Rattle.spv_valid.specs.declared.entry.Entry.{Entry}
 use Rattle.spv_valid.specs.Entry.{Size, entry_in, entry_of, entry_point, entry_with, required, size_of}
 use Rattle.spv_valid.specs.Stack.{stack_cells}
-use Rattle.spv_valid.specs.Acceptance.{Accepted, IsAccepted, Passes, acceptance, accepted, after, code_of, front_of, known_of}
+use Rattle.spv_base.specs.Answers.{after}
+use Rattle.spv_valid.specs.Acceptance.{Accepted, IsAccepted, Passes, acceptance, accepted, code_of, front_of, known_of}
 
 after-after : {T U V : Type 0} (due : Result T Refusal) (next : T → Result U Refusal) (last : U → Result V Refusal)
     → after (after due next) last ≡ after due (λ x. after (next x) last)
@@ -124,3 +125,15 @@ pub passed_accepted : (a : Accepted) (bound : ℕ) (name : Option (List ℕ)) (o
 unfolding acceptance
 passed_accepted a bound name over passes =
     rw (passes.sections, passes.ids, passes.capabilities, passes.types, passes.constants, passes.layout, passes.flow, passes.bodies, passes.entry, ← passes.cells) refl
+
+-- the instructions of an accepted module are those that were given
+pub accepted_insts : (insts : List Inst) (bound : ℕ) (name : Option (List ℕ)) (over : List (ℕ × ℤ)) (a : Accepted) → acceptance insts bound name over ≡ Ok a → insts ≡ a.insts
+accepted_insts insts bound name over a is =
+    let front = after_ok (front_of bound insts) _ a (rw in_parts at is) in
+    let known = after_ok (known_of insts over) _ a front.2 in
+    let flow = after_ok (code_of known.0 insts) _ a known.2 in
+    let entry = after_ok (entry_of known.0.0 known.0.1 flow.0 insts name) _ a flow.2 in
+    insts_are (accepted insts known.0 flow.0 entry.0) a entry.2
+  where
+    insts_are : (x y : Accepted) → Path (Result Accepted Refusal) (Ok x) (Ok y) → x.insts ≡ y.insts
+    insts_are x y same = cc

@@ -10,7 +10,7 @@ use Rattle.std.specs.Result.{IsOk}
 use Rattle.spv_base.specs.declared.causes.Refusal.{Refusal}
 use Rattle.spv_types.specs.Build.{unless_refused}
 use Rattle.spv_cfg.specs.Lowest.{lowest, sooner}
-use Rattle.spv_valid.specs.Acceptance.{after}
+use Rattle.spv_base.specs.Answers.{after}
 use Rattle.spv_valid.specs.Breaches.{IsBefore, IsLeast, at_words, first_with, refused_in}
 use Rattle.spv_valid.proofs.OrderLemmas.{Behind, Led}
 

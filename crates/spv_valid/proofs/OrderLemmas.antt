@@ -21,7 +21,8 @@ use Rattle.spv_sections.specs.Capabilities.{capability_breaches, capability_code
 use Rattle.spv_bodies.specs.Setting.{Known}
 use Rattle.spv_bodies.specs.declared.within.Within.{Within}
 use Rattle.spv_bodies.specs.Bodies.{body_breaches, breach as body_breach, keeps_body, within_after}
-use Rattle.spv_valid.specs.Breaches.{Ascend, IsBefore, layout_breaches}
+use Rattle.spv_base.specs.Order.{Ascend}
+use Rattle.spv_valid.specs.Breaches.{IsBefore, layout_breaches}
 
 -- ---- such lists
 

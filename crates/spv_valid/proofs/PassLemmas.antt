@@ -17,7 +17,7 @@ use Rattle.spv_cfg.specs.Lowest.{lowest, sooner}
 use Rattle.spv_cfg.specs.Flow.{Flow, block_breaches, call_breaches, flow_in, flow_of, refusal, unless_refused as flow_unless}
 use Rattle.spv_cfg.proofs.LowestLemmas.{lowest-append}
 use Rattle.spv_sections.specs.Sections.{order_breaches, sections_of}
-use Rattle.spv_sections.specs.Ids.{id_breaches, ids_of}
+use Rattle.spv_sections.specs.Ids.{id_breaches, ids_in, ids_of}
 use Rattle.spv_sections.specs.Capabilities.{capabilities_of, capability_breaches}
 use Rattle.spv_consts.specs.Table.{Constants}
 use Rattle.spv_consts.specs.Numbers.{limits_code, rules_code}
@@ -26,13 +26,15 @@ use Rattle.spv_consts.specs.State.{State}
 use Rattle.spv_consts.specs.Lengths.{lengthened}
 use Rattle.spv_consts.specs.Rules.{keeps_rules}
 use Rattle.spv_consts.specs.SpecIds.{lower, lowest_wrong, wrong_spec_id}
-use Rattle.spv_consts.specs.Steps.{and_then, breach, entered, limited, passes_limit, stepped, walked}
+use Rattle.spv_consts.specs.Steps.{breach, entered, limited, passes_limit, stepped, walked}
 use Rattle.spv_consts.specs.Build.{built_of, constants_of, context_of, start_of, unless_earlier}
 use Rattle.spv_bodies.specs.Setting.{known_of}
 use Rattle.spv_bodies.specs.Bodies.{bodies_of, nowhere}
 use Rattle.spv_valid.specs.Entry.{entry_of}
-use Rattle.spv_valid.specs.Acceptance.{Accepted, acceptance, accepted, after}
-use Rattle.spv_valid.specs.Breaches.{Ascend, IsLeast, at_words, bodies_breaches, breaches, constant_breaches, first_with, flow_breaches, known_read, layout_breaches, refused_in, types_read}
+use Rattle.spv_base.specs.Answers.{after}
+use Rattle.spv_valid.specs.Acceptance.{Accepted, acceptance, accepted}
+use Rattle.spv_base.specs.Order.{Ascend}
+use Rattle.spv_valid.specs.Breaches.{IsLeast, at_words, bodies_breaches, breaches, constant_breaches, first_with, flow_breaches, known_read, layout_breaches, refused_in, types_read}
 use Rattle.spv_valid.proofs.OrderLemmas.{bodies_in_order, capabilities_in_order, ids_in_order, layout_in_order, order_in_order, types_in_order}
 use Rattle.spv_valid.proofs.LeastLemmas.{IsLeastOf, Tells, earlier, joined_least, lowest_least, tells_after, tells_led, tells_refused}
 
@@ -40,9 +42,9 @@ tells_sections : (insts : List Inst) → Ascend 0 insts → Tells (sections_of i
 unfolding sections_of
 tells_sections insts ascend = tells_led nothing _ (order_in_order (sets_of insts) outside 0 0 insts ascend).led
 
-tells_ids : (bound : ℕ) (insts : List Inst) → Ascend 0 insts → Tells (ids_of bound insts) (id_breaches (record { bound = bound; insts = insts }) (sets_of insts) false outside insts)
+tells_ids : (bound : ℕ) (insts : List Inst) → Ascend 0 insts → Tells (ids_of bound insts) (id_breaches (ids_in bound insts) (sets_of insts) false outside insts)
 unfolding ids_of
-tells_ids bound insts ascend = tells_led nothing _ (ids_in_order (record { bound = bound; insts = insts }) (sets_of insts) false outside 0 insts ascend).led
+tells_ids bound insts ascend = tells_led nothing _ (ids_in_order (ids_in bound insts) (sets_of insts) false outside 0 insts ascend).led
 
 tells_capabilities : (insts : List Inst) → Ascend 0 insts → Tells (capabilities_of insts) (capability_breaches insts)
 unfolding capabilities_of
@@ -113,7 +115,7 @@ stepped_code m s i r is = by_rules (keeps_rules m s i) is
     by_rules false e = let same : breach rules_code i ≡ r = cc in let code : 14 ≡ r.code = ap (λ (x : Refusal). x.code) same in omega arith
 
 walked_on : (m : Context) (is : List Inst) (r : Refusal) (due : Result State Refusal) → ((e : Refusal) → due ≡ Err e → 14 ≤ e.code)
-    → ((t : State) → walked m t is ≡ Err r → 14 ≤ r.code) → and_then due (λ t. walked m t is) ≡ Err r → 14 ≤ r.code
+    → ((t : State) → walked m t is ≡ Err r → 14 ≤ r.code) → after due (λ t. walked m t is) ≡ Err r → 14 ≤ r.code
 walked_on m is r (Ok t) here behind e = behind t e
 walked_on m is r (Err x) here behind e = here r (cc)
 

@@ -1,6 +1,7 @@
 -- Which modules are accepted, and what an accepted module is: the rules of each pass over all instructions (SPIR-V 1.6
 -- section 2.16, and this project's profile), where a pass is read only where the passes before it have no breach.
 use Rattle.std.specs.Prelude.{◌≡◌, ℕ, ℤ, List, Option, Result, Ok, Err}
+use Rattle.spv_base.specs.Answers.{after}
 use Rattle.spv_base.specs.declared.causes.Refusal.{Refusal}
 use Rattle.spv_base.specs.declared.instructions.Inst.{Inst}
 use Rattle.spv_types.specs.Types.{Types}
@@ -27,11 +28,6 @@ pub record Accepted : Type 0 where
   pub size : Size  -- of the workgroup
   pub depth : ℕ  -- how many functions the longest chain of calls from the entry point has
   pub stack_cells : ℕ  -- the most cells that the frames of an invocation have together
-
--- a pass, read with what the one before it gave, or the first refusal
-abbrev pub after : {T U : Type 0} → Result T Refusal → (T → Result U Refusal) → Result U Refusal
-after (Ok x) next = next x
-after (Err refusal) next = Err refusal
 
 -- what is read off a module in which no pass has a breach
 abbrev pub accepted : List Inst → Types × Constants → Flow → Entry → Accepted

@@ -13,7 +13,7 @@ use Rattle.spv_cfg.specs.Roles.{sets_of}
 use Rattle.spv_cfg.specs.Sites.{outside}
 use Rattle.spv_cfg.specs.Flow.{block_breaches, call_breaches, flow_in}
 use Rattle.spv_sections.specs.Sections.{order_breaches}
-use Rattle.spv_sections.specs.Ids.{id_breaches}
+use Rattle.spv_sections.specs.Ids.{id_breaches, ids_in}
 use Rattle.spv_sections.specs.Capabilities.{capability_breaches}
 use Rattle.spv_consts.specs.Table.{Constants}
 use Rattle.spv_consts.specs.Numbers.{rules_code}
@@ -60,7 +60,7 @@ bodies_breaches known insts = body_breaches (known_of known.0 known.1 insts) now
 abbrev pub breaches_by : List Inst → ℕ → Option (List ℕ) → List (ℕ × ℤ) → Types → Types × Constants → List (List Refusal)
 breaches_by insts bound name over types known =
     order_breaches (sets_of insts) outside 0 insts
-    ∷ id_breaches (record { bound = bound; insts = insts }) (sets_of insts) false outside insts
+    ∷ id_breaches (ids_in bound insts) (sets_of insts) false outside insts
     ∷ capability_breaches insts
     ∷ type_breaches insts [] (before_functions insts)
     ∷ constant_breaches types insts over
@@ -90,8 +90,3 @@ IsBefore r s = (r.word < s.word) ⊎ ((r.word ≡ s.word) × (r.code ≤ s.code)
 pub record IsLeast (rs : List Refusal) (r : Refusal) : Type 0 where
   pub among : Contains rs r
   pub least : All (IsBefore r) rs
-
--- the words of instructions ascend, from a word on
-abbrev pub Ascend : ℕ → List Inst → Type 0
-Ascend from [] = Unit {0}
-Ascend from (i ∷ is) = (from ≤ i.word) × Ascend (suc i.word) is

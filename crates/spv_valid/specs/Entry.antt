@@ -20,6 +20,7 @@ use Rattle.spv_types.specs.Facts.{constant_type, decoration, is_constant}
 use Rattle.spv_types.specs.Rules.{is_three_words, is_word}
 use Rattle.spv_types.specs.Blocks.{is_value}
 use Rattle.spv_types.specs.Shapes.{scalar_in}
+use Rattle.spv_types.specs.Views.{is_void}
 use Rattle.spv_cfg.specs.Flow.{Flow}
 use Rattle.spv_consts.specs.Table.{Constants}
 use Rattle.spv_valid.specs.declared.entry.Entry.{Entry}
@@ -59,18 +60,6 @@ entry_point insts None = if_compute (find is_entry_point insts)
 entry_point insts (Some name) = find (is_named name) insts
 
 -- ---- its function
-
-abbrev pub is_void : Option Form → Bool
-is_void None = false
-is_void (Some Void) = true
-is_void (Some Boolean) = false
-is_void (Some (Int width sign)) = false
-is_void (Some (Vector component count)) = false
-is_void (Some (Array element length stride)) = false
-is_void (Some (Runtime element stride)) = false
-is_void (Some (Struct members block)) = false
-is_void (Some (Pointer class target)) = false
-is_void (Some (Function returns parameters)) = false
 
 -- the type of functions without parameters that return void
 abbrev pub is_plain : Types → Option Form → Bool

@@ -3,3 +3,4 @@ pub mod Stack
 pub mod Acceptance
 pub mod Modules
 pub mod Breaches
+pub mod Validity

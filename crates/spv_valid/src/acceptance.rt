@@ -1,11 +1,14 @@
 //! Which modules are accepted.
-ghost use Rattle.std.specs.Prelude.{◌≡◌, ◌↔◌, ℕ, ℤ, List, Option, Ok, option_copied};
+ghost use Rattle.std.specs.Prelude.{◌≡◌, ◌↔◌, ℕ, ℤ, IfOk, List, Option, Ok, option_copied};
 ghost use Rattle.spv_base.specs.Answers.{Answers};
+ghost use Rattle.spv_base.specs.Order.{Ascend};
 ghost use Rattle.spv_valid.specs.Acceptance.{Accepted, Passes, acceptance, code_of, front_of, known_of};
+ghost use Rattle.spv_valid.specs.Validity.{IsValid};
 
 use crate::entry::entry_of;
 use crate::modules::Module;
 use crate::stack::stack_cells;
+use crate::validity::accepted_modules_are_valid;
 use spv_base::{Fail, Inst, Overrides, Refusal};
 use spv_bodies::check_bodies;
 use spv_cfg::Code;
@@ -66,8 +69,11 @@ pub fn accept(
     name: Option<&[u8]>,
     over: &Overrides,
 ) -> Result<Module, Fail<Refusal>>
-    ensures { Answers (acceptance insts.items bound (option_copied name.entry) over.now) result }
+    ensures due { Answers (acceptance insts.items bound (option_copied name.entry) over.now) result }
+    // What the module gives to a run over it.
+    ensures valid { Ascend 0 insts.items → IfOk result IsValid }
 {
+    accepted_modules_are_valid();
     let list = insts.as_slice();
     check_front(alloc, list, bound)?;
     let (types, consts) = read_types(alloc, list, over)?;

@@ -3,7 +3,8 @@ ghost use Rattle.std.specs.Prelude.{◌≡◌, ◌↔◌, ℕ, ℤ, List, [], Op
 ghost use Rattle.spv_base.specs.declared.causes.Refusal.{Refusal};
 ghost use Rattle.spv_base.specs.declared.instructions.Inst.{Inst};
 ghost use Rattle.spv_valid.specs.Acceptance.{acceptance};
-ghost use Rattle.spv_valid.specs.Breaches.{Ascend, IsLeast, breaches};
+ghost use Rattle.spv_base.specs.Order.{Ascend};
+ghost use Rattle.spv_valid.specs.Breaches.{IsLeast, breaches};
 
 /// A law, with nothing to run: a module whose words ascend, as those of every decoded module do, is refused with the least of
 /// its breaches, by pass, then by word, then by code, and it is accepted where it has none.

@@ -13,6 +13,7 @@ use spv_cfg::Code;
 use spv_consts::ConstTable;
 use spv_types::facts::is_constant;
 use spv_types::opcodes::{BUILT_IN, FUNCTION};
+use spv_types::views::is_void;
 use spv_types::{Facts, Form, TypeTable, id_at, lit_at};
 use std::alloc::Global;
 
@@ -98,13 +99,6 @@ fn function_at(insts: &[Inst], id: u32) -> Option<&Inst>
         }
     }
     None
-}
-
-/// Whether a type is void.
-fn is_void(form: Option<&Form>) -> bool
-    ensures { result ≡ spec.is_void (option_copied form.entry) }
-{
-    matches!(form, Some(Form::Void))
 }
 
 /// Whether a type is that of functions without parameters that return void.

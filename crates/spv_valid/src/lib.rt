@@ -9,8 +9,10 @@ pub mod opcodes;
 pub mod stack;
 #[cfg(test)]
 mod tests;
+mod validity;
 
 pub use acceptance::{accept, accepted_modules_pass};
 pub use breaches::refusals_are_least_breaches;
 pub use modules::Module;
 pub use stack::counted_chains_are_heaviest;
+pub use validity::accepted_modules_are_valid;

@@ -1,9 +1,12 @@
 //! Modules that broke no rule.
 ghost use Rattle.std.specs.Prelude.{◌≡◌, Some};
 ghost use Rattle.spv_base.specs.Entries.{reads};
+ghost use Rattle.spv_base.specs.Order.{Ascend};
 ghost use Rattle.spv_valid.specs.Acceptance.{IsAccepted};
+ghost use Rattle.spv_valid.specs.Validity.{IsValid};
 
 use crate::entry::Entry;
+use crate::validity::accepted_modules_are_valid;
 use spv_base::Inst;
 use spv_cfg::Code;
 use spv_consts::ConstTable;
@@ -43,7 +46,10 @@ impl Module {
     pub fn insts(&self) -> &[Inst]
         ensures insts { result.now ≡ self.now.insts }
         ensures accepted { ∥ IsAccepted self.now ∥₁ }
+        // What they, with the types, constants and blocks, give to a run over them.
+        ensures valid { Ascend 0 self.now.insts → ∥ IsValid self.now ∥₁ }
     {
+        accepted_modules_are_valid();
         self.insts.as_slice()
     }
 

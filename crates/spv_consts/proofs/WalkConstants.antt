@@ -1,0 +1,288 @@
+-- The walk over a module's constants, from its first instruction to its last before the functions.
+use Rattle.std.proofs.Common.{◌≡◌, ◌≢◌, ◌⊎◌, ◌∙◌, ℕ, ◌<◌, ◌==◌, Bool, true, false, List, [], ◌∷◌, ◌++◌, length, append_assoc, append-nil, Option, Some, None, Result, Ok, Err, inl, inr, refl, sym, ap, subst}
+use Rattle.std.proofs.lemmas.Bool.{and_parts, cases_Bool, eqb-true, eq-eqb, ltb-true}
+use Rattle.std.specs.Prelude.{nat_le, nat_lt, ◌&&◌, ◌||◌, if◌then◌else◌, unwrap_or, option_map}
+use Rattle.std.specs.List.{AllByRecursion}
+use Rattle.std.specs.Option.{is_some, option_map_or}
+use Rattle.spv_base.specs.Answers.{after}
+use Rattle.spv_base.specs.Entries.{reads}
+use Rattle.spv_base.specs.Order.{Ascend}
+use Rattle.spv_base.specs.declared.causes.Refusal.{Refusal}
+use Rattle.spv_base.specs.declared.instructions.Inst.{Inst}
+use Rattle.spv_base.specs.declared.values.Root.{Root}
+use Rattle.spv_base.specs.declared.values.Value.{Value}
+use Rattle.spv_types.specs.declared.forms.Form.{Form}
+use Rattle.spv_types.specs.declared.opcodes.TheConstants.{TYPE_ARRAY, UNDEF}
+use Rattle.spv_types.specs.Build.{type_breaches, types_of}
+use Rattle.spv_types.specs.Facts.{is_constant}
+use Rattle.spv_types.specs.Laws.{AreByForms, AreComplete, AreNamed, AreSound, HasResult, IsAmong}
+use Rattle.spv_types.specs.Rules.{is_data, is_sized_data}
+use Rattle.spv_types.specs.Shapes.{HasShape}
+use Rattle.spv_types.specs.Types.{IsUnset, Types, form_of, lengthened as with_size, number_of, with_length}
+use Rattle.spv_types.specs.Typing.{before_functions, defined_form, types_in}
+use Rattle.spv_index.specs.Definitions.{defining, type_of}
+use Rattle.spv_consts.specs.Table.{Constants}
+use Rattle.spv_consts.specs.Context.{Context, has_undef_before, is_undef_before}
+use Rattle.spv_consts.specs.State.{State, is_next}
+use Rattle.spv_consts.specs.Values.{blank_of, undefined_of}
+use Rattle.spv_consts.specs.Evaluation.{value_of}
+use Rattle.spv_consts.specs.Laws.{HaveShapes, HaveValues, OperandsHaveShapes}
+use Rattle.spv_consts.specs.Numbers.{rules_code}
+use Rattle.spv_consts.specs.Overrides.{Numbers}
+use Rattle.spv_consts.specs.SpecIds.{lowest_wrong}
+use Rattle.spv_consts.specs.Build.{built_of, constants_of, context_of, start_of, unless_earlier}
+use Rattle.spv_consts.specs.Lengths.{lengthened}
+use Rattle.spv_consts.specs.Rules.{keeps_kind, keeps_rules}
+use Rattle.spv_consts.specs.Steps.{entered, stepped, walked, with_constant, with_type}
+use Rattle.spv_types.proofs.TypeLemmas.{number_lt}
+use Rattle.spv_consts.proofs.WalkIds.{before_is_front, each_weaker}
+use Rattle.spv_consts.proofs.WalkTypes.{no_breach, number_of_form}
+use Rattle.spv_consts.proofs.WalkStates.{array_form, array_length, constant_no_array, constant_no_type, no_length, only_arrays_unset, passed}
+use Rattle.spv_consts.proofs.WalkPlaces.{IsPlaced, declared, placed}
+use Rattle.spv_consts.proofs.WalkSteps.{Follows, IsShaped, constant_follows, follows_start, length_follows, length_sets, other_follows, type_follows}
+
+-- ---- the type of a constant
+
+read_shaped : (insts : List Inst) (ts : Types) (known : ℕ) (cs : Constants) (id : ℕ) (v : Value) → AllByRecursion (IsShaped insts ts known) cs → reads id cs ≡ Some v → IsShaped insts ts known (id, v)
+read_shaped insts ts known [] id v h e = cc
+read_shaped insts ts known (c ∷ cs) id v (first, rest) e = by_test (c.0 == id) refl e (read_shaped insts ts known cs id v rest)
+  where
+    by_test : (b : Bool) → (c.0 == id) ≡ b → (if b then Some c.1 else reads id cs) ≡ Some v → (reads id cs ≡ Some v → IsShaped insts ts known (id, v)) → IsShaped insts ts known (id, v)
+    by_test true t h behind =
+        let same_id : c.0 ≡ id = eqb-true c.0 id t in
+        let same : c.1 ≡ v = cc in
+        let one : IsShaped insts ts known (id, c.1) = subst (λ (q : ℕ). IsShaped insts ts known (q, c.1)) same_id first in
+        subst (λ (w : Value). IsShaped insts ts known (id, w)) same one
+    by_test false t h behind = behind h
+
+-- a type of data has a number
+data_number : (ts : Types) (id : ℕ) → is_data (form_of ts id) ≡ true → (n : ℕ) × (number_of ts id ≡ Some n)
+data_number ts id h = by_form (form_of ts id) refl h
+  where
+    by_form : (o : Option Form) → form_of ts id ≡ o → is_data o ≡ true → (n : ℕ) × (number_of ts id ≡ Some n)
+    by_form None e data_is = cc
+    by_form (Some f) e data_is = number_of_form ts id f e
+
+constant_rules : (m : Context) (s : State) (i : Inst) → is_constant i.op ≡ true → keeps_rules m s i ≡ true → is_data (form_of s.types i.ty) ≡ true
+constant_rules m s i constant rules =
+    let rest : (is_sized_data s.types i.ty && keeps_kind m s i) ≡ true = rw (constant_no_array i.op constant, constant) at rules in
+    let sized = and_parts (is_sized_data s.types i.ty) (keeps_kind m s i) rest in
+    (and_parts (is_data (form_of s.types i.ty)) _ sized.0).0
+
+constant_among : (m : Context) (front : List Inst) (i : Inst) (s : State) → Follows m.all front s → IsPlaced m.all front i → is_constant i.op ≡ true → keeps_rules m s i ≡ true → IsAmong s.types s.known i.ty
+constant_among m front i s follows place constant rules =
+    let number = data_number s.types i.ty (constant_rules m s i constant rules) in
+    let below = place.earlier constant number.0 (sym (follows.numbers i.ty) ∙ number.1) in
+    record { number = number.0; is = number.1; below = subst (λ (n : ℕ). number.0 < n) (sym follows.known) below }
+
+-- ---- its operands
+
+module _ (blank_shapes : (ts : Types) (n id : ℕ) (roots : Root → Option ℕ) (defined : Bool) → AreSound ts → AreComplete ts n → IsAmong ts n id → is_data (form_of ts id) ≡ true → HasShape ts roots id (blank_of defined ts id)) where
+  undefined_shape : (m : Context) (front : List Inst) (i : Inst) (s : State) (roots : Root → Option ℕ) (id : ℕ) → Follows m.all front s → IsPlaced m.all front i → has_undef_before m i.word id ≡ true
+      → HasShape s.types roots (type_of m.all id) (undefined_of s.types (type_of m.all id))
+  undefined_shape m front i s roots id follows place h = by_definition (defining m.all id) refl h
+    where
+      shape : (d : Inst) → defining m.all id ≡ Some d → IsAmong (declared m.all) (length (types_in m.all front)) d.ty × (is_data (form_of (declared m.all) d.ty) ≡ true) → HasShape s.types roots d.ty (undefined_of s.types d.ty)
+      shape d e (among, data_is) =
+          let below : among.number < s.known = subst (λ (n : ℕ). among.number < n) (sym follows.known) among.below in
+          let here : IsAmong s.types s.known d.ty = record { number = among.number; is = follows.numbers d.ty ∙ among.is; below = below } in
+          blank_shapes s.types s.known d.ty roots false follows.sound follows.complete here (follows.kinds d.ty ∙ data_is)
+
+      by_definition : (o : Option Inst) → defining m.all id ≡ o → option_map_or (is_undef_before i.word) o false ≡ true → HasShape s.types roots (type_of m.all id) (undefined_of s.types (type_of m.all id))
+      by_definition None e before = cc
+      by_definition (Some d) e before =
+          let tests = and_parts (d.op == UNDEF) (nat_lt d.word i.word) before in
+          let facts = place.undefined id d e (eqb-true d.op UNDEF tests.0) (ltb-true d.word i.word tests.1) in
+          let ty : type_of m.all id ≡ d.ty = ap (λ (o : Option Inst). unwrap_or (option_map (λ (j : Inst). j.ty) o) 0) e in
+          subst (λ (t : ℕ). HasShape s.types roots t (undefined_of s.types t)) (sym ty) (shape d e facts)
+
+  pub operands_shape : (m : Context) (front : List Inst) (i : Inst) (s : State) (roots : Root → Option ℕ) → Follows m.all front s → IsPlaced m.all front i → OperandsHaveShapes m s roots i.word
+  operands_shape m front i s roots follows place = λ id h. by_value id (reads id s.values) refl h
+    where
+      by_value : (id : ℕ) (o : Option Value) → reads id s.values ≡ o → (is_some o || has_undef_before m i.word id) ≡ true → HasShape s.types roots (type_of m.all id) (unwrap_or (reads id s.values) (undefined_of s.types (type_of m.all id)))
+      by_value id None e h = rw e (undefined_shape m front i s roots id follows place h)
+      by_value id (Some v) e h = rw e ((read_shaped m.all s.types s.known s.values id v follows.shaped e).1 roots)
+
+-- ---- one instruction
+
+next_is : (s : State) (id n : ℕ) → number_of s.types id ≡ Some n → s.known ≡ n → is_next s id ≡ true
+next_is s id n number known = rw number (eq-eqb n s.known (sym known))
+
+not_next : (s : State) (id : ℕ) → number_of s.types id ≡ None → is_next s id ≡ false
+not_next s id number = rw number refl
+
+-- what comes of an instruction by its kind
+type_entered : (m : Context) (s : State) (i : Inst) → is_next s i.id ≡ true → entered m s i ≡ with_type s
+type_entered m s i comes_next = rw comes_next refl
+
+constant_entered : (m : Context) (s : State) (i : Inst) → is_next s i.id ≡ false → is_constant i.op ≡ true → entered m s i ≡ with_constant m s i
+constant_entered m s i other constant = rw (other, constant) refl
+
+other_entered : (m : Context) (s : State) (i : Inst) → is_next s i.id ≡ false → is_constant i.op ≡ false → entered m s i ≡ s
+other_entered m s i other no_constant = rw (other, no_constant) refl
+
+-- ---- the state at the end
+
+state_of : (insts : List Inst) (ts : Types) (over : Numbers) (known : Types × Constants) → constants_of ts insts over ≡ Ok known
+    → (s : State) × (walked (context_of ts insts over) (start_of ts) (before_functions insts) ≡ Ok s) × (known ≡ (s.types, s.values))
+unfolding constants_of
+state_of insts ts over known is = by_walk (walked (context_of ts insts over) (start_of ts) (before_functions insts)) (lowest_wrong insts insts) is
+  where
+    by_walk : (r : Result State Refusal) (o : Option ℕ) → unless_earlier o (built_of r) ≡ Ok known → (s : State) × (r ≡ Ok s) × (known ≡ (s.types, s.values))
+    by_walk (Ok s) None e = (s, refl, cc)
+    by_walk (Ok s) (Some word) e = cc
+    by_walk (Err r) None e = cc
+    by_walk (Err r) (Some word) e = by_word (nat_le word r.word) e
+      where
+        by_word : (b : Bool) → (if b then Err (record { code = rules_code; word = word }) else Err r) ≡ Ok known → (s : State) × (Err r ≡ Ok s) × (known ≡ (s.types, s.values))
+        by_word true h = cc
+        by_word false h = cc
+
+-- ---- by what the laws of types and of values say
+
+module _
+    (sound : (insts : List Inst) (ts : Types) → AllByRecursion (HasResult insts) insts → types_of insts ≡ Ok ts → AreSound ts)
+    (sound_kept : (ts : Types) (id n : ℕ) → AreSound ts → AreSound (with_length ts id n))
+    (number_kept : (ts : Types) (id n q : ℕ) → number_of (with_length ts id n) q ≡ number_of ts q)
+    (other_kept : (ts : Types) (id n q : ℕ) → id ≢ q → form_of (with_length ts id n) q ≡ form_of ts q)
+    (own_set : (ts : Types) (id n : ℕ) (f : Form) → form_of ts id ≡ Some f → form_of (with_length ts id n) id ≡ Some (with_size n f))
+    (shapes_kept : (ts : Types) (roots : Root → Option ℕ) (array k n id : ℕ) (v : Value) → number_of ts array ≡ Some k → IsAmong ts k id → HasShape ts roots id v → HasShape (with_length ts array n) roots id v)
+    (by_forms : (ts : Types) (roots : Root → Option ℕ) → AreSound ts → AreByForms ts roots)
+    (blank_shapes : (ts : Types) (n id : ℕ) (roots : Root → Option ℕ) (defined : Bool) → AreSound ts → AreComplete ts n → IsAmong ts n id → is_data (form_of ts id) ≡ true → HasShape ts roots id (blank_of defined ts id))
+    (entered_shapes : (m : Context) (s : State) (roots : Root → Option ℕ) (i : Inst) → AreSound s.types → AreByForms s.types roots → AreComplete s.types s.known → IsAmong s.types s.known i.ty → OperandsHaveShapes m s roots i.word
+    → is_constant i.op ≡ true → keeps_rules m s i ≡ true → HasShape s.types roots i.ty (value_of m s i))
+  where
+    -- a type instruction
+    type_passes : (m : Context) (front : List Inst) (i : Inst) (s u : State) (f : Form) → Follows m.all front s → IsPlaced m.all front i → defined_form m.all i ≡ Some f → keeps_rules m s i ≡ true → lengthened m s i ≡ Some u
+        → Follows m.all (front ++ i ∷ []) (entered m u i)
+    type_passes m front i s u f follows place form rules lengthens = by_array (cases_Bool (i.op == TYPE_ARRAY))
+      where
+        at : (number_of (declared m.all) i.id ≡ Some (length (types_in m.all front))) × (form_of (declared m.all) i.id ≡ Some f)
+        at = place.type_at f form
+
+        number : number_of s.types i.id ≡ Some s.known
+        number = follows.numbers i.id ∙ at.0 ∙ ap Some (sym follows.known)
+
+        no_constant : (b : Bool) → is_constant i.op ≡ b → b ≡ false
+        no_constant true e = let clash : Some f ≡ None = sym form ∙ constant_no_type m.all i e in cc
+        no_constant false e = refl
+
+        other : is_constant i.op ≡ false
+        other = no_constant (is_constant i.op) refl
+
+        enters : (v : State) → Follows m.all front v → number_of v.types i.id ≡ Some v.known → (IsUnset (form_of v.types i.id) → ⊥) → Follows m.all (front ++ i ∷ []) (entered m v i)
+        enters v follows_v number_v is_set =
+            let is : entered m v i ≡ with_type v = type_entered m v i (next_is v i.id v.known number_v refl) in
+            subst (λ (t : State). Follows m.all (front ++ i ∷ []) t) (sym is) (type_follows m.all front i v f follows_v form other number_v is_set)
+
+        long : (n : ℕ) → u ≡ record s { types = with_length s.types i.id n } → Follows m.all (front ++ i ∷ []) (entered m u i)
+        long n same =
+            let v : State = record s { types = with_length s.types i.id n } in
+            let follows_v : Follows m.all front v = length_follows sound_kept number_kept other_kept own_set shapes_kept m.all front s i.id n follows number in
+            let number_v : number_of v.types i.id ≡ Some v.known = number_kept s.types i.id n i.id ∙ number in
+            let is_set : IsUnset (form_of v.types i.id) → ⊥ = length_sets sound_kept number_kept other_kept own_set shapes_kept s.types i.id n s.known number in
+            subst (λ (t : State). Follows m.all (front ++ i ∷ []) (entered m t i)) (sym same) (enters v follows_v number_v is_set)
+
+        unchanged : u ≡ s → (IsUnset (form_of s.types i.id) → ⊥) → Follows m.all (front ++ i ∷ []) (entered m u i)
+        unchanged same is_set = subst (λ (t : State). Follows m.all (front ++ i ∷ []) (entered m t i)) (sym same) (enters s follows number is_set)
+
+        by_length : ((n : ℕ) × (u ≡ record s { types = with_length s.types i.id n })) ⊎ ((u ≡ s) × (IsUnset (form_of s.types i.id) → ⊥)) → Follows m.all (front ++ i ∷ []) (entered m u i)
+        by_length (inl (n, same)) = long n same
+        by_length (inr (same, is_set)) = unchanged same is_set
+
+        by_array : ((i.op == TYPE_ARRAY) ≡ true) ⊎ ((i.op == TYPE_ARRAY) ≡ false) → Follows m.all (front ++ i ∷ []) (entered m u i)
+        by_array (inl array) = by_length (array_length m s u i array rules (next_is s i.id s.known number refl) lengthens)
+        by_array (inr no_array) = unchanged (no_length m s u i no_array lengthens)
+            (λ unset. only_arrays_unset m.all i no_array (subst IsUnset (sym form) (subst IsUnset at.1 (follows.unset i.id unset))))
+
+    -- a constant
+    value_shape : (m : Context) (front : List Inst) (i : Inst) (s : State) (roots : Root → Option ℕ) → Follows m.all front s → IsPlaced m.all front i → is_constant i.op ≡ true → keeps_rules m s i ≡ true → IsAmong s.types s.known i.ty
+        → HasShape s.types roots i.ty (value_of m s i)
+    value_shape m front i s roots follows place constant rules among =
+        let forms : AreByForms s.types roots = by_forms s.types roots follows.sound in
+        let operands : OperandsHaveShapes m s roots i.word = operands_shape blank_shapes m front i s roots follows place in
+        entered_shapes m s roots i follows.sound forms follows.complete among operands constant rules
+
+    -- any other instruction
+    other_passes : (m : Context) (front : List Inst) (i : Inst) (s u : State) → Follows m.all front s → IsPlaced m.all front i → defined_form m.all i ≡ None → keeps_rules m s i ≡ true → lengthened m s i ≡ Some u
+        → Follows m.all (front ++ i ∷ []) (entered m u i)
+    other_passes m front i s u follows place form rules lengthens =
+        subst (λ (t : State). Follows m.all (front ++ i ∷ []) (entered m t i)) (sym (no_length m s u i (array_form m.all i form) lengthens)) (by_kind (cases_Bool (is_constant i.op)))
+      where
+        aside : is_next s i.id ≡ false
+        aside = not_next s i.id (follows.numbers i.id ∙ place.no_type form)
+
+        by_kind : (is_constant i.op ≡ true) ⊎ (is_constant i.op ≡ false) → Follows m.all (front ++ i ∷ []) (entered m s i)
+        by_kind (inl constant) =
+            let among : IsAmong s.types s.known i.ty = constant_among m front i s follows place constant rules in
+            let follows_t = constant_follows m front i s follows form (place.own_type constant) among (λ roots. value_shape m front i s roots follows place constant rules among) in
+            subst (λ (t : State). Follows m.all (front ++ i ∷ []) t) (sym (constant_entered m s i aside constant)) follows_t
+        by_kind (inr no_constant) = subst (λ (t : State). Follows m.all (front ++ i ∷ []) t) (sym (other_entered m s i aside no_constant)) (other_follows m.all front i s follows form no_constant)
+
+    step_follows : (m : Context) (front : List Inst) (i : Inst) (s t : State) → Follows m.all front s → IsPlaced m.all front i → stepped m s i ≡ Ok t → Follows m.all (front ++ i ∷ []) t
+    step_follows m front i s t follows place steps = by_form (defined_form m.all i) refl
+      where
+        passes : (keeps_rules m s i ≡ true) × ((u : State) × (lengthened m s i ≡ Some u) × (t ≡ entered m u i))
+        passes = passed m s t i steps
+
+        by_form : (o : Option Form) → defined_form m.all i ≡ o → Follows m.all (front ++ i ∷ []) t
+        by_form None e = subst (λ (v : State). Follows m.all (front ++ i ∷ []) v) (sym passes.1.2) (other_passes m front i s passes.1.0 follows place e passes.0 passes.1.1)
+        by_form (Some f) e = subst (λ (v : State). Follows m.all (front ++ i ∷ []) v) (sym passes.1.2) (type_passes m front i s passes.1.0 f follows place e passes.0 passes.1.1)
+
+    -- ---- all of them
+
+    pub walk_follows : (m : Context) (front rest tail : List Inst) (s t : State) → Ascend 0 m.all → AreNamed m.all → type_breaches m.all [] (before_functions m.all) ≡ [] → before_functions m.all ≡ front ++ rest → m.all ≡ front ++ (rest ++ tail)
+        → Follows m.all front s → walked m s rest ≡ Ok t → Follows m.all (before_functions m.all) t
+    unfolding walked
+    walk_follows m front [] tail s t ascend named none place whole follows walks =
+        let same : s ≡ t = cc in
+        let all_of : front ≡ before_functions m.all = sym (place ∙ append-nil front) in
+        subst (λ (v : State). Follows m.all (before_functions m.all) v) same (subst (λ (is : List Inst). Follows m.all is s) all_of follows)
+    walk_follows m front (i ∷ rest) tail s t ascend named none place whole follows walks =
+        by_step (stepped m s i) refl walks
+        (λ u steps behind. walk_follows m (front ++ i ∷ []) rest tail u t ascend named none (place ∙ sym (append_assoc front (i ∷ []) rest)) (whole ∙ sym (append_assoc front (i ∷ []) (rest ++ tail)))
+        (step_follows m front i s u follows (placed m.all front rest tail i place whole ascend named none) steps) behind)
+      where
+        by_step : (r : Result State Refusal) → stepped m s i ≡ r → after r (λ u. walked m u rest) ≡ Ok t → ((u : State) → stepped m s i ≡ Ok u → walked m u rest ≡ Ok t → Follows m.all (before_functions m.all) t) → Follows m.all (before_functions m.all) t
+        by_step (Ok u) e walks_on go = go u e walks_on
+        by_step (Err r) e walks_on go = cc
+
+    -- ---- the answer
+
+    abbrev Walked : List Inst → Types × Constants → Type 0
+    Walked insts known = (s : State) × Follows insts (before_functions insts) s × (known ≡ (s.types, s.values))
+
+    walked_by : (insts : List Inst) (ts : Types) (over : Numbers) (known : Types × Constants) → Ascend 0 insts → AreNamed insts → types_of insts ≡ Ok ts → constants_of ts insts over ≡ Ok known → Walked insts known
+    walked_by insts ts over known ascend named typed is =
+        let ends = state_of insts ts over known is in
+        let rules = no_breach insts ts typed in
+        let front = before_is_front insts in
+        let sound_start : AreSound (declared insts) = subst AreSound (sym rules.1) (sound insts ts named.results typed) in
+        let start : Follows insts [] (start_of ts) = follows_start insts (start_of ts) refl (sym rules.1) refl sound_start in
+        (ends.0, walk_follows (context_of ts insts over) [] (before_functions insts) front.0 (start_of ts) ends.0 ascend named rules.0 refl front.1 start ends.1, ends.2)
+
+    -- the types are sound, and each array has its length
+    pub types_are_whole : (insts : List Inst) (ts : Types) (over : Numbers) (known : Types × Constants) → Ascend 0 insts → AreNamed insts → types_of insts ≡ Ok ts → constants_of ts insts over ≡ Ok known
+        → AreSound known.0 × AreComplete known.0 (length known.0)
+    types_are_whole insts ts over known ascend named typed is =
+        let w = walked_by insts ts over known ascend named typed is in
+        subst (λ (k : Types × Constants). AreSound k.0 × AreComplete k.0 (length k.0)) (sym w.2) (w.1.sound, complete w.0 w.1)
+      where
+        complete : (s : State) → Follows insts (before_functions insts) s → AreComplete s.types (length s.types)
+        complete s follows = λ id among.
+            let below : among.number < length (declared insts) = number_lt (declared insts) id among.number (sym (follows.numbers id) ∙ among.is) in
+            follows.complete id (record { number = among.number; is = among.is; below = subst (λ (n : ℕ). among.number < n) (sym follows.known) below })
+
+    -- each value has the shape of its type
+    pub values_have_shapes : (insts : List Inst) (ts : Types) (over : Numbers) (known : Types × Constants) → Ascend 0 insts → AreNamed insts → types_of insts ≡ Ok ts → constants_of ts insts over ≡ Ok known
+        → (roots : Root → Option ℕ) → HaveShapes known.0 insts roots known.1
+    values_have_shapes insts ts over known ascend named typed is = λ roots.
+        let w = walked_by insts ts over known ascend named typed is in
+        subst (λ (k : Types × Constants). HaveShapes k.0 insts roots k.1) (sym w.2)
+        (each_weaker (IsShaped insts w.0.types w.0.known) (λ (c : ℕ × Value). HasShape w.0.types roots (type_of insts c.0) c.1) (λ c shaped. shaped.1 roots) w.0.values w.1.shaped)
+
+    -- each constant has a value
+    pub constants_have_values : (insts : List Inst) (ts : Types) (over : Numbers) (known : Types × Constants) → Ascend 0 insts → AreNamed insts → types_of insts ≡ Ok ts → constants_of ts insts over ≡ Ok known → HaveValues insts known.1
+    constants_have_values insts ts over known ascend named typed is =
+        let w = walked_by insts ts over known ascend named typed is in
+        subst (λ (k : Types × Constants). HaveValues insts k.1) (sym w.2) w.1.valued

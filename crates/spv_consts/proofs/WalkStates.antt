@@ -1,0 +1,155 @@
+-- What one instruction makes of a state, and what is so in each state of the walk over a module's constants.
+use Rattle.std.proofs.Common.{◌≡◌, ◌⊎◌, ◌∙◌, ℕ, ◌==◌, Bool, true, false, List, Option, Some, None, Ok, Err, inl, inr, refl, sym, ap}
+use Rattle.std.proofs.lemmas.Bool.{eqb-true, ne_eqb}
+use Rattle.std.specs.Prelude.{nat_lt, if◌then◌else◌}
+use Rattle.std.specs.Option.{is_some}
+use Rattle.spv_base.specs.declared.instructions.Inst.{Inst}
+use Rattle.spv_types.specs.declared.forms.Form.{Form}
+use Rattle.spv_types.specs.declared.forms.Form.TheVariants.{Void, Bool as Boolean, Int, Vector, Array, Runtime, Struct, Pointer, Function}
+use Rattle.spv_types.specs.declared.opcodes.TheConstants.{TYPE_VOID, TYPE_BOOL, TYPE_INT, TYPE_VECTOR, TYPE_ARRAY, TYPE_RUNTIME_ARRAY, TYPE_STRUCT, TYPE_POINTER, TYPE_FUNCTION}
+use Rattle.spv_types.specs.Facts.{is_constant}
+use Rattle.spv_types.specs.Rules.{is_data}
+use Rattle.spv_types.specs.Types.{IsUnset, form_of, lengthened as with_size, with_length}
+use Rattle.spv_types.specs.Typing.{defined_form}
+use Rattle.spv_consts.specs.Numbers.{rules_code, limits_code, most_cells}
+use Rattle.spv_consts.specs.Context.{Context}
+use Rattle.spv_consts.specs.State.{State, is_next}
+use Rattle.spv_consts.specs.Lengths.{constant_length, is_unset, lengthened, with_array, with_length_if}
+use Rattle.spv_consts.specs.Rules.{keeps_rules}
+use Rattle.spv_consts.specs.Steps.{breach, entered, limited, passes_limit, stepped}
+
+-- ---- forms
+
+-- the test of an array without a length tells of each such array
+pub not_unset : (o : Option Form) → is_unset o ≡ false → IsUnset o → ⊥
+not_unset None h u = u
+not_unset (Some Void) h u = u
+not_unset (Some Boolean) h u = u
+not_unset (Some (Int width sign)) h u = u
+not_unset (Some (Vector component count)) h u = u
+not_unset (Some (Array element None stride)) h u = cc
+not_unset (Some (Array element (Some n) stride)) h u = u
+not_unset (Some (Runtime element stride)) h u = u
+not_unset (Some (Struct members block)) h u = u
+not_unset (Some (Pointer class target)) h u = u
+not_unset (Some (Function returns parameters)) h u = u
+
+-- a form that was given a length has one, where it can have one, and is data where it was
+pub sized_is_set : (n : ℕ) (f : Form) → IsUnset (Some (with_size n f)) → ⊥
+sized_is_set n Void u = u
+sized_is_set n Boolean u = u
+sized_is_set n (Int width sign) u = u
+sized_is_set n (Vector component count) u = u
+sized_is_set n (Array element size stride) u = u
+sized_is_set n (Runtime element stride) u = u
+sized_is_set n (Struct members block) u = u
+sized_is_set n (Pointer class target) u = u
+sized_is_set n (Function returns parameters) u = u
+
+pub sized_data : (n : ℕ) (f : Form) → is_data (Some (with_size n f)) ≡ is_data (Some f)
+sized_data n Void = refl
+sized_data n Boolean = refl
+sized_data n (Int width sign) = refl
+sized_data n (Vector component count) = refl
+sized_data n (Array element size stride) = refl
+sized_data n (Runtime element stride) = refl
+sized_data n (Struct members block) = refl
+sized_data n (Pointer class target) = refl
+sized_data n (Function returns parameters) = refl
+
+-- ---- kinds of instructions
+
+-- no array without a length
+abbrev IsSet : Option Form → Type 0
+IsSet o = IsUnset o → ⊥
+
+set_by_test : (b : Bool) (o p : Option Form) → IsSet o → IsSet p → IsSet (if b then o else p)
+set_by_test true o p one other = one
+set_by_test false o p one other = other
+
+set_otherwise : (b : Bool) (o p : Option Form) → b ≡ false → IsSet p → IsSet (if b then o else p)
+set_otherwise b o p fails other = rw fails other
+
+-- an instruction that declares no array declares no array without a length
+pub only_arrays_unset : (all : List Inst) (i : Inst) → (i.op == TYPE_ARRAY) ≡ false → IsUnset (defined_form all i) → ⊥
+unfolding defined_form
+only_arrays_unset all i h =
+    set_by_test (i.op == TYPE_VOID) (Some Void) _ (λ u. u)
+    (set_by_test (i.op == TYPE_BOOL) (Some Boolean) _ (λ u. u)
+    (set_by_test (i.op == TYPE_INT) (Some (Int _ _)) _ (λ u. u)
+    (set_by_test (i.op == TYPE_VECTOR) (Some (Vector _ _)) _ (λ u. u)
+    (set_otherwise (i.op == TYPE_ARRAY) _ _ h
+    (set_by_test (i.op == TYPE_RUNTIME_ARRAY) (Some (Runtime _ _)) _ (λ u. u)
+    (set_by_test (i.op == TYPE_STRUCT) (Some (Struct _ _)) _ (λ u. u)
+    (set_by_test (i.op == TYPE_POINTER) (Some (Pointer _ _)) _ (λ u. u)
+    (set_by_test (i.op == TYPE_FUNCTION) (Some (Function _ _)) _ (λ u. u) (λ u. u)))))))))
+
+-- an array type has a form
+pub array_form : (all : List Inst) (i : Inst) → defined_form all i ≡ None → (i.op == TYPE_ARRAY) ≡ false
+unfolding defined_form
+array_form all i h = by_test (i.op == TYPE_ARRAY) refl
+  where
+    by_test : (b : Bool) → (i.op == TYPE_ARRAY) ≡ b → b ≡ false
+    by_test true e = let op : i.op ≡ TYPE_ARRAY = eqb-true i.op TYPE_ARRAY e in let some = rw op at h in cc
+    by_test false e = refl
+
+not_test : (op n : ℕ) → is_constant op ≡ true → is_constant n ≡ false → (op == n) ≡ false
+not_test op n h none = ne_eqb op n (λ same. let clash : true ≡ false = sym h ∙ ap is_constant same ∙ none in absurd (cc))
+
+-- a constant is no array type
+pub constant_no_array : (op : ℕ) → is_constant op ≡ true → (op == TYPE_ARRAY) ≡ false
+constant_no_array op h = not_test op TYPE_ARRAY h refl
+
+-- a constant declares no type
+pub constant_no_type : (all : List Inst) (i : Inst) → is_constant i.op ≡ true → defined_form all i ≡ None
+unfolding defined_form
+constant_no_type all i h =
+    rw (
+      not_test i.op TYPE_VOID h refl,
+      not_test i.op TYPE_BOOL h refl,
+      not_test i.op TYPE_INT h refl,
+      not_test i.op TYPE_VECTOR h refl,
+      not_test i.op TYPE_ARRAY h refl,
+      not_test i.op TYPE_RUNTIME_ARRAY h refl,
+      not_test i.op TYPE_STRUCT h refl,
+      not_test i.op TYPE_POINTER h refl,
+      not_test i.op TYPE_FUNCTION h refl,
+    ) refl
+
+-- ---- one instruction
+
+-- an instruction that is passed keeps the rules, and enters the state with the length that it sets
+pub passed : (m : Context) (s t : State) (i : Inst) → stepped m s i ≡ Ok t → (keeps_rules m s i ≡ true) × ((u : State) × (lengthened m s i ≡ Some u) × (t ≡ entered m u i))
+unfolding stepped
+passed m s t i h = by_rules (keeps_rules m s i) (lengthened m s i) h
+  where
+    by_limit : (u : State) (b : Bool) → (if b then Err (breach limits_code i) else Ok (entered m u i)) ≡ Ok t → t ≡ entered m u i
+    by_limit u true e = cc
+    by_limit u false e = cc
+
+    by_rules : (b : Bool) (o : Option State) → (if b then limited m i o else Err (breach rules_code i)) ≡ Ok t → (b ≡ true) × ((u : State) × (o ≡ Some u) × (t ≡ entered m u i))
+    by_rules true None e = cc
+    by_rules true (Some u) e = (refl, (u, refl, by_limit u (passes_limit u i) e))
+    by_rules false o e = cc
+
+-- what declares no array sets no length
+pub no_length : (m : Context) (s u : State) (i : Inst) → (i.op == TYPE_ARRAY) ≡ false → lengthened m s i ≡ Some u → u ≡ s
+no_length m s u i h e = let same : Some s ≡ Some u = rw h at e in cc
+
+-- an array type sets a length where it has none
+pub array_length : (m : Context) (s u : State) (i : Inst) → (i.op == TYPE_ARRAY) ≡ true → keeps_rules m s i ≡ true → is_next s i.id ≡ true → lengthened m s i ≡ Some u
+    → ((n : ℕ) × (u ≡ record s { types = with_length s.types i.id n })) ⊎ ((u ≡ s) × (IsUnset (form_of s.types i.id) → ⊥))
+array_length m s u i array rules comes_next e = by_length (constant_length m s _) (rw array at rules) (rw array at e)
+  where
+    by_unset : (n : ℕ) (b : Bool) → is_unset (form_of s.types i.id) ≡ b → (if b then record s { types = with_length s.types i.id n } else s) ≡ u
+        → ((k : ℕ) × (u ≡ record s { types = with_length s.types i.id k })) ⊎ ((u ≡ s) × (IsUnset (form_of s.types i.id) → ⊥))
+    by_unset n true unset same = inl (n, sym same)
+    by_unset n false unset same = inr (sym same, not_unset (form_of s.types i.id) unset)
+
+    by_limit : (n : ℕ) (b : Bool) → (if b then None else Some (with_array s i.id n)) ≡ Some u → ((k : ℕ) × (u ≡ record s { types = with_length s.types i.id k })) ⊎ ((u ≡ s) × (IsUnset (form_of s.types i.id) → ⊥))
+    by_limit n true h = cc
+    by_limit n false h = let same : with_array s i.id n ≡ u = cc in by_unset n (is_unset (form_of s.types i.id)) refl (rw comes_next at same)
+
+    by_length : (o : Option ℕ) → is_some o ≡ true → with_length_if s i.id o ≡ Some u → ((k : ℕ) × (u ≡ record s { types = with_length s.types i.id k })) ⊎ ((u ≡ s) × (IsUnset (form_of s.types i.id) → ⊥))
+    by_length None none h = cc
+    by_length (Some n) some h = by_limit n (nat_lt most_cells n) h

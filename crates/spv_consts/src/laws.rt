@@ -1,0 +1,4 @@
+//! What the constants of an accepted module give.
+pub mod constants;
+pub mod operations;
+pub mod values;
