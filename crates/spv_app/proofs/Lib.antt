@@ -6,3 +6,4 @@ pub mod Headlines
 pub mod Checks
 pub mod Splits
 pub mod Openings
+pub mod Readings

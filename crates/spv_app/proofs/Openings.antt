@@ -1,14 +1,13 @@
 -- How the answers of the calls that open a pair lead to the opening's.
 use Rattle.std.proofs.Common.{◌≡◌, ℕ, List, sym, ap, subst, Result, Ok, Err}
 use Rattle.std.specs.Result.{IsErrAnd}
-use Rattle.spv_base.specs.Answers.{Answers}
+use Rattle.spv_base.specs.Answers.{Answers, after}
 use Rattle.spv_base.specs.declared.causes.Fail.{Fail}
 use Rattle.spv_base.specs.declared.causes.Fail.TheVariants.{Refused, NoMemory}
 use Rattle.spv_machine.specs.Program.{Program}
 use Rattle.spv_session.specs.Settings.{Settings, settings_of}
 use Rattle.spv_session.specs.View.{View, first_view}
 use Rattle.spv_app.specs.declared.opening.OpeningRefusal.{OpeningRefusal}
-use Rattle.spv_app.specs.Acceptance.{then}
 use Rattle.spv_app.specs.Opening.{opening, program_in, of_setup, of_module}
 
 -- a failure that is handed on as it is
@@ -17,24 +16,24 @@ handed_on due (Ok x) fail h a = absurd h
 handed_on due (Err e) fail h a = subst (λ f. Answers due (Err f)) (sym h) a
 
 -- a first step that fails
-first_fails : {A B R : Type 0} (step : Result A R) (later : A → Result B R) (fail : Fail R) → Answers step (Err fail) → Answers (then step later) (Err fail)
-first_fails step later (Refused r) a = ap (λ s. then s later) a
+first_fails : {A B R : Type 0} (step : Result A R) (later : A → Result B R) (fail : Fail R) → Answers step (Err fail) → Answers (after step later) (Err fail)
+first_fails step later (Refused r) a = ap (λ s. after s later) a
 first_fails step later NoMemory a = tt
 
 -- a first step that was done
-first_done : {A B R : Type 0} (step : Result A R) (later : A → Result B R) (x : A) (result : Result B (Fail R)) → step ≡ Ok x → Answers (later x) result → Answers (then step later) result
-first_done step later x result e a = subst (λ s. Answers (then s later) result) (sym e) a
+first_done : {A B R : Type 0} (step : Result A R) (later : A → Result B R) (x : A) (result : Result B (Fail R)) → step ≡ Ok x → Answers (later x) result → Answers (after step later) result
+first_done step later x result e a = subst (λ s. Answers (after s later) result) (sym e) a
 
 -- what is due of a module, with the settings known
 abbrev with_settings : List ℕ → Settings → Result View OpeningRefusal
-with_settings binary settings = then (of_module (program_in binary)) (λ program. Ok (first_view program settings))
+with_settings binary settings = after (of_module (program_in binary)) (λ program. Ok (first_view program settings))
 
 module _ (binary setup bytes text : List ℕ) (same_bytes : bytes ≡ binary) (same_text : text ≡ setup) (result : Result View (Fail OpeningRefusal)) where
   -- the opening of the bytes that the slices show
-  of_same : Answers (then (of_setup (settings_of text)) (with_settings bytes)) result → Answers (opening binary setup) result
+  of_same : Answers (after (of_setup (settings_of text)) (with_settings bytes)) result → Answers (opening binary setup) result
   unfolding opening
-  of_same a = subst (λ b. Answers (then (of_setup (settings_of setup)) (with_settings b)) result) same_bytes
-      (subst (λ t. Answers (then (of_setup (settings_of t)) (with_settings bytes)) result) same_text a)
+  of_same a = subst (λ b. Answers (after (of_setup (settings_of setup)) (with_settings b)) result) same_bytes
+      (subst (λ t. Answers (after (of_setup (settings_of t)) (with_settings bytes)) result) same_text a)
 
   pub setup_fails : (fail : Fail OpeningRefusal) → IsErrAnd result (λ e. e ≡ fail) → Answers (of_setup (settings_of text)) (Err fail) → Answers (opening binary setup) result
   setup_fails fail h a = of_same (handed_on _ result fail h (first_fails (of_setup (settings_of text)) (with_settings bytes) fail a))

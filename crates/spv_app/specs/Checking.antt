@@ -2,19 +2,20 @@
 use Rattle.std.specs.Prelude.{◌≡◌, ◌⊎◌, ℕ, ◌≤◌, ◌<◌, List, ◌++◌, length, codes, decimal, Option, Result, Ok, Err}
 use Rattle.std.specs.Io.KnownBytes.{Appends, Keeps}
 use Rattle.spv_base.specs.Outside.{Told, Holds, HoldsMore}
+use Rattle.spv_base.specs.Answers.{after}
 use Rattle.spv_base.specs.declared.causes.Refusal.{Refusal}
 use Rattle.spv_words.specs.Words.{words_of}
 use Rattle.spv_app.specs.declared.checking.Report.{Report}
 use Rattle.spv_app.specs.declared.opening.OpeningRefusal.TheVariants.{Module}
 use Rattle.spv_app.specs.declared.status.Status.{Status}
 use Rattle.spv_app.specs.declared.status.Status.TheVariants.{Done, ModuleRefused, FileFault, NoMemory, FileTooLong}
-use Rattle.spv_app.specs.Acceptance.{then, accepted_of}
+use Rattle.spv_app.specs.Acceptance.{accepted_of}
 use Rattle.spv_app.specs.Opening.{refusal_line}
 use Rattle.spv_app.specs.Debug.{SaysLine, binary_limit}
 
 -- how many words and instructions a module has that is accepted, or why it is refused
 unfoldable pub checking : List ℕ → Result Report Refusal
-checking bytes = then (words_of bytes) (λ words. then (accepted_of words) (λ accepted. Ok (record { words = length words.items; instructions = length accepted.insts })))
+checking bytes = after (words_of bytes) (λ words. after (accepted_of words) (λ accepted. Ok (record { words = length words.items; instructions = length accepted.insts })))
 
 -- the text that tells it
 abbrev pub report_text : Report → List ℕ

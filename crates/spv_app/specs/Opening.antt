@@ -1,5 +1,6 @@
 -- Which pair of a module and a setup is opened, and which refusal is due else.
 use Rattle.std.specs.Prelude.{ℕ, List, ◌++◌, codes, decimal, Result, Ok, Err}
+use Rattle.spv_base.specs.Answers.{after}
 use Rattle.spv_base.specs.declared.causes.Refusal.{Refusal}
 use Rattle.spv_base.specs.declared.causes.SetupRefusal.{SetupRefusal}
 use Rattle.spv_words.specs.Words.{words_of}
@@ -8,12 +9,12 @@ use Rattle.spv_session.specs.Settings.{settings_of}
 use Rattle.spv_session.specs.View.{View, first_view}
 use Rattle.spv_app.specs.declared.opening.OpeningRefusal.{OpeningRefusal}
 use Rattle.spv_app.specs.declared.opening.OpeningRefusal.TheVariants.{Module, Setup}
-use Rattle.spv_app.specs.Acceptance.{then, accepted_of, bound_of}
+use Rattle.spv_app.specs.Acceptance.{accepted_of, bound_of}
 
 -- the program of a module's bytes: its words, the accepted module of them, and the form that can be run
 abbrev pub program_in : List ℕ → Result Program Refusal
 program_in bytes =
-    then (words_of bytes) (λ words. then (accepted_of words) (λ accepted. program_of accepted (bound_of words)))
+    after (words_of bytes) (λ words. after (accepted_of words) (λ accepted. program_of accepted (bound_of words)))
 
 -- whose refusal it is
 abbrev pub of_setup : {A : Type 0} → Result A SetupRefusal → Result A OpeningRefusal
@@ -26,7 +27,7 @@ of_module (Err refusal) = Err (Module refusal)
 
 -- the setup's text is looked at first, and then the module; the view is the one before the first command
 unfoldable pub opening : List ℕ → List ℕ → Result View OpeningRefusal
-opening mod_bytes setup = then (of_setup (settings_of setup)) (λ settings. then (of_module (program_in mod_bytes)) (λ program. Ok (first_view program settings)))
+opening mod_bytes setup = after (of_setup (settings_of setup)) (λ settings. after (of_module (program_in mod_bytes)) (λ program. Ok (first_view program settings)))
 
 -- the text that tells a refusal
 abbrev pub refusal_text : OpeningRefusal → List ℕ

@@ -1,11 +1,19 @@
 //! The acceptance of modules.
+ghost use Rattle.std.specs.Prelude.{◌≡◌, ℕ, IfOk, List, Ok};
 ghost use Rattle.spv_base.specs.Answers.{Answers};
+ghost use Rattle.spv_base.specs.Order.{Ascend};
+ghost use Rattle.spv_base.specs.declared.instructions.Inst.{Inst};
+ghost use Rattle.spv_base.specs.declared.instructions.RawInst.{RawInst};
+ghost use Rattle.spv_ops.specs.Reading.{insts_of};
+ghost use Rattle.spv_words.specs.Cuts.{raw_of};
+ghost use Rattle.spv_words.specs.Words.{Fit32};
+ghost use Rattle.spv_valid.specs.Validity.{IsValid};
 ghost use Rattle.spv_app.specs.Acceptance.{accepted_of};
 
 use spv_base::{Fail, Overrides, Refusal};
-use spv_ops::decode_all;
+use spv_ops::{decode_all, instructions_stand_at_their_words};
 use spv_valid::{Module, accept};
-use spv_words::{WordList, raw};
+use spv_words::{WordList, instructions_are_cut, raw};
 use std::alloc::Global;
 
 /// The module with these words, for its first entry point and with no values for SpecIds; or the first rule that is broken.
@@ -13,9 +21,20 @@ use std::alloc::Global;
 /// acceptance.
 #[tactic(auto, unfolding(crate::specs::Acceptance::accepted_of))]
 pub fn accepted(alloc: Global, list: &WordList) -> Result<Module, Fail<Refusal>>
-    ensures { Answers (accepted_of list.now) result }
+    ensures due { Answers (accepted_of list.now) result }
+    // The words of what is decoded ascend, so the module gives all that a run over it needs.
+    ensures valid { IfOk result IsValid }
 {
     let raws = raw(alloc, list)?;
     let insts = decode_all(alloc, &raws)?;
     accept(alloc, insts, list.bound(), None, &Overrides::new(alloc))
+}
+
+/// A law, with nothing to run: the words of the instructions that are decoded from a module's words ascend.
+pub fn decoded_words_ascend()
+    ensures { (words : List ℕ) (raws : List RawInst) (insts : List Inst) → Fit32 words → raw_of words ≡ Ok raws → insts_of raws ≡ Ok insts
+        → Ascend 0 insts }
+{
+    instructions_are_cut();
+    instructions_stand_at_their_words();
 }

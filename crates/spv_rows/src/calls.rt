@@ -97,7 +97,7 @@ pub const SETUP: &str = "module.setup";
 pub const TEN_ROUNDS: &str = "spvdbg-setup 1\nrounds 10\n";
 
 /// The bytes of the shader, with one word changed; a place past its end changes none.
-pub fn sum_with(alloc: Global, place: usize, word: u32) -> Result<Vec<u8>, NoMemory> {
+pub(crate) fn sum_with(alloc: Global, place: usize, word: u32) -> Result<Vec<u8>, NoMemory> {
     let mut bytes = Vec::new(alloc);
     for (i, item) in SUM.iter().enumerate() {
         let item = if i == place { word } else { *item };
@@ -107,12 +107,12 @@ pub fn sum_with(alloc: Global, place: usize, word: u32) -> Result<Vec<u8>, NoMem
 }
 
 /// The bytes of the shader.
-pub fn sum(alloc: Global) -> Result<Vec<u8>, NoMemory> {
+pub(crate) fn sum(alloc: Global) -> Result<Vec<u8>, NoMemory> {
     sum_with(alloc, SUM.len(), 0)
 }
 
 /// Files with these contents.
-pub fn files(
+pub(crate) fn files(
     alloc: Global,
     module: Vec<u8>,
     setup: &str,
@@ -125,7 +125,7 @@ pub fn files(
 }
 
 /// The words of a text, split at its spaces.
-pub fn words(alloc: Global, text: &str) -> Result<Vec<String>, NoMemory> {
+pub(crate) fn words(alloc: Global, text: &str) -> Result<Vec<String>, NoMemory> {
     let mut words = Vec::new(alloc);
     for word in text.split(' ') {
         words.push(String::from_str(alloc, word)?)?;
@@ -155,7 +155,7 @@ fn call_counted<F: Files, I: Source, K: Sink, L: Ledger>(
 }
 
 /// One call, with no probes.
-pub fn call<F: Files, I: Source, K: Sink>(
+pub(crate) fn call<F: Files, I: Source, K: Sink>(
     alloc: Global,
     words: &[String],
     files: &mut F,
@@ -170,7 +170,7 @@ pub fn call<F: Files, I: Source, K: Sink>(
 }
 
 /// The status of one call over these bytes, and what it wrote.
-pub fn outcome(
+pub(crate) fn outcome(
     alloc: Global,
     line: &str,
     module: Vec<u8>,
