@@ -1,13 +1,24 @@
 //! Instructions and their words: reading and writing by the forms of the opcodes (SPIR-V 1.6 section 3, Instructions).
 #![tactic(auto)]
 
+pub mod addressing_model;
+pub mod built_in;
+pub mod capability;
 mod comparing;
 mod decoding;
+pub mod decoration;
 mod encoding;
+pub mod execution_mode;
+pub mod execution_model;
 mod forms;
+pub mod glsl;
+pub mod memory_model;
+pub mod op;
 mod opcodes;
 mod reading;
 mod rests;
+pub mod scope;
+pub mod storage_class;
 
 pub use decoding::{
     decode, decode_all, instructions_stand_at_their_words, one_list_reading, one_reading,
