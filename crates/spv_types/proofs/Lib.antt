@@ -16,3 +16,9 @@ pub mod SoundLemmas
 pub mod LengthLemmas
 pub mod GrowthLemmas
 pub mod AcceptedLemmas
+pub mod RowLemmas
+pub mod RowCounts
+pub mod RowPlaces
+pub mod RowChanges
+pub mod RowShapes
+pub mod RowValues

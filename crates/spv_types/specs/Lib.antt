@@ -15,3 +15,4 @@ pub mod Shapes
 pub mod Limits
 pub mod Views
 pub mod Laws
+pub mod Rows

@@ -14,6 +14,7 @@ pub mod limits;
 pub mod opcodes;
 pub mod operands;
 pub mod places;
+pub mod rows;
 pub mod rules;
 mod spans;
 pub mod table;
