@@ -5,3 +5,4 @@ pub mod Strings
 pub mod Rests
 pub mod Encoding
 pub mod Reading
+pub mod Module

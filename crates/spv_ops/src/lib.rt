@@ -13,6 +13,7 @@ pub mod execution_model;
 mod forms;
 pub mod glsl;
 pub mod memory_model;
+mod module;
 pub mod op;
 mod opcodes;
 mod reading;
@@ -25,6 +26,7 @@ pub use decoding::{
 };
 pub use encoding::{encode, try_encode};
 pub use forms::{Head, Opcode, Part, Rest};
+pub use module::{DecodedModule, GREATEST_BOUND, WORD_LIMIT};
 pub use opcodes::{OPCODES, opcode_of};
 
 #[cfg(test)]
