@@ -1,1 +1,3 @@
 pub mod Definitions
+pub mod Classes
+pub mod Positions

@@ -1,0 +1,119 @@
+-- What an instruction is to the functions and blocks of a module (SPIR-V 1.6 section 2.4), and the numbers in its operands.
+use Rattle.std.specs.Prelude.{ℕ, Bool, true, false, List, [], ◌∷◌, ◌==◌, nat_eq, if◌then◌else◌, unwrap_or, map, codes, slice_get}
+use Rattle.std.specs.Option.{option_map}
+use Rattle.std.specs.List.{flat_map, starts_with}
+use Rattle.spv_base.specs.Entries.{reads}
+use Rattle.spv_base.specs.declared.instructions.Inst.{Inst}
+use Rattle.spv_base.specs.declared.instructions.Operand.{Operand}
+use Rattle.spv_base.specs.declared.instructions.Operand.TheVariants.{Id, Lit, Text}
+use Rattle.spv_index.specs.declared.classes.Class.{Class}
+use Rattle.spv_index.specs.declared.classes.Class.TheVariants.{Function, Parameter, End, Label, Line, Phi, Variable, Terminator, Passed, Executable}
+
+-- the id or the literal word of an operand, and 0 for a string
+abbrev pub number_in : Operand → ℕ
+number_in (Id id) = id
+number_in (Lit word) = word
+number_in (Text _) = 0
+
+-- the numbers in the operands, after the result type and the result
+abbrev pub numbers_of : Inst → List ℕ
+numbers_of inst = map number_in inst.operands
+
+-- the number at a place of the operands, and 0 past their end
+abbrev pub number_at : Inst → ℕ → ℕ
+number_at inst k = unwrap_or (option_map number_in (slice_get inst.operands k)) 0
+
+-- the bytes of an operand, which only a string has
+abbrev pub text_in : Operand → List ℕ
+text_in (Id _) = []
+text_in (Lit _) = []
+text_in (Text bytes) = bytes
+
+-- the name of an imported set
+abbrev pub name_of : Inst → List ℕ
+name_of inst = unwrap_or (option_map text_in (slice_get inst.operands 0)) []
+
+-- The imported sets, each with whether its name begins with "NonSemantic." (SPIR-V 1.6, OpExtInstImport).
+abbrev pub set_of : Inst → List (ℕ × Bool)
+set_of inst = if inst.op == 11 then (inst.id, starts_with nat_eq (name_of inst) (codes "NonSemantic.")) ∷ [] else []
+
+abbrev pub sets_of : List Inst → List (ℕ × Bool)
+sets_of insts = flat_map set_of insts
+
+-- an instruction of the set that its first operand names, where this set has no meaning at run time
+abbrev pub is_debug : List (ℕ × Bool) → Inst → Bool
+is_debug sets inst = unwrap_or (reads (number_at inst 0) sets) false
+
+-- By opcode: OpExtInst (12) and OpVariable (59) by their set and their storage class too. Every other opcode is an executable.
+abbrev pub classes : Bool → Bool → List (ℕ × Class)
+classes debug local =
+    (0, Passed) ∷ (8, Line) ∷ (12, if debug then Line else Executable) ∷ (54, Function) ∷ (55, Parameter) ∷ (56, End)
+    ∷ (59, if local then Variable else Passed) ∷ (245, Phi) ∷ (246, Passed) ∷ (247, Passed) ∷ (248, Label)
+    ∷ (249, Terminator) ∷ (250, Terminator) ∷ (251, Terminator) ∷ (253, Terminator) ∷ (254, Terminator) ∷ (255, Terminator)
+    ∷ (317, Line) ∷ []
+
+-- storage class Function is number 7
+abbrev pub class_of : List (ℕ × Bool) → Inst → Class
+class_of sets inst = unwrap_or (reads inst.op (classes (is_debug sets inst) (number_at inst 0 == 7))) Executable
+
+-- a run stops at it: everything in a block but labels, phis, variables, lines, merges, OpNop and instructions with no meaning
+abbrev pub is_executable : Class → Bool
+is_executable Function = false
+is_executable Parameter = false
+is_executable End = false
+is_executable Label = false
+is_executable Line = false
+is_executable Phi = false
+is_executable Variable = false
+is_executable Terminator = true
+is_executable Passed = false
+is_executable Executable = true
+
+-- a block has ended, or should have, where one of these stands
+abbrev pub ends_block : Class → Bool
+ends_block Function = true
+ends_block Parameter = false
+ends_block End = true
+ends_block Label = true
+ends_block Line = false
+ends_block Phi = false
+ends_block Variable = false
+ends_block Terminator = false
+ends_block Passed = false
+ends_block Executable = false
+
+abbrev pub is_label : Class → Bool
+is_label Function = false
+is_label Parameter = false
+is_label End = false
+is_label Label = true
+is_label Line = false
+is_label Phi = false
+is_label Variable = false
+is_label Terminator = false
+is_label Passed = false
+is_label Executable = false
+
+abbrev pub is_terminator : Class → Bool
+is_terminator Function = false
+is_terminator Parameter = false
+is_terminator End = false
+is_terminator Label = false
+is_terminator Line = false
+is_terminator Phi = false
+is_terminator Variable = false
+is_terminator Terminator = true
+is_terminator Passed = false
+is_terminator Executable = false
+
+abbrev pub is_phi : Class → Bool
+is_phi Function = false
+is_phi Parameter = false
+is_phi End = false
+is_phi Label = false
+is_phi Line = false
+is_phi Phi = true
+is_phi Variable = false
+is_phi Terminator = false
+is_phi Passed = false
+is_phi Executable = false
