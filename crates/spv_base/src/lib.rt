@@ -28,7 +28,7 @@ pub use lists::{Items, Path};
 pub use outside::{Files, Sink, Source, write_all};
 pub use probes::Probe;
 pub use real::{FromRead, RealFiles, ToWrite};
-pub use streams::{FailingSink, FailingSource, MemorySink, MemorySource};
+pub use streams::{FailingSink, FailingSource, MemorySink, MemorySource, SinkFault};
 pub use values::{PassedEvent, Pointer, Root, Value, copy_all};
 
 /// Bytes.

@@ -1,6 +1,6 @@
 //! Input and output that lie in memory: some fail at no call, and some at the calls whose numbers are listed.
 //! The first call has the number 0.
-ghost use Rattle.std.specs.Prelude.{◌≡◌, ◌↔◌, ◌-◌, ◌^◌, ◌<◌, ◌≤◌, [], drop, Some, vec_len, Contains, IsErr, IsOk};
+ghost use Rattle.std.specs.Prelude.{◌≡◌, ◌↔◌, ◌+◌, ◌-◌, ◌^◌, ◌<◌, ◌≤◌, [], drop, None, Some, length, min, vec_len, Contains, IfOk, IsErr, IsOk, IsSome};
 ghost use Rattle.std.specs.Io.{ReadsAtMost};
 ghost use Rattle.std.specs.Io.KnownBytes.{ReadConsumes, WriteAppends};
 ghost use Rattle.spv_base.specs.Outside.{CountsFault, TakesSome};
@@ -53,6 +53,7 @@ pub struct FailingSource {
     pub held: MemorySource,
     pub most: usize,
     pub fails: Vec<u64>,
+    /// How many calls were made, to the greatest u64.
     pub calls: u64,
     pub faults: u64,
     ghost some: { 0 < most },
@@ -90,10 +91,15 @@ impl Source for FailingSource {
         ensures bytes { ReadConsumes (Some (drop self.old.held.at self.old.held.bytes.items)) (Some (drop self.new.held.at self.new.held.bytes.items)) result buf.new }
         ensures count { CountsFault self.old.faults self.new.faults result }
         ensures exactly { IsErr result ↔ Contains self.old.fails.items self.old.calls }
+        ensures most { IfOk result (λ n. n ≤ self.old.most) }
+        ensures calls { self.new.calls ≡ min (self.old.calls + 1) (2 ^ 64 - 1) }
+        ensures fails { self.new.fails ≡ self.old.fails }
+        ensures same_most { self.new.most ≡ self.old.most }
     {
         let call = self.calls;
         self.calls = call.saturating_add(1);
-        if self.fails.contains(&call) {
+        let is_listed = self.fails.contains(&call);
+        if is_listed {
             self.faults += 1;
             return Err(Failed);
         }
@@ -102,11 +108,22 @@ impl Source for FailingSource {
     }
 }
 
-/// Output that is kept in memory. It fails only where memory runs out, since the bytes that it keeps need memory.
+/// Why a call of a sink in memory failed.
+#[derive(Clone, Copy, Debug, PartialEq, Eq)]
+pub enum SinkFault {
+    /// The call's number is listed.
+    Listed,
+    /// There was no memory for the bytes.
+    NoMemory,
+}
+
+/// Output that is kept in memory. A call fails exactly where memory runs out, since the bytes that it keeps need memory.
 #[derive(Drop)]
 pub struct MemorySink {
     pub bytes: Vec<u8>,
     pub faults: u64,
+    /// Why the last call failed; none where it did not.
+    pub last_fault: Option<SinkFault>,
 }
 
 impl MemorySink {
@@ -114,61 +131,29 @@ impl MemorySink {
     pub fn new(alloc: Global) -> MemorySink
         ensures bytes { result.bytes.items ≡ [] }
         ensures faults { result.faults ≡ 0 }
+        ensures last_fault { result.last_fault ≡ None }
     {
         MemorySink {
             bytes: Vec::new(alloc),
             faults: 0,
+            last_fault: None,
         }
+    }
+
+    /// Ends a call that fails.
+    fn fail(&mut self, fault: SinkFault) -> Failed
+        requires { self.old.faults < 2 ^ 64 - 1 }
+        ensures faults { self.new.faults ≡ self.old.faults + 1 }
+        ensures last_fault { self.new.last_fault ≡ Some fault }
+        ensures bytes { self.new.bytes ≡ self.old.bytes }
+    {
+        self.faults += 1;
+        self.last_fault = Some(fault);
+        Failed
     }
 }
 
 impl Sink for MemorySink {
-    ghost taken = { λ s. Some s.bytes.items };
-
-    ghost faults = { λ s. s.faults };
-
-    fn write(&mut self, bytes: &[u8]) -> Result<usize, Failed> {
-        if self.bytes.extend_from_slice(bytes).is_err() {
-            self.faults += 1;
-            return Err(Failed);
-        }
-        Ok(bytes.len())
-    }
-}
-
-/// Output that is kept in memory. It takes at most so many bytes at a call, and fails at the calls that are listed,
-/// and else only where memory runs out.
-#[derive(Drop)]
-pub struct FailingSink {
-    pub bytes: Vec<u8>,
-    pub most: usize,
-    pub fails: Vec<u64>,
-    pub calls: u64,
-    pub faults: u64,
-    ghost some: { 0 < most },
-}
-
-impl FailingSink {
-    /// Nothing was taken, and no call was made.
-    pub fn new(alloc: Global, most: usize, fails: Vec<u64>) -> FailingSink
-        requires { 0 < most }
-        ensures bytes { result.bytes.items ≡ [] }
-        ensures most { result.most ≡ most }
-        ensures fails { result.fails ≡ fails }
-        ensures calls { result.calls ≡ 0 }
-        ensures faults { result.faults ≡ 0 }
-    {
-        FailingSink {
-            bytes: Vec::new(alloc),
-            most,
-            fails,
-            calls: 0,
-            faults: 0,
-        }
-    }
-}
-
-impl Sink for FailingSink {
     ghost taken = { λ s. Some s.bytes.items };
 
     ghost faults = { λ s. s.faults };
@@ -178,19 +163,71 @@ impl Sink for FailingSink {
         ensures bound { TakesSome result bytes.now }
         ensures bytes { WriteAppends (Some self.old.bytes.items) (Some self.new.bytes.items) result bytes.now }
         ensures count { CountsFault self.old.faults self.new.faults result }
-        ensures listed { Contains self.old.fails.items self.old.calls → IsErr result }
+        ensures exactly { IsErr result ↔ (self.new.last_fault ≡ Some SinkFault.NoMemory) }
+        ensures taken { IfOk result (λ n. (n ≡ length bytes.now) × (self.new.last_fault ≡ None)) }
+    {
+        if self.bytes.extend_from_slice(bytes).is_err() {
+            return Err(self.fail(SinkFault::NoMemory));
+        }
+        self.last_fault = None;
+        Ok(bytes.len())
+    }
+}
+
+/// Output that is kept in memory. It takes at most so many bytes at a call, and fails exactly at the calls that are listed and
+/// where memory runs out.
+#[derive(Drop)]
+pub struct FailingSink {
+    pub held: MemorySink,
+    pub most: usize,
+    pub fails: Vec<u64>,
+    /// How many calls were made, to the greatest u64.
+    pub calls: u64,
+    ghost some: { 0 < most },
+}
+
+impl FailingSink {
+    /// Nothing was taken, and no call was made.
+    pub fn new(alloc: Global, most: usize, fails: Vec<u64>) -> FailingSink
+        requires { 0 < most }
+        ensures bytes { result.held.bytes.items ≡ [] }
+        ensures most { result.most ≡ most }
+        ensures fails { result.fails ≡ fails }
+        ensures calls { result.calls ≡ 0 }
+        ensures faults { result.held.faults ≡ 0 }
+    {
+        FailingSink {
+            held: MemorySink::new(alloc),
+            most,
+            fails,
+            calls: 0,
+        }
+    }
+}
+
+impl Sink for FailingSink {
+    ghost taken = { λ s. Some s.held.bytes.items };
+
+    ghost faults = { λ s. s.held.faults };
+
+    fn write(&mut self, bytes: &[u8]) -> Result<usize, Failed>
+        requires { self.old.held.faults < 2 ^ 64 - 1 }
+        ensures bound { TakesSome result bytes.now }
+        ensures bytes { WriteAppends (Some self.old.held.bytes.items) (Some self.new.held.bytes.items) result bytes.now }
+        ensures count { CountsFault self.old.held.faults self.new.held.faults result }
+        ensures exactly { IsErr result ↔ IsSome self.new.held.last_fault }
+        ensures listed { (self.new.held.last_fault ≡ Some SinkFault.Listed) ↔ Contains self.old.fails.items self.old.calls }
+        ensures taken { IfOk result (λ n. n ≡ min (length bytes.now) self.old.most) }
+        ensures calls { self.new.calls ≡ min (self.old.calls + 1) (2 ^ 64 - 1) }
+        ensures fails { self.new.fails ≡ self.old.fails }
+        ensures same_most { self.new.most ≡ self.old.most }
     {
         let call = self.calls;
         self.calls = call.saturating_add(1);
         if self.fails.contains(&call) {
-            self.faults += 1;
-            return Err(Failed);
+            return Err(self.held.fail(SinkFault::Listed));
         }
         let count = bytes.len().min(self.most);
-        if self.bytes.extend_from_slice(&bytes[..count]).is_err() {
-            self.faults += 1;
-            return Err(Failed);
-        }
-        Ok(count)
+        self.held.write(&bytes[..count])
     }
 }

@@ -137,13 +137,7 @@ fn reads_files_in_memory(rt: HostRuntime) -> Result<(), Failing> {
     let mut failing = FailingFiles::new(alloc, file(alloc, "a", b"abc")?, vec![in alloc; 1]?);
     assert!(rt; failing.read_all(alloc, "a", 3).is_ok());
     assert!(rt; matches!(failing.read_all(alloc, "a", 3), Err(FileErr::Failed)));
-    let mut real = RealFiles::new(alloc, &rt);
-    assert!(rt;
-        matches!(
-            real.read_all(alloc, "no/such/file", 3),
-            Err(FileErr::Failed)
-        )
-    );
+    assert_eq!(rt; (failing.held.asked.len(), failing.held.taken), (2, 0));
     Ok(())
 }
 
@@ -162,6 +156,7 @@ fn streams_in_memory(rt: HostRuntime) -> Result<(), Failing> {
     write_all(&mut sink, b"ab")?;
     let mut slow = FailingSink::new(alloc, 1, vec![in alloc; 2]?);
     assert!(rt; write_all(&mut slow, b"abc").is_err());
-    assert_eq!(rt; slow.bytes.as_slice(), sink.bytes.as_slice());
+    assert_eq!(rt; slow.held.last_fault, Some(SinkFault::Listed));
+    assert_eq!(rt; slow.held.bytes.as_slice(), sink.bytes.as_slice());
     Ok(())
 }

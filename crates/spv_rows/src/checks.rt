@@ -115,7 +115,7 @@ fn files_and_output_fail(rt: HostRuntime) -> Result<(), Fail> {
             call(alloc, &words, &mut held, &mut input, &mut out),
             status
         );
-        assert_eq!(rt; out.bytes.as_slice(), written.as_bytes());
+        assert_eq!(rt; out.held.bytes.as_slice(), written.as_bytes());
         assert_eq!(rt; held.held.failed_name.as_str(), name);
         assert_eq!(rt; input.calls, 0);
     }
