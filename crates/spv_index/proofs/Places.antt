@@ -6,7 +6,7 @@ use Rattle.std.specs.Prelude.{find, if◌then◌else◌}
 use Rattle.std.proofs.lemmas.List.{drop_more}
 use Rattle.std.proofs.lemmas.Grind.{common_steps}
 use Rattle.spv_base.specs.declared.instructions.Inst.{Inst}
-use Rattle.spv_index.specs.Definitions.{ArePlaces, defining, has_result, is_id, place_from, place_in, slot}
+use Rattle.spv_index.specs.Definitions.{ArePlaces, defining, has_result, is_id, place_from, place_in}
 
 pub place_above : (k : ℕ) (insts : List Inst) (id n : ℕ) → place_from k insts id ≡ Some n → k ≤ n
 place_above k [] id n e = absurd (cc)
@@ -46,7 +46,7 @@ none_placed insts n count places e is le = record {
   places_are = λ id lt. rw (e, get_or-replicate {A = Option ℕ} count id None None (omega arith), drop_all n insts le) refl;
 }
 
-eq_apart : (a b : ℕ) → (a == b) ≡ false → ¬ (a ≡ b)
+pub eq_apart : (a b : ℕ) → (a == b) ≡ false → ¬ (a ≡ b)
 eq_apart a b h e = grind (arith, common_steps)
 
 -- what stands for an id after one more instruction

@@ -6,7 +6,8 @@ use Rattle.spv_index.specs.declared.classes.Class.TheVariants.{Function, Paramet
 use Rattle.spv_index.specs.declared.positions.Stage.{Stage}
 use Rattle.spv_index.specs.declared.positions.Stage.TheVariants.{Outside, Head, Phis, Variables, Body, Between}
 use Rattle.spv_index.specs.declared.positions.Position.{Position}
-use Rattle.spv_index.specs.Classes.{class_of}
+use Rattle.spv_index.specs.declared.positions.Standing.{Standing}
+use Rattle.spv_index.specs.Classes.{class_of, sets_of}
 
 abbrev pub in_block : Stage → Bool
 in_block Outside = false
@@ -87,6 +88,10 @@ pub record Stand : Type 0 where
   pub class : Class
   pub inst : Inst
 
+-- where an instruction stands, and what it is there
+abbrev pub standing : Stand → Standing
+standing s = record { position = s.position; class = s.class }
+
 -- instructions, of which the first stands at a position
 abbrev pub stands : List (ℕ × Bool) → Position → List Inst → List Stand
 stands sets position [] = []
@@ -97,3 +102,7 @@ stands sets position (inst ∷ insts) =
 abbrev pub position_behind : List (ℕ × Bool) → Position → List Inst → Position
 position_behind sets position [] = position
 position_behind sets position (inst ∷ insts) = position_behind sets (position_after position (class_of sets inst) inst) insts
+
+-- the instructions of a module, each with what it is and where it stands
+abbrev pub stands_of : List Inst → List Stand
+stands_of insts = stands (sets_of insts) outside insts

@@ -1,9 +1,11 @@
 //! Where each instruction stands (SPIR-V 1.6 section 2.4).
-ghost use Rattle.std.specs.Prelude.{◌≡◌};
+ghost use Rattle.std.specs.Prelude.{◌≡◌, IfOk, map};
 ghost use Rattle.spv_index.specs.Positions as spec;
 
-use crate::classes::Class;
-use spv_base::Inst;
+use crate::classes::{Class, class_of};
+use crate::table::Table;
+use spv_base::{Inst, NoMemory};
+use std::alloc::Global;
 
 /// How far a function and its block have come.
 #[derive(Clone, Copy, Debug, PartialEq, Eq)]
@@ -32,6 +34,13 @@ pub struct Position {
     pub label: u32,
     pub block_word: u32,
     pub first: bool,
+}
+
+/// Where an instruction stands, and what it is there.
+#[derive(Clone, Copy, Debug, PartialEq, Eq)]
+pub struct Standing {
+    pub position: Position,
+    pub class: Class,
 }
 
 impl Stage {
@@ -164,4 +173,22 @@ impl Position {
             },
         }
     }
+}
+
+/// The standings of a module's instructions, in their order, where `sets` has its imported sets.
+pub fn standings_of(
+    alloc: Global,
+    sets: &Table<bool>,
+    insts: &[Inst],
+) -> Result<Vec<Standing>, NoMemory>
+    ensures { IfOk result (λ standings. standings.items ≡ map spec.standing (spec.stands sets.now spec.outside insts.now)) }
+{
+    let mut standings = Vec::new(alloc);
+    let mut position = Position::outside();
+    for inst in insts {
+        let class = class_of(sets, inst);
+        standings.push(Standing { position, class })?;
+        position = position.after(class, inst);
+    }
+    Ok(standings)
 }

@@ -1,4 +1,4 @@
-//! Lists of entries under numbers, with look-ups in logarithmic time.
+//! Lists of entries under numbers, with look-ups in constant time for ids and words of a module.
 ghost use Rattle.std.specs.Prelude.{◌≡◌, IfOk};
 ghost use Rattle.spv_base.specs.Entries.{reads};
 
@@ -7,15 +7,21 @@ use std::alloc::Global;
 use std::collections::BTreeMap;
 use std::marker::Model;
 
+/// Ids and words of a module are below this number.
+const KEY_LIMIT: u32 = 1_048_576;
+
 /// Entries under numbers, of which the first under a number is the one that is found.
 #[derive(Drop)]
 pub struct Table<V> {
     entries: Vec<(u32, V)>,
-    index: BTreeMap<u32, V>,
+    /// By number, what stands under it. It is as long as the greatest number asks that an id or a word may have.
+    low: Vec<Option<V>>,
+    /// What stands under the greater numbers.
+    high: BTreeMap<u32, V>,
 }
 
 impl<V> Model for Table<V> {
-    ghost use Rattle.std.specs.Prelude.{◌≡◌, ℕ, List};
+    ghost use Rattle.std.specs.Prelude.{◌≡◌, ℕ, List, length, nat_lt, if◌then◌else◌, slice_index_or, None};
     ghost use Rattle.std.specs.Ordering.{nat_cmp};
     ghost use Rattle.std.specs.BTreeMap as tree;
     ghost use Rattle.spv_base.specs.Entries.{reads};
@@ -24,7 +30,18 @@ impl<V> Model for Table<V> {
 
     ghost view = { λ t. t.entries.items };
 
-    ghost invariant = { λ t. (k : ℕ) → tree.get nat_cmp t.index k ≡ reads k t.entries.items };
+    ghost invariant = { λ t. (k : ℕ) → (if nat_lt k (length t.low.items) then slice_index_or t.low.items k None else tree.get nat_cmp t.high k) ≡ reads k t.entries.items };
+}
+
+/// A number that is above each of these that is an id or a word.
+fn above<V>(entries: &[(u32, V)]) -> usize {
+    let mut above = 0;
+    for (key, _) in entries {
+        if *key < KEY_LIMIT {
+            above = above.max(*key as usize + 1);
+        }
+    }
+    above
 }
 
 impl<V: Copy> Table<V> {
@@ -32,20 +49,29 @@ impl<V: Copy> Table<V> {
     pub fn new(alloc: Global, entries: Vec<(u32, V)>) -> Result<Table<V>, NoMemory>
         ensures { IfOk result (λ table. table ≡ entries.items) }
     {
-        let mut index = BTreeMap::new(alloc);
+        let mut low = vec![in alloc; None; above(entries.as_slice())]?;
+        let mut high = BTreeMap::new(alloc);
         let mut i = entries.len();
         'back: while i > 0 {
             i -= 1;
-            let entry = entries[i];
-            index.insert(entry.0, entry.1)?;
+            let key = entries[i].0;
+            let value = entries[i].1;
+            if (key as usize) < low.len() {
+                low[key as usize] = Some(value);
+            } else {
+                high.insert(key, value)?;
+            }
         }
-        Ok(Table { entries, index })
+        Ok(Table { entries, low, high })
     }
 
     /// What stands under a number.
     pub fn get(&self, key: u32) -> Option<V>
         ensures { result ≡ reads key self.now }
     {
-        self.index.get(&key).copied()
+        match self.low.get(key as usize) {
+            Some(value) => *value,
+            None => self.high.get(&key).copied(),
+        }
     }
 }
