@@ -1,9 +1,11 @@
 //! The table of the constants of a module.
 ghost use Rattle.std.specs.Prelude.{◌≡◌, [], ◌∷◌, ◌++◌, OnOk, OnErr, option_copied};
 ghost use Rattle.spv_base.specs.Entries.{reads};
-ghost use Rattle.spv_consts.specs.Table.{place_of};
+ghost use Rattle.spv_base.specs.declared.values.Value.{out-Value};
+ghost use Rattle.spv_types.specs.Shapes.{scalar_in};
+ghost use Rattle.spv_consts.specs.Table.{place_of, scalar_of};
 
-use spv_base::{NoMemory, Value};
+use spv_base::{Cell, NoMemory, Value};
 use std::alloc::Global;
 use std::collections::BTreeMap;
 use std::marker::Model;
@@ -31,6 +33,16 @@ impl Model for ConstTable {
     ghost coded = { Prim.hlevel (codes, tree_of_values.the_row.coded) };
 
     ghost invariant = { λ t. (id : ℕ) → tree.get nat_cmp t.places id ≡ place_of t.entries.items id };
+}
+
+/// The cell that a value is.
+fn scalar_in(value: &Value) -> Option<Cell>
+    ensures { result ≡ scalar_in (out-Value value.now) }
+{
+    match value {
+        Value::Scalar(cell) => Some(*cell),
+        Value::List(_) | Value::Ptr(_) => None,
+    }
 }
 
 impl ConstTable {
@@ -71,5 +83,12 @@ impl ConstTable {
     {
         let place = self.place(id)?;
         Some(&self.entries[place].1)
+    }
+
+    /// The cell of the constant with an id, where it is a scalar.
+    pub fn scalar(&self, id: u32) -> Option<Cell>
+        ensures { result ≡ scalar_of self.now id }
+    {
+        scalar_in(self.value(id)?)
     }
 }
