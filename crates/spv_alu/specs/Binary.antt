@@ -1,15 +1,14 @@
 -- The binary operations on one lane, each with its row (SPIR-V 1.6, sections "Arithmetic Instructions", "Bit Instructions" and
 -- "Relational and Logical Instructions").
-use Rattle.std.specs.Prelude.{◌≡◌, ℕ, ◌-◌, ◌*◌, ◌/◌, ◌%◌, ◌^◌, ◌==◌, nat_lt, nat_le, not, ◌&&◌, ◌||◌, Bool, ℤ, pos, ◌+ℤ◌, ◌-ℤ◌, ◌*ℤ◌, int_lt, int_le, int_div, int_rem, bit_and, bit_or, bit_xor, Option, IsSomeAnd}
-use Rattle.std.specs.Option.{option_map, unwrap_or}
+use Rattle.std.specs.Prelude.{◌≡◌, ℕ, ◌-◌, ◌*◌, ◌/◌, ◌%◌, ◌^◌, ◌==◌, nat_lt, nat_le, not, ◌&&◌, ◌||◌, Bool, ℤ, pos, ◌+ℤ◌, ◌-ℤ◌, ◌*ℤ◌, int_lt, int_le, int_div, int_rem, bit_and, bit_or, bit_xor, Option, IsSomeAnd, List, [], ◌∷◌}
+use Rattle.std.specs.Option.{option_map}
 use Rattle.std.specs.Int.{int_div_euclid}
 use Rattle.spv_base.specs.Entries.{reads}
-use Rattle.spv_base.specs.Lane.{Lane, undefined_lane}
+use Rattle.spv_base.specs.Lane.{Lane}
 use Rattle.spv_alu.specs.Integers.{IsWidth, signed, int_mod}
 use Rattle.spv_alu.specs.Results.{integer, truth, defined_if}
 use Rattle.spv_alu.specs.declared.binary_op.BinaryOp.{BinaryOp}
 use Rattle.spv_alu.specs.declared.binary_op.BinaryOp.TheVariants.{IAdd, ISub, IMul, UDiv, SDiv, UMod, SRem, SMod, LogicalEqual, LogicalNotEqual, LogicalOr, LogicalAnd, IEqual, INotEqual, UGreaterThan, SGreaterThan, UGreaterThanEqual, SGreaterThanEqual, ULessThan, SLessThan, ULessThanEqual, SLessThanEqual, ShiftRightLogical, ShiftRightArithmetic, ShiftLeftLogical, BitwiseOr, BitwiseXor, BitwiseAnd}
-use Rattle.spv_alu.specs.declared.binary_op.TheConstants.{BINARY_OPCODES}
 
 -- what kind of operation it is, and what it gives of the bits of two operands
 pub data BinaryRow : Type 0 where
@@ -97,18 +96,28 @@ binary_result (shift f) w a b = defined_if (nat_lt b w) (integer w (f w a b))
 abbrev pub binary_lane : BinaryOp → Lane → Lane → Lane
 binary_lane op a b = defined_if (a.defined && b.defined) (binary_result (binary_row op) a.width a.bits b.bits)
 
+-- each operation under its opcode
+abbrev pub binary_opcodes : List (ℕ × BinaryOp)
+binary_opcodes =
+    (128, IAdd) ∷ (130, ISub) ∷ (132, IMul) ∷ (134, UDiv) ∷ (135, SDiv) ∷ (137, UMod) ∷ (138, SRem) ∷ (139, SMod) ∷
+    (164, LogicalEqual) ∷ (165, LogicalNotEqual) ∷ (166, LogicalOr) ∷ (167, LogicalAnd) ∷ (170, IEqual) ∷
+    (171, INotEqual) ∷ (172, UGreaterThan) ∷ (173, SGreaterThan) ∷ (174, UGreaterThanEqual) ∷
+    (175, SGreaterThanEqual) ∷ (176, ULessThan) ∷ (177, SLessThan) ∷ (178, ULessThanEqual) ∷ (179, SLessThanEqual) ∷
+    (194, ShiftRightLogical) ∷ (195, ShiftRightArithmetic) ∷ (196, ShiftLeftLogical) ∷ (197, BitwiseOr) ∷
+    (198, BitwiseXor) ∷ (199, BitwiseAnd) ∷ []
+
 -- the binary operation of an opcode
 unfoldable pub binary_op : ℕ → Option BinaryOp
-binary_op number = reads number BINARY_OPCODES
+binary_op number = reads number binary_opcodes
 
 -- the widths that a binary operation may be called at, by its opcode
 abbrev pub BinaryFits : ℕ → ℕ → ℕ → Type 0
 BinaryFits number v w = IsSomeAnd (binary_op number) (λ op. BinaryWidths (binary_row op) v w)
 
 -- the width of its result, from that of the first operand
-unfoldable pub binary_width_of : ℕ → ℕ → ℕ
-binary_width_of number w = unwrap_or (option_map (λ op. binary_width (binary_row op) w) (binary_op number)) w
+unfoldable pub binary_width_of : ℕ → ℕ → Option ℕ
+binary_width_of number w = option_map (λ op. binary_width (binary_row op) w) (binary_op number)
 
--- the operation of an opcode on a lane; not defined where the opcode is none of them
-unfoldable pub binary_of : ℕ → Lane → Lane → Lane
-binary_of number a b = unwrap_or (option_map (λ op. binary_lane op a b) (binary_op number)) (undefined_lane a.width)
+-- the operation of an opcode on a lane, if the opcode is one of them
+unfoldable pub binary_of : ℕ → Lane → Lane → Option Lane
+binary_of number a b = option_map (λ op. binary_lane op a b) (binary_op number)

@@ -1,14 +1,13 @@
 -- The operations on one lane that give two integers (SPIR-V 1.6, section "Arithmetic Instructions").
-use Rattle.std.specs.Prelude.{ℕ, ◌+◌, ◌*◌, ◌/◌, ◌^◌, nat_lt, ◌&&◌, ℤ, pos, ◌-ℤ◌, ◌*ℤ◌, if◌then◌else◌, Option}
+use Rattle.std.specs.Prelude.{ℕ, ◌+◌, ◌*◌, ◌/◌, ◌^◌, nat_lt, ◌&&◌, ℤ, pos, ◌-ℤ◌, ◌*ℤ◌, if◌then◌else◌, Option, List, [], ◌∷◌}
 use Rattle.std.specs.Int.{int_div_euclid}
-use Rattle.std.specs.Option.{option_map, unwrap_or}
+use Rattle.std.specs.Option.{option_map}
 use Rattle.spv_base.specs.Entries.{reads}
-use Rattle.spv_base.specs.Lane.{Lane, undefined_lane}
+use Rattle.spv_base.specs.Lane.{Lane}
 use Rattle.spv_alu.specs.Integers.{signed}
 use Rattle.spv_alu.specs.Results.{integer, defined_if}
 use Rattle.spv_alu.specs.declared.extended_op.ExtendedOp.{ExtendedOp}
 use Rattle.spv_alu.specs.declared.extended_op.ExtendedOp.TheVariants.{IAddCarry, ISubBorrow, UMulExtended, SMulExtended}
-use Rattle.spv_alu.specs.declared.extended_op.TheConstants.{EXTENDED_OPCODES}
 
 -- the table: the two integers, of which the low-order bits are the result, from the operands' width and bits.
 -- The second is the carry, the borrow, or the part of the product above its low-order bits.
@@ -28,11 +27,15 @@ extended_lanes op a b =
     let results = extended_results op a.width a.bits b.bits in
     (defined_if (a.defined && b.defined) results.0, defined_if (a.defined && b.defined) results.1)
 
+-- each operation under its opcode
+abbrev pub extended_opcodes : List (ℕ × ExtendedOp)
+extended_opcodes =
+    (149, IAddCarry) ∷ (150, ISubBorrow) ∷ (151, UMulExtended) ∷ (152, SMulExtended) ∷ []
+
 -- the operation of an opcode
 unfoldable pub extended_op : ℕ → Option ExtendedOp
-extended_op number = reads number EXTENDED_OPCODES
+extended_op number = reads number extended_opcodes
 
--- the operation of an opcode on a lane; not defined where the opcode is none of them
-unfoldable pub extended_of : ℕ → Lane → Lane → Lane × Lane
-extended_of number a b =
-    unwrap_or (option_map (λ op. extended_lanes op a b) (extended_op number)) (undefined_lane a.width, undefined_lane a.width)
+-- the operation of an opcode on a lane, if the opcode is one of them
+unfoldable pub extended_of : ℕ → Lane → Lane → Option (Lane × Lane)
+extended_of number a b = option_map (λ op. extended_lanes op a b) (extended_op number)

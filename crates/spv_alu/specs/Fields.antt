@@ -1,14 +1,13 @@
 -- The operations on a field of bits (SPIR-V 1.6, section "Bit Instructions").
-use Rattle.std.specs.Prelude.{ℕ, ◌+◌, ◌-◌, ◌/◌, ◌%◌, ◌^◌, nat_lt, nat_le, ◌&&◌, Bool, ℤ, pos, if◌then◌else◌, Option}
+use Rattle.std.specs.Prelude.{ℕ, ◌+◌, ◌-◌, ◌/◌, ◌%◌, ◌^◌, nat_lt, nat_le, ◌&&◌, Bool, ℤ, pos, if◌then◌else◌, Option, List, [], ◌∷◌}
 use Rattle.std.specs.Int.{bit_at}
-use Rattle.std.specs.Option.{option_map, unwrap_or}
+use Rattle.std.specs.Option.{option_map}
 use Rattle.spv_base.specs.Entries.{reads}
-use Rattle.spv_base.specs.Lane.{Lane, undefined_lane}
+use Rattle.spv_base.specs.Lane.{Lane}
 use Rattle.spv_alu.specs.Integers.{signed, number_of_bits}
 use Rattle.spv_alu.specs.Results.{integer, defined_if}
 use Rattle.spv_alu.specs.declared.field_op.FieldOp.{FieldOp}
 use Rattle.spv_alu.specs.declared.field_op.FieldOp.TheVariants.{BitFieldInsert, BitFieldSExtract, BitFieldUExtract}
-use Rattle.spv_alu.specs.declared.field_op.TheConstants.{FIELD_OPCODES}
 
 -- bit i of the base with the lowest bits of `insert` in the field
 abbrev pub inserted_bit : ℕ → ℕ → ℕ → ℕ → ℕ → ℕ
@@ -36,11 +35,15 @@ abbrev pub field_lane : FieldOp → Lane → Lane → Lane → Lane → Lane
 field_lane op base insert offset count =
     defined_if (field_defined op base.defined insert.defined offset.defined count.defined) (field_result op base.width base.bits insert.bits offset.bits count.bits)
 
+-- each operation under its opcode
+abbrev pub field_opcodes : List (ℕ × FieldOp)
+field_opcodes =
+    (201, BitFieldInsert) ∷ (202, BitFieldSExtract) ∷ (203, BitFieldUExtract) ∷ []
+
 -- the operation of an opcode
 unfoldable pub field_op : ℕ → Option FieldOp
-field_op number = reads number FIELD_OPCODES
+field_op number = reads number field_opcodes
 
--- the operation of an opcode on a lane; not defined where the opcode is none of them
-unfoldable pub field_of : ℕ → Lane → Lane → Lane → Lane → Lane
-field_of number base insert offset count =
-    unwrap_or (option_map (λ op. field_lane op base insert offset count) (field_op number)) (undefined_lane base.width)
+-- the operation of an opcode on a lane, if the opcode is one of them
+unfoldable pub field_of : ℕ → Lane → Lane → Lane → Lane → Option Lane
+field_of number base insert offset count = option_map (λ op. field_lane op base insert offset count) (field_op number)

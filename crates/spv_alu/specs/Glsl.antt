@@ -1,15 +1,14 @@
 -- The extended instructions of GLSL.std.450 on one lane of integers.
-use Rattle.std.specs.Prelude.{ℕ, ◌-◌, ◌^◌, min, max, ◌==◌, ◌&&◌, Bool, ℤ, pos, negsuc, int_lt, int_le, unsigned_abs, if◌then◌else◌, Option}
+use Rattle.std.specs.Prelude.{ℕ, ◌-◌, ◌^◌, min, max, ◌==◌, ◌&&◌, Bool, ℤ, pos, negsuc, int_lt, int_le, unsigned_abs, if◌then◌else◌, Option, List, [], ◌∷◌}
 use Rattle.std.specs.Int.{int_min, int_max, int_signum}
 use Rattle.std.specs.Int.Count.{count_leading_zeros, count_trailing_zeros}
-use Rattle.std.specs.Option.{option_map, unwrap_or}
+use Rattle.std.specs.Option.{option_map}
 use Rattle.spv_base.specs.Entries.{reads}
-use Rattle.spv_base.specs.Lane.{Lane, undefined_lane}
+use Rattle.spv_base.specs.Lane.{Lane}
 use Rattle.spv_alu.specs.Integers.{signed}
 use Rattle.spv_alu.specs.Results.{integer, defined_if}
 use Rattle.spv_alu.specs.declared.glsl_op.GlslOp.{GlslOp}
 use Rattle.spv_alu.specs.declared.glsl_op.GlslOp.TheVariants.{SAbs, SSign, UMin, SMin, UMax, SMax, UClamp, SClamp, FindILsb, FindSMsb, FindUMsb}
-use Rattle.spv_alu.specs.declared.glsl_op.TheConstants.{GLSL_NUMBERS}
 
 -- how many operands there are, and what the operation gives of their width and bits
 pub data GlslRow : Type 0 where
@@ -57,10 +56,16 @@ abbrev pub glsl_lane : GlslOp → Lane → Lane → Lane → Lane
 glsl_lane op a b c =
     defined_if (glsl_defined (glsl_row op) a.defined b.defined c.defined) (glsl_result (glsl_row op) a.width a.bits b.bits c.bits)
 
+-- each instruction under its number
+abbrev pub glsl_numbers : List (ℕ × GlslOp)
+glsl_numbers =
+    (5, SAbs) ∷ (7, SSign) ∷ (38, UMin) ∷ (39, SMin) ∷ (41, UMax) ∷ (42, SMax) ∷ (44, UClamp) ∷ (45, SClamp) ∷
+    (73, FindILsb) ∷ (74, FindSMsb) ∷ (75, FindUMsb) ∷ []
+
 -- the operation of an instruction's number
 unfoldable pub glsl_op : ℕ → Option GlslOp
-glsl_op number = reads number GLSL_NUMBERS
+glsl_op number = reads number glsl_numbers
 
--- the instruction of a number on a lane; not defined where the number is none of them
-unfoldable pub glsl_of : ℕ → Lane → Lane → Lane → Lane
-glsl_of number a b c = unwrap_or (option_map (λ op. glsl_lane op a b c) (glsl_op number)) (undefined_lane a.width)
+-- the instruction of a number on a lane, if the number is one of them
+unfoldable pub glsl_of : ℕ → Lane → Lane → Lane → Option Lane
+glsl_of number a b c = option_map (λ op. glsl_lane op a b c) (glsl_op number)

@@ -1,15 +1,14 @@
 -- The unary operations on one lane, each with its row (SPIR-V 1.6, sections "Conversion Instructions", "Arithmetic Instructions",
 -- "Bit Instructions" and "Relational and Logical Instructions").
-use Rattle.std.specs.Prelude.{◌≡◌, ℕ, ◌-◌, ◌^◌, ◌==◌, not, Bool, ℤ, pos, ◌-ℤ◌, count_ones, Option, IsSomeAnd}
-use Rattle.std.specs.Option.{option_map, unwrap_or}
+use Rattle.std.specs.Prelude.{◌≡◌, ℕ, ◌-◌, ◌^◌, ◌==◌, not, Bool, ℤ, pos, ◌-ℤ◌, count_ones, Option, IsSomeAnd, List, [], ◌∷◌}
+use Rattle.std.specs.Option.{option_map}
 use Rattle.std.specs.Int.{bit_at}
 use Rattle.spv_base.specs.Entries.{reads}
-use Rattle.spv_base.specs.Lane.{Lane, undefined_lane}
+use Rattle.spv_base.specs.Lane.{Lane}
 use Rattle.spv_alu.specs.Integers.{IsWidth, signed, number_of_bits}
 use Rattle.spv_alu.specs.Results.{integer, truth, defined_if}
 use Rattle.spv_alu.specs.declared.unary_op.UnaryOp.{UnaryOp}
 use Rattle.spv_alu.specs.declared.unary_op.UnaryOp.TheVariants.{UConvert, SConvert, SNegate, LogicalNot, Not, BitReverse, BitCount}
-use Rattle.spv_alu.specs.declared.unary_op.TheConstants.{UNARY_OPCODES}
 
 -- what kind of operation it is, and what it gives
 pub data UnaryRow : Type 0 where
@@ -46,14 +45,20 @@ unary_result (logical f) v n w = truth (f (n == 1))
 abbrev pub unary_lane : UnaryOp → Lane → ℕ → Lane
 unary_lane op a w = defined_if a.defined (unary_result (unary_row op) a.width a.bits w)
 
+-- each operation under its opcode
+abbrev pub unary_opcodes : List (ℕ × UnaryOp)
+unary_opcodes =
+    (113, UConvert) ∷ (114, SConvert) ∷ (126, SNegate) ∷ (168, LogicalNot) ∷ (200, Not) ∷ (204, BitReverse) ∷
+    (205, BitCount) ∷ []
+
 -- the unary operation of an opcode
 unfoldable pub unary_op : ℕ → Option UnaryOp
-unary_op number = reads number UNARY_OPCODES
+unary_op number = reads number unary_opcodes
 
 -- the widths that a unary operation may be called at, by its opcode
 abbrev pub UnaryFits : ℕ → ℕ → ℕ → Type 0
 UnaryFits number v w = IsSomeAnd (unary_op number) (λ op. UnaryWidths (unary_row op) v w)
 
--- the operation of an opcode on a lane; not defined where the opcode is none of them
-unfoldable pub unary_of : ℕ → Lane → ℕ → Lane
-unary_of number a w = unwrap_or (option_map (λ op. unary_lane op a w) (unary_op number)) (undefined_lane w)
+-- the operation of an opcode on a lane, if the opcode is one of them
+unfoldable pub unary_of : ℕ → Lane → ℕ → Option Lane
+unary_of number a w = option_map (λ op. unary_lane op a w) (unary_op number)

@@ -1,15 +1,14 @@
 -- The operations on all lanes of a vector (SPIR-V 1.6, sections "Relational and Logical Instructions" and "Conversion Instructions").
-use Rattle.std.specs.Prelude.{ℕ, zero, suc, ◌+◌, ◌*◌, ◌/◌, ◌%◌, ◌==◌, ◌&&◌, Bool, true, List, slice_index_or, Option}
+use Rattle.std.specs.Prelude.{ℕ, zero, suc, ◌+◌, ◌*◌, ◌/◌, ◌%◌, ◌==◌, ◌&&◌, Bool, true, List, slice_index_or, Option, [], ◌∷◌}
 use Rattle.std.specs.Int.{bit_at}
 use Rattle.std.specs.List.{list_any, list_all}
-use Rattle.std.specs.Option.{option_map, unwrap_or}
+use Rattle.std.specs.Option.{option_map}
 use Rattle.spv_base.specs.Entries.{reads}
 use Rattle.spv_base.specs.Lane.{Lane, defined_lane, undefined_lane}
 use Rattle.spv_alu.specs.Integers.{number_of_bits}
 use Rattle.spv_alu.specs.Results.{truth, defined_if}
 use Rattle.spv_alu.specs.declared.vector_op.VectorOp.{VectorOp}
 use Rattle.spv_alu.specs.declared.vector_op.VectorOp.TheVariants.{Any, All}
-use Rattle.spv_alu.specs.declared.vector_op.TheConstants.{VECTOR_OPCODES}
 
 -- the table: whether one lane, or every lane, is true
 unfoldable pub vector_row : VectorOp → List Lane → Bool
@@ -20,13 +19,18 @@ vector_row All lanes = list_all (λ c. c.bits == 1) lanes
 abbrev pub vector_lane : VectorOp → List Lane → Lane
 vector_lane op lanes = defined_if (list_all (λ c. c.defined) lanes) (truth (vector_row op lanes))
 
+-- each operation under its opcode
+abbrev pub vector_opcodes : List (ℕ × VectorOp)
+vector_opcodes =
+    (154, Any) ∷ (155, All) ∷ []
+
 -- the operation of an opcode
 unfoldable pub vector_op : ℕ → Option VectorOp
-vector_op number = reads number VECTOR_OPCODES
+vector_op number = reads number vector_opcodes
 
--- the operation of an opcode on the lanes of a vector; not defined where the opcode is none of them
-unfoldable pub any_all_of : ℕ → List Lane → Lane
-any_all_of number lanes = unwrap_or (option_map (λ op. vector_lane op lanes) (vector_op number)) (undefined_lane 1)
+-- the operation of an opcode on the lanes of a vector, if the opcode is one of them
+unfoldable pub any_all_of : ℕ → List Lane → Option Lane
+any_all_of number lanes = option_map (λ op. vector_lane op lanes) (vector_op number)
 
 -- the width of the components of a vector
 abbrev pub component_width : List Lane → ℕ

@@ -5,7 +5,8 @@ ghost use Rattle.spv_alu.specs.Binary.{binary_row, BinaryWidths, binary_width, b
 use crate::integers::{is_width, signed};
 use crate::results::{integer, truth};
 use crate::{arithmetic, division, results, shifts};
-use spv_base::{Cell, find_entry};
+use spv_base::Cell;
+use spv_ops::op;
 
 /// A binary operation on lanes.
 #[derive(Clone, Copy, Debug, PartialEq, Eq)]
@@ -40,45 +41,43 @@ pub enum BinaryOp {
     BitwiseAnd,
 }
 
-/// Each binary operation under its opcode.
-pub const BINARY_OPCODES: [(u32, BinaryOp); 28] = [
-    (128, BinaryOp::IAdd),
-    (130, BinaryOp::ISub),
-    (132, BinaryOp::IMul),
-    (134, BinaryOp::UDiv),
-    (135, BinaryOp::SDiv),
-    (137, BinaryOp::UMod),
-    (138, BinaryOp::SRem),
-    (139, BinaryOp::SMod),
-    (164, BinaryOp::LogicalEqual),
-    (165, BinaryOp::LogicalNotEqual),
-    (166, BinaryOp::LogicalOr),
-    (167, BinaryOp::LogicalAnd),
-    (170, BinaryOp::IEqual),
-    (171, BinaryOp::INotEqual),
-    (172, BinaryOp::UGreaterThan),
-    (173, BinaryOp::SGreaterThan),
-    (174, BinaryOp::UGreaterThanEqual),
-    (175, BinaryOp::SGreaterThanEqual),
-    (176, BinaryOp::ULessThan),
-    (177, BinaryOp::SLessThan),
-    (178, BinaryOp::ULessThanEqual),
-    (179, BinaryOp::SLessThanEqual),
-    (194, BinaryOp::ShiftRightLogical),
-    (195, BinaryOp::ShiftRightArithmetic),
-    (196, BinaryOp::ShiftLeftLogical),
-    (197, BinaryOp::BitwiseOr),
-    (198, BinaryOp::BitwiseXor),
-    (199, BinaryOp::BitwiseAnd),
-];
-
 impl BinaryOp {
     /// The operation of an opcode, if it is one of these.
     #[tactic(auto, unfolding(crate::specs::Binary::binary_op))]
     pub fn of(opcode: u16) -> Option<BinaryOp>
         ensures { result ≡ binary_op opcode }
     {
-        find_entry(&BINARY_OPCODES, opcode as u32).copied()
+        match opcode {
+            op::I_ADD => Some(BinaryOp::IAdd),
+            op::I_SUB => Some(BinaryOp::ISub),
+            op::I_MUL => Some(BinaryOp::IMul),
+            op::U_DIV => Some(BinaryOp::UDiv),
+            op::S_DIV => Some(BinaryOp::SDiv),
+            op::U_MOD => Some(BinaryOp::UMod),
+            op::S_REM => Some(BinaryOp::SRem),
+            op::S_MOD => Some(BinaryOp::SMod),
+            op::LOGICAL_EQUAL => Some(BinaryOp::LogicalEqual),
+            op::LOGICAL_NOT_EQUAL => Some(BinaryOp::LogicalNotEqual),
+            op::LOGICAL_OR => Some(BinaryOp::LogicalOr),
+            op::LOGICAL_AND => Some(BinaryOp::LogicalAnd),
+            op::I_EQUAL => Some(BinaryOp::IEqual),
+            op::I_NOT_EQUAL => Some(BinaryOp::INotEqual),
+            op::U_GREATER_THAN => Some(BinaryOp::UGreaterThan),
+            op::S_GREATER_THAN => Some(BinaryOp::SGreaterThan),
+            op::U_GREATER_THAN_EQUAL => Some(BinaryOp::UGreaterThanEqual),
+            op::S_GREATER_THAN_EQUAL => Some(BinaryOp::SGreaterThanEqual),
+            op::U_LESS_THAN => Some(BinaryOp::ULessThan),
+            op::S_LESS_THAN => Some(BinaryOp::SLessThan),
+            op::U_LESS_THAN_EQUAL => Some(BinaryOp::ULessThanEqual),
+            op::S_LESS_THAN_EQUAL => Some(BinaryOp::SLessThanEqual),
+            op::SHIFT_RIGHT_LOGICAL => Some(BinaryOp::ShiftRightLogical),
+            op::SHIFT_RIGHT_ARITHMETIC => Some(BinaryOp::ShiftRightArithmetic),
+            op::SHIFT_LEFT_LOGICAL => Some(BinaryOp::ShiftLeftLogical),
+            op::BITWISE_OR => Some(BinaryOp::BitwiseOr),
+            op::BITWISE_XOR => Some(BinaryOp::BitwiseXor),
+            op::BITWISE_AND => Some(BinaryOp::BitwiseAnd),
+            _ => None,
+        }
     }
 
     /// Whether operands may have these widths.

@@ -5,7 +5,8 @@ ghost use Rattle.spv_alu.specs.Extended.{extended_results, extended_lanes, exten
 
 use crate::arithmetic;
 use crate::results::{defined_if, integer};
-use spv_base::{Cell, find_entry};
+use spv_base::Cell;
+use spv_ops::op;
 
 /// An operation that gives two integers.
 #[derive(Clone, Copy, Debug, PartialEq, Eq)]
@@ -16,21 +17,19 @@ pub enum ExtendedOp {
     SMulExtended,
 }
 
-/// Each of these operations under its opcode.
-pub const EXTENDED_OPCODES: [(u32, ExtendedOp); 4] = [
-    (149, ExtendedOp::IAddCarry),
-    (150, ExtendedOp::ISubBorrow),
-    (151, ExtendedOp::UMulExtended),
-    (152, ExtendedOp::SMulExtended),
-];
-
 impl ExtendedOp {
     /// The operation of an opcode, if it is one of these.
     #[tactic(auto, unfolding(crate::specs::Extended::extended_op))]
     pub fn of(opcode: u16) -> Option<ExtendedOp>
         ensures { result ≡ extended_op opcode }
     {
-        find_entry(&EXTENDED_OPCODES, opcode as u32).copied()
+        match opcode {
+            op::I_ADD_CARRY => Some(ExtendedOp::IAddCarry),
+            op::I_SUB_BORROW => Some(ExtendedOp::ISubBorrow),
+            op::U_MUL_EXTENDED => Some(ExtendedOp::UMulExtended),
+            op::S_MUL_EXTENDED => Some(ExtendedOp::SMulExtended),
+            _ => None,
+        }
     }
 
     /// The lanes of the operation: the low-order part, and the carry, the borrow or the high-order part.

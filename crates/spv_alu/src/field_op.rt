@@ -6,7 +6,8 @@ ghost use Rattle.spv_alu.specs.Fields.{inserted_bit, field_result, field_defined
 
 use crate::integers::{greatest, signed};
 use crate::results::{defined_if, integer, signed_integer, undefined};
-use spv_base::{Cell, find_entry};
+use spv_base::Cell;
+use spv_ops::op;
 
 /// An operation on a field of bits.
 #[derive(Clone, Copy, Debug, PartialEq, Eq)]
@@ -16,20 +17,18 @@ pub enum FieldOp {
     BitFieldUExtract,
 }
 
-/// Each of these operations under its opcode.
-pub const FIELD_OPCODES: [(u32, FieldOp); 3] = [
-    (201, FieldOp::BitFieldInsert),
-    (202, FieldOp::BitFieldSExtract),
-    (203, FieldOp::BitFieldUExtract),
-];
-
 impl FieldOp {
     /// The operation of an opcode, if it is one of these.
     #[tactic(auto, unfolding(crate::specs::Fields::field_op))]
     pub fn of(opcode: u16) -> Option<FieldOp>
         ensures { result ≡ field_op opcode }
     {
-        find_entry(&FIELD_OPCODES, opcode as u32).copied()
+        match opcode {
+            op::BIT_FIELD_INSERT => Some(FieldOp::BitFieldInsert),
+            op::BIT_FIELD_S_EXTRACT => Some(FieldOp::BitFieldSExtract),
+            op::BIT_FIELD_U_EXTRACT => Some(FieldOp::BitFieldUExtract),
+            _ => None,
+        }
     }
 
     /// The lane of the operation. Only an insertion looks at `insert`.

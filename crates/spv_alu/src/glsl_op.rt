@@ -7,7 +7,8 @@ ghost use Rattle.spv_alu.specs.Glsl.{glsl_row, glsl_result, glsl_defined, glsl_l
 
 use crate::integers::{greatest, signed};
 use crate::results::{defined_if, integer, signed_integer, undefined};
-use spv_base::{Cell, find_entry};
+use spv_base::Cell;
+use spv_ops::glsl;
 
 /// An extended instruction on integers.
 #[derive(Clone, Copy, Debug, PartialEq, Eq)]
@@ -25,28 +26,26 @@ pub enum GlslOp {
     FindUMsb,
 }
 
-/// Each extended instruction under its number.
-pub const GLSL_NUMBERS: [(u32, GlslOp); 11] = [
-    (5, GlslOp::SAbs),
-    (7, GlslOp::SSign),
-    (38, GlslOp::UMin),
-    (39, GlslOp::SMin),
-    (41, GlslOp::UMax),
-    (42, GlslOp::SMax),
-    (44, GlslOp::UClamp),
-    (45, GlslOp::SClamp),
-    (73, GlslOp::FindILsb),
-    (74, GlslOp::FindSMsb),
-    (75, GlslOp::FindUMsb),
-];
-
 impl GlslOp {
     /// The instruction of a number, if it is one of these.
     #[tactic(auto, unfolding(crate::specs::Glsl::glsl_op))]
     pub fn of(number: u32) -> Option<GlslOp>
         ensures { result ≡ glsl_op number }
     {
-        find_entry(&GLSL_NUMBERS, number).copied()
+        match number {
+            glsl::S_ABS => Some(GlslOp::SAbs),
+            glsl::S_SIGN => Some(GlslOp::SSign),
+            glsl::U_MIN => Some(GlslOp::UMin),
+            glsl::S_MIN => Some(GlslOp::SMin),
+            glsl::U_MAX => Some(GlslOp::UMax),
+            glsl::S_MAX => Some(GlslOp::SMax),
+            glsl::U_CLAMP => Some(GlslOp::UClamp),
+            glsl::S_CLAMP => Some(GlslOp::SClamp),
+            glsl::FIND_I_LSB => Some(GlslOp::FindILsb),
+            glsl::FIND_S_MSB => Some(GlslOp::FindSMsb),
+            glsl::FIND_U_MSB => Some(GlslOp::FindUMsb),
+            _ => None,
+        }
     }
 
     /// The lane of the instruction on as many of the operands as it has.

@@ -1,7 +1,9 @@
 //! The lane-wise operations of SPIR-V on integers and Booleans. An undefined operand makes a lane undefined.
 #![tactic(auto)]
 
-ghost use Rattle.std.specs.Prelude.{◌≡◌};
+ghost use Rattle.std.specs.Prelude.{◌≡◌, Some};
+ghost use Rattle.std.specs.Option.{unwrap_or};
+ghost use Rattle.spv_base.specs.Lane.{undefined_lane};
 ghost use Rattle.spv_alu.specs.Unary.{UnaryFits, unary_of};
 ghost use Rattle.spv_alu.specs.Binary.{BinaryFits, binary_of, binary_width_of};
 ghost use Rattle.spv_alu.specs.Extended.{extended_of};
@@ -40,12 +42,12 @@ pub use vector_op::VectorOp;
 #[tactic(auto, unfolding(crate::specs::Unary::unary_of))]
 pub fn unary(op: u16, a: Cell, width: u8) -> Cell
     requires { UnaryFits op a.width width }
-    ensures lane { result ≡ unary_of op a width }
+    ensures lane { unary_of op a width ≡ Some result }
     ensures width { result.width ≡ width }
 {
     match UnaryOp::of(op) {
         Some(operation) => operation.apply(a, width),
-        None => results::undefined(width),
+        None => unreachable!(),
     }
 }
 
@@ -53,12 +55,12 @@ pub fn unary(op: u16, a: Cell, width: u8) -> Cell
 #[tactic(auto, unfolding(crate::specs::Binary::binary_of, crate::specs::Binary::binary_width_of))]
 pub fn binary(op: u16, a: Cell, b: Cell) -> Cell
     requires { BinaryFits op a.width b.width }
-    ensures lane { result ≡ binary_of op a b }
-    ensures width { result.width ≡ binary_width_of op a.width }
+    ensures lane { binary_of op a b ≡ Some result }
+    ensures width { binary_width_of op a.width ≡ Some result.width }
 {
     match BinaryOp::of(op) {
         Some(operation) => operation.apply(a, b),
-        None => results::undefined(a.width),
+        None => unreachable!(),
     }
 }
 
@@ -72,10 +74,10 @@ pub fn select(c: Cell, a: Cell, b: Cell) -> Cell
     results::defined_if(c.defined && a.defined && b.defined, chosen)
 }
 
-/// The Boolean of OpAny or OpAll on the lanes of a vector.
+/// The Boolean of OpAny or OpAll on the lanes of a vector; undefined for another opcode.
 #[tactic(auto, unfolding(crate::specs::Vectors::any_all_of))]
 pub fn any_all(op: u16, lanes: &[Cell]) -> Cell
-    ensures lane { result ≡ any_all_of op lanes.now }
+    ensures lane { result ≡ unwrap_or (any_all_of op lanes.now) (undefined_lane 1) }
     ensures width { result.width ≡ 1 }
 {
     match VectorOp::of(op) {
@@ -84,11 +86,12 @@ pub fn any_all(op: u16, lanes: &[Cell]) -> Cell
     }
 }
 
-/// The lane of an operation on a field of bits, by its opcode. Only an insertion looks at `insert`.
+/// The lane of an operation on a field of bits, by its opcode; undefined for another opcode. Only an insertion looks at
+/// `insert`.
 #[tactic(auto, unfolding(crate::specs::Fields::field_of))]
 pub fn field(op: u16, base: Cell, insert: Cell, offset: Cell, count: Cell) -> Cell
     requires { IsWidth base.width }
-    ensures lane { result ≡ field_of op base insert offset count }
+    ensures lane { result ≡ unwrap_or (field_of op base insert offset count) (undefined_lane base.width) }
     ensures width { result.width ≡ base.width }
 {
     match FieldOp::of(op) {
@@ -97,12 +100,12 @@ pub fn field(op: u16, base: Cell, insert: Cell, offset: Cell, count: Cell) -> Ce
     }
 }
 
-/// The lanes of an operation that gives two integers, by its opcode.
+/// The lanes of an operation that gives two integers, by its opcode; both undefined for another opcode.
 #[tactic(auto, unfolding(crate::specs::Extended::extended_of))]
 pub fn extended(op: u16, a: Cell, b: Cell) -> (Cell, Cell)
     requires first { IsWidth a.width }
     requires second { b.width ≡ a.width }
-    ensures lanes { result ≡ extended_of op a b }
+    ensures lanes { result ≡ unwrap_or (extended_of op a b) (undefined_lane a.width, undefined_lane a.width) }
     ensures low_width { result.0.width ≡ a.width }
     ensures high_width { result.1.width ≡ a.width }
 {
@@ -112,13 +115,14 @@ pub fn extended(op: u16, a: Cell, b: Cell) -> (Cell, Cell)
     }
 }
 
-/// The lane of an extended instruction of GLSL.std.450, by its number, on as many of the operands as it has.
+/// The lane of an extended instruction of GLSL.std.450, by its number, on as many of the operands as it has; undefined for
+/// another number.
 #[tactic(auto, unfolding(crate::specs::Glsl::glsl_of))]
 pub fn glsl(number: u32, a: Cell, b: Cell, c: Cell) -> Cell
     requires first { IsWidth a.width }
     requires second { b.width ≡ a.width }
     requires third { c.width ≡ a.width }
-    ensures lane { result ≡ glsl_of number a b c }
+    ensures lane { result ≡ unwrap_or (glsl_of number a b c) (undefined_lane a.width) }
     ensures width { result.width ≡ a.width }
 {
     match GlslOp::of(number) {

@@ -4,7 +4,8 @@ ghost use Rattle.spv_alu.specs.Unary.{unary_row, UnaryWidths, unary_result, unar
 
 use crate::integers::is_width;
 use crate::{arithmetic, bits, integers, results};
-use spv_base::{Cell, find_entry};
+use spv_base::Cell;
+use spv_ops::op;
 
 /// A unary operation on lanes.
 #[derive(Clone, Copy, Debug, PartialEq, Eq)]
@@ -18,24 +19,22 @@ pub enum UnaryOp {
     BitCount,
 }
 
-/// Each unary operation under its opcode.
-pub const UNARY_OPCODES: [(u32, UnaryOp); 7] = [
-    (113, UnaryOp::UConvert),
-    (114, UnaryOp::SConvert),
-    (126, UnaryOp::SNegate),
-    (168, UnaryOp::LogicalNot),
-    (200, UnaryOp::Not),
-    (204, UnaryOp::BitReverse),
-    (205, UnaryOp::BitCount),
-];
-
 impl UnaryOp {
     /// The operation of an opcode, if it is one of these.
     #[tactic(auto, unfolding(crate::specs::Unary::unary_op))]
     pub fn of(opcode: u16) -> Option<UnaryOp>
         ensures { result ≡ unary_op opcode }
     {
-        find_entry(&UNARY_OPCODES, opcode as u32).copied()
+        match opcode {
+            op::U_CONVERT => Some(UnaryOp::UConvert),
+            op::S_CONVERT => Some(UnaryOp::SConvert),
+            op::S_NEGATE => Some(UnaryOp::SNegate),
+            op::LOGICAL_NOT => Some(UnaryOp::LogicalNot),
+            op::NOT => Some(UnaryOp::Not),
+            op::BIT_REVERSE => Some(UnaryOp::BitReverse),
+            op::BIT_COUNT => Some(UnaryOp::BitCount),
+            _ => None,
+        }
     }
 
     /// Whether the operand and the result may have these widths.

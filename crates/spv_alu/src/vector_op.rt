@@ -4,7 +4,8 @@ ghost use Rattle.std.specs.List.{list_all};
 ghost use Rattle.spv_alu.specs.Vectors.{vector_row, vector_lane, vector_op};
 
 use crate::results::{defined_if, truth};
-use spv_base::{Cell, find_entry};
+use spv_base::Cell;
+use spv_ops::op;
 
 /// An operation on all lanes of a vector.
 #[derive(Clone, Copy, Debug, PartialEq, Eq)]
@@ -13,16 +14,17 @@ pub enum VectorOp {
     All,
 }
 
-/// Each of these operations under its opcode.
-pub const VECTOR_OPCODES: [(u32, VectorOp); 2] = [(154, VectorOp::Any), (155, VectorOp::All)];
-
 impl VectorOp {
     /// The operation of an opcode, if it is one of these.
     #[tactic(auto, unfolding(crate::specs::Vectors::vector_op))]
     pub fn of(opcode: u16) -> Option<VectorOp>
         ensures { result ≡ vector_op opcode }
     {
-        find_entry(&VECTOR_OPCODES, opcode as u32).copied()
+        match opcode {
+            op::ANY => Some(VectorOp::Any),
+            op::ALL => Some(VectorOp::All),
+            _ => None,
+        }
     }
 
     /// The Boolean of the operation.

@@ -64,7 +64,7 @@ unfolding unary_of
 unary_has_width op w a h = rw h (by_operation (unary_op op) h)
   where
     by_operation : (o : Option UnaryOp) → option_map_or (λ o. row_takes (unary_row o) a.width w) o false ≡ true
-        → HasWidth w (unwrap_or (option_map (λ o. unary.unary_lane o a w) o) (undefined_lane w))
+        → HasWidth w (unwrap_or (option_map (λ o. unary.unary_lane o a w) o) (undefined_lane a.width))
     by_operation None h = impossible h
     by_operation (Some o) h = defined_has_width a.defined w _ (unary_result_fits (unary_row o) a.width a.bits w h)
 
