@@ -69,3 +69,8 @@ element_cut (Some a) n i id h = let e : cut a ≡ n = cc in rw (← e, cut-mul a
 
 pub members_cells_next : (f : ℕ → Option ℕ) (ms : List Member) (i n m : ℕ) (d : Member) → i < length ms → option_map cut (members_cells f (take i ms)) ≡ Some n → option_map cut (f (get_or ms i d).ty) ≡ Some m → option_map cut (members_cells f (take (i + 1) ms)) ≡ Some (min (n + m) (2 ^ 64 - 1))
 members_cells_next f ms i n m d l h k = ap (option_map cut) (members_cells_more f ms i d l) ∙ added_cut (members_cells f (take i ms)) (f (get_or ms i d).ty) n m h k
+
+pub added_is : (a b : Option ℕ) (n : ℕ) → added a b ≡ Some n → (x : ℕ) × (y : ℕ) × (a ≡ Some x) × (b ≡ Some y) × (n ≡ x + y)
+added_is None b n h = cc
+added_is (Some x) None n h = cc
+added_is (Some x) (Some y) n h = let e : n ≡ x + y = cc in (x, y, refl, refl, e)

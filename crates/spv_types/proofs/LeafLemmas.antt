@@ -24,3 +24,30 @@ leaf_cut ts id i before part within path f g h k = rw (← g) (step ts before pa
         let q : pair before part ≡ cut_first p = cc in
         let e = ap (λ (x : ℕ × ℕ). x.0) q in let f = ap (λ (x : ℕ × ℕ). x.1) q in
         rw (← f) (last p.0 before within (leaf_of ts part path) e k)
+
+pub leaf_unknown : (ts : Types) (id i : ℕ) (path : List ℕ) → form_of ts id ≡ None → leaf_of ts id (i ∷ path) ≡ None
+unfolding leaf_of
+leaf_unknown ts id i path h = rw h refl
+
+pub leaf_no_part : (ts : Types) (id i : ℕ) (path : List ℕ) (f : Form) → Some f ≡ form_of ts id → None ≡ option_map cut_first (part_of (cells_of ts) f i) → leaf_of ts id (i ∷ path) ≡ None
+unfolding leaf_of
+leaf_no_part ts id i path f g h = rw (← g) (step (part_of (cells_of ts) f i) h)
+  where
+    step : (p : Option (ℕ × ℕ)) → None ≡ option_map cut_first p → option_and_then (λ p. option_map (λ n. p.0 + n) (leaf_of ts p.1 path)) p ≡ None
+    step None h = refl
+    step (Some p) h = cc
+
+pub leaf_not_within : (ts : Types) (id i before part : ℕ) (path : List ℕ) (f : Form) → Some f ≡ form_of ts id → some_pair before part ≡ option_map cut_first (part_of (cells_of ts) f i) → None ≡ option_map cut (leaf_of ts part path) → leaf_of ts id (i ∷ path) ≡ None
+unfolding leaf_of
+leaf_not_within ts id i before part path f g h k = rw (← g) (step (part_of (cells_of ts) f i) h)
+  where
+    last : (n : ℕ) (o : Option ℕ) → None ≡ option_map cut o → option_map (λ m. n + m) o ≡ None
+    last n None k = refl
+    last n (Some m) k = cc
+
+    step : (p : Option (ℕ × ℕ)) → some_pair before part ≡ option_map cut_first p → option_and_then (λ p. option_map (λ n. p.0 + n) (leaf_of ts p.1 path)) p ≡ None
+    step None h = cc
+    step (Some p) h =
+        let q : pair before part ≡ cut_first p = cc in
+        let f = ap (λ (x : ℕ × ℕ). x.1) q in
+        last p.0 (leaf_of ts p.1 path) (rw f at k)

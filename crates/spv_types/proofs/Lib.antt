@@ -22,3 +22,4 @@ pub mod RowPlaces
 pub mod RowChanges
 pub mod RowShapes
 pub mod RowValues
+pub mod CountedLemmas

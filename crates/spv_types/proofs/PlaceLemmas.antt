@@ -1,6 +1,6 @@
 -- The place of a leaf is that of its form, and the rows and members that it lies in.
-use Rattle.std.proofs.Common.{◌≡◌, ◌∙◌, ℕ, ◌+◌, ◌-◌, ◌*◌, ◌/◌, ◌%◌, ◌^◌, ◌<◌, ◌≤◌, List, [], ◌∷◌, length, true, false, Option, Some, None, inl, inr, zero, suc, refl, sym, ap, drop, get_or, arith}
-use Rattle.std.specs.Option.{option_map, option_map_or, option_and_then}
+use Rattle.std.proofs.Common.{◌≡◌, ◌∙◌, ◌⊎◌, ℕ, ◌+◌, ◌-◌, ◌*◌, ◌/◌, ◌%◌, ◌^◌, ◌<◌, ◌≤◌, List, [], ◌∷◌, length, true, false, Option, Some, None, inl, inr, zero, suc, refl, sym, ap, drop, drop_of_length-le, take, get_or, arith}
+use Rattle.std.specs.Option.{IsSomeAnd, option_map, option_map_or, option_and_then}
 use Rattle.std.specs.Prelude.{min, nat_lt}
 use Rattle.std.proofs.Math.Nat.{div-eq_of_lt, mod-eq_of_lt}
 use Rattle.std.proofs.lemmas.Bool.{cases_lt}
@@ -8,8 +8,9 @@ use Rattle.spv_types.specs.declared.forms.Member.{Member}
 use Rattle.spv_types.specs.declared.forms.Form.{Form}
 use Rattle.spv_types.specs.Types.{Types, found_among, in_first}
 use Rattle.spv_types.specs.Cuts.{cut}
-use Rattle.spv_types.specs.Places.{place_among, place_step, place_by, place_in_member, place_in_members, place_in_elements, place_in_row, row_number}
-use Rattle.spv_types.specs.Cells.{cells_of}
+use Rattle.spv_types.specs.Places.{BeginsBy, place_among, place_step, place_by, place_in_member, place_in_members, place_in_elements, place_in_row, row_number}
+use Rattle.spv_types.specs.Cells.{cells_of, members_cells}
+use Rattle.spv_types.proofs.CellLemmas.{added_is, members_cells_more}
 use Rattle.spv_types.proofs.TypeLemmas.{in_first-is}
 
 -- the place of a leaf in a type that is found, or none
@@ -109,3 +110,81 @@ elements_at ts place element count stride leaf k w l h e = row (cells_of ts elem
 pub none_of_cut : (o : Option ℕ) → None ≡ option_map cut o → o ≡ None
 none_of_cut None h = refl
 none_of_cut (Some n) h = cc
+
+-- ---- the member in which a leaf lies
+
+pub some_and : {A : Type 0} (o : Option A) (P : A → Type 0) → IsSomeAnd o P → (x : A) × (o ≡ Some x) × P x
+some_and None P h = absurd h
+some_and (Some x) P h = (x, refl, h)
+
+pub begins_first : (cells : ℕ → Option ℕ) (ms : List Member) (leaf : ℕ) → BeginsBy cells ms 0 leaf
+unfolding members_cells
+begins_first cells ms leaf = omega arith
+
+pub begins_cut : (o : Option ℕ) (first leaf : ℕ) → leaf < 67108864 → Some first ≡ option_map cut o → (first ≤ leaf → IsSomeAnd o (λ n. n ≤ leaf)) × (IsSomeAnd o (λ n. n ≤ leaf) → first ≤ leaf)
+begins_cut None first leaf l h = cc
+begins_cut (Some n) first leaf l h = let e : first ≡ cut n = cc in (λ k. omega arith, λ k. omega arith)
+
+begins_none : (o : Option ℕ) (leaf : ℕ) → None ≡ option_map cut o → IsSomeAnd o (λ n. n ≤ leaf) → ⊥
+begins_none None leaf h k = k
+begins_none (Some n) leaf h k = cc
+
+module _ (cells : ℕ → Option ℕ) (place : ℕ → ℕ → Option ℕ) where
+  -- a leaf behind the first members is a leaf of the others
+  pub in_members_from : (ms : List Member) (i n leaf : ℕ) → members_cells cells (take i ms) ≡ Some n → n ≤ leaf → place_in_members cells place ms leaf ≡ place_in_members cells place (drop i ms) (leaf - n)
+  unfolding place_in_members members_cells
+  in_members_from ms zero n leaf h l = let e : n ≡ 0 = cc in let f : leaf - n ≡ leaf = omega arith in rw f refl
+  in_members_from [] (suc i) n leaf h l = refl
+  in_members_from (m ∷ ms) (suc i) n leaf h l =
+      let sum = added_is (cells m.ty) (members_cells cells (take i ms)) n h in
+      let past : nat_lt leaf sum.0 ≡ false = not_less leaf sum.0 (omega (arith, sum.4)) in
+      let left : leaf - sum.0 - sum.1 ≡ leaf - n = omega (arith, sum.4) in
+      rw (sum.2, past) (in_members_from ms i sum.1 (leaf - sum.0) sum.3 (omega (arith, sum.4)) ∙ ap (place_in_members cells place (drop i ms)) left)
+
+  -- where no leaf of the members begins behind the member, or it is the last one, a leaf behind it is in none
+  pub in_members_none : (ms : List Member) (i n left k : ℕ) (d : Member) → i < length ms → members_cells cells (take i ms) ≡ Some n → n + left < 67108864 → option_map cut (cells (get_or ms i d).ty) ≡ Some k → k ≤ left
+      → (i + 1 < length ms → BeginsBy cells ms (i + 1) (n + left) → ⊥) → place_in_members cells place (drop i ms) left ≡ None
+  in_members_none ms i n left k d l h near is past last =
+      in_members_later cells place ms i left k d l (omega arith) is past ∙ elim (cases_lt (i + 1) (length ms)) [
+        | inl less ↦ absurd (last less (next (cells (get_or ms i d).ty) refl))
+        | inr done ↦ rw (drop_of_length-le ms done) (in_members_end cells place (left - k))
+      ]
+    where
+      next : (o : Option ℕ) → cells (get_or ms i d).ty ≡ o → BeginsBy cells ms (i + 1) (n + left)
+      next None e = let bad : option_map cut None ≡ Some k = ap (option_map cut) (sym e) ∙ is in cc
+      next (Some c) e =
+          let cuts : option_map cut (Some c) ≡ Some k = ap (option_map cut) (sym e) ∙ is in
+          let at : cut c ≡ k = cc in
+          let sum : members_cells cells (take (i + 1) ms) ≡ Some (n + c) = members_cells_more cells ms i d l ∙ rw (h, e) refl in
+          rw sum (omega arith)
+
+  -- the place of a leaf, where a member begins before it and the next one does not
+  pub in_member : (ms : List Member) (i first leaf : ℕ) (d : Member) (here : Option ℕ) → leaf < 67108864 → i < length ms → BeginsBy cells ms i leaf → Some first ≡ option_map cut (members_cells cells (take i ms))
+      → here ≡ option_map cut (place_in_member place (get_or ms i d) (leaf - first))
+      → (option_map cut (cells (get_or ms i d).ty) ≡ None) ⊎ ((k : ℕ) × (option_map cut (cells (get_or ms i d).ty) ≡ Some k) × (leaf - first < k)) → here ≡ option_map cut (place_in_members cells place ms leaf)
+  in_member ms i first leaf d here near l begins is e cases =
+      let b = some_and (members_cells cells (take i ms)) (λ n. n ≤ leaf) begins in
+      let cuts : Some first ≡ Some (cut b.0) = is ∙ ap (option_map cut) b.1 in
+      let at : first ≡ cut b.0 = cc in
+      let same : leaf - first ≡ leaf - b.0 = omega (arith, b.2) in
+      e ∙ ap (option_map cut) (sym (
+      in_members_from ms i b.0 leaf b.1 b.2 ∙ ap (place_in_members cells place (drop i ms)) (sym same) ∙ elim cases [
+        | inl none ↦ in_members_any cells place ms i (leaf - first) d l none
+        | inr some ↦ in_members_here cells place ms i (leaf - first) some.0 d l some.1 some.2
+      ]
+      ))
+
+  pub in_no_member : (ms : List Member) (i first leaf k : ℕ) (d : Member) → leaf < 67108864 → i < length ms → BeginsBy cells ms i leaf → Some first ≡ option_map cut (members_cells cells (take i ms))
+      → option_map cut (cells (get_or ms i d).ty) ≡ Some k → k ≤ leaf - first → (i + 1 < length ms → BeginsBy cells ms (i + 1) leaf → ⊥) → place_in_members cells place ms leaf ≡ None
+  in_no_member ms i first leaf k d near l begins is size past last =
+      let b = some_and (members_cells cells (take i ms)) (λ n. n ≤ leaf) begins in
+      let cuts : Some first ≡ Some (cut b.0) = is ∙ ap (option_map cut) b.1 in
+      let at : first ≡ cut b.0 = cc in
+      let same : leaf - first ≡ leaf - b.0 = omega (arith, b.2) in
+      let whole : b.0 + (leaf - first) ≡ leaf = omega (arith, b.2) in
+      in_members_from ms i b.0 leaf b.1 b.2 ∙ ap (place_in_members cells place (drop i ms)) (sym same)
+      ∙ in_members_none ms i b.0 (leaf - first) k d l b.1 (omega (arith, b.2)) size past (λ more begin. last more (rw whole at begin))
+
+  pub in_empty : (ms : List Member) (leaf : ℕ) → length ms ≡ 0 → None ≡ option_map cut (place_in_members cells place ms leaf)
+  in_empty [] leaf h = ap (option_map cut) (sym (in_members_end cells place leaf))
+  in_empty (m ∷ ms) leaf h = absurd (omega arith)

@@ -1,5 +1,5 @@
 -- A value of a shape has as many leaves as its type has cells.
-use Rattle.std.proofs.Common.{◌≡◌, ◌∙◌, ℕ, zero, suc, ◌+◌, ◌*◌, Bool, true, false, List, [], ◌∷◌, Option, Some, None, length, length-append, refl, sym, ap, arith}
+use Rattle.std.proofs.Common.{◌≡◌, ◌∙◌, ℕ, zero, suc, ◌*◌, Bool, true, false, List, [], ◌∷◌, Option, Some, None, length, length-append, refl, sym, ap, arith}
 use Rattle.std.specs.Bool.{MatchBool}
 use Rattle.std.specs.Option.{IsSomeAnd, MatchOption, option_map, option_map_or}
 use Rattle.std.specs.Prelude.{if◌then◌else◌}
@@ -15,8 +15,9 @@ use Rattle.spv_types.specs.declared.forms.Form.{Form}
 use Rattle.spv_types.specs.declared.forms.Form.TheVariants.{Void, Bool as Boolean, Int, Vector, Array, Runtime, Struct, Pointer, Function}
 use Rattle.spv_types.specs.declared.forms.Member.{Member}
 use Rattle.spv_types.specs.Types.{Types, form_of, in_first, is_number, number_of}
-use Rattle.spv_types.specs.Cells.{added, cells_among, cells_of, cells_step, members_cells}
+use Rattle.spv_types.specs.Cells.{cells_among, cells_of, cells_step, members_cells}
 use Rattle.spv_types.specs.Shapes.{HasShape, HasShapeAmong, pointer_in, scalar_in, shape_step}
+use Rattle.spv_types.proofs.CellLemmas.{added_is}
 use Rattle.spv_types.specs.Rows.{leaves}
 use Rattle.spv_types.proofs.RowLemmas.{scalar_row, pointer_row, many_row}
 
@@ -25,11 +26,6 @@ abbrev pub Counts : (ℕ → Value → Type 0) → (ℕ → Option ℕ) → Type
 Counts shape cells = (id : ℕ) (v : Value) (n : ℕ) → shape id v → cells id ≡ Some n → length (leaves v) ≡ n
 
 -- ---- options that are there
-
-pub added_is : (a b : Option ℕ) (n : ℕ) → added a b ≡ Some n → (x : ℕ) × (y : ℕ) × (a ≡ Some x) × (b ≡ Some y) × (n ≡ x + y)
-added_is None b n h = cc
-added_is (Some x) None n h = cc
-added_is (Some x) (Some y) n h = let e : n ≡ x + y = cc in (x, y, refl, refl, e)
 
 pub times_is : (a : Option ℕ) (k n : ℕ) → option_map (λ c. c * k) a ≡ Some n → (c : ℕ) × (a ≡ Some c) × (n ≡ c * k)
 times_is None k n h = cc

@@ -1,5 +1,5 @@
 -- Where the row of a part lies in the row of a value, and what a write to the part leaves.
-use Rattle.std.proofs.Common.{◌≡◌, ◌∙◌, ℕ, zero, suc, ◌+◌, ◌^◌, ◌<◌, ◌*◌, ◌≤◌, Bool, true, false, List, [], ◌∷◌, ◌++◌, Option, Some, None, length, length-append, append_assoc, append-nil, refl, sym, ap, subst, arith, take, drop, take_at, drop_at, slice_get, slice_set, nat_lt}
+use Rattle.std.proofs.Common.{◌≡◌, ◌∙◌, ℕ, zero, suc, ◌+◌, ◌*◌, ◌≤◌, Bool, true, false, List, [], ◌∷◌, ◌++◌, Option, Some, None, length, length-append, append_assoc, append-nil, refl, sym, ap, subst, arith, take, drop, take_at, drop_at, slice_get, slice_set, nat_lt}
 use Rattle.std.specs.Option.{option_map, option_and_then}
 use Rattle.std.specs.Prelude.{if◌then◌else◌}
 use Rattle.std.specs.List.{All, AllZip, flat_map}
@@ -20,7 +20,8 @@ use Rattle.spv_types.specs.Shapes.{HasShape, shape_step}
 use Rattle.spv_types.proofs.ShapeLemmas.{shapes_are_by_forms}
 use Rattle.spv_types.specs.Rows.{leaves, Lies}
 use Rattle.spv_types.proofs.RowLemmas.{leaves_many, many_row, row_changed, row_split}
-use Rattle.spv_types.proofs.RowCounts.{Counts, added_is, shapes_count}
+use Rattle.spv_types.proofs.CellLemmas.{added_is}
+use Rattle.spv_types.proofs.RowCounts.{Counts, shapes_count}
 
 -- ---- values before one of a list
 

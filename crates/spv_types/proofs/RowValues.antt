@@ -16,7 +16,8 @@ use Rattle.spv_types.specs.Cells.{cells_among, cells_of, cells_step, members_cel
 use Rattle.spv_types.specs.Shapes.{HasShape, HasShapeAmong, LeadsTo, pointer_in, scalar_in, shape_step}
 use Rattle.spv_types.specs.Rows.{leaves, no_roots}
 use Rattle.spv_types.proofs.RowLemmas.{many_by, many_row, scalar_by, scalar_row}
-use Rattle.spv_types.proofs.RowCounts.{Counts, added_is, among_counts, many_is, times_is}
+use Rattle.spv_types.proofs.CellLemmas.{added_is}
+use Rattle.spv_types.proofs.RowCounts.{Counts, among_counts, many_is, times_is}
 
 -- values of a type with one row are one value
 abbrev pub Tells : (ℕ → Value → Type 0) → (ℕ → Option ℕ) → Type 0

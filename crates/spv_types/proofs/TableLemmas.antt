@@ -1,9 +1,9 @@
 -- A type added at the end, and a form written under an id.
-use Rattle.std.proofs.Common.{◌≡◌, ◌∙◌, ℕ, zero, suc, ◌<◌, ◌==◌, Bool, true, false, cond, eqb, nat_cmp, List, [], ◌∷◌, ◌++◌, length, get_or, set, Option, Some, None, Result, Ok, Err, refl, sym, ap, subst, arith, rules, tests}
+use Rattle.std.proofs.Common.{◌≡◌, ◌∙◌, ℕ, zero, suc, ◌<◌, ◌==◌, Bool, true, false, cond, eqb, nat_cmp, List, [], ◌∷◌, ◌++◌, length, length-append, get_or, set, take, take_at, ◌-◌, Option, Some, None, Result, Ok, Err, refl, sym, ap, subst, arith, rules, tests}
 use Rattle.std.specs.Prelude.{if◌then◌else◌}
 use Rattle.std.specs.Ordering.{is_eq}
 use Rattle.std.specs.Option.{option_map, option_or, is_some}
-use Rattle.std.specs.Result.{OnOk, is_ok}
+use Rattle.std.specs.Result.{OnErr, OnOk, is_ok}
 use Rattle.spv_base.specs.Entries.{writes}
 use Rattle.spv_types.specs.declared.forms.Form.{Form}
 use Rattle.spv_types.specs.declared.forms.Form.TheVariants.{Void, Bool as Boolean, Int, Vector, Array, Runtime, Struct, Pointer, Function}
@@ -85,3 +85,13 @@ unset_known ts id h unset = let e = number_none ts id h in subst IsUnset e unset
 pub on_ok : {T E : Type 0} (r : Result T E) (P : Type 0) → OnOk r P → is_ok r ≡ true → P
 on_ok (Ok x) P h e = h
 on_ok (Err x) P h e = cc
+
+pub on_err : {T E : Type 0} (r : Result T E) (P : Type 0) → OnErr r P → is_ok r ≡ false → P
+on_err (Ok x) P h e = cc
+on_err (Err x) P h e = h
+
+-- an item that was pushed and popped again
+pub popped : (ts us vs : Types) (t : ℕ × Form) (n : ℕ) → us ≡ ts ++ t ∷ [] → n ≡ length us → vs ≡ take (n - 1) us → vs ≡ ts
+popped ts us vs t n e l h =
+    let long : length ts ≡ n - 1 = omega (arith, ap length e, length-append ts (t ∷ [])) in
+    h ∙ ap (take (n - 1)) e ∙ take_at ts (t ∷ []) (n - 1) long

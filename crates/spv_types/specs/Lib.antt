@@ -16,3 +16,4 @@ pub mod Limits
 pub mod Views
 pub mod Laws
 pub mod Rows
+pub mod Counted

@@ -1,12 +1,12 @@
 -- The byte places of the leaves of a block: by the Offset of each member, the ArrayStride of each array, and the bytes of
 -- the components of each vector.
-use Rattle.std.specs.Prelude.{ℕ, ◌+◌, ◌-◌, ◌*◌, ◌/◌, ◌%◌, ◌==◌, ◌&&◌, true, nat_lt, if◌then◌else◌, List, [], ◌∷◌, length, Option, Some, None, unwrap_or}
-use Rattle.std.specs.Option.{option_map, option_map_or, option_and_then}
+use Rattle.std.specs.Prelude.{ℕ, ◌+◌, ◌-◌, ◌*◌, ◌/◌, ◌%◌, ◌==◌, ◌&&◌, true, nat_lt, ◌≤◌, if◌then◌else◌, List, [], ◌∷◌, length, take, Option, Some, None, unwrap_or}
+use Rattle.std.specs.Option.{IsSomeAnd, option_map, option_map_or, option_and_then}
 use Rattle.spv_types.specs.declared.forms.Form.{Form}
 use Rattle.spv_types.specs.declared.forms.Form.TheVariants.{Void, Bool as Boolean, Int, Vector, Array, Runtime, Struct, Pointer, Function}
 use Rattle.spv_types.specs.declared.forms.Member.{Member}
 use Rattle.spv_types.specs.Types.{Types, form_of, in_first}
-use Rattle.spv_types.specs.Cells.{cells_of}
+use Rattle.spv_types.specs.Cells.{cells_of, members_cells}
 
 -- the bytes of a scalar; a Boolean has none in a block
 abbrev pub scalar_bytes : Option Form → ℕ
@@ -47,6 +47,10 @@ place_by leaf here behind (Some n) = if nat_lt leaf n then here else behind (lea
 unfoldable pub place_in_members : (ℕ → Option ℕ) → (ℕ → ℕ → Option ℕ) → List Member → ℕ → Option ℕ
 place_in_members cells place [] leaf = None
 place_in_members cells place (m ∷ ms) leaf = place_by leaf (place_in_member place m leaf) (place_in_members cells place ms) (cells m.ty)
+
+-- a member begins at a leaf or before it
+abbrev pub BeginsBy : (ℕ → Option ℕ) → List Member → ℕ → ℕ → Type 0
+BeginsBy cells ms i leaf = IsSomeAnd (members_cells cells (take i ms)) (λ n. n ≤ leaf)
 
 -- a leaf of a row of elements of the type with an id
 abbrev pub place_in_elements : Types → (ℕ → ℕ → Option ℕ) → ℕ → Option ℕ → ℕ → ℕ → Option ℕ

@@ -47,6 +47,7 @@ impl TypeTable {
             }
             table.add_form(inst.id, form)?;
         }
+        table.count(alloc)?;
         Ok(table)
     }
 }

@@ -1,7 +1,9 @@
 //! How many leaves the values of a type have.
-ghost use Rattle.std.specs.Prelude.{◌≡◌, ◌*◌, option_map};
+ghost use Rattle.std.specs.Prelude.{◌≡◌, ◌*◌, ◌<◌, length, option_map, take};
 ghost use Rattle.spv_types.specs.Cells.{cells_of, cells_among, cells_step, members_cells};
+ghost use Rattle.spv_types.specs.Counted.{members_of};
 ghost use Rattle.spv_types.specs.Cuts.{cut};
+ghost use Rattle.spv_types.specs.Types.{form_at};
 
 use crate::forms::{Form, Member};
 use crate::table::TypeTable;
@@ -18,25 +20,40 @@ impl TypeTable {
 
     /// The leaves of some members together, or the greatest number where there are more.
     #[tactic(auto, unfolding(crate::specs::Cells::cells_of))]
-    pub(crate) fn sum_of_cells(&self, members: &[Member]) -> Option<u64>
+    fn sum_of_cells(&self, members: &[Member]) -> Option<u64>
         ensures { result ≡ option_map cut (members_cells (cells_of self.now) members.now) }
     {
         self.members_cells(self.len(), members)
     }
 
+    /// The leaves before member `i` of the struct with a number.
+    pub(crate) fn first_leaf(&self, number: usize, members: &[Member], i: usize) -> Option<u64>
+        requires inside { i < length members.now }
+        requires members { members.now ≡ members_of (form_at self.now number) }
+        ensures { result ≡ option_map cut (members_cells (cells_of self.now) (take i members.now)) }
+    {
+        match self.count_of(number) {
+            Some(count) => count.firsts.as_slice()[i],
+            None => self.sum_of_cells(&members[..i]),
+        }
+    }
+
     /// The leaves of a type among the first types.
     #[tactic(auto, using(crate::proofs::CellLemmas::cells_among_is))]
     #[cycle(cells)]
-    fn cells_among(&self, limit: usize, ty: u32) -> Option<u64>
+    pub(crate) fn cells_among(&self, limit: usize, ty: u32) -> Option<u64>
         ensures { result ≡ option_map cut (cells_among self.now limit ty) }
     {
         let (n, form) = self.found(limit, ty)?;
-        self.form_cells(n, form)
+        match self.count_of(n) {
+            Some(count) => count.cells,
+            None => self.form_cells(n, form),
+        }
     }
 
     /// The leaves of a form whose parts are among the first types.
     #[cycle(cells)]
-    fn form_cells(&self, limit: usize, form: &Form) -> Option<u64>
+    pub(crate) fn form_cells(&self, limit: usize, form: &Form) -> Option<u64>
         ensures { result ≡ option_map cut (cells_step (cells_among self.now limit) form.now) }
     {
         match form {

@@ -1,6 +1,8 @@
 //! Where the leaves of a part of a type begin.
-ghost use Rattle.std.specs.Prelude.{◌≡◌, option_map};
+ghost use Rattle.std.specs.Prelude.{◌≡◌, ◌<◌, length, option_map};
 ghost use Rattle.spv_types.specs.Cells.{cells_of};
+ghost use Rattle.spv_types.specs.Counted.{members_of};
+ghost use Rattle.spv_types.specs.Types.{form_at};
 ghost use Rattle.spv_types.specs.Leaves.{element_part, leaf_of, member_part, part_of};
 ghost use Rattle.spv_types.specs.Cuts.{cut, cut_first};
 
@@ -17,17 +19,17 @@ impl TypeTable {
         let Some((first, rest)) = path.split_first() else {
             return Some(0);
         };
-        let form = self.form(ty)?;
-        let (before, part) = self.part(form, *first)?;
+        let (before, part) = self.part(self.number(ty)?, *first)?;
         let within = self.leaf(part, rest)?;
         Some(before.saturating_add(within))
     }
 
-    /// The leaves before part `i` of a form, and the type of that part.
-    fn part(&self, form: &Form, i: u64) -> Option<(u64, u32)>
-        ensures { result ≡ option_map cut_first (part_of (cells_of self.now) form.now i) }
+    /// The leaves before part `i` of the type with a number, and the type of that part.
+    fn part(&self, number: usize, i: u64) -> Option<(u64, u32)>
+        requires { number < length self.now }
+        ensures { result ≡ option_map cut_first (part_of (cells_of self.now) (form_at self.now number) i) }
     {
-        match form {
+        match self.form_at(number) {
             Form::Vector { component, count } if i < u64::from(*count) => self.element(
                 *component, i,
             ),
@@ -37,7 +39,7 @@ impl TypeTable {
                 ..
             } if i < u64::from(*length) => self.element(*element, i),
             Form::Runtime { element, .. } => self.element(*element, i),
-            Form::Struct { members, .. } => self.member(members.as_slice(), i),
+            Form::Struct { members, .. } => self.member(number, members.as_slice(), i),
             _ => None,
         }
     }
@@ -50,12 +52,13 @@ impl TypeTable {
         Some((cells.saturating_mul(i), ty))
     }
 
-    /// The leaves before member `i`, and its type.
-    fn member(&self, members: &[Member], i: u64) -> Option<(u64, u32)>
+    /// The leaves before member `i` of the struct with a number, and the member's type.
+    fn member(&self, number: usize, members: &[Member], i: u64) -> Option<(u64, u32)>
+        requires { members.now ≡ members_of (form_at self.now number) }
         ensures { result ≡ option_map cut_first (member_part (cells_of self.now) members.now i) }
     {
         let i = i as usize;
         let ty = members.get(i)?.ty;
-        Some((self.sum_of_cells(&members[..i])?, ty))
+        Some((self.first_leaf(number, members, i)?, ty))
     }
 }

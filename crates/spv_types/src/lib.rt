@@ -4,6 +4,7 @@
 
 mod blocks;
 pub mod build;
+pub mod counting;
 pub mod counts;
 pub mod facts;
 pub mod forms;
@@ -11,6 +12,7 @@ pub mod laws;
 mod layout;
 pub mod leaves;
 pub mod limits;
+mod numbers;
 pub mod opcodes;
 pub mod operands;
 pub mod places;

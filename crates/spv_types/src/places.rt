@@ -1,8 +1,9 @@
 //! The byte places of the leaves of a block.
-ghost use Rattle.std.specs.Prelude.{◌≡◌, ◌<◌, option_map};
+ghost use Rattle.std.specs.Prelude.{◌≡◌, ◌<◌, ◌+◌, ◌↔◌, IsTrue, length, option_map};
 ghost use Rattle.spv_types.specs.Cells.{cells_of};
-ghost use Rattle.spv_types.specs.Types.{form_of};
-ghost use Rattle.spv_types.specs.Places.{place_among, place_in_elements, place_in_member, place_in_members, place_of, place_step, row_number, scalar_bytes};
+ghost use Rattle.spv_types.specs.Counted.{members_of};
+ghost use Rattle.spv_types.specs.Types.{form_at, form_of};
+ghost use Rattle.spv_types.specs.Places.{BeginsBy, place_among, place_in_elements, place_in_member, place_in_members, place_of, place_step, row_number, scalar_bytes};
 ghost use Rattle.spv_types.specs.Cuts.{cut};
 
 use crate::forms::{Form, Member};
@@ -32,7 +33,8 @@ impl TypeTable {
     /// The place of a leaf of a form whose parts are among the first types.
     #[cycle(place)]
     fn form_place(&self, limit: usize, form: &Form, leaf: u64) -> Option<u64>
-        requires { leaf < 67108864 }
+        requires near { leaf < 67108864 }
+        requires form { form.now ≡ form_at self.now limit }
         ensures { result ≡ option_map cut (place_step self.now (place_among self.now limit) form.now leaf) }
     {
         match form {
@@ -87,23 +89,22 @@ impl TypeTable {
         }
     }
 
-    /// The place of a leaf of some members, each at its offset.
+    /// The place of a leaf of the members of the struct with a number, each at its offset.
     #[cycle(place)]
-    fn member_place(&self, limit: usize, members: &[Member], leaf: u64) -> Option<u64>
-        requires { leaf < 67108864 }
-        ensures { result ≡ option_map cut (place_in_members (cells_of self.now) (place_among self.now limit) members.now leaf) }
+    fn member_place(&self, number: usize, members: &[Member], leaf: u64) -> Option<u64>
+        requires near { leaf < 67108864 }
+        requires members { members.now ≡ members_of (form_at self.now number) }
+        ensures { result ≡ option_map cut (place_in_members (cells_of self.now) (place_among self.now number) members.now leaf) }
     {
-        let mut left = leaf;
-        for member in members {
-            let Some(cells) = self.cells(member.ty) else {
-                return self.leaf_place(limit, member, left);
-            };
-            if left < cells {
-                return self.leaf_place(limit, member, left);
-            }
-            left -= cells;
+        if members.is_empty() {
+            return None;
         }
-        None
+        let i = self.member_with(number, members, leaf);
+        let left = leaf - self.first_leaf(number, members, i)?;
+        match self.cells(members[i].ty) {
+            Some(cells) if cells <= left => None,
+            _ => self.leaf_place(number, &members[i], left),
+        }
     }
 
     /// The place of a leaf of a member, which begins at its offset.
@@ -115,6 +116,43 @@ impl TypeTable {
         let within = self.place_among(limit, member.ty, leaf)?;
         let start = u64::from(member.offset.unwrap_or(0));
         Some(start.saturating_add(within))
+    }
+}
+
+impl TypeTable {
+    /// Whether at most so many leaves are before member `i` of the struct with a number.
+    fn begins_by(&self, number: usize, members: &[Member], i: usize, leaf: u64) -> bool
+        requires near { leaf < 67108864 }
+        requires inside { i < length members.now }
+        requires members { members.now ≡ members_of (form_at self.now number) }
+        ensures { IsTrue result ↔ BeginsBy (cells_of self.now) members.now i leaf }
+    {
+        match self.first_leaf(number, members, i) {
+            Some(first) => first <= leaf,
+            None => false,
+        }
+    }
+
+    /// The member of the struct with a number that has a leaf, or the last one.
+    fn member_with(&self, number: usize, members: &[Member], leaf: u64) -> usize
+        requires near { leaf < 67108864 }
+        requires some { 0 < length members.now }
+        requires members { members.now ≡ members_of (form_at self.now number) }
+        ensures inside { result < length members.now }
+        ensures begins { BeginsBy (cells_of self.now) members.now result leaf }
+        ensures last { result + 1 < length members.now → ¬ (BeginsBy (cells_of self.now) members.now (result + 1) leaf) }
+    {
+        let mut low = 0;
+        let mut high = members.len();
+        while high - low > 1 {
+            let middle = low + (high - low) / 2;
+            if self.begins_by(number, members, middle, leaf) {
+                low = middle;
+            } else {
+                high = middle;
+            }
+        }
+        low
     }
 }
 

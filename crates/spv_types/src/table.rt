@@ -3,30 +3,36 @@ ghost use Rattle.std.specs.Prelude.{◌≡◌, ◌↔◌, ◌<◌, ◌≤◌, �
 ghost use Rattle.spv_types.specs.Typing.{with_form};
 ghost use Rattle.spv_types.specs.Types.{IsUnset, form_at, form_of, found_among, number_of, with_length};
 
+use crate::counting::Count;
 use crate::forms::Form;
+use crate::numbers::{number_in, put_number};
 use spv_base::NoMemory;
 use std::alloc::Global;
-use std::collections::BTreeMap;
 use std::marker::Model;
 
 /// The types of a module, in its order. Contracts see a list of ids, each with its form.
 #[derive(Drop)]
 pub struct TypeTable {
-    entries: Vec<(u32, Form)>,
-    numbers: BTreeMap<u32, usize>,
+    pub(crate) entries: Vec<(u32, Form)>,
+    /// By ids, as `number_in` reads them.
+    numbers: Vec<u32>,
+    /// Of the types before the first that was not counted.
+    pub(crate) counts: Vec<Count>,
 }
 
 impl Model for TypeTable {
     ghost use Rattle.std.specs.Prelude.{◌≡◌, ℕ, List};
-    ghost use Rattle.std.specs.Ordering.{nat_cmp};
-    ghost use Rattle.std.specs.BTreeMap.{get};
     ghost use Rattle.spv_types.specs.Types.{Types, number_of};
+    ghost use Rattle.spv_types.specs.Counted.{AreCounted, number_in};
 
     ghost Value = { Types };
 
     ghost view = { λ t. t.entries.items };
 
-    ghost invariant = { λ t. (id : ℕ) → get nat_cmp t.numbers id ≡ number_of t.entries.items id };
+    ghost invariant = { λ t. record {
+      numbers : (id : ℕ) → number_in t.numbers.items id ≡ number_of t.entries.items id;
+      counts : AreCounted t.entries.items t.counts.items;
+    } };
 }
 
 impl TypeTable {
@@ -36,7 +42,8 @@ impl TypeTable {
     {
         TypeTable {
             entries: Vec::new(alloc),
-            numbers: BTreeMap::new(alloc),
+            numbers: Vec::new(alloc),
+            counts: Vec::new(alloc),
         }
     }
 
@@ -47,7 +54,9 @@ impl TypeTable {
     {
         let number = self.entries.len();
         self.entries.push((id, form))?;
-        if !self.numbers.contains_key(&id) && self.numbers.insert(id, number).is_err() {
+        if number_in(self.numbers.as_slice(), id).is_none()
+            && put_number(&mut self.numbers, id, number).is_err()
+        {
             self.entries.pop();
             return Err(NoMemory);
         }
@@ -89,6 +98,7 @@ impl TypeTable {
         ensures { self.new ≡ with_length self.old ty n }
     {
         if let Some(number) = self.number(ty) {
+            self.counts.truncate(number);
             if let Form::Array { length, .. } = &mut self.entries[number].1 {
                 *length = Some(n);
             }
@@ -106,7 +116,7 @@ impl TypeTable {
     pub fn number(&self, id: u32) -> Option<usize>
         ensures { result ≡ number_of self.now id }
     {
-        self.numbers.get(&id).copied()
+        number_in(self.numbers.as_slice(), id)
     }
 
     /// The number and the form of the type with an id, where it is among the first `limit` types.

@@ -1,16 +1,37 @@
-use Rattle.std.proofs.Common.{◌≡◌, ◌∙◌, length, sym, ap, refl, arith}
+use Rattle.std.proofs.Common.{◌≡◌, ◌∙◌, length, sym, ap, arith, true, false, vec_len}
 use Rattle.std.specs.Option.{is_some}
-use Rattle.spv_types.proofs.TableLemmas.{on_ok, push_known, push_new}
+use Rattle.std.specs.Prelude.{◌==◌}
+use Rattle.spv_types.specs.Counted.{number_in}
+use Rattle.spv_types.proofs.CountedLemmas.{counted_push, less_one_if, number_put}
+use Rattle.spv_types.proofs.TableLemmas.{on_err, on_ok, popped, push_known}
 use Rattle.spv_types.proofs.table.TypeTable.add.Goals as goal
 
 pub invariant_of-self-else-is_err : goal.invariant_of-self-else-is_err
-invariant_of-self-else-is_err c = λ q.
-    let absent = ap is_some (sym (c.self.invariant c.args.id)) ∙ sym c.if-not-contains_key.ensures in
-    let put = on_ok c.insert.result _ c.insert.ensures.updates c.if-is_err.ensures.negation in
+invariant_of-self-else-is_err c =
+    let held : number_in c.as_slice.result.now c.args.id ≡ number_in c.self.inside.numbers.items c.args.id = ap (λ ns. number_in ns c.args.id) c.as_slice.ensures.value in
+    let absent : is_some _ ≡ false = ap is_some (sym (c.number_in.ensures ∙ held ∙ c.self.invariant.numbers c.args.id)) ∙ c.if-is_none.ensures in
+    let put = on_ok c.put_number.result _ c.put_number.ensures.ok c.if-is_err.ensures.negation in
     let n : c.len-number.result ≡ length c.self.inside.entries.items = omega arith in
-    rw (c.in_ok-push.ensures.items, push_new c.self.inside.entries.items c.args.id c.args.form q absent, put.0 q, c.self.invariant q, n) refl
+    record {
+      numbers = λ q.
+          rw (c.in_ok-push.ensures.items, put q, n) (less_one_if (c.args.id == q) _ _ ∙ number_put c.self.inside.entries.items c.args.id c.args.form q _ (c.self.invariant.numbers q) absent);
+      counts = rw c.in_ok-push.ensures.items (counted_push c.self.inside.entries.items _ c.self.inside.counts.items c.self.invariant.counts);
+    }
 
-pub invariant_of-self-else-not-contains_key : goal.invariant_of-self-else-not-contains_key
-invariant_of-self-else-not-contains_key c = λ q.
-    let known = ap is_some (sym (c.self.invariant c.args.id)) ∙ sym c.if-not-contains_key.ensures in
-    rw (c.in_ok-push.ensures.items, push_known c.self.inside.entries.items c.args.id c.args.form q known) (c.self.invariant q)
+pub invariant_of-self-else-is_none : goal.invariant_of-self-else-is_none
+invariant_of-self-else-is_none c =
+    let held : number_in c.as_slice.result.now c.args.id ≡ number_in c.self.inside.numbers.items c.args.id = ap (λ ns. number_in ns c.args.id) c.as_slice.ensures.value in
+    let known : is_some _ ≡ true = ap is_some (sym (c.number_in.ensures ∙ held ∙ c.self.invariant.numbers c.args.id)) ∙ c.if-is_none.ensures in
+    record {
+      numbers = λ q. rw (c.in_ok-push.ensures.items, push_known c.self.inside.entries.items c.args.id c.args.form q known) (c.self.invariant.numbers q);
+      counts = rw c.in_ok-push.ensures.items (counted_push c.self.inside.entries.items _ c.self.inside.counts.items c.self.invariant.counts);
+    }
+
+pub invariant_of-self-then-is_err : goal.invariant_of-self-then-is_err
+invariant_of-self-then-is_err c =
+    let put = on_err c.put_number.result _ c.put_number.ensures.err c.if-is_err.ensures.negation in
+    let same = popped c.self.inside.entries.items c.push.new.self.items c.pop.new.self.items _ (vec_len c.push.new.self) c.in_ok-push.ensures.items (omega arith) c.pop.ensures.rest in
+    record {
+      numbers = λ q. rw (same, put q) (c.self.invariant.numbers q);
+      counts = rw same c.self.invariant.counts;
+    }

@@ -1,4 +1,4 @@
-use Rattle.std.proofs.Common.{◌≡◌, ◌∙◌, refl, true, false, take}
+use Rattle.std.proofs.Common.{◌≡◌, ◌∙◌, Ok, ap, refl, sym, true, false, take}
 use Rattle.spv_types.specs.Rules.{keeps_other}
 use Rattle.spv_types.specs.Typing.{defined_form, types_in}
 use Rattle.spv_types.proofs.BuildLemmas.{breaches_broken, breaches_kept, kept_by, types_built, types_step, types_none, types_refused}
@@ -21,4 +21,4 @@ loop-inst-preserved c =
     }
 
 pub returns : goal.returns
-returns c = types_built c.args.insts.now _ c.loop-inst.inst-index c.loop-inst.table c.functions_start.ensures.before c.loop-inst.auto.inst-index-end c.loop-inst-test.false c.loop-inst.invariant.types c.loop-inst.invariant.refusals
+returns c = types_built c.args.insts.now _ c.loop-inst.inst-index c.loop-inst.table c.functions_start.ensures.before c.loop-inst.auto.inst-index-end c.loop-inst-test.false c.loop-inst.invariant.types c.loop-inst.invariant.refusals ∙ sym (ap Ok c.count.ensures)
