@@ -6,7 +6,7 @@ ghost use Rattle.spv_bodies.specs.Setting as spec;
 use spv_base::{Inst, NoMemory, Operand};
 use spv_cfg::roles::sets_of;
 use spv_consts::ConstTable;
-use spv_index::{Index, Table};
+use spv_index::{Definitions as Index, Table};
 use spv_types::facts::is_constant;
 use spv_types::views::{Pointed, is_integer, pointee};
 use spv_types::{Form, TypeTable, id_at, id_of};

@@ -13,7 +13,7 @@ use crate::overrides::held;
 use crate::table::ConstTable;
 use crate::walk::Walk;
 use spv_base::{Fail, Inst, NoMemory, Overrides, Refusal};
-use spv_index::Index;
+use spv_index::Definitions as Index;
 use spv_types::{Facts, TypeTable, functions_start};
 use std::alloc::Global;
 

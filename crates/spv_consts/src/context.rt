@@ -6,7 +6,7 @@ ghost use Rattle.spv_consts.specs.Overrides.{override_of};
 
 use crate::overrides::spec_id_of;
 use spv_base::Inst;
-use spv_index::{Index, Table};
+use spv_index::{Definitions as Index, Table};
 use spv_types::Facts;
 use spv_types::opcodes::UNDEF;
 use std::marker::Model;

@@ -1,2 +1,6 @@
 pub mod Places
 mod TableLemmas
+pub mod FirstLemmas
+pub mod KeyLemmas
+pub mod IndexLemmas
+pub mod StartLemmas

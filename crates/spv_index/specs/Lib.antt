@@ -1,3 +1,7 @@
 pub mod Definitions
 pub mod Classes
 pub mod Positions
+pub mod Operands
+pub mod Firsts
+pub mod Keys
+pub mod Contents

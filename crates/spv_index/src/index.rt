@@ -1,93 +1,301 @@
-//! The instructions of a module by the ids that they define.
-ghost use Rattle.std.specs.Prelude.{◌≡◌, ◌<◌, ℕ, IfOk, length, option_copied, slice_get};
-ghost use Rattle.spv_index.specs.Definitions.{ArePlaces, defining, place_in, type_of};
+//! The index of a module, built once: who defines an id, what stands at a word, and what the module says of ids.
+ghost use Rattle.std.specs.Prelude.{◌≡◌, ◌<◌, ◌≤◌, ℕ, true, find, IfOk, IfSome, length, map, take, option_copied, slice_get};
+ghost use Rattle.std.specs.List.{AllByRecursion};
+ghost use Rattle.std.specs.Option.{is_some, option_and_then};
+ghost use Rattle.spv_ops.specs.Module.{IsDecoded};
+ghost use Rattle.spv_index.specs.Contents as contents;
+ghost use Rattle.spv_index.specs.Definitions as spec;
+ghost use Rattle.spv_index.specs.Firsts.{slot};
 
+use crate::decorations::{decorations_of, member_decorations_of};
+use crate::firsts::{first_numbers, number_under};
+use crate::operands::{id_operand, literal_operand, text_operand};
 use spv_base::{Inst, NoMemory};
+use spv_ops::{DecodedModule, op};
 use std::alloc::Global;
+use std::collections::BTreeMap;
 use std::marker::Model;
 
-/// Ids are below this number, which is the greatest Bound.
-const ID_LIMIT: usize = 1_048_576;
+/// Ids are below this number, the greatest Bound.
+const ID_LIMIT: u32 = 1_048_576;
 
-/// The instructions of a module, with look-ups by the ids that they define. Contracts see the instructions.
+/// A module with what it says of ids and words. Contracts see the module.
 #[derive(Drop)]
-pub struct Index<'a> {
-    insts: &'a [Inst],
+pub struct Index {
+    module: DecodedModule,
     /// By id, the number of the instruction that defines it.
-    places: Vec<Option<usize>>,
+    definitions: Vec<Option<u32>>,
+    /// By word, the number of the instruction that begins there.
+    words: Vec<Option<u32>>,
+    /// By id, the number of the OpName for it.
+    names: Vec<Option<u32>>,
+    /// By target and decoration, the number of the OpDecorate.
+    decorations: BTreeMap<(u32, u32), u32>,
+    /// By structure type, member and decoration, the number of the OpMemberDecorate.
+    member_decorations: BTreeMap<(u32, u32, u32), u32>,
+    functions_start: usize,
 }
 
-impl<'a> Model for Index<'a> {
-    ghost use Rattle.std.specs.Prelude.{◌≡◌, List};
-    ghost use Rattle.spv_base.specs.declared.instructions.Inst.{Inst};
-    ghost use Rattle.spv_index.specs.Definitions.{ArePlaces};
+impl Model for Index {
+    ghost use Rattle.std.specs.BTreeMap.{get};
+    ghost use Rattle.spv_ops.specs.Module.{Decoded};
+    ghost use Rattle.spv_index.specs.Contents.{IsIndex};
+    ghost use Rattle.spv_index.specs.Keys.{pair_cmp, triple_cmp};
 
-    ghost Value = { List Inst };
+    ghost Value = { Decoded };
 
-    ghost view = { λ x. x.insts.now };
+    ghost view = { λ x. x.module };
 
-    ghost invariant = { λ x. ArePlaces x.insts.now 0 x.places.items };
+    ghost invariant = { λ x. IsIndex x.module x.definitions.items x.words.items x.names.items (λ id kind. get pair_cmp x.decorations (id, kind))
+        (λ id member kind. get triple_cmp x.member_decorations (id, member, kind)) x.functions_start };
+}
+
+/// Whether a number may be an id.
+fn is_id(id: u32) -> bool
+    ensures { result ≡ spec.is_id id }
+{
+    0 < id && id < ID_LIMIT
+}
+
+/// The results of the instructions, and 0 for those without one.
+fn results_of(alloc: Global, insts: &[Inst]) -> Result<Vec<u32>, NoMemory>
+    ensures { IfOk result (λ ids. ids.items ≡ map (λ i. i.id) insts.now) }
+{
+    Ok(insts.iter().map(|inst| inst.id).collect(alloc)?)
+}
+
+/// The words at which the instructions begin.
+fn words_of(alloc: Global, insts: &[Inst]) -> Result<Vec<u32>, NoMemory>
+    ensures { IfOk result (λ words. words.items ≡ map (λ i. i.word) insts.now) }
+{
+    Ok(insts.iter().map(|inst| inst.word).collect(alloc)?)
 }
 
 /// By id, the number of the instruction that defines it.
-fn places_of(alloc: Global, insts: &[Inst]) -> Result<Vec<Option<usize>>, NoMemory>
-    ensures { IfOk result (λ places. ArePlaces insts.now 0 places.items) }
+fn numbers_by_result(alloc: Global, insts: &[Inst]) -> Result<Vec<Option<u32>>, NoMemory>
+    requires { length insts.now ≤ 1048576 }
+    ensures { IfOk result (λ numbers. (id : ℕ) → id < 1048576 → slot numbers.items id ≡ spec.number_from 0 (spec.has_result id) insts.now) }
 {
-    let mut places = vec![in alloc; None; ID_LIMIT]?;
-    let mut n = insts.len();
-    'back: while n > 0 {
-        n -= 1;
-        let id = insts[n].id as usize;
-        if id < ID_LIMIT {
-            places[id] = Some(n);
+    let ids = results_of(alloc, insts)?;
+    let numbers = first_numbers(alloc, ids.as_slice())?;
+    Ok(numbers)
+}
+
+/// By word, the number of the instruction that begins there.
+fn numbers_by_word(alloc: Global, insts: &[Inst]) -> Result<Vec<Option<u32>>, NoMemory>
+    requires few { length insts.now ≤ 1048576 }
+    requires words { AllByRecursion (λ i. i.word < 1048576) insts.now }
+    ensures { IfOk result (λ numbers. (word : ℕ) → slot numbers.items word ≡ spec.number_from 0 (spec.stands_at word) insts.now) }
+{
+    let words = words_of(alloc, insts)?;
+    let numbers = first_numbers(alloc, words.as_slice())?;
+    Ok(numbers)
+}
+
+/// The id that an OpName names, and 0 for other instructions.
+fn named(inst: &Inst) -> u32
+    ensures { result ≡ contents.named inst.now }
+{
+    if inst.op == op::NAME {
+        id_operand(inst, 0).unwrap_or(0)
+    } else {
+        0
+    }
+}
+
+/// The ids that OpNames name, and 0 for other instructions.
+fn named_ids(alloc: Global, insts: &[Inst]) -> Result<Vec<u32>, NoMemory>
+    ensures { IfOk result (λ ids. ids.items ≡ map contents.named insts.now) }
+{
+    Ok(insts.iter().map(|inst| named(inst)).collect(alloc)?)
+}
+
+/// By id, the number of the OpName for it.
+fn numbers_by_name(alloc: Global, insts: &[Inst]) -> Result<Vec<Option<u32>>, NoMemory>
+    requires { length insts.now ≤ 1048576 }
+    ensures { IfOk result (λ numbers. (id : ℕ) → 0 < id → id < 1048576 → slot numbers.items id ≡ spec.number_from 0 (spec.names_it id) insts.now) }
+{
+    let ids = named_ids(alloc, insts)?;
+    let numbers = first_numbers(alloc, ids.as_slice())?;
+    Ok(numbers)
+}
+
+/// How many instructions stand before the functions.
+fn functions_start(insts: &[Inst]) -> usize
+    ensures within { result ≤ length insts.now }
+    ensures before { take result insts.now ≡ spec.before_functions insts.now }
+{
+    for (n, inst) in insts.iter().enumerate() {
+        if inst.op == op::FUNCTION {
+            return n;
         }
     }
-    Ok(places)
+    insts.len()
 }
 
-fn inst_at(insts: &[Inst], n: usize) -> Option<&Inst>
-    ensures { option_copied result ≡ slice_get insts.now n }
+/// The instruction with a number.
+fn inst_with(insts: &[Inst], number: Option<u32>) -> Option<&Inst>
+    ensures { option_copied result ≡ option_and_then (slice_get insts.now) number }
 {
-    insts.get(n)
+    insts.get(number? as usize)
 }
 
-impl<'a> Index<'a> {
-    /// The instructions of a module.
-    pub fn of(alloc: Global, insts: &'a [Inst]) -> Result<Index<'a>, NoMemory>
-        ensures { IfOk result (λ index. index ≡ insts.now) }
+impl Index {
+    /// The index of a module.
+    pub fn of(alloc: Global, decoded: DecodedModule) -> Result<Index, NoMemory>
+        ensures { IfOk result (λ index. index ≡ decoded) }
     {
-        let places = places_of(alloc, insts)?;
-        Ok(Index { insts, places })
+        let insts = decoded.insts();
+        let definitions = numbers_by_result(alloc, insts)?;
+        let words = numbers_by_word(alloc, insts)?;
+        let names = numbers_by_name(alloc, insts)?;
+        let decorations = decorations_of(alloc, insts)?;
+        let member_decorations = member_decorations_of(alloc, insts)?;
+        let functions_start = functions_start(insts);
+        Ok(Index {
+            module: decoded,
+            definitions,
+            words,
+            names,
+            decorations,
+            member_decorations,
+            functions_start,
+        })
     }
 
-    /// The number of the instruction that defines an id.
-    fn place(&self, id: u32) -> Option<usize>
-        ensures { result ≡ place_in self.now id }
+    /// The instructions, in their order.
+    pub fn insts(&self) -> &[Inst]
+        ensures insts { result.now ≡ self.now.insts }
+        ensures decoded { IsDecoded self.now }
+        ensures few { length result.now ≤ 1048576 }
     {
-        if id == 0 || id as usize >= ID_LIMIT {
+        self.module.insts()
+    }
+
+    /// The Bound. It is at most 1,048,576.
+    pub fn bound(&self) -> u32
+        ensures bound { result ≡ self.now.bound }
+        ensures limit { result ≤ 1048576 }
+    {
+        self.module.bound()
+    }
+
+    /// How many instructions stand before the functions.
+    pub fn functions_start(&self) -> usize
+        ensures within { result ≤ length self.now.insts }
+        ensures before { take result self.now.insts ≡ spec.before_functions self.now.insts }
+    {
+        self.functions_start
+    }
+
+    /// The number of the instruction that defines an id. In constant time.
+    pub fn number_of(&self, id: u32) -> Option<usize>
+        ensures number { result ≡ spec.number_of self.now.insts id }
+        ensures within { IfSome result (λ n. n < length self.now.insts) }
+    {
+        if !is_id(id) {
             return None;
         }
-        self.places[id as usize]
+        Some(number_under(&self.definitions, id)? as usize)
     }
 
-    /// The instruction that defines an id.
-    #[tactic(auto, using(crate::proofs::Places::defining_none, crate::proofs::Places::defining_some))]
+    /// The instruction that defines an id. In constant time.
     pub fn defining(&self, id: u32) -> Option<&Inst>
-        ensures { option_copied result ≡ defining self.now id }
+        ensures { option_copied result ≡ spec.defining self.now.insts id }
     {
-        match self.place(id) {
-            Some(n) => inst_at(self.insts, n),
-            None => None,
+        if !is_id(id) {
+            return None;
         }
+        inst_with(self.module.insts(), number_under(&self.definitions, id))
     }
 
-    /// The type that an id's instruction has, or 0 where there is none.
-    pub fn type_of(&self, id: u32) -> u32
-        ensures { result ≡ type_of self.now id }
+    /// The type of the result with an id, where it has one. In constant time.
+    pub fn result_type(&self, id: u32) -> Option<u32>
+        ensures { result ≡ spec.result_type self.now.insts id }
     {
-        match self.defining(id) {
-            Some(inst) => inst.ty,
-            None => 0,
+        let inst = self.defining(id)?;
+        if inst.ty == 0 { None } else { Some(inst.ty) }
+    }
+
+    /// The number of the instruction that begins at a word. In constant time.
+    pub fn number_at(&self, word: u32) -> Option<usize>
+        ensures number { result ≡ spec.number_at self.now.insts word }
+        ensures within { IfSome result (λ n. n < length self.now.insts) }
+    {
+        Some(number_under(&self.words, word)? as usize)
+    }
+
+    /// The instruction that begins at a word. In constant time.
+    pub fn at(&self, word: u32) -> Option<&Inst>
+        ensures { option_copied result ≡ spec.at self.now.insts word }
+    {
+        inst_with(self.module.insts(), number_under(&self.words, word))
+    }
+
+    /// The OpName for an id.
+    fn naming(&self, id: u32) -> Option<&Inst>
+        requires { spec.is_id id ≡ true }
+        ensures { option_copied result ≡ find (spec.names_it id) self.now.insts }
+    {
+        inst_with(self.module.insts(), number_under(&self.names, id))
+    }
+
+    /// The name that an OpName gives an id. In constant time.
+    #[tactic(auto, unfolding(crate::specs::Definitions::name_of))]
+    pub fn name(&self, id: u32) -> Option<&[u8]>
+        ensures { option_copied result ≡ spec.name_of self.now.insts id }
+    {
+        if !is_id(id) {
+            return None;
         }
+        text_operand(self.naming(id)?, 1)
+    }
+
+    /// The instruction that puts a decoration on an id.
+    fn decorating(&self, id: u32, kind: u32) -> Option<&Inst>
+        ensures { option_copied result ≡ spec.decorating self.now.insts id kind }
+    {
+        inst_with(
+            self.module.insts(),
+            self.decorations.get(&(id, kind)).copied(),
+        )
+    }
+
+    /// Whether an id has a decoration. In logarithmic time.
+    pub fn is_decorated(&self, id: u32, kind: u32) -> bool
+        ensures { result ≡ is_some (spec.decorating self.now.insts id kind) }
+    {
+        self.decorating(id, kind).is_some()
+    }
+
+    /// The first literal behind a decoration of an id. In logarithmic time.
+    pub fn decoration(&self, id: u32, kind: u32) -> Option<u32>
+        ensures { result ≡ spec.decoration self.now.insts id kind }
+    {
+        literal_operand(self.decorating(id, kind)?, 2)
+    }
+
+    /// The instruction that puts a decoration on a member of a structure type.
+    fn member_decorating(&self, id: u32, member: u32, kind: u32) -> Option<&Inst>
+        ensures { option_copied result ≡ spec.member_decorating self.now.insts id member kind }
+    {
+        inst_with(
+            self.module.insts(),
+            self.member_decorations.get(&(id, member, kind)).copied(),
+        )
+    }
+
+    /// Whether a member of a structure type has a decoration. In logarithmic time.
+    pub fn is_member_decorated(&self, id: u32, member: u32, kind: u32) -> bool
+        ensures { result ≡ is_some (spec.member_decorating self.now.insts id member kind) }
+    {
+        self.member_decorating(id, member, kind).is_some()
+    }
+
+    /// The first literal behind a decoration of a member of a structure type. In logarithmic time.
+    pub fn member_decoration(&self, id: u32, member: u32, kind: u32) -> Option<u32>
+        ensures { result ≡ spec.member_decoration self.now.insts id member kind }
+    {
+        literal_operand(self.member_decorating(id, member, kind)?, 3)
     }
 }

@@ -1,12 +1,18 @@
-//! The instructions of a module by the ids that they define, and tables under ids.
+//! The index of a module: its instructions by the ids that they define and by their words, and what it says of ids.
 #![tactic(auto)]
 
 pub mod classes;
+mod decorations;
+mod definitions;
+mod firsts;
 mod index;
+mod operands;
 pub mod positions;
 mod table;
 #[cfg(test)]
 mod tests;
 
+pub use definitions::Definitions;
 pub use index::Index;
+pub use operands::{id_operand, literal_operand, text_operand};
 pub use table::Table;

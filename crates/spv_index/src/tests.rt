@@ -1,5 +1,5 @@
 //! Look-ups by ids and numbers, over a few instructions and entries written by hand.
-use crate::{Index, Table};
+use crate::{Definitions, Table};
 use spv_base::{Inst, Items, NoMemory};
 use std::alloc::Global;
 use std::test::Fail;
@@ -44,7 +44,7 @@ fn instructions(alloc: Global) -> Result<Vec<Inst>, NoMemory> {
 #[test]
 fn first_definitions_count(rt: HostRuntime) -> Result<(), Fail> {
     let insts = instructions(rt.alloc())?;
-    let index = Index::of(rt.alloc(), &insts)?;
+    let index = Definitions::of(rt.alloc(), &insts)?;
     for (id, defined) in DEFINED {
         let found = index.defining(id).map(|inst| (inst.word, inst.ty));
         assert_eq!(rt; found, defined, "{id}");

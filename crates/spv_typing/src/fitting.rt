@@ -12,7 +12,7 @@ use crate::lanes::{
 use crate::operands::Operands;
 use crate::rules::{Rule, rule_of};
 use spv_base::Inst;
-use spv_index::Index;
+use spv_index::Definitions as Index;
 use spv_types::forms::Member;
 use spv_types::{Form, TypeTable};
 

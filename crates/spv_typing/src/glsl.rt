@@ -8,7 +8,7 @@ ghost use Rattle.spv_typing.specs.Rules.{rule_count};
 use crate::operands::Operands;
 use crate::rules::Rule;
 use spv_base::Inst;
-use spv_index::Index;
+use spv_index::Definitions as Index;
 use spv_types::TypeTable;
 
 /// The rule of an instruction's number; none where there is no such instruction.

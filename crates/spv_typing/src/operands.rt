@@ -6,7 +6,7 @@ ghost use Rattle.spv_typing.specs.Lanes as spec;
 
 use crate::lanes::{Lanes, lanes_of};
 use spv_base::Inst;
-use spv_index::Index;
+use spv_index::Definitions as Index;
 use spv_types::{TypeTable, id_at};
 
 /// The id at a place after the first `from` operands, or 0.

@@ -1,7 +1,7 @@
 //! The rules of operand types, over the types of a small module.
 use crate::{Element, Lanes, fits, fits_glsl, is_constant_operation, lanes_of, operand_count};
 use spv_base::{Inst, Items, NoMemory, Operand};
-use spv_index::Index;
+use spv_index::Definitions as Index;
 use spv_types::TypeTable;
 use spv_types::opcodes::{
     FUNCTION, TYPE_BOOL, TYPE_FUNCTION, TYPE_INT, TYPE_POINTER, TYPE_RUNTIME_ARRAY, TYPE_STRUCT,

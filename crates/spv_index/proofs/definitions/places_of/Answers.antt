@@ -1,6 +1,6 @@
 use Rattle.std.proofs.Common.{rules, arith, ◌≡◌, refl}
 use Rattle.spv_index.proofs.Places.{none_placed, one_placed, none_more}
-use Rattle.spv_index.proofs.index.places_of.Goals as goal
+use Rattle.spv_index.proofs.definitions.places_of.Goals as goal
 
 pub back-init : goal.back-init
 back-init c = record { within = omega arith; places = none_placed _ _ _ _ (c.in_ok-places.ensures.items_if_clones_equal (search rules)) refl (omega arith) }

@@ -1,6 +1,6 @@
 use Rattle.std.proofs.Common.{◌≤◌, length}
 use Rattle.spv_index.specs.Definitions.{ArePlaces}
-use Rattle.spv_index.proofs.index.places_of.Given as goal
+use Rattle.spv_index.proofs.definitions.places_of.Given as goal
 
 -- the instructions from number n on have their places
 abbrev pub invariant-back : goal.invariant-back

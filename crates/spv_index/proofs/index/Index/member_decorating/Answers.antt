@@ -1,0 +1,10 @@
+use Rattle.std.proofs.Common.{◌∙◌}
+use Rattle.spv_index.specs.Definitions.{decorates_member, member_decorating}
+use Rattle.spv_index.proofs.IndexLemmas.{found_by}
+use Rattle.spv_index.proofs.index.Index.member_decorating.Goals as goal
+
+pub returns : goal.returns
+unfolding member_decorating
+returns c =
+    found_by _ _ c.self.view_is (decorates_member c.args.id c.args.member c.args.kind) _ _ _ c.insts.ensures.insts c.inst_with.ensures
+    (c.copied.ensures ∙ c.get.ensures.value ∙ c.self.invariant.member_decorations_are c.args.id c.args.member c.args.kind)

@@ -1,0 +1,36 @@
+//! The operands of an instruction by their numbers.
+ghost use Rattle.std.specs.Prelude.{◌≡◌, option_copied};
+ghost use Rattle.spv_index.specs.Operands as spec;
+
+use spv_base::{Inst, Operand};
+
+/// The operand with a number, where it is an id. Operands are counted from 0, behind the result type and the result.
+pub fn id_operand(inst: &Inst, n: usize) -> Option<u32>
+    ensures { result ≡ spec.id_operand inst.now n }
+{
+    match inst.operands.get(n)? {
+        Operand::Id(id) => Some(*id),
+        Operand::Lit(_) | Operand::Text(_) => None,
+    }
+}
+
+/// The operand with a number, where it is a literal word. Operands are counted from 0, behind the result type and the result.
+pub fn literal_operand(inst: &Inst, n: usize) -> Option<u32>
+    ensures { result ≡ spec.literal_operand inst.now n }
+{
+    match inst.operands.get(n)? {
+        Operand::Lit(word) => Some(*word),
+        Operand::Id(_) | Operand::Text(_) => None,
+    }
+}
+
+/// The bytes of the operand with a number, where it is a string. Operands are counted from 0, behind the result type and the
+/// result.
+pub fn text_operand(inst: &Inst, n: usize) -> Option<&[u8]>
+    ensures { option_copied result ≡ spec.text_operand inst.now n }
+{
+    match inst.operands.get(n)? {
+        Operand::Text(text) => Some(text.as_slice()),
+        Operand::Id(_) | Operand::Lit(_) => None,
+    }
+}
