@@ -4,3 +4,4 @@ pub mod FirstLemmas
 pub mod KeyLemmas
 pub mod IndexLemmas
 pub mod StartLemmas
+mod StandLemmas

@@ -8,6 +8,7 @@ mod firsts;
 mod index;
 mod operands;
 pub mod positions;
+pub mod stands;
 mod table;
 #[cfg(test)]
 mod tests;
