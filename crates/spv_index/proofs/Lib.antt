@@ -4,4 +4,5 @@ pub mod FirstLemmas
 pub mod KeyLemmas
 pub mod IndexLemmas
 pub mod StartLemmas
-mod StandLemmas
+pub mod StandLemmas
+pub mod StandingLemmas

@@ -1,5 +1,5 @@
 -- Where each instruction stands: in which function and which block, and how far this block has come (SPIR-V 1.6 section 2.4).
-use Rattle.std.specs.Prelude.{ℕ, Bool, true, false, List, [], ◌∷◌, if◌then◌else◌}
+use Rattle.std.specs.Prelude.{ℕ, Bool, true, false, List, [], ◌∷◌, if◌then◌else◌, Option, None, find}
 use Rattle.spv_base.specs.declared.instructions.Inst.{Inst}
 use Rattle.spv_index.specs.declared.classes.Class.{Class}
 use Rattle.spv_index.specs.declared.classes.Class.TheVariants.{Function, Parameter, End, Label, Line, Phi, Variable, Terminator, Passed, Executable}
@@ -7,6 +7,7 @@ use Rattle.spv_index.specs.declared.positions.Stage.{Stage}
 use Rattle.spv_index.specs.declared.positions.Stage.TheVariants.{Outside, Head, Phis, Variables, Body, Between}
 use Rattle.spv_index.specs.declared.positions.Position.{Position}
 use Rattle.spv_index.specs.declared.positions.Standing.{Standing}
+use Rattle.spv_index.specs.Definitions.{has_result, is_id}
 use Rattle.spv_index.specs.Classes.{class_of, sets_of}
 
 abbrev pub in_block : Stage → Bool
@@ -106,3 +107,7 @@ position_behind sets position (inst ∷ insts) = position_behind sets (position_
 -- the instructions of a module, each with what it is and where it stands
 abbrev pub stands_of : List Inst → List Stand
 stands_of insts = stands (sets_of insts) outside insts
+
+-- the stand of the instruction that defines an id
+unfoldable pub stand_of : List Inst → ℕ → Option Stand
+stand_of insts id = if is_id id then find (λ s. has_result id s.inst) (stands_of insts) else None

@@ -1,15 +1,21 @@
 //! The index of a module, built once: who defines an id, what stands at a word, and what the module says of ids.
 ghost use Rattle.std.specs.Prelude.{◌≡◌, ◌<◌, ◌≤◌, ℕ, true, find, IfOk, IfSome, length, map, take, option_copied, slice_get};
 ghost use Rattle.std.specs.List.{AllByRecursion};
-ghost use Rattle.std.specs.Option.{is_some, option_and_then};
+ghost use Rattle.std.specs.Option.{is_some, option_and_then, option_map};
 ghost use Rattle.spv_ops.specs.Module.{IsDecoded};
 ghost use Rattle.spv_index.specs.Contents as contents;
 ghost use Rattle.spv_index.specs.Definitions as spec;
 ghost use Rattle.spv_index.specs.Firsts.{slot};
+ghost use Rattle.spv_index.specs.Classes.{sets_of};
+ghost use Rattle.spv_index.specs.Positions.{stand_of, standing, stands_of};
 
+use crate::classes::sets_of;
 use crate::decorations::{decorations_of, member_decorations_of};
 use crate::firsts::{first_numbers, number_under};
 use crate::operands::{id_operand, literal_operand, text_operand};
+use crate::positions::{Standing, standings_of};
+use crate::stands::Stands;
+use crate::table::Table;
 use spv_base::{Inst, NoMemory};
 use spv_ops::{DecodedModule, op};
 use std::alloc::Global;
@@ -34,6 +40,10 @@ pub struct Index {
     /// By structure type, member and decoration, the number of the OpMemberDecorate.
     member_decorations: BTreeMap<(u32, u32, u32), u32>,
     functions_start: usize,
+    /// The imported sets, each with whether it has no meaning at run time.
+    sets: Table<bool>,
+    /// Where each instruction stands, and what it is there.
+    standings: Vec<Standing>,
 }
 
 impl Model for Index {
@@ -47,7 +57,7 @@ impl Model for Index {
     ghost view = { λ x. x.module };
 
     ghost invariant = { λ x. IsIndex x.module x.definitions.items x.words.items x.names.items (λ id kind. get pair_cmp x.decorations (id, kind))
-        (λ id member kind. get triple_cmp x.member_decorations (id, member, kind)) x.functions_start };
+        (λ id member kind. get triple_cmp x.member_decorations (id, member, kind)) x.functions_start x.sets x.standings.items };
 }
 
 /// Whether a number may be an id.
@@ -140,6 +150,13 @@ fn inst_with(insts: &[Inst], number: Option<u32>) -> Option<&Inst>
     insts.get(number? as usize)
 }
 
+/// The standing with a number.
+fn standing_with(standings: &[Standing], number: Option<usize>) -> Option<Standing>
+    ensures { result ≡ option_and_then (slice_get standings.now) number }
+{
+    standings.get(number?).copied()
+}
+
 impl Index {
     /// The index of a module.
     pub fn of(alloc: Global, decoded: DecodedModule) -> Result<Index, NoMemory>
@@ -152,6 +169,8 @@ impl Index {
         let decorations = decorations_of(alloc, insts)?;
         let member_decorations = member_decorations_of(alloc, insts)?;
         let functions_start = functions_start(insts);
+        let sets = sets_of(alloc, insts)?;
+        let standings = standings_of(alloc, &sets, insts)?;
         Ok(Index {
             module: decoded,
             definitions,
@@ -160,6 +179,8 @@ impl Index {
             decorations,
             member_decorations,
             functions_start,
+            sets,
+            standings,
         })
     }
 
@@ -186,6 +207,35 @@ impl Index {
         ensures before { take result self.now.insts ≡ spec.before_functions self.now.insts }
     {
         self.functions_start
+    }
+
+    /// The imported sets, each with whether it has no meaning at run time.
+    pub fn sets(&self) -> &Table<bool>
+        ensures { result.now ≡ sets_of self.now.insts }
+    {
+        &self.sets
+    }
+
+    /// Where each instruction stands and what it is there, by their numbers.
+    pub fn standings(&self) -> &[Standing]
+        ensures standings { result.now ≡ map standing (stands_of self.now.insts) }
+        ensures len { length result.now ≡ length self.now.insts }
+    {
+        &self.standings
+    }
+
+    /// The instructions with their standings.
+    pub fn stands(&self) -> Stands<'_>
+        ensures { result ≡ stands_of self.now.insts }
+    {
+        Stands::of(self.insts(), self.standings())
+    }
+
+    /// Where the instruction that defines an id stands, and what it is there. In constant time.
+    pub fn standing(&self, id: u32) -> Option<Standing>
+        ensures { result ≡ option_map standing (stand_of self.now.insts id) }
+    {
+        standing_with(&self.standings, self.number_of(id))
     }
 
     /// The number of the instruction that defines an id. In constant time.

@@ -25,4 +25,6 @@ invariant_of-result c = record {
   member_decorations_are = rw (← c.insts-insts.ensures.insts) c.in_ok-member_decorations.ensures;
   start_is = rw (← c.insts-insts.ensures.insts) c.functions_start-functions_start.ensures.before;
   within = rw (← c.insts-insts.ensures.insts) c.functions_start-functions_start.ensures.within;
+  sets_are = rw (← c.insts-insts.ensures.insts) c.in_ok-sets.ensures;
+  standings_are = rw (← c.insts-insts.ensures.insts, ← c.in_ok-sets.ensures) c.in_ok-standings.ensures;
 }
