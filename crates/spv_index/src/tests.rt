@@ -1,6 +1,7 @@
-//! Look-ups by ids and numbers, over a few instructions and entries written by hand.
-use crate::{Definitions, Table};
-use spv_base::{Inst, Items, NoMemory};
+//! Look-ups in the index of a module, over a few instructions written by hand.
+use crate::{Index, Table};
+use spv_base::{Inst, Items, NoMemory, Operand};
+use spv_ops::{DecodedModule, decoration, op};
 use std::alloc::Global;
 use std::test::Fail;
 
@@ -15,10 +16,10 @@ const RESULTS: [(u32, u32); 6] = [
 ];
 
 /// An id, and the word of the instruction that defines it and its type, where there is one.
-const DEFINED: [(u32, Option<(u32, u32)>); 7] = [
-    (1, Some((0, 0))),
-    (7, Some((1, 1))),
-    (1_048_575, Some((4, 1))),
+const DEFINED: [(u32, Option<(u32, Option<u32>)>); 7] = [
+    (1, Some((0, None))),
+    (7, Some((3, Some(1)))),
+    (1_048_575, Some((12, Some(1)))),
     (0, None),
     (2, None),
     (1_048_576, None),
@@ -31,25 +32,55 @@ fn instructions(alloc: Global) -> Result<Vec<Inst>, NoMemory> {
     for (ty, id) in RESULTS {
         insts.push(Inst {
             word,
-            op: 1,
+            op: op::UNDEF,
             ty,
             id,
             operands: Items::new(alloc),
         })?;
-        word = word.saturating_add(1);
+        word = word.saturating_add(3);
     }
     Ok(insts)
 }
 
+/// The instruction `OpDecorate 7 Binding` with a literal.
+fn binding(alloc: Global, word: u32, literal: u32) -> Result<Inst, NoMemory> {
+    let mut operands = Items::new(alloc);
+    operands.push(Operand::Id(7))?;
+    operands.push(Operand::Lit(decoration::BINDING))?;
+    operands.push(Operand::Lit(literal))?;
+    Ok(Inst {
+        word,
+        op: op::DECORATE,
+        ty: 0,
+        id: 0,
+        operands,
+    })
+}
+
 #[test]
 fn first_definitions_count(rt: HostRuntime) -> Result<(), Fail> {
-    let insts = instructions(rt.alloc())?;
-    let index = Definitions::of(rt.alloc(), &insts)?;
+    let decoded = DecodedModule::of(instructions(rt.alloc())?, 1_048_576);
+    let index = Index::of(rt.alloc(), decoded.expect(&rt, "words ascend"))?;
     for (id, defined) in DEFINED {
-        let found = index.defining(id).map(|inst| (inst.word, inst.ty));
+        let found = index
+            .defining(id)
+            .map(|inst| (inst.word, index.result_type(id)));
         assert_eq!(rt; found, defined, "{id}");
-        assert_eq!(rt; index.type_of(id), defined.map_or(0, |(_, ty)| ty), "{id}");
     }
+    assert_eq!(rt; index.at(9).map(|inst| inst.ty), Some(2));
+    assert_eq!(rt; index.at(10).map(|inst| inst.ty), None);
+    Ok(())
+}
+
+#[test]
+fn first_decorations_count(rt: HostRuntime) -> Result<(), Fail> {
+    let mut insts = Vec::new(rt.alloc());
+    insts.push(binding(rt.alloc(), 5, 3)?)?;
+    insts.push(binding(rt.alloc(), 9, 4)?)?;
+    let decoded = DecodedModule::of(insts, 8);
+    let index = Index::of(rt.alloc(), decoded.expect(&rt, "words ascend"))?;
+    assert_eq!(rt; index.decoration(7, decoration::BINDING), Some(3));
+    assert_eq!(rt; index.decoration(7, decoration::OFFSET), None);
     Ok(())
 }
 
