@@ -6,7 +6,6 @@ use Rattle.std.specs.List.{AllByRecursion}
 use Rattle.spv_base.specs.declared.instructions.Inst.{Inst}
 use Rattle.spv_base.specs.declared.causes.Refusal.{Refusal}
 use Rattle.spv_types.specs.declared.forms.Form.{Form}
-use Rattle.spv_types.specs.declared.opcodes.TheConstants.{FUNCTION}
 use Rattle.spv_types.specs.Types.{Types, form_of}
 use Rattle.spv_types.specs.Typing.{before_functions, defined_form, types_in, with_form}
 use Rattle.spv_types.specs.Facts.{is_constant}
@@ -62,7 +61,7 @@ types_free all (i ∷ is) h = go (defined_form all i) refl (types_free all is h.
 before_hold : (P : Inst → Type 0) (is : List Inst) → AllByRecursion P is → AllByRecursion P (before_functions is)
 unfolding before_functions
 before_hold P [] h = h
-before_hold P (i ∷ is) h = go (i.op == FUNCTION) (before_hold P is h.1)
+before_hold P (i ∷ is) h = go (i.op == 54) (before_hold P is h.1)
   where
     go : (b : Bool) → AllByRecursion P (before_functions is) → AllByRecursion P (if b then [] else i ∷ before_functions is)
     go true rest = tt

@@ -7,7 +7,6 @@ use Rattle.std.proofs.lemmas.List.{take_more}
 use Rattle.spv_base.specs.declared.instructions.Inst.{Inst}
 use Rattle.spv_types.specs.Facts.{constant_type, decoration, definition, is_constant, member_offset, pair_cmp}
 use Rattle.spv_types.specs.Operands.{id_at, lit_at}
-use Rattle.spv_types.specs.declared.opcodes.TheConstants.{DECORATE, MEMBER_DECORATE, OFFSET}
 use Rattle.spv_types.proofs.TableLemmas.{same_key}
 
 step : {X : Type 0} (b : Bool) (v : X) (o p q : Option X) → p ≡ option_or o q → (if b then Some v else p) ≡ option_or (if b then Some v else o) q
@@ -73,24 +72,24 @@ other false v (Some x) h = refl
 not_same : (m n : ℕ) → m ≢ n → (m == n) ≡ false
 not_same m n h = grind arith
 
-pub decoration_other : (i : Inst) → i.op ≢ DECORATE → (o : Option ℕ) (id kind : ℕ) → o ≡ option_or o (decoration (i ∷ []) id kind)
+pub decoration_other : (i : Inst) → i.op ≢ 71 → (o : Option ℕ) (id kind : ℕ) → o ≡ option_or o (decoration (i ∷ []) id kind)
 unfolding decoration
-decoration_other i h o id kind = other _ _ o (rw (not_same i.op DECORATE h) refl)
+decoration_other i h o id kind = other _ _ o (rw (not_same i.op 71 h) refl)
 
-pub decoration_here : (i : Inst) (a b v : ℕ) → i.op ≡ DECORATE → a ≡ id_at i.operands 0 → b ≡ lit_at i.operands 1 → v ≡ lit_at i.operands 2 → (o : Option ℕ) (id kind : ℕ) → option_or o (if a == id && b == kind then Some v else None) ≡ option_or o (decoration (i ∷ []) id kind)
+pub decoration_here : (i : Inst) (a b v : ℕ) → i.op ≡ 71 → a ≡ id_at i.operands 0 → b ≡ lit_at i.operands 1 → v ≡ lit_at i.operands 2 → (o : Option ℕ) (id kind : ℕ) → option_or o (if a == id && b == kind then Some v else None) ≡ option_or o (decoration (i ∷ []) id kind)
 unfolding decoration
 decoration_here i a b v h p q r o id kind = rw (h, ← p, ← q, ← r) refl
 
-pub offset_other : (i : Inst) → (i.op ≢ MEMBER_DECORATE) ⊎ (lit_at i.operands 2 ≢ OFFSET) → (o : Option ℕ) (id member : ℕ) → o ≡ option_or o (member_offset (i ∷ []) id member)
+pub offset_other : (i : Inst) → (i.op ≢ 72) ⊎ (lit_at i.operands 2 ≢ 35) → (o : Option ℕ) (id member : ℕ) → o ≡ option_or o (member_offset (i ∷ []) id member)
 unfolding member_offset
-offset_other i (inl h) o id member = other _ _ o (rw (not_same i.op MEMBER_DECORATE h) refl)
-offset_other i (inr h) o id member = other _ _ o (rw (not_same (lit_at i.operands 2) OFFSET h) (no (i.op == MEMBER_DECORATE) _))
+offset_other i (inl h) o id member = other _ _ o (rw (not_same i.op 72 h) refl)
+offset_other i (inr h) o id member = other _ _ o (rw (not_same (lit_at i.operands 2) 35 h) (no (i.op == 72) _))
   where
     no : (b c : Bool) → ((b && false) && c) ≡ false
     no true c = refl
     no false c = refl
 
-pub offset_here : (i : Inst) (a b v : ℕ) → i.op ≡ MEMBER_DECORATE → lit_at i.operands 2 ≡ OFFSET → a ≡ id_at i.operands 0 → b ≡ lit_at i.operands 1 → v ≡ lit_at i.operands 3 → (o : Option ℕ) (id member : ℕ) → option_or o (if a == id && b == member then Some v else None) ≡ option_or o (member_offset (i ∷ []) id member)
+pub offset_here : (i : Inst) (a b v : ℕ) → i.op ≡ 72 → lit_at i.operands 2 ≡ 35 → a ≡ id_at i.operands 0 → b ≡ lit_at i.operands 1 → v ≡ lit_at i.operands 3 → (o : Option ℕ) (id member : ℕ) → option_or o (if a == id && b == member then Some v else None) ≡ option_or o (member_offset (i ∷ []) id member)
 unfolding member_offset
 offset_here i a b v h k p q r o id member = rw (h, k, ← p, ← q, ← r) refl
 

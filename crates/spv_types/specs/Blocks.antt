@@ -6,8 +6,7 @@ use Rattle.std.specs.Option.{is_some}
 use Rattle.spv_base.specs.declared.instructions.Inst.{Inst}
 use Rattle.spv_base.specs.declared.causes.Refusal.{Refusal}
 use Rattle.spv_types.specs.declared.forms.Form.{Form}
-use Rattle.spv_types.specs.declared.forms.Form.TheVariants.{Void, Bool as Boolean, Int, Vector, Array, Runtime, Struct, Pointer, Function}
-use Rattle.spv_types.specs.declared.opcodes.TheConstants.{VARIABLE, DECORATE, MEMBER_DECORATE, BUFFER_BLOCK, BINDING, DESCRIPTOR_SET, UNIFORM, PUSH_CONSTANT, STORAGE_BUFFER}
+use Rattle.spv_types.specs.declared.forms.Form.TheVariants.{Pointer}
 use Rattle.spv_types.specs.Types.{Types, form_of}
 use Rattle.spv_types.specs.Operands.{id_at, lit_at}
 use Rattle.spv_types.specs.Facts.{decoration, definition}
@@ -19,36 +18,30 @@ use Rattle.spv_types.specs.Layout.{is_laid}
 abbrev pub layout_code : ℕ
 layout_code = 13
 
+-- the storage classes Uniform and StorageBuffer
 abbrev pub is_buffer_class : ℕ → Bool
-is_buffer_class class = class == UNIFORM || class == STORAGE_BUFFER
+is_buffer_class class = class == 2 || class == 12
 
+-- and PushConstant
 abbrev pub is_block_class : ℕ → Bool
-is_block_class class = is_buffer_class class || class == PUSH_CONSTANT
+is_block_class class = is_buffer_class class || class == 9
 
--- a variable of a class whose variables point to blocks
+-- an OpVariable of a class whose variables point to blocks
 abbrev pub is_block_variable : Inst → Bool
-is_block_variable i = i.op == VARIABLE && is_block_class (lit_at i.operands 0)
+is_block_variable i = i.op == 59 && is_block_class (lit_at i.operands 0)
 
 -- the target of a pointer type, or 0
 abbrev pub target_of : Option Form → ℕ
-target_of None = 0
-target_of (Some Void) = 0
-target_of (Some Boolean) = 0
-target_of (Some (Int width sign)) = 0
-target_of (Some (Vector component count)) = 0
-target_of (Some (Array element length stride)) = 0
-target_of (Some (Runtime element stride)) = 0
-target_of (Some (Struct members block)) = 0
 target_of (Some (Pointer class target)) = target
-target_of (Some (Function returns parameters)) = 0
+target_of _ = 0
 
 abbrev pub is_value : ℕ → Option ℕ → Bool
 is_value n None = false
 is_value n (Some m) = m == n
 
--- a buffer variable with a descriptor set and a binding
+-- a buffer variable with a DescriptorSet and a Binding
 abbrev pub is_at : List Inst → ℕ → ℕ → Inst → Bool
-is_at all set binding i = (i.op == VARIABLE && is_buffer_class (lit_at i.operands 0)) && (is_value set (decoration all i.id DESCRIPTOR_SET) && is_value binding (decoration all i.id BINDING))
+is_at all set binding i = (i.op == 59 && is_buffer_class (lit_at i.operands 0)) && (is_value set (decoration all i.id 34) && is_value binding (decoration all i.id 33))
 
 -- one of some instructions is a buffer variable with that descriptor set and binding
 unfoldable pub is_taken : List Inst → List Inst → ℕ → ℕ → Bool
@@ -66,17 +59,17 @@ keeps_pair all before (Some set) (Some binding) = not (is_taken all before set b
 
 -- a variable of a block class points to a block that is laid out, and a buffer has a place of its own
 abbrev pub keeps_block : List Inst → Types → List Inst → Inst → Bool
-keeps_block all ts before i = is_laid ts (target_of (form_of ts i.ty)) && (lit_at i.operands 0 == PUSH_CONSTANT || keeps_pair all before (decoration all i.id DESCRIPTOR_SET) (decoration all i.id BINDING))
+keeps_block all ts before i = is_laid ts (target_of (form_of ts i.ty)) && (lit_at i.operands 0 == 9 || keeps_pair all before (decoration all i.id 34) (decoration all i.id 33))
 
--- BufferBlock stands on no id that is defined
+-- the decoration BufferBlock stands on no id that is defined
 abbrev pub keeps_decoration : List Inst → Inst → ℕ → Bool
-keeps_decoration all i kind = not (kind == BUFFER_BLOCK && is_some (definition all (id_at i.operands 0)))
+keeps_decoration all i kind = not (kind == 3 && is_some (definition all (id_at i.operands 0)))
 
--- an instruction before the functions keeps the rules of layout, after those before it
+-- an instruction keeps the rules of layout, after those before it: OpDecorate, OpMemberDecorate and OpVariable have some
 unfoldable pub keeps_layout : List Inst → Types → List Inst → Inst → Bool
 keeps_layout all ts before i =
-    if i.op == DECORATE then keeps_decoration all i (lit_at i.operands 1)
-    else (if i.op == MEMBER_DECORATE then keeps_decoration all i (lit_at i.operands 2)
+    if i.op == 71 then keeps_decoration all i (lit_at i.operands 1)
+    else (if i.op == 72 then keeps_decoration all i (lit_at i.operands 2)
     else (if is_block_variable i then keeps_block all ts before i
     else true))
 

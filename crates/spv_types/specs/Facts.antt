@@ -5,21 +5,20 @@ use Rattle.spv_base.specs.declared.instructions.Inst.{Inst}
 use Rattle.std.specs.declared.cmp.Ordering.{Ordering}
 use Rattle.std.specs.Ordering.{nat_cmp, ordering_then}
 use Rattle.spv_types.specs.Operands.{id_at, lit_at}
-use Rattle.spv_types.specs.declared.opcodes.TheConstants.{DECORATE, MEMBER_DECORATE, OFFSET, CONSTANT_TRUE, CONSTANT_COMPOSITE, CONSTANT_NULL, SPEC_CONSTANT_TRUE, SPEC_CONSTANT_OP}
 
--- the first literal of a decoration of an id
+-- the first literal of an OpDecorate of an id
 unfoldable pub decoration : List Inst → ℕ → ℕ → Option ℕ
 decoration [] id kind = None
-decoration (i ∷ is) id kind = if i.op == DECORATE && (id_at i.operands 0 == id && lit_at i.operands 1 == kind) then Some (lit_at i.operands 2) else decoration is id kind
+decoration (i ∷ is) id kind = if i.op == 71 && (id_at i.operands 0 == id && lit_at i.operands 1 == kind) then Some (lit_at i.operands 2) else decoration is id kind
 
--- the Offset of a member of a struct
+-- the Offset that an OpMemberDecorate gives to a member of a struct
 unfoldable pub member_offset : List Inst → ℕ → ℕ → Option ℕ
 member_offset [] id member = None
-member_offset (i ∷ is) id member = if (i.op == MEMBER_DECORATE && lit_at i.operands 2 == OFFSET) && (id_at i.operands 0 == id && lit_at i.operands 1 == member) then Some (lit_at i.operands 3) else member_offset is id member
+member_offset (i ∷ is) id member = if (i.op == 72 && lit_at i.operands 2 == 35) && (id_at i.operands 0 == id && lit_at i.operands 1 == member) then Some (lit_at i.operands 3) else member_offset is id member
 
 -- ConstantTrue, ConstantFalse, Constant, ConstantComposite, ConstantNull, and the five specialization constants
 abbrev pub is_constant : ℕ → Bool
-is_constant op = (nat_le CONSTANT_TRUE op && nat_le op CONSTANT_COMPOSITE || op == CONSTANT_NULL) || nat_le SPEC_CONSTANT_TRUE op && nat_le op SPEC_CONSTANT_OP
+is_constant op = (nat_le 41 op && nat_le op 44 || op == 46) || nat_le 48 op && nat_le op 52
 
 -- the type of the constant with an id
 unfoldable pub constant_type : List Inst → ℕ → Option ℕ

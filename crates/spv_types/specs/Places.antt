@@ -10,16 +10,8 @@ use Rattle.spv_types.specs.Cells.{cells_of, members_cells}
 
 -- the bytes of a scalar; a Boolean has none in a block
 abbrev pub scalar_bytes : Option Form → ℕ
-scalar_bytes None = 0
-scalar_bytes (Some Void) = 0
-scalar_bytes (Some Boolean) = 0
 scalar_bytes (Some (Int width sign)) = width / 8
-scalar_bytes (Some (Vector component count)) = 0
-scalar_bytes (Some (Array element length stride)) = 0
-scalar_bytes (Some (Runtime element stride)) = 0
-scalar_bytes (Some (Struct members block)) = 0
-scalar_bytes (Some (Pointer class target)) = 0
-scalar_bytes (Some (Function returns parameters)) = 0
+scalar_bytes _ = 0
 
 -- a scalar has one leaf, at its first byte
 abbrev pub place_in_scalar : ℕ → Option ℕ

@@ -7,7 +7,6 @@ use Rattle.spv_base.specs.declared.instructions.Operand.{Operand}
 use Rattle.spv_types.specs.declared.forms.Form.{Form}
 use Rattle.spv_types.specs.declared.forms.Form.TheVariants.{Void, Bool as Boolean, Int, Vector, Array, Runtime, Struct, Pointer, Function}
 use Rattle.spv_types.specs.declared.forms.Member.{Member}
-use Rattle.spv_types.specs.declared.opcodes.TheConstants.{UNDEF, VARIABLE, BUILT_IN, INPUT, UNIFORM, WORKGROUP, PRIVATE, FUNCTION_CLASS, PUSH_CONSTANT, STORAGE_BUFFER, NUM_WORKGROUPS, WORKGROUP_ID, LOCAL_INVOCATION_ID, GLOBAL_INVOCATION_ID, LOCAL_INVOCATION_INDEX}
 use Rattle.spv_types.specs.Types.{Types, form_of}
 use Rattle.spv_types.specs.Operands.{id_at, lit_at}
 use Rattle.spv_types.specs.Facts.{decoration, constant_type}
@@ -15,41 +14,23 @@ use Rattle.spv_types.specs.Typing.{defined_form}
 
 -- a Boolean or integer type
 abbrev pub is_scalar : Option Form → Bool
-is_scalar None = false
-is_scalar (Some Void) = false
 is_scalar (Some Boolean) = true
 is_scalar (Some (Int width sign)) = true
-is_scalar (Some (Vector component count)) = false
-is_scalar (Some (Array element length stride)) = false
-is_scalar (Some (Runtime element stride)) = false
-is_scalar (Some (Struct members block)) = false
-is_scalar (Some (Pointer class target)) = false
-is_scalar (Some (Function returns parameters)) = false
+is_scalar _ = false
 
 -- a type of data: not void, a pointer or a function
 abbrev pub is_data : Option Form → Bool
-is_data None = false
-is_data (Some Void) = false
 is_data (Some Boolean) = true
 is_data (Some (Int width sign)) = true
 is_data (Some (Vector component count)) = true
 is_data (Some (Array element length stride)) = true
 is_data (Some (Runtime element stride)) = true
 is_data (Some (Struct members block)) = true
-is_data (Some (Pointer class target)) = false
-is_data (Some (Function returns parameters)) = false
+is_data _ = false
 
 abbrev pub is_runtime : Option Form → Bool
-is_runtime None = false
-is_runtime (Some Void) = false
-is_runtime (Some Boolean) = false
-is_runtime (Some (Int width sign)) = false
-is_runtime (Some (Vector component count)) = false
-is_runtime (Some (Array element length stride)) = false
 is_runtime (Some (Runtime element stride)) = true
-is_runtime (Some (Struct members block)) = false
-is_runtime (Some (Pointer class target)) = false
-is_runtime (Some (Function returns parameters)) = false
+is_runtime _ = false
 
 -- the last member's type, or 0
 abbrev pub last_type : List Member → ℕ
@@ -59,16 +40,9 @@ last_type (m ∷ n ∷ ms) = last_type (n ∷ ms)
 
 -- the type with a runtime array: one itself, or a struct whose last member is one
 abbrev pub form_has_runtime : Types → Option Form → Bool
-form_has_runtime ts None = false
-form_has_runtime ts (Some Void) = false
-form_has_runtime ts (Some Boolean) = false
-form_has_runtime ts (Some (Int width sign)) = false
-form_has_runtime ts (Some (Vector component count)) = false
-form_has_runtime ts (Some (Array element length stride)) = false
 form_has_runtime ts (Some (Runtime element stride)) = true
 form_has_runtime ts (Some (Struct members block)) = is_runtime (form_of ts (last_type members))
-form_has_runtime ts (Some (Pointer class target)) = false
-form_has_runtime ts (Some (Function returns parameters)) = false
+form_has_runtime ts _ = false
 
 abbrev pub has_runtime : Types → ℕ → Bool
 has_runtime ts id = form_has_runtime ts (form_of ts id)
@@ -88,8 +62,9 @@ keep_members ts block (m ∷ ms) = keeps_member ts block (length ms == 0) m.ty &
 abbrev pub is_width : ℕ → Bool
 is_width n = (n == 8 || n == 16) || (n == 32 || n == 64)
 
+-- the storage classes Input, Uniform, Workgroup, Private, Function, PushConstant and StorageBuffer
 abbrev pub is_class : ℕ → Bool
-is_class n = ((n == INPUT || n == UNIFORM) || (n == WORKGROUP || n == PRIVATE)) || ((n == FUNCTION_CLASS || n == PUSH_CONSTANT) || n == STORAGE_BUFFER)
+is_class n = ((n == 1 || n == 2) || (n == 4 || n == 6)) || ((n == 7 || n == 9) || n == 12)
 
 -- the rules of types
 abbrev pub keeps_form : Types → Form → Bool
@@ -105,78 +80,49 @@ keeps_form ts (Function returns parameters) = true
 
 -- a struct decorated Block
 abbrev pub is_block : Option Form → Bool
-is_block None = false
-is_block (Some Void) = false
-is_block (Some Boolean) = false
-is_block (Some (Int width sign)) = false
-is_block (Some (Vector component count)) = false
-is_block (Some (Array element length stride)) = false
-is_block (Some (Runtime element stride)) = false
 is_block (Some (Struct members block)) = block
-is_block (Some (Pointer class target)) = false
-is_block (Some (Function returns parameters)) = false
+is_block _ = false
 
 -- an integer of 32 bits
 abbrev pub is_word : Option Form → Bool
-is_word None = false
-is_word (Some Void) = false
-is_word (Some Boolean) = false
 is_word (Some (Int width sign)) = width == 32
-is_word (Some (Vector component count)) = false
-is_word (Some (Array element length stride)) = false
-is_word (Some (Runtime element stride)) = false
-is_word (Some (Struct members block)) = false
-is_word (Some (Pointer class target)) = false
-is_word (Some (Function returns parameters)) = false
+is_word _ = false
 
 -- three integers of 32 bits
 abbrev pub is_three_words : Types → Option Form → Bool
-is_three_words ts None = false
-is_three_words ts (Some Void) = false
-is_three_words ts (Some Boolean) = false
-is_three_words ts (Some (Int width sign)) = false
 is_three_words ts (Some (Vector component count)) = count == 3 && is_word (form_of ts component)
-is_three_words ts (Some (Array element length stride)) = false
-is_three_words ts (Some (Runtime element stride)) = false
-is_three_words ts (Some (Struct members block)) = false
-is_three_words ts (Some (Pointer class target)) = false
-is_three_words ts (Some (Function returns parameters)) = false
+is_three_words ts _ = false
 
--- a built-in that an Input variable may be, of its type
+-- a built-in that an Input variable may be, of its type: NumWorkgroups, WorkgroupId, LocalInvocationId and
+-- GlobalInvocationId of three words, and LocalInvocationIndex of one
 abbrev pub is_input : Types → Option ℕ → ℕ → Bool
 is_input ts None target = false
 is_input ts (Some b) target =
-    (((b == NUM_WORKGROUPS || b == WORKGROUP_ID) || (b == LOCAL_INVOCATION_ID || b == GLOBAL_INVOCATION_ID)) && is_three_words ts (form_of ts target))
-    || (b == LOCAL_INVOCATION_INDEX && is_word (form_of ts target))
+    (((b == 24 || b == 26) || (b == 27 || b == 28)) && is_three_words ts (form_of ts target))
+    || (b == 29 && is_word (form_of ts target))
 
 -- an initializer is a constant of the target type, of a Private variable
 abbrev pub keeps_initializer : List Inst → ℕ → ℕ → List Operand → Bool
-keeps_initializer all class target os = nat_le (length os) 1 || (class == PRIVATE && option_map_or (λ t. t == target) (constant_type all (id_at os 1)) false)
+keeps_initializer all class target os = nat_le (length os) 1 || (class == 6 && option_map_or (λ t. t == target) (constant_type all (id_at os 1)) false)
 
--- the rules of a variable of a class before the functions, by its target
+-- The rules of a variable of a class before the functions, by its target: the class is not Function; a runtime array is in a
+-- StorageBuffer alone; a StorageBuffer, Uniform or PushConstant is a Block; and an Input has a BuiltIn.
 abbrev pub keeps_target : List Inst → Types → Inst → ℕ → ℕ → Bool
 keeps_target all ts i class target =
-    not (class == FUNCTION_CLASS)
-    && ((not (has_runtime ts target) || class == STORAGE_BUFFER)
-    && ((not ((class == STORAGE_BUFFER || class == UNIFORM) || class == PUSH_CONSTANT) || is_block (form_of ts target))
-    && ((not (class == INPUT) || is_input ts (decoration all i.id BUILT_IN) target)
+    not (class == 7)
+    && ((not (has_runtime ts target) || class == 12)
+    && ((not ((class == 12 || class == 2) || class == 9) || is_block (form_of ts target))
+    && ((not (class == 1) || is_input ts (decoration all i.id 11) target)
     && keeps_initializer all class target i.operands)))
 
 -- a variable has a pointer type of its own class
 abbrev pub keeps_pointer : List Inst → Types → Inst → Option Form → Bool
-keeps_pointer all ts i None = false
-keeps_pointer all ts i (Some Void) = false
-keeps_pointer all ts i (Some Boolean) = false
-keeps_pointer all ts i (Some (Int width sign)) = false
-keeps_pointer all ts i (Some (Vector component count)) = false
-keeps_pointer all ts i (Some (Array element length stride)) = false
-keeps_pointer all ts i (Some (Runtime element stride)) = false
-keeps_pointer all ts i (Some (Struct members block)) = false
 keeps_pointer all ts i (Some (Pointer class target)) = lit_at i.operands 0 == class && keeps_target all ts i class target
-keeps_pointer all ts i (Some (Function returns parameters)) = false
+keeps_pointer all ts i _ = false
 
+-- a type, or an OpVariable or OpUndef, keeps its rules
 abbrev pub keeps_other : List Inst → Types → Inst → Option Form → Bool
-keeps_other all ts i None = if i.op == VARIABLE then keeps_pointer all ts i (form_of ts i.ty) else (if i.op == UNDEF then is_sized_data ts i.ty else true)
+keeps_other all ts i None = if i.op == 59 then keeps_pointer all ts i (form_of ts i.ty) else (if i.op == 1 then is_sized_data ts i.ty else true)
 keeps_other all ts i (Some f) = keeps_form ts f
 
 -- an instruction before the functions keeps the rules of types, after some types

@@ -17,15 +17,11 @@ use Rattle.spv_types.specs.Types.{Types, form_of, is_number, number_of}
 
 -- the type of part i of a form; an index of a row may be any number
 abbrev pub part_type : Form → ℕ → Option ℕ
-part_type Void i = None
-part_type Boolean i = None
-part_type (Int width sign) i = None
 part_type (Vector component count) i = Some component
 part_type (Array element length stride) i = Some element
 part_type (Runtime element stride) i = Some element
 part_type (Struct members block) i = option_map (λ m. m.ty) (slice_get members i)
-part_type (Pointer class target) i = None
-part_type (Function returns parameters) i = None
+part_type _ i = None
 
 -- the type that a path reaches from the type with an id
 unfoldable pub reached : Types → ℕ → List ℕ → Option ℕ
@@ -39,13 +35,11 @@ LeadsTo ts roots p target = option_and_then (λ t. reached ts t p.path) (roots p
 -- the scalar, and the pointer, that a value is
 abbrev pub scalar_in : Value-F Value → Option Lane
 scalar_in (Value-F.Scalar c) = Some c
-scalar_in (Value-F.List vs) = None
-scalar_in (Value-F.Ptr p) = None
+scalar_in _ = None
 
 abbrev pub pointer_in : Value-F Value → Option Reference
-pointer_in (Value-F.Scalar c) = None
-pointer_in (Value-F.List vs) = None
 pointer_in (Value-F.Ptr p) = Some p
+pointer_in _ = None
 
 -- a scalar of a width, whose number fits it, and is 0 where it is undefined
 abbrev pub IsScalar : ℕ → Value → Type 0

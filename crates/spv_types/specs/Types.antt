@@ -5,7 +5,7 @@ use Rattle.std.specs.Prelude.{ℕ, zero, suc, ◌==◌, if◌then◌else◌, Boo
 use Rattle.std.specs.Option.{option_map, option_map_or, option_and_then}
 use Rattle.spv_base.specs.Entries.{reads, writes}
 use Rattle.spv_types.specs.declared.forms.Form.{Form}
-use Rattle.spv_types.specs.declared.forms.Form.TheVariants.{Void, Bool as Boolean, Int, Vector, Array, Runtime, Struct, Pointer, Function}
+use Rattle.spv_types.specs.declared.forms.Form.TheVariants.{Void, Array}
 
 abbrev pub Types : Type 0
 Types = List (ℕ × Form)
@@ -39,29 +39,13 @@ in_first none step ts (suc n) id = if is_number n (number_of ts id) then option_
 
 -- an array without a length
 abbrev pub IsUnset : Option Form → Type 0
-IsUnset None = ⊥
-IsUnset (Some Void) = ⊥
-IsUnset (Some Boolean) = ⊥
-IsUnset (Some (Int width sign)) = ⊥
-IsUnset (Some (Vector component count)) = ⊥
 IsUnset (Some (Array element None stride)) = Unit {0}
-IsUnset (Some (Array element (Some n) stride)) = ⊥
-IsUnset (Some (Runtime element stride)) = ⊥
-IsUnset (Some (Struct members block)) = ⊥
-IsUnset (Some (Pointer class target)) = ⊥
-IsUnset (Some (Function returns parameters)) = ⊥
+IsUnset _ = ⊥
 
 -- an array with a length, and any other form as it is
 abbrev pub lengthened : ℕ → Form → Form
-lengthened n Void = Void
-lengthened n Boolean = Boolean
-lengthened n (Int width sign) = Int width sign
-lengthened n (Vector component count) = Vector component count
 lengthened n (Array element length stride) = Array element (Some n) stride
-lengthened n (Runtime element stride) = Runtime element stride
-lengthened n (Struct members block) = Struct members block
-lengthened n (Pointer class target) = Pointer class target
-lengthened n (Function returns parameters) = Function returns parameters
+lengthened n f = f
 
 -- the types with a length given to the array with an id
 unfoldable pub with_length : Types → ℕ → ℕ → Types

@@ -6,7 +6,6 @@ use Rattle.spv_base.specs.declared.instructions.Operand.{Operand}
 use Rattle.spv_types.specs.declared.forms.Form.{Form}
 use Rattle.spv_types.specs.declared.forms.Form.TheVariants.{Void, Bool as Boolean, Int, Vector, Array, Runtime, Struct, Pointer, Function}
 use Rattle.spv_types.specs.declared.forms.Member.{Member}
-use Rattle.spv_types.specs.declared.opcodes.TheConstants.{TYPE_VOID, TYPE_BOOL, TYPE_INT, TYPE_VECTOR, TYPE_ARRAY, TYPE_RUNTIME_ARRAY, TYPE_STRUCT, TYPE_POINTER, TYPE_FUNCTION, FUNCTION, ARRAY_STRIDE, BLOCK}
 use Rattle.spv_types.specs.Types.{Types}
 use Rattle.spv_types.specs.Operands.{id_of, id_at, lit_at}
 use Rattle.spv_types.specs.Facts.{decoration, member_offset}
@@ -16,18 +15,19 @@ unfoldable pub members_from : List Inst → ℕ → ℕ → List Operand → Lis
 members_from all id n [] = []
 members_from all id n (o ∷ os) = record { ty = id_of o; offset = member_offset all id n } ∷ members_from all id (suc n) os
 
--- the form that an instruction of a module defines, where it is a type instruction
+-- The form that an instruction of a module defines, where it is OpTypeVoid, OpTypeBool, OpTypeInt, OpTypeVector, OpTypeArray,
+-- OpTypeRuntimeArray, OpTypeStruct, OpTypePointer or OpTypeFunction. An array has its ArrayStride, and a struct may be a Block.
 unfoldable pub defined_form : List Inst → Inst → Option Form
 defined_form all i =
-    if i.op == TYPE_VOID then Some Void
-    else (if i.op == TYPE_BOOL then Some Boolean
-    else (if i.op == TYPE_INT then Some (Int (lit_at i.operands 0) (lit_at i.operands 1))
-    else (if i.op == TYPE_VECTOR then Some (Vector (id_at i.operands 0) (lit_at i.operands 1))
-    else (if i.op == TYPE_ARRAY then Some (Array (id_at i.operands 0) None (decoration all i.id ARRAY_STRIDE))
-    else (if i.op == TYPE_RUNTIME_ARRAY then Some (Runtime (id_at i.operands 0) (decoration all i.id ARRAY_STRIDE))
-    else (if i.op == TYPE_STRUCT then Some (Struct (members_from all i.id 0 i.operands) (is_some (decoration all i.id BLOCK)))
-    else (if i.op == TYPE_POINTER then Some (Pointer (lit_at i.operands 0) (id_at i.operands 1))
-    else (if i.op == TYPE_FUNCTION then Some (Function (id_at i.operands 0) (map id_of (drop 1 i.operands)))
+    if i.op == 19 then Some Void
+    else (if i.op == 20 then Some Boolean
+    else (if i.op == 21 then Some (Int (lit_at i.operands 0) (lit_at i.operands 1))
+    else (if i.op == 23 then Some (Vector (id_at i.operands 0) (lit_at i.operands 1))
+    else (if i.op == 28 then Some (Array (id_at i.operands 0) None (decoration all i.id 6))
+    else (if i.op == 29 then Some (Runtime (id_at i.operands 0) (decoration all i.id 6))
+    else (if i.op == 30 then Some (Struct (members_from all i.id 0 i.operands) (is_some (decoration all i.id 2)))
+    else (if i.op == 32 then Some (Pointer (lit_at i.operands 0) (id_at i.operands 1))
+    else (if i.op == 33 then Some (Function (id_at i.operands 0) (map id_of (drop 1 i.operands)))
     else None))))))))
 
 -- the type that an instruction adds to some types
@@ -40,7 +40,7 @@ unfoldable pub types_in : List Inst → List Inst → Types
 types_in all [] = []
 types_in all (i ∷ is) = with_form [] i.id (defined_form all i) ++ types_in all is
 
--- the instructions before the functions
+-- the instructions before the first OpFunction
 unfoldable pub before_functions : List Inst → List Inst
 before_functions [] = []
-before_functions (i ∷ is) = if i.op == FUNCTION then [] else i ∷ before_functions is
+before_functions (i ∷ is) = if i.op == 54 then [] else i ∷ before_functions is

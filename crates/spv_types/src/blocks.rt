@@ -29,13 +29,10 @@ ghost use Rattle.spv_types.specs.Blocks.{
 use crate::build::functions_start;
 use crate::facts::{Facts, put_first};
 use crate::forms::Form;
-use crate::opcodes::{
-    BINDING, BUFFER_BLOCK, DECORATE, DESCRIPTOR_SET, MEMBER_DECORATE, PUSH_CONSTANT,
-    STORAGE_BUFFER, UNIFORM, VARIABLE,
-};
 use crate::operands::{id_at, lit_at};
 use crate::table::TypeTable;
 use spv_base::{Fail, Inst, NoMemory, Refusal};
+use spv_ops::{decoration, op, storage_class};
 use std::alloc::Global;
 use std::collections::BTreeMap;
 
@@ -57,7 +54,7 @@ fn breach(inst: &Inst) -> Fail<Refusal>
 fn is_buffer_class(class: u32) -> bool
     ensures { result ≡ is_buffer_class class }
 {
-    class == UNIFORM || class == STORAGE_BUFFER
+    class == storage_class::UNIFORM || class == storage_class::STORAGE_BUFFER
 }
 
 /// Whether an instruction is a variable of a class whose variables point to blocks.
@@ -65,14 +62,14 @@ fn is_block_variable(inst: &Inst) -> bool
     ensures { result ≡ is_block_variable inst.now }
 {
     let class = lit_at(inst, 0);
-    inst.op == VARIABLE && (is_buffer_class(class) || class == PUSH_CONSTANT)
+    inst.op == op::VARIABLE && (is_buffer_class(class) || class == storage_class::PUSH_CONSTANT)
 }
 
 /// Whether a decoration of some kind is not BufferBlock, or of an id that nothing defines.
 fn keeps_decoration(facts: &Facts, inst: &Inst, kind: u32) -> bool
     ensures { result ≡ keeps_decoration facts.now inst.now kind }
 {
-    !(kind == BUFFER_BLOCK && facts.is_defined(id_at(inst, 0)))
+    !(kind == decoration::BUFFER_BLOCK && facts.is_defined(id_at(inst, 0)))
 }
 
 /// Whether a descriptor set and a binding are there and not taken.
@@ -89,16 +86,16 @@ fn keeps_pair(places: &Places, set: Option<u32>, binding: Option<u32>) -> bool
 fn note_place(facts: &Facts, places: &mut Places, inst: &Inst) -> Result<(), NoMemory>
     ensures { OnOk result ((a b : ℕ) → is_some (get pair_cmp places.new (a, b)) ≡ (is_some (get pair_cmp places.old (a, b)) || is_at facts.now a b inst.now)) }
 {
-    if inst.op != VARIABLE {
+    if inst.op != op::VARIABLE {
         return Ok(());
     }
     if !is_buffer_class(lit_at(inst, 0)) {
         return Ok(());
     }
-    let Some(set) = facts.decoration(inst.id, DESCRIPTOR_SET) else {
+    let Some(set) = facts.decoration(inst.id, decoration::DESCRIPTOR_SET) else {
         return Ok(());
     };
-    let Some(binding) = facts.decoration(inst.id, BINDING) else {
+    let Some(binding) = facts.decoration(inst.id, decoration::BINDING) else {
         return Ok(());
     };
     put_first(places, (set, binding as usize), 0)?;
@@ -125,9 +122,9 @@ impl TypeTable {
         if !self.whole_laid(laid, self.target(inst.ty)) {
             return false;
         }
-        let set = facts.decoration(inst.id, DESCRIPTOR_SET);
-        let binding = facts.decoration(inst.id, BINDING);
-        lit_at(inst, 0) == PUSH_CONSTANT || keeps_pair(places, set, binding)
+        let set = facts.decoration(inst.id, decoration::DESCRIPTOR_SET);
+        let binding = facts.decoration(inst.id, decoration::BINDING);
+        lit_at(inst, 0) == storage_class::PUSH_CONSTANT || keeps_pair(places, set, binding)
     }
 
     /// Whether an instruction before the functions keeps the rules of layout.
@@ -138,8 +135,8 @@ impl TypeTable {
         ensures { (before : List Instruction) → ArePlaces facts.now before (get pair_cmp places.now) → result ≡ keeps_layout facts.now self.now before inst.now }
     {
         match inst.op {
-            DECORATE => keeps_decoration(facts, inst, lit_at(inst, 1)),
-            MEMBER_DECORATE => keeps_decoration(facts, inst, lit_at(inst, 2)),
+            op::DECORATE => keeps_decoration(facts, inst, lit_at(inst, 1)),
+            op::MEMBER_DECORATE => keeps_decoration(facts, inst, lit_at(inst, 2)),
             _ if is_block_variable(inst) => self.keeps_block(facts, laid, places, inst),
             _ => true,
         }

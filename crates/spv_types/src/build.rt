@@ -5,10 +5,10 @@ ghost use Rattle.spv_types.specs.Typing.{before_functions};
 ghost use Rattle.spv_types.specs.Build.{types_of};
 
 use crate::facts::Facts;
-use crate::opcodes::FUNCTION;
 use crate::table::TypeTable;
 use crate::typing::defined_form;
 use spv_base::{Fail, Inst, Refusal};
+use spv_ops::op;
 use std::alloc::Global;
 
 /// The code of the rules of types.
@@ -20,7 +20,7 @@ pub fn functions_start(insts: &[Inst]) -> usize
     ensures before { take result insts.now ≡ before_functions insts.now }
 {
     for (n, inst) in insts.iter().enumerate() {
-        if inst.op == FUNCTION {
+        if inst.op == op::FUNCTION {
             return n;
         }
     }

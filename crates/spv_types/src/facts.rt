@@ -5,12 +5,9 @@ ghost use Rattle.std.specs.BTreeMap.{get};
 ghost use Rattle.std.specs.Ordering.{nat_cmp};
 ghost use Rattle.spv_types.specs.Facts.{constant_type, decoration, definition, is_constant, member_offset, pair_cmp};
 
-use crate::opcodes::{
-    CONSTANT_COMPOSITE, CONSTANT_NULL, CONSTANT_TRUE, DECORATE, MEMBER_DECORATE, OFFSET,
-    SPEC_CONSTANT_OP, SPEC_CONSTANT_TRUE,
-};
 use crate::operands::{id_at, lit_at};
 use spv_base::{Inst, NoMemory};
+use spv_ops::{decoration, op};
 use std::alloc::Global;
 use std::collections::BTreeMap;
 use std::marker::Model;
@@ -48,9 +45,9 @@ impl<'a> Model for Facts<'a> {
 pub fn is_constant(op: u16) -> bool
     ensures { result ≡ is_constant op }
 {
-    op >= CONSTANT_TRUE && op <= CONSTANT_COMPOSITE
-        || op == CONSTANT_NULL
-        || op >= SPEC_CONSTANT_TRUE && op <= SPEC_CONSTANT_OP
+    op >= op::CONSTANT_TRUE && op <= op::CONSTANT_COMPOSITE
+        || op == op::CONSTANT_NULL
+        || op >= op::SPEC_CONSTANT_TRUE && op <= op::SPEC_CONSTANT_OP
 }
 
 /// Puts a value under a key that has none yet.
@@ -71,7 +68,7 @@ pub fn put_first(
 fn note_decoration(map: &mut BTreeMap<(u32, usize), u32>, inst: &Inst) -> Result<(), NoMemory>
     ensures { OnOk result ((id kind : ℕ) → get pair_cmp map.new (id, kind) ≡ option_or (get pair_cmp map.old (id, kind)) (decoration (inst.now ∷ []) id kind)) }
 {
-    if inst.op != DECORATE {
+    if inst.op != op::DECORATE {
         return Ok(());
     }
     put_first(
@@ -86,10 +83,10 @@ fn note_decoration(map: &mut BTreeMap<(u32, usize), u32>, inst: &Inst) -> Result
 fn note_offset(map: &mut BTreeMap<(u32, usize), u32>, inst: &Inst) -> Result<(), NoMemory>
     ensures { OnOk result ((id member : ℕ) → get pair_cmp map.new (id, member) ≡ option_or (get pair_cmp map.old (id, member)) (member_offset (inst.now ∷ []) id member)) }
 {
-    if inst.op != MEMBER_DECORATE {
+    if inst.op != op::MEMBER_DECORATE {
         return Ok(());
     }
-    if lit_at(inst, 2) != OFFSET {
+    if lit_at(inst, 2) != decoration::OFFSET {
         return Ok(());
     }
     put_first(

@@ -27,14 +27,10 @@ ghost use Rattle.spv_types.specs.Rules.{
 
 use crate::facts::Facts;
 use crate::forms::{Form, Member};
-use crate::opcodes::{
-    BUILT_IN, FUNCTION_CLASS, GLOBAL_INVOCATION_ID, INPUT, LOCAL_INVOCATION_ID,
-    LOCAL_INVOCATION_INDEX, NUM_WORKGROUPS, PRIVATE, PUSH_CONSTANT, STORAGE_BUFFER, UNDEF, UNIFORM,
-    VARIABLE, WORKGROUP, WORKGROUP_ID,
-};
 use crate::operands::{id_at, lit_at};
 use crate::table::TypeTable;
 use spv_base::Inst;
+use spv_ops::{built_in, decoration, op, storage_class};
 
 fn is_width(n: u32) -> bool
     ensures { result ≡ is_width n }
@@ -47,7 +43,13 @@ fn is_class(n: u32) -> bool
 {
     matches!(
         n,
-        INPUT | UNIFORM | WORKGROUP | PRIVATE | FUNCTION_CLASS | PUSH_CONSTANT | STORAGE_BUFFER
+        storage_class::INPUT
+            | storage_class::UNIFORM
+            | storage_class::WORKGROUP
+            | storage_class::PRIVATE
+            | storage_class::FUNCTION
+            | storage_class::PUSH_CONSTANT
+            | storage_class::STORAGE_BUFFER
     )
 }
 
@@ -170,9 +172,13 @@ impl TypeTable {
         ensures { result ≡ is_input self.now built_in target }
     {
         match built_in {
-            Some(NUM_WORKGROUPS | WORKGROUP_ID | LOCAL_INVOCATION_ID | GLOBAL_INVOCATION_ID) =>
-                self.is_three_words(target),
-            Some(LOCAL_INVOCATION_INDEX) => self.is_word(target),
+            Some(
+                built_in::NUM_WORKGROUPS
+                | built_in::WORKGROUP_ID
+                | built_in::LOCAL_INVOCATION_ID
+                | built_in::GLOBAL_INVOCATION_ID,
+            ) => self.is_three_words(target),
+            Some(built_in::LOCAL_INVOCATION_INDEX) => self.is_word(target),
             _ => false,
         }
     }
@@ -181,13 +187,21 @@ impl TypeTable {
     fn keeps_target(&self, facts: &Facts, inst: &Inst, class: u32, target: u32) -> bool
         ensures { result ≡ keeps_target facts.now self.now inst.now class target }
     {
-        if class == FUNCTION_CLASS || self.has_runtime(target) && class != STORAGE_BUFFER {
+        if class == storage_class::FUNCTION
+            || self.has_runtime(target) && class != storage_class::STORAGE_BUFFER
+        {
             return false;
         }
-        if matches!(class, STORAGE_BUFFER | UNIFORM | PUSH_CONSTANT) && !self.is_block(target) {
+        if matches!(
+            class,
+            storage_class::STORAGE_BUFFER | storage_class::UNIFORM | storage_class::PUSH_CONSTANT
+        ) && !self.is_block(target)
+        {
             return false;
         }
-        if class == INPUT && !self.is_input(facts.decoration(inst.id, BUILT_IN), target) {
+        if class == storage_class::INPUT
+            && !self.is_input(facts.decoration(inst.id, decoration::BUILT_IN), target)
+        {
             return false;
         }
         keeps_initializer(facts, class, target, inst)
@@ -212,8 +226,8 @@ impl TypeTable {
         match form {
             Some(form) => self.keeps_form(form),
             None => match inst.op {
-                VARIABLE => self.keeps_variable(facts, inst),
-                UNDEF => self.is_sized_data(inst.ty),
+                op::VARIABLE => self.keeps_variable(facts, inst),
+                op::UNDEF => self.is_sized_data(inst.ty),
                 _ => true,
             },
         }
@@ -227,5 +241,5 @@ fn keeps_initializer(facts: &Facts, class: u32, target: u32, inst: &Inst) -> boo
     if inst.operands.len() <= 1 {
         return true;
     }
-    class == PRIVATE && facts.constant_type(id_at(inst, 1)) == Some(target)
+    class == storage_class::PRIVATE && facts.constant_type(id_at(inst, 1)) == Some(target)
 }

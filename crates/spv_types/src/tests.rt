@@ -1,12 +1,8 @@
 //! Types and blocks, built from instructions.
 use crate::limits::Limit;
-use crate::opcodes::{
-    ARRAY_STRIDE, BINDING, BLOCK, BUFFER_BLOCK, CONSTANT, DECORATE, DESCRIPTOR_SET, FUNCTION,
-    MEMBER_DECORATE, OFFSET, TYPE_ARRAY, TYPE_BOOL, TYPE_INT, TYPE_POINTER, TYPE_RUNTIME_ARRAY,
-    TYPE_STRUCT, TYPE_VECTOR, TYPE_VOID, UNDEF, VARIABLE,
-};
 use crate::table::TypeTable;
 use spv_base::{Fail as Failure, Inst, Items, NoMemory, Operand, Refusal};
+use spv_ops::{decoration, op};
 use std::alloc::Global;
 use std::test::Fail;
 
@@ -49,35 +45,42 @@ fn add(
 /// A block: a uint at offset 0, and at offset 16 an array of two-component uint vectors with stride 16.
 fn block(alloc: Global) -> Result<Vec<Inst>, NoMemory> {
     let mut insts = Vec::new(alloc);
-    add(alloc, &mut insts, DECORATE, 0, 0, &[Id(4), Lit(BLOCK)])?;
     add(
         alloc,
         &mut insts,
-        MEMBER_DECORATE,
+        op::DECORATE,
         0,
         0,
-        &[Id(4), Lit(0), Lit(OFFSET), Lit(0)],
+        &[Id(4), Lit(decoration::BLOCK)],
     )?;
     add(
         alloc,
         &mut insts,
-        MEMBER_DECORATE,
+        op::MEMBER_DECORATE,
         0,
         0,
-        &[Id(4), Lit(1), Lit(OFFSET), Lit(16)],
+        &[Id(4), Lit(0), Lit(decoration::OFFSET), Lit(0)],
     )?;
     add(
         alloc,
         &mut insts,
-        DECORATE,
+        op::MEMBER_DECORATE,
         0,
         0,
-        &[Id(3), Lit(ARRAY_STRIDE), Lit(16)],
+        &[Id(4), Lit(1), Lit(decoration::OFFSET), Lit(16)],
     )?;
-    add(alloc, &mut insts, TYPE_INT, 0, 1, &[Lit(32), Lit(0)])?;
-    add(alloc, &mut insts, TYPE_VECTOR, 0, 2, &[Id(1), Lit(2)])?;
-    add(alloc, &mut insts, TYPE_ARRAY, 0, 3, &[Id(2), Id(9)])?;
-    add(alloc, &mut insts, TYPE_STRUCT, 0, 4, &[Id(1), Id(3)])?;
+    add(
+        alloc,
+        &mut insts,
+        op::DECORATE,
+        0,
+        0,
+        &[Id(3), Lit(decoration::ARRAY_STRIDE), Lit(16)],
+    )?;
+    add(alloc, &mut insts, op::TYPE_INT, 0, 1, &[Lit(32), Lit(0)])?;
+    add(alloc, &mut insts, op::TYPE_VECTOR, 0, 2, &[Id(1), Lit(2)])?;
+    add(alloc, &mut insts, op::TYPE_ARRAY, 0, 3, &[Id(2), Id(9)])?;
+    add(alloc, &mut insts, op::TYPE_STRUCT, 0, 4, &[Id(1), Id(3)])?;
     Ok(insts)
 }
 
@@ -116,20 +119,27 @@ fn leaves_and_places_of_a_block(rt: HostRuntime) -> Result<(), Fail> {
 /// A module of types, and one more instruction.
 fn with_one(alloc: Global, op: u16, ty: u32, words: &[Word]) -> Result<Vec<Inst>, NoMemory> {
     let mut insts = Vec::new(alloc);
-    add(alloc, &mut insts, DECORATE, 0, 0, &[Id(7), Lit(BLOCK)])?;
-    add(alloc, &mut insts, TYPE_INT, 0, 1, &[Lit(32), Lit(0)])?;
-    add(alloc, &mut insts, TYPE_BOOL, 0, 2, &[])?;
-    add(alloc, &mut insts, TYPE_VOID, 0, 3, &[])?;
-    add(alloc, &mut insts, TYPE_VECTOR, 0, 4, &[Id(1), Lit(2)])?;
-    add(alloc, &mut insts, TYPE_POINTER, 0, 5, &[Lit(12), Id(1)])?;
-    add(alloc, &mut insts, TYPE_RUNTIME_ARRAY, 0, 6, &[Id(1)])?;
-    add(alloc, &mut insts, TYPE_STRUCT, 0, 7, &[Id(1), Id(6)])?;
-    add(alloc, &mut insts, TYPE_POINTER, 0, 8, &[Lit(12), Id(7)])?;
-    add(alloc, &mut insts, TYPE_POINTER, 0, 9, &[Lit(6), Id(1)])?;
-    add(alloc, &mut insts, CONSTANT, 1, 10, &[Lit(3)])?;
+    add(
+        alloc,
+        &mut insts,
+        op::DECORATE,
+        0,
+        0,
+        &[Id(7), Lit(decoration::BLOCK)],
+    )?;
+    add(alloc, &mut insts, op::TYPE_INT, 0, 1, &[Lit(32), Lit(0)])?;
+    add(alloc, &mut insts, op::TYPE_BOOL, 0, 2, &[])?;
+    add(alloc, &mut insts, op::TYPE_VOID, 0, 3, &[])?;
+    add(alloc, &mut insts, op::TYPE_VECTOR, 0, 4, &[Id(1), Lit(2)])?;
+    add(alloc, &mut insts, op::TYPE_POINTER, 0, 5, &[Lit(12), Id(1)])?;
+    add(alloc, &mut insts, op::TYPE_RUNTIME_ARRAY, 0, 6, &[Id(1)])?;
+    add(alloc, &mut insts, op::TYPE_STRUCT, 0, 7, &[Id(1), Id(6)])?;
+    add(alloc, &mut insts, op::TYPE_POINTER, 0, 8, &[Lit(12), Id(7)])?;
+    add(alloc, &mut insts, op::TYPE_POINTER, 0, 9, &[Lit(6), Id(1)])?;
+    add(alloc, &mut insts, op::CONSTANT, 1, 10, &[Lit(3)])?;
     add(alloc, &mut insts, op, ty, 11, words)?;
-    add(alloc, &mut insts, FUNCTION, 3, 12, &[])?;
-    add(alloc, &mut insts, VARIABLE, 9, 13, &[Lit(7)])?;
+    add(alloc, &mut insts, op::FUNCTION, 3, 12, &[])?;
+    add(alloc, &mut insts, op::VARIABLE, 9, 13, &[Lit(7)])?;
     Ok(insts)
 }
 
@@ -138,53 +148,53 @@ fn each_rule_of_types_broken_once(rt: HostRuntime) -> Result<(), Fail> {
     let alloc = rt.alloc();
     let refusal = Failure::Refused(Refusal { code: 12, word: 11 });
     let kept: [(u16, u32, &[Word]); 15] = [
-        (TYPE_INT, 0, &[Lit(64), Lit(1)]),
-        (TYPE_VECTOR, 0, &[Id(2), Lit(4)]),
-        (TYPE_ARRAY, 0, &[Id(4), Id(10)]),
-        (TYPE_RUNTIME_ARRAY, 0, &[Id(1)]),
-        (TYPE_STRUCT, 0, &[Id(1), Id(4)]),
-        (TYPE_STRUCT, 0, &[]),
-        (TYPE_POINTER, 0, &[Lit(6), Id(1)]),
-        (TYPE_POINTER, 0, &[Lit(12), Id(6)]),
-        (UNDEF, 1, &[]),
-        (VARIABLE, 8, &[Lit(12)]),
-        (VARIABLE, 9, &[Lit(6)]),
-        (VARIABLE, 9, &[Lit(6), Id(10)]),
-        (CONSTANT, 3, &[]),
-        (TYPE_VOID, 0, &[]),
-        (TYPE_BOOL, 0, &[]),
+        (op::TYPE_INT, 0, &[Lit(64), Lit(1)]),
+        (op::TYPE_VECTOR, 0, &[Id(2), Lit(4)]),
+        (op::TYPE_ARRAY, 0, &[Id(4), Id(10)]),
+        (op::TYPE_RUNTIME_ARRAY, 0, &[Id(1)]),
+        (op::TYPE_STRUCT, 0, &[Id(1), Id(4)]),
+        (op::TYPE_STRUCT, 0, &[]),
+        (op::TYPE_POINTER, 0, &[Lit(6), Id(1)]),
+        (op::TYPE_POINTER, 0, &[Lit(12), Id(6)]),
+        (op::UNDEF, 1, &[]),
+        (op::VARIABLE, 8, &[Lit(12)]),
+        (op::VARIABLE, 9, &[Lit(6)]),
+        (op::VARIABLE, 9, &[Lit(6), Id(10)]),
+        (op::CONSTANT, 3, &[]),
+        (op::TYPE_VOID, 0, &[]),
+        (op::TYPE_BOOL, 0, &[]),
     ];
     for (op, ty, words) in kept {
         let insts = with_one(alloc, op, ty, words)?;
         assert!(rt; TypeTable::build(alloc, insts.as_slice()).is_ok());
     }
     let broken: [(u16, u32, &[Word]); 26] = [
-        (TYPE_INT, 0, &[Lit(24), Lit(0)]),
-        (TYPE_INT, 0, &[Lit(8), Lit(2)]),
-        (TYPE_VECTOR, 0, &[Id(1), Lit(5)]),
-        (TYPE_VECTOR, 0, &[Id(1), Lit(1)]),
-        (TYPE_VECTOR, 0, &[Id(4), Lit(2)]),
-        (TYPE_ARRAY, 0, &[Id(3), Id(10)]),
-        (TYPE_ARRAY, 0, &[Id(5), Id(10)]),
-        (TYPE_ARRAY, 0, &[Id(6), Id(10)]),
-        (TYPE_ARRAY, 0, &[Id(7), Id(10)]),
-        (TYPE_RUNTIME_ARRAY, 0, &[Id(6)]),
-        (TYPE_STRUCT, 0, &[Id(1), Id(6)]),
-        (TYPE_STRUCT, 0, &[Id(6), Id(1)]),
-        (TYPE_STRUCT, 0, &[Id(7)]),
-        (TYPE_STRUCT, 0, &[Id(5)]),
-        (TYPE_POINTER, 0, &[Lit(5), Id(1)]),
-        (TYPE_POINTER, 0, &[Lit(12), Id(3)]),
-        (TYPE_POINTER, 0, &[Lit(12), Id(5)]),
-        (UNDEF, 3, &[]),
-        (UNDEF, 5, &[]),
-        (UNDEF, 6, &[]),
-        (UNDEF, 7, &[]),
-        (VARIABLE, 5, &[Lit(12)]),
-        (VARIABLE, 8, &[Lit(2)]),
-        (VARIABLE, 1, &[Lit(12)]),
-        (VARIABLE, 8, &[Lit(12), Id(10)]),
-        (VARIABLE, 9, &[Lit(6), Id(1)]),
+        (op::TYPE_INT, 0, &[Lit(24), Lit(0)]),
+        (op::TYPE_INT, 0, &[Lit(8), Lit(2)]),
+        (op::TYPE_VECTOR, 0, &[Id(1), Lit(5)]),
+        (op::TYPE_VECTOR, 0, &[Id(1), Lit(1)]),
+        (op::TYPE_VECTOR, 0, &[Id(4), Lit(2)]),
+        (op::TYPE_ARRAY, 0, &[Id(3), Id(10)]),
+        (op::TYPE_ARRAY, 0, &[Id(5), Id(10)]),
+        (op::TYPE_ARRAY, 0, &[Id(6), Id(10)]),
+        (op::TYPE_ARRAY, 0, &[Id(7), Id(10)]),
+        (op::TYPE_RUNTIME_ARRAY, 0, &[Id(6)]),
+        (op::TYPE_STRUCT, 0, &[Id(1), Id(6)]),
+        (op::TYPE_STRUCT, 0, &[Id(6), Id(1)]),
+        (op::TYPE_STRUCT, 0, &[Id(7)]),
+        (op::TYPE_STRUCT, 0, &[Id(5)]),
+        (op::TYPE_POINTER, 0, &[Lit(5), Id(1)]),
+        (op::TYPE_POINTER, 0, &[Lit(12), Id(3)]),
+        (op::TYPE_POINTER, 0, &[Lit(12), Id(5)]),
+        (op::UNDEF, 3, &[]),
+        (op::UNDEF, 5, &[]),
+        (op::UNDEF, 6, &[]),
+        (op::UNDEF, 7, &[]),
+        (op::VARIABLE, 5, &[Lit(12)]),
+        (op::VARIABLE, 8, &[Lit(2)]),
+        (op::VARIABLE, 1, &[Lit(12)]),
+        (op::VARIABLE, 8, &[Lit(12), Id(10)]),
+        (op::VARIABLE, 9, &[Lit(6), Id(1)]),
     ];
     for (op, ty, words) in broken {
         let insts = with_one(alloc, op, ty, words)?;
@@ -201,14 +211,29 @@ fn with_blocks(
     words: &[Word],
 ) -> Result<Vec<Inst>, NoMemory> {
     let decorations: [(u16, &[Word]); 8] = [
-        (DECORATE, &[Id(4), Lit(BLOCK)]),
-        (MEMBER_DECORATE, &[Id(4), Lit(0), Lit(OFFSET), Lit(0)]),
-        (MEMBER_DECORATE, &[Id(4), Lit(1), Lit(OFFSET), Lit(16)]),
-        (DECORATE, &[Id(3), Lit(ARRAY_STRIDE), Lit(16)]),
-        (DECORATE, &[Id(6), Lit(DESCRIPTOR_SET), Lit(0)]),
-        (DECORATE, &[Id(6), Lit(BINDING), Lit(0)]),
-        (DECORATE, &[Id(7), Lit(DESCRIPTOR_SET), Lit(0)]),
-        (DECORATE, &[Id(7), Lit(BINDING), Lit(1)]),
+        (op::DECORATE, &[Id(4), Lit(decoration::BLOCK)]),
+        (
+            op::MEMBER_DECORATE,
+            &[Id(4), Lit(0), Lit(decoration::OFFSET), Lit(0)],
+        ),
+        (
+            op::MEMBER_DECORATE,
+            &[Id(4), Lit(1), Lit(decoration::OFFSET), Lit(16)],
+        ),
+        (
+            op::DECORATE,
+            &[Id(3), Lit(decoration::ARRAY_STRIDE), Lit(16)],
+        ),
+        (
+            op::DECORATE,
+            &[Id(6), Lit(decoration::DESCRIPTOR_SET), Lit(0)],
+        ),
+        (op::DECORATE, &[Id(6), Lit(decoration::BINDING), Lit(0)]),
+        (
+            op::DECORATE,
+            &[Id(7), Lit(decoration::DESCRIPTOR_SET), Lit(0)],
+        ),
+        (op::DECORATE, &[Id(7), Lit(decoration::BINDING), Lit(1)]),
     ];
     let mut insts = Vec::new(alloc);
     for (n, (op, given)) in decorations.iter().enumerate() {
@@ -221,13 +246,13 @@ fn with_blocks(
             if n == changed { words } else { *given },
         )?;
     }
-    add(alloc, &mut insts, TYPE_INT, 0, 1, &[Lit(32), Lit(0)])?;
-    add(alloc, &mut insts, TYPE_VECTOR, 0, 2, &[Id(1), Lit(2)])?;
+    add(alloc, &mut insts, op::TYPE_INT, 0, 1, &[Lit(32), Lit(0)])?;
+    add(alloc, &mut insts, op::TYPE_VECTOR, 0, 2, &[Id(1), Lit(2)])?;
     add(alloc, &mut insts, array, 0, 3, &[Id(2), Id(9)])?;
-    add(alloc, &mut insts, TYPE_STRUCT, 0, 4, &[Id(1), Id(3)])?;
-    add(alloc, &mut insts, TYPE_POINTER, 0, 5, &[Lit(12), Id(4)])?;
-    add(alloc, &mut insts, VARIABLE, 5, 6, &[Lit(12)])?;
-    add(alloc, &mut insts, VARIABLE, 5, 7, &[Lit(12)])?;
+    add(alloc, &mut insts, op::TYPE_STRUCT, 0, 4, &[Id(1), Id(3)])?;
+    add(alloc, &mut insts, op::TYPE_POINTER, 0, 5, &[Lit(12), Id(4)])?;
+    add(alloc, &mut insts, op::VARIABLE, 5, 6, &[Lit(12)])?;
+    add(alloc, &mut insts, op::VARIABLE, 5, 7, &[Lit(12)])?;
     Ok(insts)
 }
 
@@ -236,36 +261,86 @@ fn each_rule_of_layout_broken_once(rt: HostRuntime) -> Result<(), Fail> {
     let alloc = rt.alloc();
     // which array, which decoration is changed, to what, and the word that is refused
     let rows: [(u16, usize, &[Word], Option<u32>); 17] = [
-        (TYPE_ARRAY, 8, &[], None),
-        (TYPE_ARRAY, 2, &[Id(4), Lit(1), Lit(OFFSET), Lit(4)], None),
-        (TYPE_ARRAY, 3, &[Id(3), Lit(ARRAY_STRIDE), Lit(8)], None),
-        (TYPE_ARRAY, 6, &[Id(7), Lit(DESCRIPTOR_SET), Lit(1)], None),
-        (TYPE_ARRAY, 1, &[Id(4), Lit(0), Lit(24), Lit(0)], Some(13)),
+        (op::TYPE_ARRAY, 8, &[], None),
         (
-            TYPE_ARRAY,
+            op::TYPE_ARRAY,
             2,
-            &[Id(4), Lit(1), Lit(OFFSET), Lit(3)],
+            &[Id(4), Lit(1), Lit(decoration::OFFSET), Lit(4)],
+            None,
+        ),
+        (
+            op::TYPE_ARRAY,
+            3,
+            &[Id(3), Lit(decoration::ARRAY_STRIDE), Lit(8)],
+            None,
+        ),
+        (
+            op::TYPE_ARRAY,
+            6,
+            &[Id(7), Lit(decoration::DESCRIPTOR_SET), Lit(1)],
+            None,
+        ),
+        (
+            op::TYPE_ARRAY,
+            1,
+            &[Id(4), Lit(0), Lit(24), Lit(0)],
             Some(13),
         ),
         (
-            TYPE_ARRAY,
-            1,
-            &[Id(4), Lit(0), Lit(OFFSET), Lit(63)],
+            op::TYPE_ARRAY,
+            2,
+            &[Id(4), Lit(1), Lit(decoration::OFFSET), Lit(3)],
             Some(13),
         ),
-        (TYPE_ARRAY, 1, &[Id(4), Lit(0), Lit(OFFSET), Lit(64)], None),
-        (TYPE_ARRAY, 3, &[Id(3), Lit(ARRAY_STRIDE), Lit(7)], Some(13)),
-        (TYPE_ARRAY, 3, &[Id(3), Lit(ARRAY_STRIDE), Lit(0)], Some(13)),
-        (TYPE_ARRAY, 3, &[Id(3), Lit(24)], Some(13)),
-        (TYPE_ARRAY, 5, &[Id(6), Lit(24)], Some(13)),
-        (TYPE_ARRAY, 7, &[Id(7), Lit(BINDING), Lit(0)], Some(14)),
-        (TYPE_ARRAY, 6, &[Id(7), Lit(BUFFER_BLOCK)], Some(6)),
-        (TYPE_ARRAY, 6, &[Id(70), Lit(BUFFER_BLOCK)], Some(14)),
-        (TYPE_RUNTIME_ARRAY, 8, &[], None),
         (
-            TYPE_RUNTIME_ARRAY,
+            op::TYPE_ARRAY,
             1,
-            &[Id(4), Lit(0), Lit(OFFSET), Lit(64)],
+            &[Id(4), Lit(0), Lit(decoration::OFFSET), Lit(63)],
+            Some(13),
+        ),
+        (
+            op::TYPE_ARRAY,
+            1,
+            &[Id(4), Lit(0), Lit(decoration::OFFSET), Lit(64)],
+            None,
+        ),
+        (
+            op::TYPE_ARRAY,
+            3,
+            &[Id(3), Lit(decoration::ARRAY_STRIDE), Lit(7)],
+            Some(13),
+        ),
+        (
+            op::TYPE_ARRAY,
+            3,
+            &[Id(3), Lit(decoration::ARRAY_STRIDE), Lit(0)],
+            Some(13),
+        ),
+        (op::TYPE_ARRAY, 3, &[Id(3), Lit(24)], Some(13)),
+        (op::TYPE_ARRAY, 5, &[Id(6), Lit(24)], Some(13)),
+        (
+            op::TYPE_ARRAY,
+            7,
+            &[Id(7), Lit(decoration::BINDING), Lit(0)],
+            Some(14),
+        ),
+        (
+            op::TYPE_ARRAY,
+            6,
+            &[Id(7), Lit(decoration::BUFFER_BLOCK)],
+            Some(6),
+        ),
+        (
+            op::TYPE_ARRAY,
+            6,
+            &[Id(70), Lit(decoration::BUFFER_BLOCK)],
+            Some(14),
+        ),
+        (op::TYPE_RUNTIME_ARRAY, 8, &[], None),
+        (
+            op::TYPE_RUNTIME_ARRAY,
+            1,
+            &[Id(4), Lit(0), Lit(decoration::OFFSET), Lit(64)],
             Some(13),
         ),
     ];

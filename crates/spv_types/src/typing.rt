@@ -5,12 +5,9 @@ ghost use Rattle.spv_types.specs.Typing.{defined_form, members_from};
 
 use crate::facts::Facts;
 use crate::forms::{Form, Member};
-use crate::opcodes::{
-    ARRAY_STRIDE, BLOCK, TYPE_ARRAY, TYPE_BOOL, TYPE_FUNCTION, TYPE_INT, TYPE_POINTER,
-    TYPE_RUNTIME_ARRAY, TYPE_STRUCT, TYPE_VECTOR, TYPE_VOID,
-};
 use crate::operands::{id_at, id_of, lit_at};
 use spv_base::{Inst, Items, NoMemory, Operand};
+use spv_ops::{decoration, op};
 use std::alloc::Global;
 
 /// The form that an instruction defines, where it is a type instruction.
@@ -19,34 +16,34 @@ pub fn defined_form(alloc: Global, facts: &Facts, inst: &Inst) -> Result<Option<
     ensures { IfOk result (λ form. form ≡ defined_form facts.now inst.now) }
 {
     let form = match inst.op {
-        TYPE_VOID => Form::Void,
-        TYPE_BOOL => Form::Bool,
-        TYPE_INT => Form::Int {
+        op::TYPE_VOID => Form::Void,
+        op::TYPE_BOOL => Form::Bool,
+        op::TYPE_INT => Form::Int {
             width: lit_at(inst, 0),
             sign: lit_at(inst, 1),
         },
-        TYPE_VECTOR => Form::Vector {
+        op::TYPE_VECTOR => Form::Vector {
             component: id_at(inst, 0),
             count: lit_at(inst, 1),
         },
-        TYPE_ARRAY => Form::Array {
+        op::TYPE_ARRAY => Form::Array {
             element: id_at(inst, 0),
             length: None,
-            stride: facts.decoration(inst.id, ARRAY_STRIDE),
+            stride: facts.decoration(inst.id, decoration::ARRAY_STRIDE),
         },
-        TYPE_RUNTIME_ARRAY => Form::Runtime {
+        op::TYPE_RUNTIME_ARRAY => Form::Runtime {
             element: id_at(inst, 0),
-            stride: facts.decoration(inst.id, ARRAY_STRIDE),
+            stride: facts.decoration(inst.id, decoration::ARRAY_STRIDE),
         },
-        TYPE_STRUCT => Form::Struct {
+        op::TYPE_STRUCT => Form::Struct {
             members: members(alloc, facts, inst.id, inst.operands.as_slice())?,
-            block: facts.decoration(inst.id, BLOCK).is_some(),
+            block: facts.decoration(inst.id, decoration::BLOCK).is_some(),
         },
-        TYPE_POINTER => Form::Pointer {
+        op::TYPE_POINTER => Form::Pointer {
             class: lit_at(inst, 0),
             target: id_at(inst, 1),
         },
-        TYPE_FUNCTION => Form::Function {
+        op::TYPE_FUNCTION => Form::Function {
             returns: id_at(inst, 0),
             parameters: parameters(alloc, inst)?,
         },
