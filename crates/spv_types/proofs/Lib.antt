@@ -23,3 +23,4 @@ pub mod RowChanges
 pub mod RowShapes
 pub mod RowValues
 pub mod CountedLemmas
+pub mod SpanLemmas

@@ -1,6 +1,6 @@
 -- How a block is laid out: the bytes of its types, and the rules of offsets and strides (SPIR-V 1.6 sections 2.16.2 and
 -- 3.20, and this project's profile). Sizes stop at the greatest number of 64 bits, which no type within the limits reaches.
-use Rattle.std.specs.Prelude.{ℕ, ◌+◌, ◌*◌, ◌/◌, ◌==◌, ◌&&◌, ◌||◌, not, nat_le, max, Bool, true, false, map, List, [], ◌∷◌, length, Option, Some, None, unwrap_or}
+use Rattle.std.specs.Prelude.{◌≡◌, ℕ, ◌<◌, ◌≤◌, slice_index_or, ◌+◌, ◌*◌, ◌/◌, ◌==◌, ◌&&◌, ◌||◌, not, nat_le, max, Bool, true, false, map, List, [], ◌∷◌, length, Option, Some, None, unwrap_or}
 use Rattle.std.specs.List.{list_all}
 use Rattle.std.specs.Option.{is_some}
 use Rattle.spv_types.specs.declared.forms.Form.{Form}
@@ -54,6 +54,14 @@ ends_before s t = not s.is_open && nat_le s.end t.start
 -- two spans without a byte in common
 abbrev pub are_apart : Span → Span → Bool
 are_apart s t = (is_empty s || is_empty t) || (ends_before s t || ends_before t s)
+
+-- a span that does not end before it starts
+abbrev pub IsForward : Span → Type 0
+IsForward s = s.start ≤ s.end
+
+-- each of some spans ends before the next one
+abbrev pub EachEndsBeforeNext : List Span → Type 0
+EachEndsBeforeNext ss = (k : ℕ) (d : Span) → k + 1 < length ss → ends_before (slice_index_or ss k d) (slice_index_or ss (k + 1) d) ≡ true
 
 -- no two of some spans have a byte in common
 unfoldable pub none_overlap : List Span → Bool

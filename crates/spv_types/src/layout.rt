@@ -1,7 +1,8 @@
 //! How blocks are laid out.
 ghost use Rattle.std.specs.Prelude.{◌≡◌, ◌<◌, ◌∷◌, [], ◌++◌, ◌&&◌, map, length, unwrap_or, IfOk};
+ghost use Rattle.std.specs.List.{All};
 ghost use Rattle.std.specs.Option.{is_some};
-ghost use Rattle.spv_types.specs.Layout.{greatest_end, is_laid, keeps_stride, laid_among, laid_step, members_laid, none_overlap, size_among, size_of, size_step, span_of};
+ghost use Rattle.spv_types.specs.Layout.{IsForward, greatest_end, is_laid, keeps_stride, laid_among, laid_step, members_laid, none_overlap, size_among, size_of, size_step, span_of};
 ghost use Rattle.spv_types.specs.Measured.{AreLaid, AreSizes};
 
 use crate::forms::{Form, Member};
@@ -118,7 +119,8 @@ impl TypeTable {
     fn spans(&self, alloc: Global, sizes: &[u64], members: &[Member]) -> Result<Vec<Span>, NoMemory>
         requires sizes { AreSizes self.now sizes.now }
         requires all { length sizes.now ≡ length self.now }
-        ensures { IfOk result (λ spans. spans.items ≡ map (span_of self.now) members.now) }
+        ensures spans { IfOk result (λ spans. spans.items ≡ map (span_of self.now) members.now) }
+        ensures forward { IfOk result (λ spans. All IsForward spans.items) }
     {
         let mut spans = Vec::with_capacity(alloc, members.len())?;
         for member in members {
@@ -171,8 +173,7 @@ impl TypeTable {
         if !self.members_laid(laid, members) {
             return Ok(false);
         }
-        let spans = self.spans(alloc, sizes, members)?;
-        Ok(none_overlap(spans.as_slice()))
+        Ok(none_overlap(self.spans(alloc, sizes, members)?))
     }
 
     /// Whether elements are laid out a stride apart.

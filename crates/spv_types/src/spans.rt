@@ -1,7 +1,7 @@
 //! The bytes that members take, and whether they overlap.
-ghost use Rattle.std.specs.Prelude.{◌≡◌};
-ghost use Rattle.std.specs.List.{list_all};
-ghost use Rattle.spv_types.specs.Layout.{are_apart, ends_before, is_empty, none_overlap};
+ghost use Rattle.std.specs.Prelude.{◌≡◌, ◌↔◌, IsTrue};
+ghost use Rattle.std.specs.List.{All};
+ghost use Rattle.spv_types.specs.Layout.{EachEndsBeforeNext, IsForward, ends_before, is_empty, none_overlap};
 
 /// The bytes of a member in a block, from `start` to before `end`, or without an end.
 #[derive(Clone, Copy, Debug, PartialEq, Eq)]
@@ -23,30 +23,27 @@ impl Span {
     {
         !self.is_open && self.end <= other.start
     }
-
-    /// Whether two spans have no byte in common.
-    fn is_apart(&self, other: &Span) -> bool
-        ensures { result ≡ are_apart self.now other.now }
-    {
-        self.is_empty() || other.is_empty() || self.ends_before(other) || other.ends_before(self)
-    }
 }
 
-/// Whether a span has no byte in common with any of others.
-fn is_apart_from_all(span: &Span, others: &[Span]) -> bool
-    ensures { result ≡ list_all (are_apart span.now) others.now }
+/// Whether each of some spans ends before the next one.
+fn each_ends_before_next(spans: &[Span]) -> bool
+    ensures { IsTrue result ↔ EachEndsBeforeNext spans.now }
 {
-    others.iter().all(|other| span.is_apart(other))
-}
-
-/// Whether no two of some spans have a byte in common.
-pub fn none_overlap(spans: &[Span]) -> bool
-    ensures { result ≡ none_overlap spans.now }
-{
-    for (n, span) in spans.iter().enumerate() {
-        if !is_apart_from_all(span, &spans[n + 1..]) {
+    for n in 1..spans.len() {
+        if !spans[n - 1].ends_before(&spans[n]) {
             return false;
         }
     }
     true
+}
+
+/// Whether no two of some spans have a byte in common: in the order of their starts, each that is not empty ends before the
+/// next one.
+pub fn none_overlap(mut spans: Vec<Span>) -> bool
+    requires { All IsForward spans.items }
+    ensures { result ≡ none_overlap spans.items }
+{
+    spans.retain(|span| !span.is_empty());
+    spans.sort_unstable_by_key(|span| span.start);
+    each_ends_before_next(spans.as_slice())
 }

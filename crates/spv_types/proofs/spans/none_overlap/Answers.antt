@@ -1,17 +1,14 @@
-use Rattle.std.proofs.Common.{◌∙◌, drop_of_length-le, sym, ◌+◌}
-use Rattle.spv_types.proofs.RuleLemmas.{member_broken, member_kept}
-use Rattle.spv_types.proofs.LayoutLemmas.{overlap_at, overlap_none, tail_is}
+use Rattle.std.proofs.Common.{rules}
+use Rattle.std.specs.Prelude.{not}
+use Rattle.std.proofs.lemmas.List.Elements.{filter_from_retain}
+use Rattle.std.proofs.lemmas.List.Sorted.{IsNonDecreasingBy-from_sort_by_key}
+use Rattle.spv_types.specs.declared.spans.Span.{Span}
+use Rattle.spv_types.specs.Layout.{is_empty}
+use Rattle.spv_types.proofs.SpanLemmas.{overlap_by_order}
 use Rattle.spv_types.proofs.spans.none_overlap.Goals as goal
 
-pub returns-then-not-is_apart_from_all : goal.returns-then-not-is_apart_from_all
-returns-then-not-is_apart_from_all c =
-    let apart = rw (tail_is c.args.spans.now (c.loop-n.n + 1)) at c.if-not-is_apart_from_all.ensures in
-    sym (c.loop-n.invariant ∙ overlap_at c.args.spans.now c.loop-n.n _ c.loop-n-test.true ∙ member_broken _ _ apart)
-
-pub loop-n-preserved : goal.loop-n-preserved
-loop-n-preserved c =
-    let apart = rw (tail_is c.args.spans.now (c.loop-n.n + 1)) at c.if-not-is_apart_from_all.ensures in
-    c.loop-n.invariant ∙ overlap_at c.args.spans.now c.loop-n.n _ c.loop-n-test.true ∙ member_kept _ _ apart
-
 pub returns : goal.returns
-returns c = overlap_none ∙ sym (rw (drop_of_length-le c.args.spans.now c.loop-n-test.false) at c.loop-n.invariant)
+returns c =
+    let kept = filter_from_retain _ (λ (s : Span). not (is_empty s)) (λ p x b q r. search rules) _ c.args.spans.items c.retain.new.self.items c.retain.ensures.filtered in
+    let up = IsNonDecreasingBy-from_sort_by_key (λ (s : Span). s.start) c.sort_unstable_by_key.new.self.items c.sort_unstable_by_key.ensures.sorted (λ a r q k. search rules) in
+    overlap_by_order c.args.spans.items c.retain.new.self.items c.sort_unstable_by_key.new.self.items c.each_ends_before_next.result c.requires kept c.sort_unstable_by_key.ensures.permutation up (λ e. rw c.as_slice.ensures.value at (c.each_ends_before_next.ensures.0 e)) (λ h. c.each_ends_before_next.ensures.1 (rw c.as_slice.ensures.value h))

@@ -1,7 +1,11 @@
 use Rattle.std.proofs.Common.{◌≡◌, map, take}
-use Rattle.spv_types.specs.Layout.{span_of}
+use Rattle.std.specs.List.{All}
+use Rattle.spv_types.specs.Layout.{IsForward, span_of}
 use Rattle.spv_types.proofs.table.TypeTable.spans.Given as goal
 
 -- the spans so far
 abbrev pub invariant-loop-member : goal.invariant-loop-member
-invariant-loop-member l = l.spans.items ≡ map (span_of l.self) (take l.member-index l.members)
+invariant-loop-member l = record {
+  spans : l.spans.items ≡ map (span_of l.self) (take l.member-index l.members);
+  forward : All IsForward l.spans.items;
+}
