@@ -19,7 +19,7 @@ use Rattle.spv_ops.specs.Opcodes.{Row}
 use Rattle.spv_ops.specs.Forms.{row_of}
 use Rattle.spv_ops.specs.Steps.{◌>>=◌}
 use Rattle.spv_ops.specs.Reading.{head_at, operands_of, inst_by, inst_in, inst_of, insts_of, or_wrong_form, unknown_opcode, wrong_form}
-use Rattle.spv_ops.specs.Encoding.{words_of_head, words_of_operands, words_after_first, raw_of, words_of_raw, HasHead, HasNoZero, HasBytes, IsInst, IsRefused}
+use Rattle.spv_ops.specs.Encoding.{words_of_head, words_of_operands, words_after_first, raw_of, words_of_raw, HasHead, HasNoZero, HasBytes, IsFormed, IsInst, IsRefused}
 use Rattle.spv_ops.proofs.StringLaws.{AreWords, IsText}
 use Rattle.spv_ops.proofs.OperandLaws.{AreSound, bind_ok, operands_take, operands_again}
 
@@ -148,6 +148,18 @@ pub inst_takes : (raw : RawInst) (inst : Inst) → AreWords raw.rest → inst_of
 unfolding inst_of
 inst_takes raw inst fits e = in_takes (row_of raw.op) raw inst refl fits e
 
+-- what is read by a form has it
+pub by_formed : (raw : RawInst) (row : Row) (inst : Inst) → row_of raw.op ≡ Some row → AreWords raw.rest → inst_by row raw ≡ Ok inst → IsFormed inst
+unfolding inst_by
+by_formed raw row inst opcode fits e =
+    let a = bind_ok (head_at row.2 raw.rest) (λ h. operands_of row.3 row.4 h.2 >>= λ operands. Ok (made raw h.0 h.1 operands)) inst e in
+    let b = bind_ok (operands_of row.3 row.4 a.0.2) (λ operands. Ok (made raw a.0.0 a.0.1 operands)) inst a.2 in
+    let h = head_takes row.2 raw.rest a.0 fits a.1 in
+    let o = operands_take row.3 row.4 a.0.2 b.0 h.more_fit b.1 in
+    let texts = sound_parts b.0 o.sound in
+    subst IsFormed (inst_is (made raw a.0.0 a.0.1 b.0) inst b.2)
+    (record { row = row; opcode = opcode; head = h.has_head; operands = o.has_form; texts = texts.0 })
+
 by_again : (raw : RawInst) (row : Row) (inst : Inst) → raw.word ≡ inst.word → raw.op ≡ inst.op → raw.rest ≡ words_of_head row.2 inst.ty inst.id ++ words_of_operands inst.operands
     → HasHead row.2 inst.ty inst.id → operands_of row.3 row.4 (words_of_operands inst.operands) ≡ Ok inst.operands → inst_by row raw ≡ Ok inst
 unfolding inst_by
@@ -164,6 +176,23 @@ inst_again inst is bytes =
     let read = operands_again row.3 row.4 inst.operands is.operands (sound_both inst.operands is.texts bytes) in
     let one = by_again raw row inst refl refl spelled is.head read in
     ap (λ (o : Option Row). inst_in o raw) is.opcode ∙ rw (lt-ltb (length raw.rest) 65535 short, one) refl
+
+pub raw_op : (inst : Inst) → (raw_of inst).op ≡ inst.op
+unfolding raw_of
+raw_op inst = refl
+
+-- the words of an instruction of a form are read by that form as that instruction
+pub formed_again : (row : Row) (inst : Inst) → row_of inst.op ≡ Some row → IsFormed inst → AllByRecursion HasBytes inst.operands → inst_by row (raw_of inst) ≡ Ok inst
+unfolding raw_of
+formed_again row inst opcode is bytes =
+    let same : is.row ≡ row = row_is is.row row (sym is.opcode ∙ opcode) in
+    let raw : RawInst = raw_of inst in
+    let spelled : raw.rest ≡ words_of_head is.row.2 inst.ty inst.id ++ words_of_operands inst.operands = ap (λ (o : Option Row). words_after_first o inst) is.opcode in
+    let read = operands_again is.row.3 is.row.4 inst.operands is.operands (sound_both inst.operands is.texts bytes) in
+    subst (λ (r : Row). inst_by r raw ≡ Ok inst) same (by_again raw is.row inst refl refl spelled is.head read)
+  where
+    row_is : (x y : Row) → Path (Option Row) (Some x) (Some y) → x ≡ y
+    row_is x y e = cc
 
 -- ---- what a call answers
 

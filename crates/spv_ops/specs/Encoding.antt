@@ -101,6 +101,14 @@ HasBytes (Id id) = Unit {0}
 HasBytes (Lit literal) = Unit {0}
 HasBytes (Text bytes) = AllByRecursion (λ byte. byte < 256) bytes
 
+-- an instruction of its opcode's form, however many words it would have
+pub record IsFormed (inst : Inst) : Type 0 where
+  pub row : Row
+  pub opcode : row_of inst.op ≡ Some row
+  pub head : HasHead row.2 inst.ty inst.id
+  pub operands : HasForm row.3 row.4 inst.operands
+  pub texts : AllByRecursion HasNoZero inst.operands
+
 -- an instruction that has words
 pub record IsInst (inst : Inst) : Type 0 where
   pub row : Row

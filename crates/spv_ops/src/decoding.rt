@@ -21,8 +21,9 @@ pub const WRONG_FORM: u8 = 7;
 /// An instruction has at most this many words, with its first (SPIR-V 1.6 section 2.3).
 pub const MOST_WORDS: usize = 65535;
 
+/// The instruction that words are by the form of an opcode.
 #[tactic(auto, unfolding(crate::specs::Reading::inst_by))]
-fn inst_by(
+pub fn inst_by(
     alloc: Global,
     opcode: Opcode,
     word: u32,

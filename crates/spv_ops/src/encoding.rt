@@ -1,15 +1,17 @@
 //! The words of an instruction.
-ghost use Rattle.std.specs.Prelude.{◌≡◌, [], ◌∷◌, ◌++◌, ◌<◌, length, Ok, IfOk, OnOk, IfSome, IfNone};
+ghost use Rattle.std.specs.Prelude.{◌≡◌, [], ◌∷◌, ◌++◌, ◌<◌, ◌↔◌, IsTrue, length, Some, Ok, IfOk, OnOk, IfSome, IfNone};
 ghost use Rattle.std.specs.List.{AllByRecursion};
+ghost use Rattle.spv_base.specs.declared.instructions.RawInst.{RawInst};
 ghost use Rattle.spv_ops.specs.Strings.{words_of_text};
 ghost use Rattle.spv_ops.specs.Reading.{inst_of};
 ghost use Rattle.spv_ops.specs.Forms.{row_of};
-ghost use Rattle.spv_ops.specs.Encoding.{head_of, words_of_head, words_of_operand, words_of_operands, HasBytes, IsInst, raw_of};
+ghost use Rattle.spv_ops.specs.Encoding.{head_of, words_of_head, words_of_operand, words_of_operands, HasBytes, IsFormed, IsInst, raw_of};
 
 use crate::comparing::is_same_inst;
-use crate::decoding::decode;
-use crate::forms::Head;
+use crate::decoding::{decode, inst_by};
+use crate::forms::{Head, Opcode};
 use crate::opcodes::opcode_of;
+use crate::reading::WrongForm;
 use spv_base::{Fail, Inst, NoMemory, Operand, RawInst, Words};
 use std::alloc::Global;
 
@@ -120,4 +122,37 @@ pub fn try_encode(alloc: Global, i: &Inst) -> Result<Option<RawInst>, NoMemory>
         return Ok(None);
     }
     Ok(Some(raw))
+}
+
+/// Whether the words of an instruction are read by the form of its opcode as that instruction.
+fn is_read_again(
+    alloc: Global,
+    opcode: Opcode,
+    word: u32,
+    op: u16,
+    words: &[u32],
+    i: &Inst,
+) -> Result<bool, NoMemory>
+    requires opcode { row_of i.now.op ≡ Some (opcode.0, opcode.1.now, opcode.2, opcode.3.now, opcode.4) }
+    requires words { record { word = word; op = op; rest = words.now } ≡ raw_of i.now }
+    requires bytes { AllByRecursion HasBytes i.now.operands }
+    ensures { IfOk result (λ formed. IsTrue formed ↔ IsFormed i.now) }
+{
+    match inst_by(alloc, opcode, word, op, words) {
+        Ok(read) => Ok(is_same_inst(&read, i)),
+        Err(Fail::Refused(WrongForm)) => Ok(false),
+        Err(Fail::NoMemory) => Err(NoMemory),
+    }
+}
+
+/// Whether the result type, the result id and the operands have the form of the opcode, and no text a zero byte, however
+/// many words the instruction would have (SPIR-V 1.6 section 2.3).
+pub fn is_formed(alloc: Global, i: &Inst) -> Result<bool, NoMemory>
+    ensures { IfOk result (λ formed. IsTrue formed ↔ IsFormed i.now) }
+{
+    let Some(opcode) = opcode_of(i.op) else {
+        return Ok(false);
+    };
+    let raw = raw_of(alloc, i)?;
+    is_read_again(alloc, opcode, raw.word, raw.op, raw.rest.as_slice(), i)
 }

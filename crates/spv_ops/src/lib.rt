@@ -24,7 +24,7 @@ pub mod storage_class;
 pub use decoding::{
     decode, decode_all, instructions_stand_at_their_words, one_list_reading, one_reading,
 };
-pub use encoding::{encode, try_encode};
+pub use encoding::{encode, is_formed, try_encode};
 pub use forms::{Head, Opcode, Part, Rest};
 pub use module::{DecodedModule, GREATEST_BOUND, WORD_LIMIT};
 pub use opcodes::{OPCODES, opcode_of};
