@@ -4,7 +4,7 @@ use Rattle.std.specs.Prelude.{◌+◌, ◌-◌, ◌||◌, Bool, length}
 use Rattle.spv_base.specs.declared.instructions.Inst.{Inst}
 use Rattle.spv_types.specs.Operands.{id_at, lit_at}
 use Rattle.spv_index.specs.Definitions.{type_of}
-use Rattle.spv_cfg.specs.Roles.{is_debug}
+use Rattle.spv_index.specs.Classes.{is_debug}
 use Rattle.spv_typing.specs.Fitting.{fits}
 use Rattle.spv_typing.specs.Glsl.{fits_glsl}
 use Rattle.spv_bodies.specs.Setting.{Known}

@@ -10,7 +10,7 @@ use Rattle.spv_types.specs.Facts.{is_constant}
 use Rattle.spv_types.specs.Operands.{id_at, id_of}
 use Rattle.spv_types.specs.Types.{Types, form_of}
 use Rattle.spv_index.specs.Definitions.{defining, type_of}
-use Rattle.spv_cfg.specs.Roles.{sets_of}
+use Rattle.spv_index.specs.Classes.{sets_of}
 use Rattle.spv_types.specs.declared.views.Pointed.{Pointed}
 use Rattle.spv_types.specs.Views.{is_integer, pointee}
 

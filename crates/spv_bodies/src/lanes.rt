@@ -1,11 +1,11 @@
 //! The rules of lane-wise operations, and of the instructions of an imported set.
 ghost use Rattle.std.specs.Prelude.{◌≡◌};
-ghost use Rattle.spv_cfg.specs.Roles.{is_debug};
+ghost use Rattle.spv_index.specs.Classes.{is_debug};
 ghost use Rattle.spv_bodies.specs.Lanes as spec;
 
 use crate::setting::Setting;
 use spv_base::Inst;
-use spv_cfg::roles::number_at;
+use spv_index::classes::number_at;
 use spv_types::lit_at;
 use spv_typing::{fits, fits_glsl};
 

@@ -4,7 +4,7 @@ ghost use Rattle.spv_types.specs.Types.{form_of};
 ghost use Rattle.spv_bodies.specs.Setting as spec;
 
 use spv_base::{Inst, NoMemory, Operand};
-use spv_cfg::roles::sets_of;
+use spv_index::classes::sets_of;
 use spv_consts::ConstTable;
 use spv_index::{Definitions as Index, Table};
 use spv_types::facts::is_constant;

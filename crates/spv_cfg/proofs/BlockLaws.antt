@@ -5,14 +5,13 @@ use Rattle.std.proofs.lemmas.List.Elements.{Contains-append_right}
 use Rattle.spv_base.specs.Entries.{reads}
 use Rattle.spv_base.specs.Order.{Ascend}
 use Rattle.spv_base.specs.declared.instructions.Inst.{Inst}
-use Rattle.spv_cfg.specs.declared.roles.Role.{Role}
-use Rattle.spv_cfg.specs.declared.roles.Role.TheVariants.{Label, Terminator, Executable}
-use Rattle.spv_cfg.specs.declared.sites.Place.TheVariants.{Body}
-use Rattle.spv_cfg.specs.declared.sites.Site.{Site}
-use Rattle.spv_cfg.specs.Roles.{is_executable, role_of}
-use Rattle.spv_cfg.specs.Sites.{Stand, stands, site_after, begins_block, in_block, in_function}
+use Rattle.spv_index.specs.declared.classes.Class.{Class}
+use Rattle.spv_index.specs.declared.classes.Class.TheVariants.{Label, Terminator, Executable}
+use Rattle.spv_index.specs.declared.positions.Stage.TheVariants.{Body}
+use Rattle.spv_index.specs.declared.positions.Position.{Position}
+use Rattle.spv_index.specs.Classes.{is_executable, is_label, is_terminator, class_of}
+use Rattle.spv_index.specs.Positions.{Stand, stands, position_after, begins_block, in_block, in_function}
 use Rattle.spv_cfg.specs.Executables.{executable_of, followed, following}
-use Rattle.spv_cfg.specs.Branches.{is_label, is_terminator}
 use Rattle.spv_cfg.specs.Flow.{Flow}
 use Rattle.spv_cfg.specs.Laws.{HasFirst, HasNext}
 use Rattle.spv_cfg.proofs.Walks.{stand}
@@ -41,26 +40,26 @@ one_further front here rest whole is = append_assoc front here rest ∙ is
 
 -- ---- blocks are entered
 
-entered_by_role : (r : Role) (f : Flow) (site : Site) (inst : Inst) (front es : List (ℕ × ℕ))
-    → (in_block (site_after site r inst).place ≡ true → Led (site_after site r inst).label es)
-    → front ++ (executable_of (record { site = site; role = r; inst = inst }) ++ es) ≡ f.blocks
-    → (is_label r && in_function site.place) ≡ true → HasFirst f inst.id
-entered_by_role Label f site inst front es led is here = first_among f front es inst.id (begun (in_function site.place) here led) is
+entered_by_class : (r : Class) (f : Flow) (position : Position) (inst : Inst) (front es : List (ℕ × ℕ))
+    → (in_block (position_after position r inst).stage ≡ true → Led (position_after position r inst).label es)
+    → front ++ (executable_of (record { position = position; class = r; inst = inst }) ++ es) ≡ f.blocks
+    → (is_label r && in_function position.stage) ≡ true → HasFirst f inst.id
+entered_by_class Label f position inst front es led is here = first_among f front es inst.id (begun (in_function position.stage) here led) is
   where
-    begun : (b : Bool) → b ≡ true → (in_block (cond b (begins_block site inst) site).place ≡ true → Led (cond b (begins_block site inst) site).label es) → Led inst.id es
+    begun : (b : Bool) → b ≡ true → (in_block (cond b (begins_block position inst) position).stage ≡ true → Led (cond b (begins_block position inst) position).label es) → Led inst.id es
     begun true e behind = behind refl
     begun false e behind = absurd (cc)
-entered_by_role other f site inst front es led is here = absurd (cc)
+entered_by_class other f position inst front es led is here = absurd (cc)
 
-pub blocks_are_entered : (f : Flow) (sets : List (ℕ × Bool)) (site : Site) (insts : List Inst) (front : List (ℕ × ℕ)) → IsWhole sets site insts
-    → front ++ executables_from sets site insts ≡ f.blocks
-    → AllByRecursion (λ (s : Stand). (is_label s.role && in_function s.site.place) ≡ true → HasFirst f s.inst.id) (stands sets site insts)
-blocks_are_entered f sets site [] front whole is = tt
-blocks_are_entered f sets site (inst ∷ insts) front whole is =
-    let parts = whole_parts sets site inst insts whole in
-    let after : Site = site_after site (role_of sets inst) inst in
-    let here : List (ℕ × ℕ) = executable_of (stand sets site inst) in (
-      entered_by_role (role_of sets inst) f site inst front (executables_from sets after insts) (block_goes_on sets after insts parts.1) is,
+pub blocks_are_entered : (f : Flow) (sets : List (ℕ × Bool)) (position : Position) (insts : List Inst) (front : List (ℕ × ℕ)) → IsWhole sets position insts
+    → front ++ executables_from sets position insts ≡ f.blocks
+    → AllByRecursion (λ (s : Stand). (is_label s.class && in_function s.position.stage) ≡ true → HasFirst f s.inst.id) (stands sets position insts)
+blocks_are_entered f sets position [] front whole is = tt
+blocks_are_entered f sets position (inst ∷ insts) front whole is =
+    let parts = whole_parts sets position inst insts whole in
+    let after : Position = position_after position (class_of sets inst) inst in
+    let here : List (ℕ × ℕ) = executable_of (stand sets position inst) in (
+      entered_by_class (class_of sets inst) f position inst front (executables_from sets after insts) (block_goes_on sets after insts parts.1) is,
       blocks_are_entered f sets after insts (front ++ here) parts.1 (one_further front here (executables_from sets after insts) f.blocks is),
     )
 
@@ -79,9 +78,9 @@ before_both word [] ys one other = other
 before_both word (x ∷ xs) ys one other = (one.0, before_both word xs ys one.1 other)
 
 before_next : (s : Stand) → AreBefore (suc s.inst.word) (executable_of s)
-before_next s = by_test (is_executable s.role && in_block s.site.place)
+before_next s = by_test (is_executable s.class && in_block s.position.stage)
   where
-    by_test : (b : Bool) → AreBefore (suc s.inst.word) (cond b ((s.site.label, s.inst.word) ∷ []) [])
+    by_test : (b : Bool) → AreBefore (suc s.inst.word) (cond b ((s.position.label, s.inst.word) ∷ []) [])
     by_test true = let lt : s.inst.word < suc s.inst.word = omega arith in (lt, tt)
     by_test false = tt
 
@@ -93,10 +92,10 @@ followed_at : (front : List (ℕ × ℕ)) (label word : ℕ) (es : List (ℕ × 
 followed_at [] label word es before = rw (same_number word) refl
 followed_at (e ∷ front) label word es before = rw (earlier_differs word e.1 before.0) (followed_at front label word es before.1)
 
-next_among : (f : Flow) (s : Stand) (front es : List (ℕ × ℕ)) → f.nexts ≡ followed f.blocks → AreBefore s.inst.word front → Led s.site.label es
-    → front ++ (s.site.label, s.inst.word) ∷ es ≡ f.blocks → HasNext f s
+next_among : (f : Flow) (s : Stand) (front es : List (ℕ × ℕ)) → f.nexts ≡ followed f.blocks → AreBefore s.inst.word front → Led s.position.label es
+    → front ++ (s.position.label, s.inst.word) ∷ es ≡ f.blocks → HasNext f s
 next_among f s front es nexts before (w, more, es_are) is =
-    let label : ℕ = s.site.label in
+    let label : ℕ = s.position.label in
     let blocks : front ++ (label, s.inst.word) ∷ (label, w) ∷ more ≡ f.blocks = rw es_are at is in
     let read : reads s.inst.word (followed (front ++ (label, s.inst.word) ∷ (label, w) ∷ more)) ≡ Some (following label ((label, w) ∷ more))
     = followed_at front label s.inst.word ((label, w) ∷ more) before in
@@ -108,28 +107,28 @@ next_among f s front es nexts before (w, more, es_are) is =
       rw blocks at among,
     )
 
-next_by_role : (r : Role) (f : Flow) (site : Site) (inst : Inst) (front es : List (ℕ × ℕ)) → f.nexts ≡ followed f.blocks → AreBefore inst.word front
-    → (in_block (site_after site r inst).place ≡ true → Led (site_after site r inst).label es)
-    → front ++ (executable_of (record { site = site; role = r; inst = inst }) ++ es) ≡ f.blocks
-    → (is_executable r && in_block site.place) ≡ true → is_terminator r ≡ false → HasNext f (record { site = site; role = r; inst = inst })
-next_by_role Executable f site inst front es nexts before led is here goes_on =
-    let inside : in_block (cond (in_block site.place) Body site.place) ≡ true = stays_inside (in_block site.place) Body site.place refl here in
-    next_among f (record { site = site; role = Executable; inst = inst }) front es nexts before (led inside) (rw here at is)
-next_by_role Terminator f site inst front es nexts before led is here goes_on = absurd (cc)
-next_by_role other f site inst front es nexts before led is here goes_on = absurd (cc)
+next_by_class : (r : Class) (f : Flow) (position : Position) (inst : Inst) (front es : List (ℕ × ℕ)) → f.nexts ≡ followed f.blocks → AreBefore inst.word front
+    → (in_block (position_after position r inst).stage ≡ true → Led (position_after position r inst).label es)
+    → front ++ (executable_of (record { position = position; class = r; inst = inst }) ++ es) ≡ f.blocks
+    → (is_executable r && in_block position.stage) ≡ true → is_terminator r ≡ false → HasNext f (record { position = position; class = r; inst = inst })
+next_by_class Executable f position inst front es nexts before led is here goes_on =
+    let inside : in_block (cond (in_block position.stage) Body position.stage) ≡ true = stays_inside (in_block position.stage) Body position.stage refl here in
+    next_among f (record { position = position; class = Executable; inst = inst }) front es nexts before (led inside) (rw here at is)
+next_by_class Terminator f position inst front es nexts before led is here goes_on = absurd (cc)
+next_by_class other f position inst front es nexts before led is here goes_on = absurd (cc)
 
-pub blocks_go_on : (f : Flow) (sets : List (ℕ × Bool)) (site : Site) (from : ℕ) (insts : List Inst) (front : List (ℕ × ℕ)) → f.nexts ≡ followed f.blocks
-    → Ascend from insts → AreBefore from front → IsWhole sets site insts
-    → front ++ executables_from sets site insts ≡ f.blocks
-    → AllByRecursion (λ (s : Stand). (is_executable s.role && in_block s.site.place) ≡ true → is_terminator s.role ≡ false → HasNext f s) (stands sets site insts)
-blocks_go_on f sets site from [] front nexts ascend before whole is = tt
-blocks_go_on f sets site from (inst ∷ insts) front nexts ascend before whole is =
-    let parts = whole_parts sets site inst insts whole in
-    let after : Site = site_after site (role_of sets inst) inst in
-    let here : List (ℕ × ℕ) = executable_of (stand sets site inst) in
+pub blocks_go_on : (f : Flow) (sets : List (ℕ × Bool)) (position : Position) (from : ℕ) (insts : List Inst) (front : List (ℕ × ℕ)) → f.nexts ≡ followed f.blocks
+    → Ascend from insts → AreBefore from front → IsWhole sets position insts
+    → front ++ executables_from sets position insts ≡ f.blocks
+    → AllByRecursion (λ (s : Stand). (is_executable s.class && in_block s.position.stage) ≡ true → is_terminator s.class ≡ false → HasNext f s) (stands sets position insts)
+blocks_go_on f sets position from [] front nexts ascend before whole is = tt
+blocks_go_on f sets position from (inst ∷ insts) front nexts ascend before whole is =
+    let parts = whole_parts sets position inst insts whole in
+    let after : Position = position_after position (class_of sets inst) inst in
+    let here : List (ℕ × ℕ) = executable_of (stand sets position inst) in
     let le : from ≤ suc inst.word = omega (arith, ascend.0) in (
-      next_by_role (role_of sets inst) f site inst front (executables_from sets after insts) nexts (before_later from inst.word front ascend.0 before) (block_goes_on sets after insts parts.1) is,
+      next_by_class (class_of sets inst) f position inst front (executables_from sets after insts) nexts (before_later from inst.word front ascend.0 before) (block_goes_on sets after insts parts.1) is,
       blocks_go_on f sets after (suc inst.word) insts (front ++ here) nexts ascend.1
-          (before_both (suc inst.word) front here (before_later from (suc inst.word) front le before) (before_next (stand sets site inst)))
+          (before_both (suc inst.word) front here (before_later from (suc inst.word) front le before) (before_next (stand sets position inst)))
           parts.1 (one_further front here (executables_from sets after insts) f.blocks is),
     )

@@ -10,8 +10,8 @@ use Rattle.spv_cfg.proofs.Backwards.{drop_back}
 use Rattle.std.proofs.lemmas.List.Elements.{All-nil, All-append, All-head, All-tail}
 use Rattle.spv_base.specs.Entries.{reads}
 use Rattle.spv_cfg.specs.Calls.{most, longest, limit, lengths, numbered, call_between, call_of, depths, over, too_deep}
-use Rattle.spv_cfg.specs.Roles.{number_at}
-use Rattle.spv_cfg.specs.Sites.{Stand, in_function}
+use Rattle.spv_index.specs.Classes.{number_at}
+use Rattle.spv_index.specs.Positions.{Stand, in_function}
 
 pub longest-suc : (k : ℕ) (calls : List (ℕ × ℕ)) (f : ℕ) → longest (suc k) calls f ≡ suc (most (λ g. longest k calls g) f calls)
 unfolding longest
@@ -79,10 +79,10 @@ pub calls_within : (numbers : List (ℕ × ℕ)) (n : ℕ) → ((id : ℕ) → I
 calls_within numbers n small [] = All-nil (λ call. (call.0 < n) × (call.1 < n))
 calls_within numbers n small (s ∷ more) =
     let P : ℕ × ℕ → Type 0 = λ call. (call.0 < n) × (call.1 < n) in
-    let call = call_between-within n (reads s.site.function numbers) (reads (number_at s.inst 0) numbers) (small s.site.function) (small (number_at s.inst 0)) in
-    let between : List (ℕ × ℕ) = call_between (reads s.site.function numbers) (reads (number_at s.inst 0) numbers) in
+    let call = call_between-within n (reads s.position.function numbers) (reads (number_at s.inst 0) numbers) (small s.position.function) (small (number_at s.inst 0)) in
+    let between : List (ℕ × ℕ) = call_between (reads s.position.function numbers) (reads (number_at s.inst 0) numbers) in
     let here : Within n (call_of numbers s)
-    = elim (eqb s.inst.op 57 && in_function s.site.place) as (λ b. Within n (cond b between [])) [ true ↦ call | false ↦ All-nil P ] in
+    = elim (eqb s.inst.op 57 && in_function s.position.stage) as (λ b. Within n (cond b between [])) [ true ↦ call | false ↦ All-nil P ] in
     All-append P (call_of numbers s) (flat_map (call_of numbers) more) here (calls_within numbers n small more)
 
 -- ---- steps of the loops

@@ -3,42 +3,16 @@ use Rattle.std.specs.Prelude.{ℕ, Bool, true, false, not, List, [], ◌∷◌, 
 use Rattle.std.specs.List.{flat_map, list_any, list_all}
 use Rattle.spv_base.specs.Entries.{reads}
 use Rattle.spv_base.specs.declared.instructions.Inst.{Inst}
-use Rattle.spv_cfg.specs.declared.roles.Role.{Role}
-use Rattle.spv_cfg.specs.declared.roles.Role.TheVariants.{Function, Parameter, End, Label, Line, Phi, Variable, Terminator, Passed, Executable}
 use Rattle.spv_cfg.specs.declared.names.Home.{Home}
 use Rattle.spv_cfg.specs.declared.names.Names.{Names}
-use Rattle.spv_cfg.specs.Roles.{numbers_of, number_at, sets_of}
-use Rattle.spv_cfg.specs.Sites.{Stand, stands, outside, in_block, in_function, is_head}
-
-abbrev pub is_label : Role → Bool
-is_label Function = false
-is_label Parameter = false
-is_label End = false
-is_label Label = true
-is_label Line = false
-is_label Phi = false
-is_label Variable = false
-is_label Terminator = false
-is_label Passed = false
-is_label Executable = false
-
-abbrev pub is_terminator : Role → Bool
-is_terminator Function = false
-is_terminator Parameter = false
-is_terminator End = false
-is_terminator Label = false
-is_terminator Line = false
-is_terminator Phi = false
-is_terminator Variable = false
-is_terminator Terminator = true
-is_terminator Passed = false
-is_terminator Executable = false
+use Rattle.spv_index.specs.Classes.{is_label, is_terminator, numbers_of, number_at, sets_of}
+use Rattle.spv_index.specs.Positions.{Stand, stands, outside, in_block, in_function, is_head}
 
 -- the labels, each with its function and whether it is the first one there
 abbrev pub label_of : Stand → List (ℕ × Home)
 label_of s =
-    if is_label s.role && in_function s.site.place
-    then (s.inst.id, record { function = s.site.function; first = is_head s.site.place }) ∷ []
+    if is_label s.class && in_function s.position.stage
+    then (s.inst.id, record { function = s.position.function; first = is_head s.position.stage }) ∷ []
     else []
 
 abbrev pub labels_of : List (ℕ × Bool) → List Inst → List (ℕ × Home)
@@ -123,8 +97,8 @@ is_branch_right labels width function inst =
 
 abbrev pub branch_breach : Names → Stand → List ℕ
 branch_breach names s =
-    if (is_terminator s.role && in_block s.site.place)
-    && not (is_branch_right names.labels (selector_width names s.inst) s.site.function s.inst)
+    if (is_terminator s.class && in_block s.position.stage)
+    && not (is_branch_right names.labels (selector_width names s.inst) s.position.function s.inst)
     then s.inst.word ∷ [] else []
 
 abbrev pub branch_breaches : Names → List Inst → List ℕ

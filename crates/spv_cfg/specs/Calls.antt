@@ -3,8 +3,8 @@ use Rattle.std.specs.Prelude.{◌≡◌, ◌≤◌, length, ℕ, zero, suc, Bool
 use Rattle.std.specs.List.{flat_map, Contains}
 use Rattle.spv_base.specs.Entries.{reads}
 use Rattle.spv_base.specs.declared.instructions.Inst.{Inst}
-use Rattle.spv_cfg.specs.Roles.{number_at, sets_of}
-use Rattle.spv_cfg.specs.Sites.{Stand, stands, outside, in_function}
+use Rattle.spv_index.specs.Classes.{number_at, sets_of}
+use Rattle.spv_index.specs.Positions.{Stand, stands, outside, in_function}
 
 -- the functions: the id and the word of each OpFunction
 abbrev pub function_of : Inst → List (ℕ × ℕ)
@@ -26,8 +26,8 @@ call_between None callee = []
 -- the calls: the number of the function that an OpFunctionCall (57) stands in, and the number of the one that it names
 abbrev pub call_of : List (ℕ × ℕ) → Stand → List (ℕ × ℕ)
 call_of numbers s =
-    if (s.inst.op == 57) && in_function s.site.place
-    then call_between (reads s.site.function numbers) (reads (number_at s.inst 0) numbers)
+    if (s.inst.op == 57) && in_function s.position.stage
+    then call_between (reads s.position.function numbers) (reads (number_at s.inst 0) numbers)
     else []
 
 abbrev pub calls_in : List (ℕ × Bool) → List (ℕ × ℕ) → List Inst → List (ℕ × ℕ)

@@ -2,11 +2,11 @@
 use Rattle.std.specs.Prelude.{ℕ, Bool, List, [], ◌∷◌, ◌==◌, ◌&&◌, if◌then◌else◌, Option, Some, None}
 use Rattle.std.specs.List.{flat_map}
 use Rattle.spv_base.specs.declared.instructions.Inst.{Inst}
-use Rattle.spv_cfg.specs.Roles.{is_executable, sets_of}
-use Rattle.spv_cfg.specs.Sites.{Stand, stands, outside, in_block}
+use Rattle.spv_index.specs.Classes.{is_executable, sets_of}
+use Rattle.spv_index.specs.Positions.{Stand, stands, outside, in_block}
 
 abbrev pub executable_of : Stand → List (ℕ × ℕ)
-executable_of s = if is_executable s.role && in_block s.site.place then (s.site.label, s.inst.word) ∷ [] else []
+executable_of s = if is_executable s.class && in_block s.position.stage then (s.position.label, s.inst.word) ∷ [] else []
 
 -- the executables of all blocks in the order of the module: the label of the block, and the word of the executable
 abbrev pub executables_in : List (ℕ × Bool) → List Inst → List (ℕ × ℕ)

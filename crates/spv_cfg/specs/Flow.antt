@@ -2,7 +2,7 @@
 use Rattle.std.specs.Prelude.{ℕ, length, List, ◌++◌, Option, Some, None, Result, Ok, Err, nat_lt, if◌then◌else◌}
 use Rattle.spv_base.specs.declared.causes.Refusal.{Refusal}
 use Rattle.spv_base.specs.declared.instructions.Inst.{Inst}
-use Rattle.spv_cfg.specs.Roles.{sets_of}
+use Rattle.spv_index.specs.Classes.{sets_of}
 use Rattle.spv_cfg.specs.Executables.{executables_of, followed}
 use Rattle.spv_cfg.specs.Lowest.{lowest}
 use Rattle.spv_cfg.specs.Layout.{layout_breaches}

@@ -4,10 +4,10 @@ use Rattle.std.specs.List.{AllByRecursion, Contains}
 use Rattle.spv_base.specs.Entries.{reads}
 use Rattle.spv_base.specs.declared.instructions.Inst.{Inst}
 use Rattle.spv_cfg.specs.declared.names.Names.{Names}
-use Rattle.spv_cfg.specs.declared.roles.Role.TheVariants.{Function}
-use Rattle.spv_cfg.specs.Roles.{is_executable, sets_of}
-use Rattle.spv_cfg.specs.Sites.{Stand, in_block, in_function, stands, outside}
-use Rattle.spv_cfg.specs.Branches.{is_label, is_target, is_terminator, names_of, selector_width, targets_of}
+use Rattle.spv_index.specs.declared.classes.Class.TheVariants.{Function}
+use Rattle.spv_index.specs.Classes.{is_executable, is_label, is_terminator, sets_of}
+use Rattle.spv_index.specs.Positions.{Stand, in_block, in_function, stands, outside}
+use Rattle.spv_cfg.specs.Branches.{is_target, names_of, selector_width, targets_of}
 use Rattle.spv_cfg.specs.Flow.{Flow}
 
 -- each instruction of a module with where it stands
@@ -23,7 +23,7 @@ HasFirst f label = (w : ℕ) × FirstAt f label w
 
 -- a run goes on from here to an executable of the same block
 abbrev pub HasNext : Flow → Stand → Type 0
-HasNext f s = (w : ℕ) × (reads s.inst.word f.nexts ≡ Some (Some w)) × Contains f.blocks (s.site.label, w)
+HasNext f s = (w : ℕ) × (reads s.inst.word f.nexts ≡ Some (Some w)) × Contains f.blocks (s.position.label, w)
 
 -- a branch in this function may go to this label: it is one of the function, but not its first, and a run can begin there
 abbrev pub IsEntered : Names → Flow → ℕ → ℕ → Type 0
@@ -41,22 +41,22 @@ HasFirstBlock names f id = (label : ℕ) × Contains names.labels (label, record
 
 -- each block of a function has a first executable
 abbrev pub BlocksAreEntered : List Inst → Flow → Type 0
-BlocksAreEntered insts f = AllByRecursion (λ (s : Stand). (is_label s.role && in_function s.site.place) ≡ true → HasFirst f s.inst.id) (stood insts)
+BlocksAreEntered insts f = AllByRecursion (λ (s : Stand). (is_label s.class && in_function s.position.stage) ≡ true → HasFirst f s.inst.id) (stood insts)
 
 -- each executable of a block that is no terminator has a next one
 abbrev pub RunsGoOn : List Inst → Flow → Type 0
-RunsGoOn insts f = AllByRecursion (λ (s : Stand). (is_executable s.role && in_block s.site.place) ≡ true → is_terminator s.role ≡ false → HasNext f s) (stood insts)
+RunsGoOn insts f = AllByRecursion (λ (s : Stand). (is_executable s.class && in_block s.position.stage) ≡ true → is_terminator s.class ≡ false → HasNext f s) (stood insts)
 
 -- each label that a terminator may go to can be gone to
 abbrev pub TargetsAreEntered : List Inst → Flow → Type 0
 TargetsAreEntered insts f =
-    AllByRecursion (λ (s : Stand). (is_terminator s.role && in_block s.site.place) ≡ true
-    → AllByRecursion (IsEntered (names_of insts) f s.site.function) (targets_of (selector_width (names_of insts) s.inst) s.inst)) (stood insts)
+    AllByRecursion (λ (s : Stand). (is_terminator s.class && in_block s.position.stage) ≡ true
+    → AllByRecursion (IsEntered (names_of insts) f s.position.function) (targets_of (selector_width (names_of insts) s.inst) s.inst)) (stood insts)
 
 -- each function has a depth
 abbrev pub FunctionsHaveDepths : List Inst → Flow → Type 0
-FunctionsHaveDepths insts f = AllByRecursion (λ (s : Stand). s.role ≡ Function → HasDepth f s.inst.id) (stood insts)
+FunctionsHaveDepths insts f = AllByRecursion (λ (s : Stand). s.class ≡ Function → HasDepth f s.inst.id) (stood insts)
 
 -- each function has a block to begin with
 abbrev pub FunctionsAreEntered : List Inst → Flow → Type 0
-FunctionsAreEntered insts f = AllByRecursion (λ (s : Stand). s.role ≡ Function → HasFirstBlock (names_of insts) f s.inst.id) (stood insts)
+FunctionsAreEntered insts f = AllByRecursion (λ (s : Stand). s.class ≡ Function → HasFirstBlock (names_of insts) f s.inst.id) (stood insts)

@@ -1,5 +1,3 @@
-pub mod Roles
-pub mod Sites
 pub mod Executables
 pub mod Lowest
 pub mod Layout

@@ -1,27 +1,13 @@
 -- Breaches of phis (SPIR-V 1.6, OpPhi): one pair for each predecessor of the block.
-use Rattle.std.specs.Prelude.{ℕ, Bool, true, false, not, List, [], ◌∷◌, ◌++◌, ◌%◌, ◌==◌, ◌&&◌, if◌then◌else◌, Option, Some, None, map, length}
+use Rattle.std.specs.Prelude.{ℕ, Bool, false, not, List, [], ◌∷◌, ◌++◌, ◌%◌, ◌==◌, ◌&&◌, if◌then◌else◌, Option, Some, None, map, length}
 use Rattle.std.specs.List.{flat_map, filter, list_any, list_all, count_by}
 use Rattle.spv_base.specs.Entries.{reads}
 use Rattle.spv_base.specs.declared.instructions.Inst.{Inst}
-use Rattle.spv_cfg.specs.declared.roles.Role.{Role}
-use Rattle.spv_cfg.specs.declared.roles.Role.TheVariants.{Function, Parameter, End, Label, Line, Phi, Variable, Terminator, Passed, Executable}
 use Rattle.spv_cfg.specs.declared.names.Home.{Home}
 use Rattle.spv_cfg.specs.declared.names.Names.{Names}
-use Rattle.spv_cfg.specs.Roles.{numbers_of}
-use Rattle.spv_cfg.specs.Sites.{Stand, stands, outside, in_block}
-use Rattle.spv_cfg.specs.Branches.{is_terminator, targets_of, selector_width, cases_by_word, are_distinct}
-
-abbrev pub is_phi : Role → Bool
-is_phi Function = false
-is_phi Parameter = false
-is_phi End = false
-is_phi Label = false
-is_phi Line = false
-is_phi Phi = true
-is_phi Variable = false
-is_phi Terminator = false
-is_phi Passed = false
-is_phi Executable = false
+use Rattle.spv_index.specs.Classes.{is_phi, is_terminator, numbers_of}
+use Rattle.spv_index.specs.Positions.{Stand, stands, outside, in_block}
+use Rattle.spv_cfg.specs.Branches.{targets_of, selector_width, cases_by_word, are_distinct}
 
 -- each number once
 abbrev pub distinct : List ℕ → List ℕ
@@ -41,7 +27,7 @@ edges_by names function label inst =
 
 abbrev pub edges_from : Names → Stand → List (ℕ × ℕ)
 edges_from names s =
-    if is_terminator s.role && in_block s.site.place then edges_by names s.site.function s.site.label s.inst else []
+    if is_terminator s.class && in_block s.position.stage then edges_by names s.position.function s.position.label s.inst else []
 
 abbrev pub edges_of : Names → List Inst → List (ℕ × ℕ)
 edges_of names insts = flat_map (edges_from names) (stands names.sets outside insts)
@@ -64,7 +50,7 @@ is_phi_right edges label inst =
     && (list_all (is_predecessor edges label) (parents_of inst) && are_distinct (parents_of inst)))
 
 abbrev pub phi_breach : List (ℕ × ℕ) → Stand → List ℕ
-phi_breach edges s = if (is_phi s.role && in_block s.site.place) && not (is_phi_right edges s.site.label s.inst) then s.inst.word ∷ [] else []
+phi_breach edges s = if (is_phi s.class && in_block s.position.stage) && not (is_phi_right edges s.position.label s.inst) then s.inst.word ∷ [] else []
 
 abbrev pub phi_breaches : Names → List Inst → List ℕ
 phi_breaches names insts = flat_map (phi_breach (edges_of names insts)) (stands names.sets outside insts)

@@ -6,10 +6,10 @@ ghost use Rattle.spv_cfg.specs.Branches as spec;
 
 use crate::lowest::sooner;
 use crate::names::Names;
-use crate::roles::{Role, number_at, role_of};
-use crate::sites::Site;
 use crate::switches::{is_switch_right, switch_targets};
 use spv_base::{Inst, NoMemory};
+use spv_index::classes::{Class, class_of, number_at};
+use spv_index::positions::Position;
 use std::alloc::Global;
 
 /// The labels that a terminator may go to.
@@ -71,16 +71,16 @@ fn is_branch_right(
 fn breach_at(
     alloc: Global,
     names: &Names,
-    site: Site,
-    role: Role,
+    position: Position,
+    class: Class,
     inst: &Inst,
 ) -> Result<Option<u32>, NoMemory>
-    ensures { IfOk result (λ breach. breach ≡ lowest (spec.branch_breach names.now (record { site = site; role = role; inst = inst.now }))) }
+    ensures { IfOk result (λ breach. breach ≡ lowest (spec.branch_breach names.now (record { position = position; class = class; inst = inst.now }))) }
 {
-    if !(role.is_terminator() && site.place.in_block()) {
+    if !(class.is_terminator() && position.stage.in_block()) {
         return Ok(None);
     }
-    if is_branch_right(alloc, names, site.function, inst)? {
+    if is_branch_right(alloc, names, position.function, inst)? {
         Ok(None)
     } else {
         Ok(Some(inst.word))
@@ -92,12 +92,12 @@ pub fn branch_breach(alloc: Global, names: &Names, insts: &[Inst]) -> Result<Opt
     ensures { IfOk result (λ least. least ≡ lowest (spec.branch_breaches names.now insts.now)) }
 {
     let mut least = None;
-    let mut site = Site::outside();
+    let mut position = Position::outside();
     for inst in insts {
-        let role = role_of(&names.sets, inst);
-        let next = breach_at(alloc, names, site, role, inst)?;
+        let class = class_of(&names.sets, inst);
+        let next = breach_at(alloc, names, position, class, inst)?;
         least = sooner(least, next);
-        site = site.after(role, inst);
+        position = position.after(class, inst);
     }
     Ok(least)
 }

@@ -5,10 +5,10 @@ ghost use Rattle.spv_cfg.specs.Lowest.{lowest};
 ghost use Rattle.spv_cfg.specs.Calls as spec;
 
 use crate::lowest::sooner;
-use crate::roles::{number_at, role_of};
-use crate::sites::Site;
 use spv_base::{Inst, NoMemory};
 use spv_index::Table;
+use spv_index::classes::{class_of, number_at};
+use spv_index::positions::Position;
 use std::alloc::Global;
 
 /// The functions: the id and the word of each OpFunction.
@@ -45,16 +45,16 @@ pub fn calls_of(
     ensures { IfOk result (λ calls. calls.items ≡ spec.calls_in sets.now numbers.now insts.now) }
 {
     let mut calls = Vec::new(alloc);
-    let mut site = Site::outside();
+    let mut position = Position::outside();
     for inst in insts {
-        if inst.op == 57 && site.place.in_function() {
-            if let Some(caller) = numbers.get(site.function) {
+        if inst.op == 57 && position.stage.in_function() {
+            if let Some(caller) = numbers.get(position.function) {
                 if let Some(callee) = numbers.get(number_at(inst, 0)) {
                     calls.push((caller, callee))?;
                 }
             }
         }
-        site = site.after(role_of(sets, inst), inst);
+        position = position.after(class_of(sets, inst), inst);
     }
     Ok(calls)
 }

@@ -10,9 +10,9 @@ ghost use Rattle.spv_cfg.specs.Phis as spec;
 use crate::branches::targets_of;
 use crate::distinct::distinct;
 use crate::names::Names;
-use crate::roles::{Role, role_of};
-use crate::sites::Site;
 use spv_base::{Inst, NoMemory};
+use spv_index::classes::{Class, class_of};
+use spv_index::positions::Position;
 use std::alloc::Global;
 use std::collections::{BTreeMap, BTreeSet};
 use std::marker::Model;
@@ -148,14 +148,14 @@ fn edges_by(
 fn edges_from(
     alloc: Global,
     names: &Names,
-    site: Site,
-    role: Role,
+    position: Position,
+    class: Class,
     inst: &Inst,
 ) -> Result<Vec<(u32, u32)>, NoMemory>
-    ensures { IfOk result (λ edges. edges.items ≡ spec.edges_from names.now (record { site = site; role = role; inst = inst.now })) }
+    ensures { IfOk result (λ edges. edges.items ≡ spec.edges_from names.now (record { position = position; class = class; inst = inst.now })) }
 {
-    if role.is_terminator() && site.place.in_block() {
-        edges_by(alloc, names, site.function, site.label, inst)
+    if class.is_terminator() && position.stage.in_block() {
+        edges_by(alloc, names, position.function, position.label, inst)
     } else {
         Ok(Vec::new(alloc))
     }
@@ -166,12 +166,12 @@ pub fn edges_of(alloc: Global, names: &Names, insts: &[Inst]) -> Result<Edges, N
     ensures { IfOk result (λ edges. edges ≡ spec.edges_of names.now insts.now) }
 {
     let mut edges = Vec::new(alloc);
-    let mut site = Site::outside();
+    let mut position = Position::outside();
     for inst in insts {
-        let role = role_of(&names.sets, inst);
-        let more = edges_from(alloc, names, site, role, inst)?;
+        let class = class_of(&names.sets, inst);
+        let more = edges_from(alloc, names, position, class, inst)?;
         edges.extend_from_slice(more.as_slice())?;
-        site = site.after(role, inst);
+        position = position.after(class, inst);
     }
     Edges::new(alloc, edges)
 }

@@ -2,10 +2,10 @@
 ghost use Rattle.std.specs.Prelude.{◌≡◌, IfOk};
 ghost use Rattle.spv_cfg.specs.Executables as spec;
 
-use crate::roles::role_of;
-use crate::sites::Site;
 use spv_base::{Inst, NoMemory};
 use spv_index::Table;
+use spv_index::classes::class_of;
+use spv_index::positions::Position;
 use std::alloc::Global;
 
 /// The executables of all blocks: the label of the block, and the word of the executable.
@@ -17,13 +17,13 @@ pub fn executables_of(
     ensures { IfOk result (λ executables. executables.items ≡ spec.executables_in sets.now insts.now) }
 {
     let mut executables = Vec::new(alloc);
-    let mut site = Site::outside();
+    let mut position = Position::outside();
     for inst in insts {
-        let role = role_of(sets, inst);
-        if role.is_executable() && site.place.in_block() {
-            executables.push((site.label, inst.word))?;
+        let class = class_of(sets, inst);
+        if class.is_executable() && position.stage.in_block() {
+            executables.push((position.label, inst.word))?;
         }
-        site = site.after(role, inst);
+        position = position.after(class, inst);
     }
     Ok(executables)
 }

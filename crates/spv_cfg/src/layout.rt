@@ -4,69 +4,69 @@ ghost use Rattle.spv_cfg.specs.Lowest.{lowest};
 ghost use Rattle.spv_cfg.specs.Layout as spec;
 
 use crate::lowest::sooner;
-use crate::roles::{Role, role_of};
-use crate::sites::Site;
 use spv_base::Inst;
 use spv_index::Table;
+use spv_index::classes::{Class, class_of};
+use spv_index::positions::Position;
 
 /// The OpLabel of the block at hand, where it has no terminator and should have ended.
-fn unended(site: Site, role: Role) -> Option<u32>
-    ensures { result ≡ lowest (spec.unended site role) }
+fn unended(position: Position, class: Class) -> Option<u32>
+    ensures { result ≡ lowest (spec.unended position class) }
 {
-    if role.ends_block() && site.place.in_block() {
-        Some(site.block)
+    if class.ends_block() && position.stage.in_block() {
+        Some(position.block_word)
     } else {
         None
     }
 }
 
 /// Whether the function at hand lacks its OpFunctionEnd or a block.
-fn is_lacking(site: Site, role: Role) -> bool
-    ensures { result ≡ spec.is_lacking site role }
+fn is_lacking(position: Position, class: Class) -> bool
+    ensures { result ≡ spec.is_lacking position class }
 {
-    match role {
-        Role::Function => site.place.in_function(),
-        Role::End => site.place.is_head(),
-        Role::Parameter
-        | Role::Label
-        | Role::Line
-        | Role::Phi
-        | Role::Variable
-        | Role::Terminator
-        | Role::Passed
-        | Role::Executable => false,
+    match class {
+        Class::Function => position.stage.in_function(),
+        Class::End => position.stage.is_head(),
+        Class::Parameter
+        | Class::Label
+        | Class::Line
+        | Class::Phi
+        | Class::Variable
+        | Class::Terminator
+        | Class::Passed
+        | Class::Executable => false,
     }
 }
 
 /// The OpFunction of the function at hand, where it lacks its OpFunctionEnd or a block.
-fn lacking(site: Site, role: Role) -> Option<u32>
-    ensures { result ≡ lowest (spec.lacking site role) }
+fn lacking(position: Position, class: Class) -> Option<u32>
+    ensures { result ≡ lowest (spec.lacking position class) }
 {
-    if is_lacking(site, role) {
-        Some(site.begin)
+    if is_lacking(position, class) {
+        Some(position.function_word)
     } else {
         None
     }
 }
 
-/// Whether such an instruction may stand at a site in a function.
-fn may_stand(site: Site, role: Role) -> bool
-    ensures { result ≡ spec.may_stand site role }
+/// Whether such an instruction may stand at a position in a function.
+fn may_stand(position: Position, class: Class) -> bool
+    ensures { result ≡ spec.may_stand position class }
 {
-    match role {
-        Role::Function | Role::End | Role::Label | Role::Line => true,
-        Role::Parameter => site.place.is_head(),
-        Role::Phi => site.place.among_phis(),
-        Role::Variable => site.first && site.place.among_variables(),
-        Role::Terminator | Role::Passed | Role::Executable => site.place.in_block(),
+    match class {
+        Class::Function | Class::End | Class::Label | Class::Line => true,
+        Class::Parameter => position.stage.is_head(),
+        Class::Phi => position.stage.among_phis(),
+        Class::Variable => position.first && position.stage.among_variables(),
+        Class::Terminator | Class::Passed | Class::Executable => position.stage.in_block(),
     }
 }
 
-/// The instruction, where it may not stand at its site.
-fn misplaced(site: Site, role: Role, inst: &Inst) -> Option<u32>
-    ensures { result ≡ lowest (spec.misplaced (record { site = site; role = role; inst = inst.now })) }
+/// The instruction, where it may not stand at its position.
+fn misplaced(position: Position, class: Class, inst: &Inst) -> Option<u32>
+    ensures { result ≡ lowest (spec.misplaced (record { position = position; class = class; inst = inst.now })) }
 {
-    if site.place.in_function() && !may_stand(site, role) {
+    if position.stage.in_function() && !may_stand(position, class) {
         Some(inst.word)
     } else {
         None
@@ -74,18 +74,21 @@ fn misplaced(site: Site, role: Role, inst: &Inst) -> Option<u32>
 }
 
 /// The lowest word where the order is broken at an instruction.
-fn breach_at(site: Site, role: Role, inst: &Inst) -> Option<u32>
-    ensures { result ≡ lowest (spec.layout_breach (record { site = site; role = role; inst = inst.now })) }
+fn breach_at(position: Position, class: Class, inst: &Inst) -> Option<u32>
+    ensures { result ≡ lowest (spec.layout_breach (record { position = position; class = class; inst = inst.now })) }
 {
-    let missing = sooner(lacking(site, role), misplaced(site, role, inst));
-    sooner(unended(site, role), missing)
+    let missing = sooner(lacking(position, class), misplaced(position, class, inst));
+    sooner(unended(position, class), missing)
 }
 
 /// The lowest word where the last function is not finished.
-fn unfinished(site: Site) -> Option<u32>
-    ensures { result ≡ lowest (spec.unfinished site) }
+fn unfinished(position: Position) -> Option<u32>
+    ensures { result ≡ lowest (spec.unfinished position) }
 {
-    sooner(unended(site, Role::Function), lacking(site, Role::Function))
+    sooner(
+        unended(position, Class::Function),
+        lacking(position, Class::Function),
+    )
 }
 
 /// The lowest word where the order inside a function is broken.
@@ -93,11 +96,11 @@ pub fn layout_breach(sets: &Table<bool>, insts: &[Inst]) -> Option<u32>
     ensures { result ≡ lowest (spec.layout_breaches sets.now insts.now) }
 {
     let mut least = None;
-    let mut site = Site::outside();
+    let mut position = Position::outside();
     for inst in insts {
-        let role = role_of(sets, inst);
-        least = sooner(least, breach_at(site, role, inst));
-        site = site.after(role, inst);
+        let class = class_of(sets, inst);
+        least = sooner(least, breach_at(position, class, inst));
+        position = position.after(class, inst);
     }
-    sooner(least, unfinished(site))
+    sooner(least, unfinished(position))
 }

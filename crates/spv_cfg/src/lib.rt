@@ -13,8 +13,6 @@ mod layout;
 mod lowest;
 mod names;
 mod phis;
-pub mod roles;
-pub mod sites;
 mod switches;
 #[cfg(test)]
 mod tests;

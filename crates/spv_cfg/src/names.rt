@@ -4,10 +4,10 @@ ghost use Rattle.spv_base.specs.Entries.{reads};
 ghost use Rattle.spv_cfg.specs.Branches as spec;
 ghost use Rattle.spv_cfg.specs.Phis.{is_within};
 
-use crate::roles::{number_at, role_of, sets_of};
-use crate::sites::Site;
 use spv_base::{Inst, NoMemory};
 use spv_index::Table;
+use spv_index::classes::{class_of, number_at, sets_of};
+use spv_index::positions::Position;
 use std::alloc::Global;
 
 /// The id of a label's function, and whether the label is the first one there.
@@ -32,17 +32,17 @@ fn labels_of(alloc: Global, sets: &Table<bool>, insts: &[Inst]) -> Result<Table<
     ensures { IfOk result (λ labels. labels ≡ spec.labels_of sets.now insts.now) }
 {
     let mut labels = Vec::new(alloc);
-    let mut site = Site::outside();
+    let mut position = Position::outside();
     for inst in insts {
-        let role = role_of(sets, inst);
-        if role.is_label() && site.place.in_function() {
+        let class = class_of(sets, inst);
+        if class.is_label() && position.stage.in_function() {
             let home = Home {
-                function: site.function,
-                first: site.place.is_head(),
+                function: position.function,
+                first: position.stage.is_head(),
             };
             labels.push((inst.id, home))?;
         }
-        site = site.after(role, inst);
+        position = position.after(class, inst);
     }
     Table::new(alloc, labels)
 }

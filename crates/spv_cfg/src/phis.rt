@@ -2,17 +2,17 @@
 ghost use Rattle.std.specs.Prelude.{◌≡◌, IfOk, map};
 ghost use Rattle.std.specs.List.{list_all, flat_map};
 ghost use Rattle.spv_cfg.specs.Lowest.{lowest};
-ghost use Rattle.spv_cfg.specs.Sites.{stands, outside};
+ghost use Rattle.spv_index.specs.Positions.{stands, outside};
 ghost use Rattle.spv_cfg.specs.Phis as spec;
 
 use crate::distinct::are_distinct;
 use crate::edges::Edges;
 use crate::lowest::sooner;
 use crate::names::Names;
-use crate::roles::{Role, role_of};
-use crate::sites::Site;
 use crate::switches::{cases_by_word, numbers_of};
 use spv_base::{Inst, NoMemory};
+use spv_index::classes::{Class, class_of};
+use spv_index::positions::Position;
 use std::alloc::Global;
 
 /// The second of each pair.
@@ -55,16 +55,16 @@ fn is_phi_right(alloc: Global, edges: &Edges, label: u32, inst: &Inst) -> Result
 fn breach_at(
     alloc: Global,
     edges: &Edges,
-    site: Site,
-    role: Role,
+    position: Position,
+    class: Class,
     inst: &Inst,
 ) -> Result<Option<u32>, NoMemory>
-    ensures { IfOk result (λ breach. breach ≡ lowest (spec.phi_breach edges.now (record { site = site; role = role; inst = inst.now }))) }
+    ensures { IfOk result (λ breach. breach ≡ lowest (spec.phi_breach edges.now (record { position = position; class = class; inst = inst.now }))) }
 {
-    if !(role.is_phi() && site.place.in_block()) {
+    if !(class.is_phi() && position.stage.in_block()) {
         return Ok(None);
     }
-    if is_phi_right(alloc, edges, site.label, inst)? {
+    if is_phi_right(alloc, edges, position.label, inst)? {
         Ok(None)
     } else {
         Ok(Some(inst.word))
@@ -81,12 +81,12 @@ pub fn phi_breach(
     ensures { IfOk result (λ least. least ≡ lowest (flat_map (spec.phi_breach edges.now) (stands names.now.sets outside insts.now))) }
 {
     let mut least = None;
-    let mut site = Site::outside();
+    let mut position = Position::outside();
     for inst in insts {
-        let role = role_of(&names.sets, inst);
-        let next = breach_at(alloc, edges, site, role, inst)?;
+        let class = class_of(&names.sets, inst);
+        let next = breach_at(alloc, edges, position, class, inst)?;
         least = sooner(least, next);
-        site = site.after(role, inst);
+        position = position.after(class, inst);
     }
     Ok(least)
 }

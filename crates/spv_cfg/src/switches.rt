@@ -1,11 +1,11 @@
 //! The literals and labels of switches (SPIR-V 1.6, OpSwitch).
 ghost use Rattle.std.specs.Prelude.{◌≡◌, ◌∷◌, IfOk, drop, map};
-ghost use Rattle.spv_cfg.specs.Roles.{numbers_of as numbers_in};
+ghost use Rattle.spv_index.specs.Classes.{numbers_of as numbers_in};
 ghost use Rattle.spv_cfg.specs.Branches as spec;
 
 use crate::distinct::are_distinct;
-use crate::roles::number_in;
 use spv_base::{Inst, NoMemory};
+use spv_index::classes::number_in;
 use std::alloc::Global;
 
 /// The numbers in the operands.

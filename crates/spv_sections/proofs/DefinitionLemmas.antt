@@ -7,10 +7,10 @@ use Rattle.std.proofs.lemmas.List.{append-nil, get_or_default, get_or-replicate,
 use Rattle.std.proofs.lemmas.Grind.{common_steps}
 use Rattle.spv_base.specs.Entries.{reads}
 use Rattle.spv_base.specs.declared.instructions.Inst.{Inst}
-use Rattle.spv_cfg.specs.declared.roles.Role.{Role}
-use Rattle.spv_cfg.specs.declared.sites.Site.{Site}
-use Rattle.spv_cfg.specs.Roles.{role_of, sets_of}
-use Rattle.spv_cfg.specs.Sites.{outside, site_after}
+use Rattle.spv_index.specs.declared.classes.Class.{Class}
+use Rattle.spv_index.specs.declared.positions.Position.{Position}
+use Rattle.spv_index.specs.Classes.{class_of, sets_of}
+use Rattle.spv_index.specs.Positions.{outside, position_after}
 use Rattle.spv_cfg.proofs.Walks.{stands-drop}
 use Rattle.spv_sections.specs.declared.definitions.Definition.{Definition}
 use Rattle.spv_sections.specs.Definitions.{AreSlots, Ids, definition_at, definition_of, definitions_from, definitions_of, first, is_id, slot}
@@ -22,32 +22,32 @@ once false d None rest = refl
 once false d (Some x) rest = refl
 
 -- what the slots don't have for an id is defined further on
-abbrev pub Stands : List (ℕ × Bool) → List Inst → List (Option Definition) → Site → ℕ → ℕ → Type 0
-Stands sets insts slots site n id = option_or (slot slots id) (reads id (definitions_from sets site (drop n insts))) ≡ reads id (definitions_of insts)
+abbrev pub Stands : List (ℕ × Bool) → List Inst → List (Option Definition) → Position → ℕ → ℕ → Type 0
+Stands sets insts slots position n id = option_or (slot slots id) (reads id (definitions_from sets position (drop n insts))) ≡ reads id (definitions_of insts)
 
 pub slots_none : (sets : List (ℕ × Bool)) (insts : List Inst) (slots : List (Option Definition)) (count id : ℕ) → sets ≡ sets_of insts → slots ≡ replicate count None
     → id < count → Stands sets insts slots outside 0 id
 unfolding definitions_of
 slots_none sets insts slots count id s e lt = rw (s, e, get_or-replicate {A = Option Definition} count id None None lt) refl
 
-pub slots_more : (sets : List (ℕ × Bool)) (insts : List Inst) (slots more : List (Option Definition)) (site after : Site) (n id : ℕ) (inst : Inst) (role : Role) (d : Definition)
-    → n < length insts → inst ≡ get_or insts n inst → role ≡ role_of sets inst → after ≡ site_after site role inst → d ≡ definition_at site inst
+pub slots_more : (sets : List (ℕ × Bool)) (insts : List Inst) (slots more : List (Option Definition)) (position after : Position) (n id : ℕ) (inst : Inst) (class : Class) (d : Definition)
+    → n < length insts → inst ≡ get_or insts n inst → class ≡ class_of sets inst → after ≡ position_after position class inst → d ≡ definition_at position inst
     → slot more id ≡ option_or (slot slots id) (if inst.id == id then Some d else None)
-    → Stands sets insts slots site n id → Stands sets insts more after (n + 1) id
-slots_more sets insts slots more site after n id inst role d l e r a is put so_far =
+    → Stands sets insts slots position n id → Stands sets insts more after (n + 1) id
+slots_more sets insts slots more position after n id inst class d l e r a is put so_far =
     let rest : Option Definition = reads id (definitions_from sets after (drop (n + 1) insts)) in
-    let next : reads id (definitions_from sets site (drop n insts)) ≡ (if inst.id == id then Some d else rest)
-    = ap (λ s. reads id (map definition_of s)) (stands-drop sets site insts n inst l e) ∙ rw (is, a, r) refl in
+    let next : reads id (definitions_from sets position (drop n insts)) ≡ (if inst.id == id then Some d else rest)
+    = ap (λ s. reads id (map definition_of s)) (stands-drop sets position insts n inst l e) ∙ rw (is, a, r) refl in
     ap (λ o. option_or o rest) put ∙ once (inst.id == id) d (slot slots id) rest ∙ sym (ap (λ o. option_or (slot slots id) o) next) ∙ so_far
 
 option_or-none : (o : Option Definition) → o ≡ option_or o None
 option_or-none None = refl
 option_or-none (Some x) = refl
 
-pub slots_done : (sets : List (ℕ × Bool)) (insts : List Inst) (slots : List (Option Definition)) (site : Site) (n id : ℕ) → length insts ≤ n
-    → Stands sets insts slots site n id → slot slots id ≡ reads id (definitions_of insts)
-slots_done sets insts slots site n id l so_far =
-    let past : reads id (definitions_from sets site (drop n insts)) ≡ None = rw (drop_of_length-le insts l) refl in
+pub slots_done : (sets : List (ℕ × Bool)) (insts : List Inst) (slots : List (Option Definition)) (position : Position) (n id : ℕ) → length insts ≤ n
+    → Stands sets insts slots position n id → slot slots id ≡ reads id (definitions_of insts)
+slots_done sets insts slots position n id l so_far =
+    let past : reads id (definitions_from sets position (drop n insts)) ≡ None = rw (drop_of_length-le insts l) refl in
     option_or-none (slot slots id) ∙ sym (ap (λ o. option_or (slot slots id) o) past) ∙ so_far
 
 -- a vector's items after a slice of all of them was written

@@ -4,10 +4,10 @@ use Rattle.spv_base.specs.declared.causes.Refusal.{Refusal}
 use Rattle.spv_base.specs.declared.instructions.Inst.{Inst}
 use Rattle.spv_base.specs.declared.instructions.Operand.{Operand}
 use Rattle.spv_base.specs.declared.instructions.Operand.TheVariants.{Id, Lit, Text}
-use Rattle.spv_cfg.specs.declared.roles.Role.{Role}
-use Rattle.spv_cfg.specs.declared.sites.Site.{Site}
-use Rattle.spv_cfg.specs.Roles.{role_of}
-use Rattle.spv_cfg.specs.Sites.{outside, site_after}
+use Rattle.spv_index.specs.declared.classes.Class.{Class}
+use Rattle.spv_index.specs.declared.positions.Position.{Position}
+use Rattle.spv_index.specs.Classes.{class_of}
+use Rattle.spv_index.specs.Positions.{outside, position_after}
 use Rattle.spv_types.specs.Build.{unless_refused}
 use Rattle.spv_types.specs.Blocks.{nothing}
 use Rattle.spv_sections.specs.declared.ids.Scope.{Scope}
@@ -54,15 +54,15 @@ few (Text bytes) count number n e l = omega arith
 -- ---- instructions
 
 -- none of the instructions before number n is refused
-abbrev pub NoneRefused : Ids → List (ℕ × Bool) → List Inst → Bool → Site → ℕ → Type 0
-NoneRefused ids sets insts begun site n = id_breaches ids sets false outside insts ≡ id_breaches ids sets begun site (drop n insts)
+abbrev pub NoneRefused : Ids → List (ℕ × Bool) → List Inst → Bool → Position → ℕ → Type 0
+NoneRefused ids sets insts begun position n = id_breaches ids sets false outside insts ≡ id_breaches ids sets begun position (drop n insts)
 
-inst_at : (ids : Ids) (sets : List (ℕ × Bool)) (begun : Bool) (site : Site) (insts : List Inst) (n : ℕ) (inst : Inst) → n < length insts → inst ≡ get_or insts n inst
-    → id_breaches ids sets begun site (drop n insts)
-    ≡ breaches_at ids (scope_of (has_begun begun inst) site inst) (role_of sets inst) inst
-    ++ id_breaches ids sets (has_begun begun inst) (site_after site (role_of sets inst) inst) (drop (n + 1) insts)
+inst_at : (ids : Ids) (sets : List (ℕ × Bool)) (begun : Bool) (position : Position) (insts : List Inst) (n : ℕ) (inst : Inst) → n < length insts → inst ≡ get_or insts n inst
+    → id_breaches ids sets begun position (drop n insts)
+    ≡ breaches_at ids (scope_of (has_begun begun inst) position inst) (class_of sets inst) inst
+    ++ id_breaches ids sets (has_begun begun inst) (position_after position (class_of sets inst) inst) (drop (n + 1) insts)
 unfolding id_breaches
-inst_at ids sets begun site insts n inst l e = rw (drop-cons insts n inst l, ← e, add-one) refl
+inst_at ids sets begun position insts n inst l e = rw (drop-cons insts n inst l, ← e, add-one) refl
 
 stopped : (refusals more : List Refusal) (refusal : Refusal) → Err refusal ≡ unless_refused nothing refusals → Err refusal ≡ unless_refused nothing (refusals ++ more)
 stopped [] more refusal e = absurd (cc)
@@ -72,21 +72,21 @@ went_on : (refusals more : List Refusal) → Ok nothing ≡ unless_refused nothi
 went_on [] more e = refl
 went_on (r ∷ rs) more e = absurd (cc)
 
-pub inst_refused : (ids : Ids) (sets : List (ℕ × Bool)) (begun now : Bool) (site : Site) (insts : List Inst) (n : ℕ) (inst : Inst) (role : Role) (scope : Scope) (refusal : Refusal)
-    → n < length insts → inst ≡ get_or insts n inst → role ≡ role_of sets inst → now ≡ has_begun begun inst → scope ≡ scope_of now site inst
-    → Err refusal ≡ unless_refused nothing (breaches_at ids scope role inst)
-    → NoneRefused ids sets insts begun site n → Err refusal ≡ unless_refused nothing (id_breaches ids sets false outside insts)
-inst_refused ids sets begun now site insts n inst role scope refusal l e r b s t h =
-    rw (h, inst_at ids sets begun site insts n inst l e, ← r, ← b, ← s) (stopped (breaches_at ids scope role inst) _ refusal t)
+pub inst_refused : (ids : Ids) (sets : List (ℕ × Bool)) (begun now : Bool) (position : Position) (insts : List Inst) (n : ℕ) (inst : Inst) (class : Class) (scope : Scope) (refusal : Refusal)
+    → n < length insts → inst ≡ get_or insts n inst → class ≡ class_of sets inst → now ≡ has_begun begun inst → scope ≡ scope_of now position inst
+    → Err refusal ≡ unless_refused nothing (breaches_at ids scope class inst)
+    → NoneRefused ids sets insts begun position n → Err refusal ≡ unless_refused nothing (id_breaches ids sets false outside insts)
+inst_refused ids sets begun now position insts n inst class scope refusal l e r b s t h =
+    rw (h, inst_at ids sets begun position insts n inst l e, ← r, ← b, ← s) (stopped (breaches_at ids scope class inst) _ refusal t)
 
-pub inst_kept : (ids : Ids) (sets : List (ℕ × Bool)) (begun now : Bool) (site after : Site) (insts : List Inst) (n : ℕ) (inst : Inst) (role : Role) (scope : Scope)
-    → n < length insts → inst ≡ get_or insts n inst → role ≡ role_of sets inst → now ≡ has_begun begun inst → scope ≡ scope_of now site inst → after ≡ site_after site role inst
-    → Ok nothing ≡ unless_refused nothing (breaches_at ids scope role inst)
-    → NoneRefused ids sets insts begun site n → NoneRefused ids sets insts now after (n + 1)
-inst_kept ids sets begun now site after insts n inst role scope l e r b s a t h =
-    h ∙ inst_at ids sets begun site insts n inst l e ∙ rw (← r, ← b, ← s, ← a) (went_on (breaches_at ids scope role inst) _ t)
+pub inst_kept : (ids : Ids) (sets : List (ℕ × Bool)) (begun now : Bool) (position after : Position) (insts : List Inst) (n : ℕ) (inst : Inst) (class : Class) (scope : Scope)
+    → n < length insts → inst ≡ get_or insts n inst → class ≡ class_of sets inst → now ≡ has_begun begun inst → scope ≡ scope_of now position inst → after ≡ position_after position class inst
+    → Ok nothing ≡ unless_refused nothing (breaches_at ids scope class inst)
+    → NoneRefused ids sets insts begun position n → NoneRefused ids sets insts now after (n + 1)
+inst_kept ids sets begun now position after insts n inst class scope l e r b s a t h =
+    h ∙ inst_at ids sets begun position insts n inst l e ∙ rw (← r, ← b, ← s, ← a) (went_on (breaches_at ids scope class inst) _ t)
 
-pub insts_done : (ids : Ids) (sets : List (ℕ × Bool)) (begun : Bool) (site : Site) (insts : List Inst) (n : ℕ) → length insts ≤ n
-    → NoneRefused ids sets insts begun site n → Ok nothing ≡ unless_refused nothing (id_breaches ids sets false outside insts)
+pub insts_done : (ids : Ids) (sets : List (ℕ × Bool)) (begun : Bool) (position : Position) (insts : List Inst) (n : ℕ) → length insts ≤ n
+    → NoneRefused ids sets insts begun position n → Ok nothing ≡ unless_refused nothing (id_breaches ids sets false outside insts)
 unfolding id_breaches
-insts_done ids sets begun site insts n l h = rw (h, drop_of_length-le insts l) refl
+insts_done ids sets begun position insts n l h = rw (h, drop_of_length-le insts l) refl

@@ -6,8 +6,8 @@ use Rattle.std.specs.List.{AllByRecursion, find}
 use Rattle.std.specs.Option.{is_some}
 use Rattle.spv_base.specs.Order.{Ascend}
 use Rattle.spv_base.specs.declared.instructions.Inst.{Inst}
-use Rattle.spv_cfg.specs.Roles.{sets_of}
-use Rattle.spv_cfg.specs.Sites.{outside}
+use Rattle.spv_index.specs.Classes.{sets_of}
+use Rattle.spv_index.specs.Positions.{outside}
 use Rattle.spv_index.specs.Definitions.{defining, has_result as is_result_of, is_id as is_limited}
 use Rattle.spv_ops.specs.Forms.{row_of}
 use Rattle.spv_ops.specs.Opcodes.{table}

@@ -6,9 +6,9 @@ use Rattle.std.specs.List.{AllByRecursion, find, list_all}
 use Rattle.spv_base.specs.Entries.{reads}
 use Rattle.spv_base.specs.Order.{AreDistinct, Ascend}
 use Rattle.spv_base.specs.declared.instructions.Inst.{Inst}
-use Rattle.spv_cfg.specs.declared.sites.Site.{Site}
-use Rattle.spv_cfg.specs.Roles.{role_of, sets_of}
-use Rattle.spv_cfg.specs.Sites.{outside, site_after}
+use Rattle.spv_index.specs.declared.positions.Position.{Position}
+use Rattle.spv_index.specs.Classes.{class_of, sets_of}
+use Rattle.spv_index.specs.Positions.{outside, position_after}
 use Rattle.spv_index.specs.Definitions.{has_result as is_result_of}
 use Rattle.spv_sections.specs.declared.definitions.Definition.{Definition}
 use Rattle.spv_sections.specs.Definitions.{Ids, definition_at, definitions_from, definitions_of, first, is_id}
@@ -50,15 +50,15 @@ defined_more definitions d other word id le by = by_test (other == id) refl
     by_test true t = record { definition = d; is = rw t refl; early = le }
     by_test false t = record { definition = by.definition; is = rw t by.is; early = by.early }
 
-all_defined : (sets : List (ℕ × Bool)) (site : Site) (from : ℕ) (insts : List Inst) → Ascend from insts
-    → AllByRecursion (λ (i : Inst). IsDefinedBy (definitions_from sets site insts) i.word i.id) insts
-all_defined sets site from [] ascend = tt
-all_defined sets site from (i ∷ is) (first, rest) =
-    let after : Site = site_after site (role_of sets i) i in
+all_defined : (sets : List (ℕ × Bool)) (position : Position) (from : ℕ) (insts : List Inst) → Ascend from insts
+    → AllByRecursion (λ (i : Inst). IsDefinedBy (definitions_from sets position insts) i.word i.id) insts
+all_defined sets position from [] ascend = tt
+all_defined sets position from (i ∷ is) (first, rest) =
+    let after : Position = position_after position (class_of sets i) i in
     let behind : List (ℕ × Definition) = definitions_from sets after is in (
-      defined_here behind (definition_at site i) i.id,
-      both (λ (j : Inst). suc i.word ≤ j.word) (λ (j : Inst). IsDefinedBy behind j.word j.id) (λ (j : Inst). IsDefinedBy ((i.id, definition_at site i) ∷ behind) j.word j.id)
-          (λ j le by. let lower : i.word ≤ j.word = omega arith in defined_more behind (definition_at site i) i.id j.word j.id lower by)
+      defined_here behind (definition_at position i) i.id,
+      both (λ (j : Inst). suc i.word ≤ j.word) (λ (j : Inst). IsDefinedBy behind j.word j.id) (λ (j : Inst). IsDefinedBy ((i.id, definition_at position i) ∷ behind) j.word j.id)
+          (λ j le by. let lower : i.word ≤ j.word = omega arith in defined_more behind (definition_at position i) i.id j.word j.id lower by)
           is (above (suc i.word) is rest) (all_defined sets after (suc i.word) is rest),
     )
 
@@ -67,12 +67,12 @@ all_defined sets site from (i ∷ is) (first, rest) =
 pub numbered_parts : (ids : Ids) (i : Inst) (operands : Bool) → ((is_result ids i && is_type_id ids i) && operands) ≡ true → (is_result ids i ≡ true) × (is_type_id ids i ≡ true)
 numbered_parts ids i operands h = and_parts (is_result ids i) (is_type_id ids i) (and_parts (is_result ids i && is_type_id ids i) operands h).0
 
-pub results_in : (ids : Ids) (sets : List (ℕ × Bool)) (begun : Bool) (site : Site) (insts : List Inst) → AreInOrder ids sets begun site insts
+pub results_in : (ids : Ids) (sets : List (ℕ × Bool)) (begun : Bool) (position : Position) (insts : List Inst) → AreInOrder ids sets begun position insts
     → AllByRecursion (λ (i : Inst). is_result ids i ≡ true) insts
-results_in ids sets begun site [] order = tt
-results_in ids sets begun site (i ∷ is) (numbered, naming, order) = (
-  (numbered_parts ids i (list_all (is_operand ids.bound) (looked_at (role_of sets i) i)) numbered).0,
-  results_in ids sets (has_begun begun i) (site_after site (role_of sets i) i) is order,
+results_in ids sets begun position [] order = tt
+results_in ids sets begun position (i ∷ is) (numbered, naming, order) = (
+  (numbered_parts ids i (list_all (is_operand ids.bound) (looked_at (class_of sets i) i)) numbered).0,
+  results_in ids sets (has_begun begun i) (position_after position (class_of sets i) i) is order,
 )
 
 pub has_id : (ids : Ids) (i : Inst) → is_result ids i ≡ true → i.id ≢ 0 → (is_id ids.bound i.id ≡ true) × (is_before i.word (first ids i.id) ≡ false)

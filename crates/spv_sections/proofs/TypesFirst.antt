@@ -8,9 +8,9 @@ use Rattle.std.specs.List.{Contains, list_all}
 use Rattle.spv_base.specs.Entries.{reads}
 use Rattle.spv_base.specs.Order.{Ascend}
 use Rattle.spv_base.specs.declared.instructions.Inst.{Inst}
-use Rattle.spv_cfg.specs.declared.sites.Site.{Site}
-use Rattle.spv_cfg.specs.Roles.{role_of, sets_of}
-use Rattle.spv_cfg.specs.Sites.{outside, site_after}
+use Rattle.spv_index.specs.declared.positions.Position.{Position}
+use Rattle.spv_index.specs.Classes.{class_of, sets_of}
+use Rattle.spv_index.specs.Positions.{outside, position_after}
 use Rattle.spv_ops.specs.Forms.{row_of}
 use Rattle.spv_ops.specs.Opcodes.{table}
 use Rattle.spv_ops.specs.declared.forms.Head.{Head}
@@ -55,28 +55,28 @@ constant_names_before op h =
 
 -- ---- what is defined at a lower word is defined before
 
-late : (sets : List (ℕ × Bool)) (site : Site) (from : ℕ) (insts : List Inst) (id : ℕ) (d : Definition) → Ascend from insts
-    → reads id (definitions_from sets site insts) ≡ Some d → from ≤ d.word
-late sets site from [] id d ascend e = absurd (cc)
-late sets site from (i ∷ is) id d (low, rest) e = by_test (i.id == id) (late sets (site_after site (role_of sets i) i) (suc i.word) is id d rest) e
+late : (sets : List (ℕ × Bool)) (position : Position) (from : ℕ) (insts : List Inst) (id : ℕ) (d : Definition) → Ascend from insts
+    → reads id (definitions_from sets position insts) ≡ Some d → from ≤ d.word
+late sets position from [] id d ascend e = absurd (cc)
+late sets position from (i ∷ is) id d (low, rest) e = by_test (i.id == id) (late sets (position_after position (class_of sets i) i) (suc i.word) is id d rest) e
   where
-    by_test : (b : Bool) → (reads id (definitions_from sets (site_after site (role_of sets i) i) is) ≡ Some d → suc i.word ≤ d.word)
-        → cond b (Some (definition_at site i)) (reads id (definitions_from sets (site_after site (role_of sets i) i) is)) ≡ Some d → from ≤ d.word
+    by_test : (b : Bool) → (reads id (definitions_from sets (position_after position (class_of sets i) i) is) ≡ Some d → suc i.word ≤ d.word)
+        → cond b (Some (definition_at position i)) (reads id (definitions_from sets (position_after position (class_of sets i) i) is)) ≡ Some d → from ≤ d.word
     by_test true behind e =
-        let this : definition_at site i ≡ d = cc in
+        let this : definition_at position i ≡ d = cc in
         let at : i.word ≡ d.word = ap (λ (x : Definition). x.word) this in
         omega arith
     by_test false behind e = let lower : suc i.word ≤ d.word = behind e in omega arith
 
-among : (sets : List (ℕ × Bool)) (site : Site) (from : ℕ) (front back : List Inst) (id : ℕ) (d : Definition) → Ascend from back
-    → reads id (definitions_from sets site (front ++ back)) ≡ Some d → d.word < from → Contains (map (λ (j : Inst). j.id) front) id
-among sets site from [] back id d ascend is lt = let le : from ≤ d.word = late sets site from back id d ascend is in absurd (omega arith)
-among sets site from (j ∷ js) back id d ascend is lt =
-    by_test (j.id == id) refl (λ e. among sets (site_after site (role_of sets j) j) from js back id d ascend e lt) is
+among : (sets : List (ℕ × Bool)) (position : Position) (from : ℕ) (front back : List Inst) (id : ℕ) (d : Definition) → Ascend from back
+    → reads id (definitions_from sets position (front ++ back)) ≡ Some d → d.word < from → Contains (map (λ (j : Inst). j.id) front) id
+among sets position from [] back id d ascend is lt = let le : from ≤ d.word = late sets position from back id d ascend is in absurd (omega arith)
+among sets position from (j ∷ js) back id d ascend is lt =
+    by_test (j.id == id) refl (λ e. among sets (position_after position (class_of sets j) j) from js back id d ascend e lt) is
   where
     by_test : (b : Bool) → (j.id == id) ≡ b
-        → (reads id (definitions_from sets (site_after site (role_of sets j) j) (js ++ back)) ≡ Some d → Contains (map (λ (k : Inst). k.id) js) id)
-        → cond b (Some (definition_at site j)) (reads id (definitions_from sets (site_after site (role_of sets j) j) (js ++ back))) ≡ Some d
+        → (reads id (definitions_from sets (position_after position (class_of sets j) j) (js ++ back)) ≡ Some d → Contains (map (λ (k : Inst). k.id) js) id)
+        → cond b (Some (definition_at position j)) (reads id (definitions_from sets (position_after position (class_of sets j) j) (js ++ back))) ≡ Some d
         → Contains (map (λ (k : Inst). k.id) (j ∷ js)) id
     by_test true t behind e = (0, omega arith, eqb-true j.id id t)
     by_test false t behind e = Contains-append_right (j.id ∷ []) (map (λ (k : Inst). k.id) js) id (behind e)
@@ -108,38 +108,38 @@ early_before : (later : Bool) (word other : ℕ) → later ≡ false → is_earl
 early_before true word other none h = absurd (cc)
 early_before false word other none h = ltb-true other word h
 
-type_before : (ids : Ids) (site : Site) (i : Inst) (operands : Bool) → is_type_id ids i ≡ true
-    → (((i.ty == 0) || names ids (scope_of false site i) DeclaredType i.ty) && operands) ≡ true → is_constant i.op ≡ true
+type_before : (ids : Ids) (position : Position) (i : Inst) (operands : Bool) → is_type_id ids i ≡ true
+    → (((i.ty == 0) || names ids (scope_of false position i) DeclaredType i.ty) && operands) ≡ true → is_constant i.op ≡ true
     → (d : Definition) × (reads i.ty (definitions_of ids.insts) ≡ Some d) × (d.word < i.word)
-type_before ids site i operands typed named constant =
+type_before ids position i operands typed named constant =
     let some : i.ty ≢ 0 = has_type_id ids i typed (constant_has_type i.op constant) in
-    let found = served (scope_of false site i) DeclaredType (first ids i.ty) (type_named ids (scope_of false site i) i.ty operands some named) in
+    let found = served (scope_of false position i) DeclaredType (first ids i.ty) (type_named ids (scope_of false position i) i.ty operands some named) in
     (found.0, first_read ids i.ty found.0 found.1, early_before (names_later i.op) i.word found.0.word (constant_names_before i.op constant) found.2)
 
-type_first : (ids : Ids) (site : Site) (front is : List Inst) (i : Inst) (operands : Bool) → ids.insts ≡ front ++ i ∷ is → Ascend (suc i.word) is → is_type_id ids i ≡ true
-    → (((i.ty == 0) || names ids (scope_of false site i) DeclaredType i.ty) && operands) ≡ true → is_constant i.op ≡ true
+type_first : (ids : Ids) (position : Position) (front is : List Inst) (i : Inst) (operands : Bool) → ids.insts ≡ front ++ i ∷ is → Ascend (suc i.word) is → is_type_id ids i ≡ true
+    → (((i.ty == 0) || names ids (scope_of false position i) DeclaredType i.ty) && operands) ≡ true → is_constant i.op ≡ true
     → Contains (map (λ (j : Inst). j.id) front) i.ty
 unfolding definitions_of
-type_first ids site front is i operands all rest typed named constant =
-    let found = type_before ids site i operands typed named constant in
+type_first ids position front is i operands all rest typed named constant =
+    let found = type_before ids position i operands typed named constant in
     let here : i.word ≤ i.word = omega arith in
     among (sets_of ids.insts) outside i.word front (i ∷ is) i.ty found.0 (here, rest)
     (sym (ap (λ (insts : List Inst). reads i.ty (definitions_from (sets_of ids.insts) outside insts)) all) ∙ found.1) found.2
 
 -- ---- the types of all constants
 
-pub types_first : (ids : Ids) (sets : List (ℕ × Bool)) (site : Site) (from : ℕ) (front insts : List Inst) → ids.insts ≡ front ++ insts → Ascend from insts
-    → AreInOrder ids sets false site insts → TypesComeFirst front (before_functions insts)
+pub types_first : (ids : Ids) (sets : List (ℕ × Bool)) (position : Position) (from : ℕ) (front insts : List Inst) → ids.insts ≡ front ++ insts → Ascend from insts
+    → AreInOrder ids sets false position insts → TypesComeFirst front (before_functions insts)
 unfolding before_functions
-types_first ids sets site from front [] all ascend order = tt
-types_first ids sets site from front (i ∷ is) all (low, rest) (numbered, naming, order) =
-    by_test (i.op == FUNCTION) refl (types_first ids sets (site_after site (role_of sets i) i) (suc i.word) (front ++ i ∷ []) is (all ∙ sym (append_assoc front (i ∷ []) is)) rest)
+types_first ids sets position from front [] all ascend order = tt
+types_first ids sets position from front (i ∷ is) all (low, rest) (numbered, naming, order) =
+    by_test (i.op == FUNCTION) refl (types_first ids sets (position_after position (class_of sets i) i) (suc i.word) (front ++ i ∷ []) is (all ∙ sym (append_assoc front (i ∷ []) is)) rest)
   where
-    by_test : (b : Bool) → (i.op == FUNCTION) ≡ b → (AreInOrder ids sets false (site_after site (role_of sets i) i) is → TypesComeFirst (front ++ i ∷ []) (before_functions is))
+    by_test : (b : Bool) → (i.op == FUNCTION) ≡ b → (AreInOrder ids sets false (position_after position (class_of sets i) i) is → TypesComeFirst (front ++ i ∷ []) (before_functions is))
         → TypesComeFirst front (cond b [] (i ∷ before_functions is))
     by_test true t behind = tt
     by_test false t behind = (
-      λ constant. type_first ids site front is i (operands_name ids (scope_of false site i) (uses_of i.op) 0 (looked_at (role_of sets i) i)) all rest
-          (numbered_parts ids i (list_all (is_operand ids.bound) (looked_at (role_of sets i) i)) numbered).1 (rw t at naming) constant,
+      λ constant. type_first ids position front is i (operands_name ids (scope_of false position i) (uses_of i.op) 0 (looked_at (class_of sets i) i)) all rest
+          (numbered_parts ids i (list_all (is_operand ids.bound) (looked_at (class_of sets i) i)) numbered).1 (rw t at naming) constant,
       behind (rw t at order),
     )

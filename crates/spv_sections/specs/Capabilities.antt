@@ -5,7 +5,7 @@ use Rattle.std.specs.List.{list_any, starts_with, flat_map}
 use Rattle.std.specs.Str.{bytes_eq}
 use Rattle.spv_base.specs.declared.instructions.Inst.{Inst}
 use Rattle.spv_base.specs.declared.causes.Refusal.{Refusal}
-use Rattle.spv_cfg.specs.Roles.{name_of, number_at}
+use Rattle.spv_index.specs.Classes.{name_of, number_at}
 use Rattle.spv_types.specs.Build.{unless_refused}
 use Rattle.spv_types.specs.Blocks.{nothing}
 

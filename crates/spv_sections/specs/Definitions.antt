@@ -3,17 +3,17 @@
 use Rattle.std.specs.Prelude.{◌≡◌, ◌<◌, ℕ, Bool, true, false, List, ◌==◌, ◌&&◌, nat_lt, if◌then◌else◌, length, map, Option, None, slice_index_or}
 use Rattle.spv_base.specs.Entries.{reads}
 use Rattle.spv_base.specs.declared.instructions.Inst.{Inst}
-use Rattle.spv_cfg.specs.declared.sites.Site.{Site}
-use Rattle.spv_cfg.specs.Roles.{sets_of}
-use Rattle.spv_cfg.specs.Sites.{Stand, stands, outside, in_function}
+use Rattle.spv_index.specs.declared.positions.Position.{Position}
+use Rattle.spv_index.specs.Classes.{sets_of}
+use Rattle.spv_index.specs.Positions.{Stand, stands, outside, in_function}
 use Rattle.spv_sections.specs.declared.definitions.Home.{Home}
 use Rattle.spv_sections.specs.declared.definitions.Home.TheVariants.{Module, Within}
 use Rattle.spv_sections.specs.declared.definitions.Definition.{Definition}
 use Rattle.spv_sections.specs.Kinds.{kind_of}
 
 -- where an instruction stands: in a function, by the word of its OpFunction, or in none
-abbrev pub home_of : Site → Home
-home_of site = if in_function site.place then Within site.begin else Module
+abbrev pub home_of : Position → Home
+home_of position = if in_function position.stage then Within position.function_word else Module
 
 -- an id of the second home can be named from the first
 abbrev pub sees : Home → Home → Bool
@@ -23,15 +23,15 @@ sees (Within here) Module = true
 sees (Within here) (Within there) = here == there
 
 -- what the result of an instruction stands for: a function (54) can be named from anywhere
-abbrev pub definition_at : Site → Inst → Definition
-definition_at site inst = record { kind = kind_of (in_function site.place) inst.op; home = if inst.op == 54 then Module else home_of site; word = inst.word }
+abbrev pub definition_at : Position → Inst → Definition
+definition_at position inst = record { kind = kind_of (in_function position.stage) inst.op; home = if inst.op == 54 then Module else home_of position; word = inst.word }
 
 abbrev pub definition_of : Stand → ℕ × Definition
-definition_of s = (s.inst.id, definition_at s.site s.inst)
+definition_of s = (s.inst.id, definition_at s.position s.inst)
 
 -- the definitions of ids, in their order: the first under an id counts
-abbrev pub definitions_from : List (ℕ × Bool) → Site → List Inst → List (ℕ × Definition)
-definitions_from sets site insts = map definition_of (stands sets site insts)
+abbrev pub definitions_from : List (ℕ × Bool) → Position → List Inst → List (ℕ × Definition)
+definitions_from sets position insts = map definition_of (stands sets position insts)
 
 unfoldable pub definitions_of : List Inst → List (ℕ × Definition)
 definitions_of insts = definitions_from (sets_of insts) outside insts

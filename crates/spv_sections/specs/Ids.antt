@@ -10,10 +10,10 @@ use Rattle.spv_base.specs.declared.causes.Refusal.{Refusal}
 use Rattle.spv_ops.specs.declared.forms.Head.{Head}
 use Rattle.spv_ops.specs.declared.forms.Head.TheVariants.{Plain, Result, TypedResult}
 use Rattle.spv_ops.specs.Forms.{row_of}
-use Rattle.spv_cfg.specs.declared.roles.Role.{Role}
-use Rattle.spv_cfg.specs.declared.sites.Site.{Site}
-use Rattle.spv_cfg.specs.Roles.{role_of, sets_of}
-use Rattle.spv_cfg.specs.Sites.{outside, site_after}
+use Rattle.spv_index.specs.declared.classes.Class.{Class}
+use Rattle.spv_index.specs.declared.positions.Position.{Position}
+use Rattle.spv_index.specs.Classes.{class_of, sets_of}
+use Rattle.spv_index.specs.Positions.{outside, position_after}
 use Rattle.spv_types.specs.Build.{unless_refused}
 use Rattle.spv_types.specs.Blocks.{nothing}
 use Rattle.spv_sections.specs.declared.kinds.Wanted.{Wanted}
@@ -49,8 +49,8 @@ has_type Result = false
 has_type TypedResult = true
 
 -- the operands that the rules look at: of an instruction (12) of a set with no meaning at run time the set and the number
-abbrev pub looked_at : Role → Inst → List Operand
-looked_at role inst = if is_line role && (inst.op == 12) then take 2 inst.operands else inst.operands
+abbrev pub looked_at : Class → Inst → List Operand
+looked_at class inst = if is_line class && (inst.op == 12) then take 2 inst.operands else inst.operands
 
 -- an id was defined by an instruction before this word
 abbrev pub is_before : ℕ → Option Definition → Bool
@@ -73,8 +73,8 @@ is_operand bound (Lit word) = true
 is_operand bound (Text bytes) = true
 
 -- the ids of an instruction are in order as numbers
-abbrev pub is_numbered : Ids → Role → Inst → Bool
-is_numbered ids role inst = (is_result ids inst && is_type_id ids inst) && list_all (is_operand ids.bound) (looked_at role inst)
+abbrev pub is_numbered : Ids → Class → Inst → Bool
+is_numbered ids class inst = (is_result ids inst && is_type_id ids inst) && list_all (is_operand ids.bound) (looked_at class inst)
 
 -- ---- what ids stand for
 
@@ -84,8 +84,8 @@ abbrev pub names_later : ℕ → Bool
 names_later op = (((op == 5) || (op == 6)) || ((op == 15) || (op == 16))) || (((op == 71) || (op == 72)) || (op == 331))
 
 -- From where an instruction names ids: its function, and before the functions the word that they have to be defined before.
-abbrev pub scope_of : Bool → Site → Inst → Scope
-scope_of begun site inst = record { home = home_of site; before = if begun || names_later inst.op then None else Some inst.word }
+abbrev pub scope_of : Bool → Position → Inst → Scope
+scope_of begun position inst = record { home = home_of position; before = if begun || names_later inst.op then None else Some inst.word }
 
 abbrev pub is_early : Option ℕ → ℕ → Bool
 is_early None word = true
@@ -118,9 +118,9 @@ operands_name ids scope uses number (operand ∷ operands) =
     operand_names ids scope (wanted uses number) operand && operands_name ids scope uses (number + id_count operand) operands
 
 -- the result type of an instruction is a type, where it has one, and the ids of its operands are of what is wanted
-abbrev pub is_naming : Ids → Scope → Role → Inst → Bool
-is_naming ids scope role inst =
-    ((inst.ty == 0) || names ids scope DeclaredType inst.ty) && operands_name ids scope (uses_of inst.op) 0 (looked_at role inst)
+abbrev pub is_naming : Ids → Scope → Class → Inst → Bool
+is_naming ids scope class inst =
+    ((inst.ty == 0) || names ids scope DeclaredType inst.ty) && operands_name ids scope (uses_of inst.op) 0 (looked_at class inst)
 
 -- ---- the refusals
 
@@ -131,20 +131,20 @@ abbrev pub naming_breach : Inst → Refusal
 naming_breach inst = record { code = naming_code; word = inst.word }
 
 -- the refusals of one instruction, the lower code first
-unfoldable pub breaches_at : Ids → Scope → Role → Inst → List Refusal
-breaches_at ids scope role inst =
-    (if is_numbered ids role inst then [] else number_breach inst ∷ []) ++ (if is_naming ids scope role inst then [] else naming_breach inst ∷ [])
+unfoldable pub breaches_at : Ids → Scope → Class → Inst → List Refusal
+breaches_at ids scope class inst =
+    (if is_numbered ids class inst then [] else number_breach inst ∷ []) ++ (if is_naming ids scope class inst then [] else naming_breach inst ∷ [])
 
 -- an OpFunction is there or was before
 abbrev pub has_begun : Bool → Inst → Bool
 has_begun begun inst = begun || (inst.op == 54)
 
--- the refusals of instructions of which the first stands at a site, where a function has begun before or not
-unfoldable pub id_breaches : Ids → List (ℕ × Bool) → Bool → Site → List Inst → List Refusal
-id_breaches ids sets begun site [] = []
-id_breaches ids sets begun site (inst ∷ insts) =
-    breaches_at ids (scope_of (has_begun begun inst) site inst) (role_of sets inst) inst
-    ++ id_breaches ids sets (has_begun begun inst) (site_after site (role_of sets inst) inst) insts
+-- the refusals of instructions of which the first stands at a position, where a function has begun before or not
+unfoldable pub id_breaches : Ids → List (ℕ × Bool) → Bool → Position → List Inst → List Refusal
+id_breaches ids sets begun position [] = []
+id_breaches ids sets begun position (inst ∷ insts) =
+    breaches_at ids (scope_of (has_begun begun inst) position inst) (class_of sets inst) inst
+    ++ id_breaches ids sets (has_begun begun inst) (position_after position (class_of sets inst) inst) insts
 
 -- the ids of a module with some Bound: no Bound counts as more than 1,048,576
 abbrev pub ids_in : ℕ → List Inst → Ids

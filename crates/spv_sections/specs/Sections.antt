@@ -5,12 +5,12 @@ use Rattle.std.specs.Prelude.{ℕ, Bool, true, false, List, [], ◌∷◌, ◌++
 use Rattle.spv_base.specs.Entries.{reads}
 use Rattle.spv_base.specs.declared.instructions.Inst.{Inst}
 use Rattle.spv_base.specs.declared.causes.Refusal.{Refusal}
-use Rattle.spv_cfg.specs.declared.roles.Role.{Role}
-use Rattle.spv_cfg.specs.declared.roles.Role.TheVariants.{Function as Beginning, Parameter, End, Label, Line as Passing, Phi, Variable, Terminator, Passed, Executable}
-use Rattle.spv_cfg.specs.declared.sites.Place.{Place}
-use Rattle.spv_cfg.specs.declared.sites.Site.{Site}
-use Rattle.spv_cfg.specs.Roles.{role_of, sets_of}
-use Rattle.spv_cfg.specs.Sites.{in_block, in_function, outside, site_after}
+use Rattle.spv_index.specs.declared.classes.Class.{Class}
+use Rattle.spv_index.specs.declared.classes.Class.TheVariants.{Function as Beginning, Parameter, End, Label, Line as Passing, Phi, Variable, Terminator, Passed, Executable}
+use Rattle.spv_index.specs.declared.positions.Stage.{Stage}
+use Rattle.spv_index.specs.declared.positions.Position.{Position}
+use Rattle.spv_index.specs.Classes.{class_of, sets_of}
+use Rattle.spv_index.specs.Positions.{in_block, in_function, outside, position_after}
 use Rattle.spv_types.specs.Build.{unless_refused}
 use Rattle.spv_types.specs.Blocks.{nothing}
 use Rattle.spv_sections.specs.declared.sections.Part.{Part}
@@ -30,7 +30,7 @@ parts =
     ∷ (1, Value) ∷ (59, Value) ∷ (54, Function) ∷ (0, Nop) ∷ []
 
 -- a line, or an instruction of a set with no meaning at run time
-abbrev pub is_line : Role → Bool
+abbrev pub is_line : Class → Bool
 is_line Beginning = false
 is_line Parameter = false
 is_line End = false
@@ -45,8 +45,8 @@ is_line Executable = false
 abbrev pub part_by : ℕ → Part
 part_by op = unwrap_or (reads op parts) Body
 
-abbrev pub part_of : Role → ℕ → Part
-part_of role op = if is_line role then Line else part_by op
+abbrev pub part_of : Class → ℕ → Part
+part_of class op = if is_line class then Line else part_by op
 
 -- the number of the section that an instruction belongs to: the functions are the last one
 abbrev pub rank : Part → ℕ
@@ -68,7 +68,7 @@ rank Body = 9
 -- Whether an instruction may stand at a place, where the last section that was reached has a number: no later section
 -- than its own was reached before it. There is one memory model. A variable and an undefined value may stand in a
 -- function too, the body of a function stands there alone, and OpNop in a block.
-abbrev pub may_stand : Place → ℕ → Part → Bool
+abbrev pub may_stand : Stage → ℕ → Part → Bool
 may_stand place reached Capability = nat_le reached (rank Capability)
 may_stand place reached Extension = nat_le reached (rank Extension)
 may_stand place reached Import = nat_le reached (rank Import)
@@ -87,12 +87,12 @@ may_stand place reached Body = in_function place
 abbrev pub order_breach : Inst → Refusal
 order_breach inst = record { code = order_code; word = inst.word }
 
--- the refusals of instructions of which the first stands at a site, where the last section reached has a number
-unfoldable pub order_breaches : List (ℕ × Bool) → Site → ℕ → List Inst → List Refusal
-order_breaches sets site reached [] = []
-order_breaches sets site reached (inst ∷ insts) =
-    (if may_stand site.place reached (part_of (role_of sets inst) inst.op) then [] else order_breach inst ∷ [])
-    ++ order_breaches sets (site_after site (role_of sets inst) inst) (max reached (rank (part_of (role_of sets inst) inst.op))) insts
+-- the refusals of instructions of which the first stands at a position, where the last section reached has a number
+unfoldable pub order_breaches : List (ℕ × Bool) → Position → ℕ → List Inst → List Refusal
+order_breaches sets position reached [] = []
+order_breaches sets position reached (inst ∷ insts) =
+    (if may_stand position.stage reached (part_of (class_of sets inst) inst.op) then [] else order_breach inst ∷ [])
+    ++ order_breaches sets (position_after position (class_of sets inst) inst) (max reached (rank (part_of (class_of sets inst) inst.op))) insts
 
 -- nothing, where the sections of a module are in order, or the first breach
 unfoldable pub sections_of : List Inst → Result (Unit {0}) Refusal

@@ -1,10 +1,10 @@
 //! What a module declares that it needs (SPIR-V 1.6 sections 3.4, 3.5, 3.31 and 3.42.2 to 3.42.4).
 ghost use Rattle.std.specs.Prelude.{◌≡◌};
-ghost use Rattle.spv_cfg.specs.Roles.{name_of};
+ghost use Rattle.spv_index.specs.Classes.{name_of};
 ghost use Rattle.spv_sections.specs.Capabilities as spec;
 
 use spv_base::{Inst, Operand, Refusal};
-use spv_cfg::roles::number_at;
+use spv_index::classes::number_at;
 
 /// The code of the rules of capabilities, extensions, imports and memory models.
 const CAPABILITY_CODE: u8 = 11;

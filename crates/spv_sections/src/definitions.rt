@@ -1,14 +1,14 @@
 //! What each id of a module stands for, and from where it can be named (SPIR-V 1.6 section 2.16.1).
 ghost use Rattle.std.specs.Prelude.{◌≡◌, ◌<◌, ◌==◌, ℕ, IfOk, Some, None, length, if◌then◌else◌};
 ghost use Rattle.std.specs.Option.{option_or};
-ghost use Rattle.spv_cfg.specs.Roles.{sets_of};
+ghost use Rattle.spv_index.specs.Classes.{sets_of};
 ghost use Rattle.spv_sections.specs.Definitions as spec;
 
 use crate::kinds::Kind;
 use spv_base::{Inst, NoMemory};
-use spv_cfg::roles::role_of;
-use spv_cfg::sites::Site;
 use spv_index::Table;
+use spv_index::classes::class_of;
+use spv_index::positions::Position;
 use spv_types::opcodes::FUNCTION;
 use std::alloc::Global;
 use std::marker::Model;
@@ -51,11 +51,11 @@ impl<'a> Model for Definitions<'a> {
 
 impl Home {
     /// Where an instruction stands.
-    pub fn of(site: Site) -> Home
-        ensures { result ≡ spec.home_of site }
+    pub fn of(position: Position) -> Home
+        ensures { result ≡ spec.home_of position }
     {
-        if site.place.in_function() {
-            Home::Within(site.begin)
+        if position.stage.in_function() {
+            Home::Within(position.function_word)
         } else {
             Home::Module
         }
@@ -75,16 +75,16 @@ impl Home {
 }
 
 impl Definition {
-    /// What the result of an instruction at a site stands for.
-    fn of(site: Site, inst: &Inst) -> Definition
-        ensures { result ≡ spec.definition_at site inst.now }
+    /// What the result of an instruction at a position stands for.
+    fn of(position: Position, inst: &Inst) -> Definition
+        ensures { result ≡ spec.definition_at position inst.now }
     {
         Definition {
-            kind: Kind::of(site.place.in_function(), inst.op),
+            kind: Kind::of(position.stage.in_function(), inst.op),
             home: if inst.op == FUNCTION {
                 Home::Module
             } else {
-                Home::of(site)
+                Home::of(position)
             },
             word: inst.word,
         }
@@ -114,11 +114,11 @@ fn slots_of(
     ensures all { IfOk result (λ slots. spec.AreSlots (spec.definitions_of insts.now) slots.items) }
 {
     let mut slots = vec![in alloc; None; bound as usize]?;
-    let mut site = Site::outside();
+    let mut position = Position::outside();
     for inst in insts {
-        let role = role_of(sets, inst);
-        put_first(&mut slots, inst.id, Definition::of(site, inst));
-        site = site.after(role, inst);
+        let class = class_of(sets, inst);
+        put_first(&mut slots, inst.id, Definition::of(position, inst));
+        position = position.after(class, inst);
     }
     Ok(slots)
 }

@@ -2,17 +2,17 @@
 ghost use Rattle.std.specs.Prelude.{◌≡◌, false};
 ghost use Rattle.std.specs.List.{list_all};
 ghost use Rattle.spv_base.specs.Answers.{Answers};
-ghost use Rattle.spv_cfg.specs.Roles.{sets_of};
-ghost use Rattle.spv_cfg.specs.Sites.{outside};
+ghost use Rattle.spv_index.specs.Classes.{sets_of};
+ghost use Rattle.spv_index.specs.Positions.{outside};
 ghost use Rattle.spv_types.specs.Build.{unless_refused};
 ghost use Rattle.spv_sections.specs.Ids as spec;
 
 use crate::definitions::{Definition, Definitions, Home};
 use crate::kinds::{Uses, Wanted};
 use spv_base::{Fail, Inst, Operand, Refusal};
-use spv_cfg::roles::{Role, role_of, sets_of};
-use spv_cfg::sites::Site;
 use spv_index::Table;
+use spv_index::classes::{Class, class_of, sets_of};
+use spv_index::positions::Position;
 use spv_ops::{Head, opcode_of};
 use spv_types::opcodes::FUNCTION;
 use std::alloc::Global;
@@ -62,11 +62,11 @@ fn has_type(op: u16) -> bool
 }
 
 /// The operands that the rules look at: of an instruction with no meaning at run time the set and the number.
-fn looked_at(role: Role, inst: &Inst) -> &[Operand]
-    ensures { result.now ≡ spec.looked_at role inst.now }
+fn looked_at(class: Class, inst: &Inst) -> &[Operand]
+    ensures { result.now ≡ spec.looked_at class inst.now }
 {
     let operands = inst.operands.as_slice();
-    if matches!(role, Role::Line) && inst.op == EXT_INST && operands.len() > 2 {
+    if matches!(class, Class::Line) && inst.op == EXT_INST && operands.len() > 2 {
         &operands[..2]
     } else {
         operands
@@ -109,12 +109,12 @@ fn is_before(word: u32, definition: Option<Definition>) -> bool
 }
 
 impl Scope {
-    /// The scope of an instruction at a site, where a function has begun or not.
-    fn of(begun: bool, site: Site, inst: &Inst) -> Scope
-        ensures { result ≡ spec.scope_of begun site inst.now }
+    /// The scope of an instruction at a position, where a function has begun or not.
+    fn of(begun: bool, position: Position, inst: &Inst) -> Scope
+        ensures { result ≡ spec.scope_of begun position inst.now }
     {
         Scope {
-            home: Home::of(site),
+            home: Home::of(position),
             before: if begun || names_later(inst.op) {
                 None
             } else {
@@ -187,10 +187,10 @@ impl<'a> Definitions<'a> {
     }
 
     /// Whether the ids of an instruction are in order as numbers.
-    fn is_numbered(&self, role: Role, inst: &Inst) -> bool
-        ensures { result ≡ spec.is_numbered self.now role inst.now }
+    fn is_numbered(&self, class: Class, inst: &Inst) -> bool
+        ensures { result ≡ spec.is_numbered self.now class inst.now }
     {
-        self.is_result(inst) && self.is_type_id(inst) && self.are_operands(looked_at(role, inst))
+        self.is_result(inst) && self.is_type_id(inst) && self.are_operands(looked_at(class, inst))
     }
 
     /// Whether an id is of what is wanted.
@@ -224,25 +224,25 @@ impl<'a> Definitions<'a> {
     }
 
     /// Whether the result type of an instruction and the ids of its operands are of what is wanted.
-    fn is_naming(&self, scope: Scope, role: Role, inst: &Inst) -> bool
-        ensures { result ≡ spec.is_naming self.now scope role inst.now }
+    fn is_naming(&self, scope: Scope, class: Class, inst: &Inst) -> bool
+        ensures { result ≡ spec.is_naming self.now scope class inst.now }
     {
         (inst.ty == 0 || self.names(scope, Wanted::DeclaredType, inst.ty))
-            && self.operands_name(scope, Uses::of(inst.op), looked_at(role, inst))
+            && self.operands_name(scope, Uses::of(inst.op), looked_at(class, inst))
     }
 
     /// Refuses an instruction whose ids are not in order.
     #[tactic(auto, unfolding(crate::specs::Ids::breaches_at))]
-    fn check_inst(&self, scope: Scope, role: Role, inst: &Inst) -> Result<(), Refusal>
-        ensures { result ≡ unless_refused tt (spec.breaches_at self.now scope role inst.now) }
+    fn check_inst(&self, scope: Scope, class: Class, inst: &Inst) -> Result<(), Refusal>
+        ensures { result ≡ unless_refused tt (spec.breaches_at self.now scope class inst.now) }
     {
-        if !self.is_numbered(role, inst) {
+        if !self.is_numbered(class, inst) {
             return Err(Refusal {
                 code: NUMBER_CODE,
                 word: inst.word,
             });
         }
-        if !self.is_naming(scope, role, inst) {
+        if !self.is_naming(scope, class, inst) {
             return Err(Refusal {
                 code: NAMING_CODE,
                 word: inst.word,
@@ -256,12 +256,12 @@ impl<'a> Definitions<'a> {
         ensures { result ≡ unless_refused tt (spec.id_breaches self.now sets.now false outside insts.now) }
     {
         let mut begun = false;
-        let mut site = Site::outside();
+        let mut position = Position::outside();
         for inst in insts {
-            let role = role_of(sets, inst);
+            let class = class_of(sets, inst);
             begun = has_begun(begun, inst);
-            self.check_inst(Scope::of(begun, site, inst), role, inst)?;
-            site = site.after(role, inst);
+            self.check_inst(Scope::of(begun, position, inst), class, inst)?;
+            position = position.after(class, inst);
         }
         Ok(())
     }

@@ -3,8 +3,8 @@ ghost use Rattle.std.specs.Prelude.{◌≡◌, ◌↔◌, ◌⊎◌, ℕ, false,
 ghost use Rattle.std.specs.List.{AllByRecursion};
 ghost use Rattle.spv_base.specs.Order.{Ascend};
 ghost use Rattle.spv_base.specs.declared.instructions.Inst.{Inst};
-ghost use Rattle.spv_cfg.specs.Roles.{sets_of};
-ghost use Rattle.spv_cfg.specs.Sites.{outside};
+ghost use Rattle.spv_index.specs.Classes.{sets_of};
+ghost use Rattle.spv_index.specs.Positions.{outside};
 ghost use Rattle.spv_index.specs.Definitions.{defining};
 ghost use Rattle.spv_types.specs.Blocks.{nothing};
 ghost use Rattle.spv_types.specs.Laws.{AreNamed};

@@ -1,14 +1,14 @@
 //! The order of the sections of a module (SPIR-V 1.6 section 2.4).
 ghost use Rattle.std.specs.Prelude.{◌≡◌};
 ghost use Rattle.spv_base.specs.Answers.{Answers};
-ghost use Rattle.spv_cfg.specs.Sites.{outside};
+ghost use Rattle.spv_index.specs.Positions.{outside};
 ghost use Rattle.spv_types.specs.Build.{unless_refused};
 ghost use Rattle.spv_sections.specs.Sections as spec;
 
 use spv_base::{Fail, Inst, Refusal};
-use spv_cfg::roles::{Role, role_of, sets_of};
-use spv_cfg::sites::{Place, Site};
 use spv_index::Table;
+use spv_index::classes::{Class, class_of, sets_of};
+use spv_index::positions::{Position, Stage};
 use std::alloc::Global;
 
 /// The code of the order of sections.
@@ -86,21 +86,21 @@ fn part_by(op: u16) -> Part
     }
 }
 
-/// What an instruction is, by its role in functions.
-fn part_of(role: Role, op: u16) -> Part
-    ensures { result ≡ spec.part_of role op }
+/// What an instruction is, by its class in functions.
+fn part_of(class: Class, op: u16) -> Part
+    ensures { result ≡ spec.part_of class op }
 {
-    match role {
-        Role::Line => Part::Line,
-        Role::Function
-        | Role::Parameter
-        | Role::End
-        | Role::Label
-        | Role::Phi
-        | Role::Variable
-        | Role::Terminator
-        | Role::Passed
-        | Role::Executable => part_by(op),
+    match class {
+        Class::Line => Part::Line,
+        Class::Function
+        | Class::Parameter
+        | Class::End
+        | Class::Label
+        | Class::Phi
+        | Class::Variable
+        | Class::Terminator
+        | Class::Passed
+        | Class::Executable => part_by(op),
     }
 }
 
@@ -124,7 +124,7 @@ impl Part {
     }
 
     /// Whether it may stand at a place, where the last section that was reached has this number.
-    fn may_stand(self, place: Place, reached: u8) -> bool
+    fn may_stand(self, place: Stage, reached: u8) -> bool
         ensures { result ≡ spec.may_stand place reached self }
     {
         match self {
@@ -149,19 +149,19 @@ impl Part {
 fn check_order(sets: &Table<bool>, insts: &[Inst]) -> Result<(), Refusal>
     ensures { result ≡ unless_refused tt (spec.order_breaches sets.now outside 0 insts.now) }
 {
-    let mut site = Site::outside();
+    let mut position = Position::outside();
     let mut reached = 0;
     for inst in insts {
-        let role = role_of(sets, inst);
-        let part = part_of(role, inst.op);
-        if !part.may_stand(site.place, reached) {
+        let class = class_of(sets, inst);
+        let part = part_of(class, inst.op);
+        if !part.may_stand(position.stage, reached) {
             return Err(Refusal {
                 code: ORDER_CODE,
                 word: inst.word,
             });
         }
         reached = reached.max(part.rank());
-        site = site.after(role, inst);
+        position = position.after(class, inst);
     }
     Ok(())
 }

@@ -9,10 +9,10 @@ use Rattle.spv_types.specs.Typing.{types_in}
 use Rattle.spv_types.specs.Build.{type_breaches, type_code}
 use Rattle.spv_types.specs.Blocks.{breach as layout_breach, function_breaches, is_block_variable, keeps_layout, module_breaches}
 use Rattle.spv_types.specs.declared.opcodes.TheConstants.{FUNCTION}
-use Rattle.spv_cfg.specs.declared.sites.Site.{Site}
-use Rattle.spv_cfg.specs.declared.roles.Role.{Role}
-use Rattle.spv_cfg.specs.Roles.{role_of}
-use Rattle.spv_cfg.specs.Sites.{site_after}
+use Rattle.spv_index.specs.declared.positions.Position.{Position}
+use Rattle.spv_index.specs.declared.classes.Class.{Class}
+use Rattle.spv_index.specs.Classes.{class_of}
+use Rattle.spv_index.specs.Positions.{position_after}
 use Rattle.spv_sections.specs.Sections.{may_stand, order_breach, order_breaches, part_of, rank}
 use Rattle.spv_sections.specs.declared.ids.Scope.{Scope}
 use Rattle.spv_sections.specs.Definitions.{Ids}
@@ -98,16 +98,16 @@ Ascend-before from (i ∷ is) (first, rest) =
 
 -- ---- the passes
 
-pub order_in_order : (sets : List (ℕ × Bool)) (site : Site) (reached from : ℕ) (insts : List Inst) → Ascend from insts → InOrder from (order_breaches sets site reached insts)
+pub order_in_order : (sets : List (ℕ × Bool)) (position : Position) (reached from : ℕ) (insts : List Inst) → Ascend from insts → InOrder from (order_breaches sets position reached insts)
 unfolding order_breaches
-order_in_order sets site reached from [] ascend = none_in_order from
-order_in_order sets site reached from (i ∷ is) (first, rest) =
-    one_in_order from (may_stand site.place reached (part_of (role_of sets i) i.op)) (order_breach i) _ first (order_in_order sets (site_after site (role_of sets i) i) (max reached (rank (part_of (role_of sets i) i.op))) (suc i.word) is rest)
+order_in_order sets position reached from [] ascend = none_in_order from
+order_in_order sets position reached from (i ∷ is) (first, rest) =
+    one_in_order from (may_stand position.stage reached (part_of (class_of sets i) i.op)) (order_breach i) _ first (order_in_order sets (position_after position (class_of sets i) i) (max reached (rank (part_of (class_of sets i) i.op))) (suc i.word) is rest)
 
-at_in_order : (ids : Ids) (scope : Scope) (role : Role) (i : Inst) (from : ℕ) (rest : List Refusal) → from ≤ i.word → InOrder (suc i.word) rest
-    → InOrder from (breaches_at ids scope role i ++ rest)
+at_in_order : (ids : Ids) (scope : Scope) (class : Class) (i : Inst) (from : ℕ) (rest : List Refusal) → from ≤ i.word → InOrder (suc i.word) rest
+    → InOrder from (breaches_at ids scope class i ++ rest)
 unfolding breaches_at
-at_in_order ids scope role i from rest le behind = by_tests (is_numbered ids role i) (is_naming ids scope role i)
+at_in_order ids scope class i from rest le behind = by_tests (is_numbered ids class i) (is_naming ids scope class i)
   where
     by_tests : (a b : Bool) → InOrder from ((cond a [] (number_breach i ∷ []) ++ cond b [] (naming_breach i ∷ [])) ++ rest)
     by_tests true true = joined_in_order from i.word [] rest le tt tt behind
@@ -115,11 +115,11 @@ at_in_order ids scope role i from rest le behind = by_tests (is_numbered ids rol
     by_tests false true = joined_in_order from i.word (number_breach i ∷ []) rest le (refl, tt) tt behind
     by_tests false false = let codes : 8 ≤ 9 = omega arith in joined_in_order from i.word (number_breach i ∷ naming_breach i ∷ []) rest le (refl, (refl, tt)) (inr (refl, codes), tt) behind
 
-pub ids_in_order : (ids : Ids) (sets : List (ℕ × Bool)) (begun : Bool) (site : Site) (from : ℕ) (insts : List Inst) → Ascend from insts → InOrder from (id_breaches ids sets begun site insts)
+pub ids_in_order : (ids : Ids) (sets : List (ℕ × Bool)) (begun : Bool) (position : Position) (from : ℕ) (insts : List Inst) → Ascend from insts → InOrder from (id_breaches ids sets begun position insts)
 unfolding id_breaches
-ids_in_order ids sets begun site from [] ascend = none_in_order from
-ids_in_order ids sets begun site from (i ∷ is) (first, rest) =
-    at_in_order ids (scope_of (has_begun begun i) site i) (role_of sets i) i from _ first (ids_in_order ids sets (has_begun begun i) (site_after site (role_of sets i) i) (suc i.word) is rest)
+ids_in_order ids sets begun position from [] ascend = none_in_order from
+ids_in_order ids sets begun position from (i ∷ is) (first, rest) =
+    at_in_order ids (scope_of (has_begun begun i) position i) (class_of sets i) i from _ first (ids_in_order ids sets (has_begun begun i) (position_after position (class_of sets i) i) (suc i.word) is rest)
 
 pub capabilities_in_order : (from : ℕ) (insts : List Inst) → Ascend from insts → InOrder from (capability_breaches insts)
 capabilities_in_order from [] ascend = none_in_order from

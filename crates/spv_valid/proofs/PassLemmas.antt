@@ -11,8 +11,8 @@ use Rattle.spv_types.specs.Types.{Types}
 use Rattle.spv_types.specs.Typing.{before_functions}
 use Rattle.spv_types.specs.Build.{type_breaches, types_of, unless_refused}
 use Rattle.spv_types.specs.Blocks.{layout_of, nothing}
-use Rattle.spv_cfg.specs.Roles.{sets_of}
-use Rattle.spv_cfg.specs.Sites.{outside}
+use Rattle.spv_index.specs.Classes.{sets_of}
+use Rattle.spv_index.specs.Positions.{outside}
 use Rattle.spv_cfg.specs.Lowest.{lowest, sooner}
 use Rattle.spv_cfg.specs.Flow.{Flow, block_breaches, call_breaches, flow_in, flow_of, refusal, unless_refused as flow_unless}
 use Rattle.spv_cfg.proofs.LowestLemmas.{lowest-append}

@@ -6,10 +6,10 @@ use Rattle.std.proofs.lemmas.List.Elements.{All-nil, All-append, All-head, All-t
 use Rattle.std.proofs.lemmas.List.{get_or_read}
 use Rattle.spv_base.specs.Entries.{reads}
 use Rattle.spv_base.specs.declared.instructions.Inst.{Inst}
-use Rattle.spv_cfg.specs.Roles.{sets_of}
+use Rattle.spv_index.specs.Classes.{sets_of}
 use Rattle.spv_types.specs.Cuts.{cut}
 use Rattle.spv_types.specs.Types.{Types}
-use Rattle.spv_cfg.specs.Sites.{Stand, in_function}
+use Rattle.spv_index.specs.Positions.{Stand, in_function}
 use Rattle.spv_cfg.specs.Calls.{IsChain, calls_in, functions_of, limit, longest, most, numbered}
 use Rattle.spv_cfg.proofs.Backwards.{drop_back}
 use Rattle.spv_cfg.proofs.Chains.{Within, most-le}
@@ -45,10 +45,10 @@ pub kept_within : (ts : Types) (numbers : List (ℕ × ℕ)) (n : ℕ) → ((id 
 kept_within ts numbers n small [] = All-nil (λ (c : ℕ × ℕ). c.0 < n)
 kept_within ts numbers n small (s ∷ more) =
     let P : ℕ × ℕ → Type 0 = λ c. c.0 < n in
-    let by : List (ℕ × ℕ) = kept_by (reads s.site.function numbers) (kept_cells ts s.inst) in
-    let cells = kept_by-within n (reads s.site.function numbers) (kept_cells ts s.inst) (small s.site.function) in
+    let by : List (ℕ × ℕ) = kept_by (reads s.position.function numbers) (kept_cells ts s.inst) in
+    let cells = kept_by-within n (reads s.position.function numbers) (kept_cells ts s.inst) (small s.position.function) in
     let here : All P (kept_in ts numbers s)
-    = elim (in_function s.site.place) as (λ b. All P (cond b by [])) [ true ↦ cells | false ↦ All-nil P ] in
+    = elim (in_function s.position.stage) as (λ b. All P (cond b by [])) [ true ↦ cells | false ↦ All-nil P ] in
     All-append P (kept_in ts numbers s) (flat_map (kept_in ts numbers) more) here (kept_within ts numbers n small more)
 
 -- one number more in a list of sums that stop at m

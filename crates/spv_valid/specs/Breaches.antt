@@ -9,8 +9,8 @@ use Rattle.spv_types.specs.Types.{Types}
 use Rattle.spv_types.specs.Typing.{before_functions, types_in}
 use Rattle.spv_types.specs.Build.{type_breaches}
 use Rattle.spv_types.specs.Blocks.{function_breaches, module_breaches}
-use Rattle.spv_cfg.specs.Roles.{sets_of}
-use Rattle.spv_cfg.specs.Sites.{outside}
+use Rattle.spv_index.specs.Classes.{sets_of}
+use Rattle.spv_index.specs.Positions.{outside}
 use Rattle.spv_cfg.specs.Flow.{block_breaches, call_breaches, flow_in}
 use Rattle.spv_sections.specs.Sections.{order_breaches}
 use Rattle.spv_sections.specs.Ids.{id_breaches, ids_in}

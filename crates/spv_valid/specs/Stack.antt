@@ -10,8 +10,8 @@ use Rattle.spv_types.specs.Types.{Types, form_of}
 use Rattle.spv_types.specs.Cells.{cells_of}
 use Rattle.spv_types.specs.Cuts.{cut}
 use Rattle.spv_types.specs.Blocks.{target_of}
-use Rattle.spv_cfg.specs.Roles.{sets_of}
-use Rattle.spv_cfg.specs.Sites.{Stand, stands, outside, in_function}
+use Rattle.spv_index.specs.Classes.{sets_of}
+use Rattle.spv_index.specs.Positions.{Stand, stands, outside, in_function}
 use Rattle.spv_cfg.specs.Calls.{IsChain, calls_of, functions_of, limit, most, numbered}
 
 -- what a variable keeps has the target of its pointer type; any other result has its own type, and without one there is none
@@ -29,7 +29,7 @@ kept_by (Some f) cells = (f, cells) ∷ []
 
 -- the cells of each instruction in a function, with the number of the function
 abbrev pub kept_in : Types → List (ℕ × ℕ) → Stand → List (ℕ × ℕ)
-kept_in ts numbers s = if in_function s.site.place then kept_by (reads s.site.function numbers) (kept_cells ts s.inst) else []
+kept_in ts numbers s = if in_function s.position.stage then kept_by (reads s.position.function numbers) (kept_cells ts s.inst) else []
 
 abbrev pub kept : Types → List (ℕ × Bool) → List (ℕ × ℕ) → List Inst → List (ℕ × ℕ)
 kept ts sets numbers insts = flat_map (kept_in ts numbers) (stands sets outside insts)

@@ -4,8 +4,8 @@ use Rattle.std.specs.Prelude.{ℕ, false, List, Option, length, drop}
 use Rattle.spv_base.specs.declared.values.Root.{Root}
 use Rattle.spv_types.specs.Typing.{before_functions}
 use Rattle.spv_types.specs.Laws.{AreComplete, AreNamed, AreSound}
-use Rattle.spv_cfg.specs.Roles.{sets_of}
-use Rattle.spv_cfg.specs.Sites.{outside}
+use Rattle.spv_index.specs.Classes.{sets_of}
+use Rattle.spv_index.specs.Positions.{outside}
 use Rattle.spv_cfg.specs.Laws.{BlocksAreEntered, FunctionsAreEntered, FunctionsHaveDepths, RunsGoOn, TargetsAreEntered}
 use Rattle.spv_sections.specs.Ids.{ids_in}
 use Rattle.spv_sections.specs.Laws.{AreInOrder}

@@ -10,8 +10,8 @@ ghost use Rattle.spv_valid.specs.Stack as spec;
 
 use spv_base::{Inst, NoMemory};
 use spv_cfg::calls::{calls_of, functions_of, numbers_by_id};
-use spv_cfg::roles::{role_of, sets_of};
-use spv_cfg::sites::Site;
+use spv_index::classes::{class_of, sets_of};
+use spv_index::positions::Position;
 use spv_index::Table;
 use spv_types::opcodes::VARIABLE;
 use spv_types::{Form, TypeTable};
@@ -50,14 +50,14 @@ fn kept(
     ensures { IfOk result (λ kept. kept.items ≡ spec.kept types.now sets.now numbers.now insts.now) }
 {
     let mut kept = Vec::new(alloc);
-    let mut site = Site::outside();
+    let mut position = Position::outside();
     for inst in insts {
-        if site.place.in_function() {
-            if let Some(function) = numbers.get(site.function) {
+        if position.stage.in_function() {
+            if let Some(function) = numbers.get(position.function) {
                 kept.push((function, kept_cells(types, inst)))?;
             }
         }
-        site = site.after(role_of(sets, inst), inst);
+        position = position.after(class_of(sets, inst), inst);
     }
     Ok(kept)
 }

@@ -1,6 +1,6 @@
 use Rattle.std.proofs.Common.{ℕ, ◌<◌, length, IfSome, arith}
 use Rattle.spv_base.specs.Entries.{reads}
-use Rattle.spv_cfg.specs.Sites.{stands, outside}
+use Rattle.spv_index.specs.Positions.{stands, outside}
 use Rattle.spv_cfg.proofs.Chains.{calls_within, numbered-small}
 use Rattle.spv_cfg.proofs.calls.lengths_of.Goals as goal
 

@@ -1,5 +1,5 @@
 use Rattle.std.proofs.Common.{refl}
-use Rattle.spv_cfg.specs.Roles.{sets_of}
+use Rattle.spv_index.specs.Classes.{sets_of}
 use Rattle.spv_cfg.specs.Branches.{names_of, branch_breaches}
 use Rattle.spv_cfg.specs.Phis.{phi_breaches}
 use Rattle.spv_cfg.specs.Layout.{layout_breaches}

@@ -1,6 +1,6 @@
 use Rattle.std.proofs.Common.{[], ◌∙◌, sym, ap}
-use Rattle.spv_cfg.specs.Roles.{sets_of}
-use Rattle.spv_cfg.specs.Sites.{outside}
+use Rattle.spv_index.specs.Classes.{sets_of}
+use Rattle.spv_index.specs.Positions.{outside}
 use Rattle.spv_cfg.specs.Executables.{followed}
 use Rattle.spv_cfg.specs.Flow.{Flow}
 use Rattle.spv_cfg.proofs.FlowLemmas.{flow_accepted}

@@ -1,5 +1,5 @@
 use Rattle.std.proofs.Common.{◌≡◌, ◌++◌, drop, map}
-use Rattle.spv_cfg.specs.Roles.{number_in}
+use Rattle.spv_index.specs.Classes.{number_in}
 use Rattle.spv_cfg.proofs.switches.numbers_of.Given as goal
 
 abbrev pub invariant-loop-operand : goal.invariant-loop-operand

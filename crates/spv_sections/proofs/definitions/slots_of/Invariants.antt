@@ -8,5 +8,5 @@ use Rattle.spv_sections.proofs.definitions.slots_of.Given as goal
 abbrev pub invariant-loop-inst : goal.invariant-loop-inst
 invariant-loop-inst l = record {
   len : length l.slots.items ≡ l.bound;
-  put : (id : ℕ) → id < length l.slots.items → option_or (slot l.slots.items id) (reads id (definitions_from l.sets l.site (drop l.inst-index l.insts))) ≡ reads id (definitions_of l.insts);
+  put : (id : ℕ) → id < length l.slots.items → option_or (slot l.slots.items id) (reads id (definitions_from l.sets l.position (drop l.inst-index l.insts))) ≡ reads id (definitions_of l.insts);
 }

@@ -1,4 +1,4 @@
-use Rattle.spv_cfg.specs.Sites.{stands, outside}
+use Rattle.spv_index.specs.Positions.{stands, outside}
 use Rattle.spv_cfg.proofs.Chains.{calls_within}
 use Rattle.spv_valid.proofs.StackLemmas.{kept_within}
 use Rattle.spv_valid.proofs.stack.chains_of.Goals as goal
