@@ -4,6 +4,7 @@ use Rattle.std.proofs.lemmas.Option.{option_and_then_some}
 use Rattle.spv_base.specs.Entries.{reads}
 use Rattle.spv_base.specs.declared.causes.Refusal.{Refusal}
 use Rattle.spv_base.specs.declared.instructions.Inst.{Inst}
+use Rattle.spv_ops.specs.Module.{Decoded}
 use Rattle.spv_types.specs.Operands.{id_at}
 use Rattle.spv_types.specs.Types.{Types}
 use Rattle.spv_types.specs.Build.{types_of}
@@ -19,7 +20,7 @@ use Rattle.spv_valid.specs.declared.entry.Entry.{Entry}
 use Rattle.spv_valid.specs.Entry.{Size, entry_in, entry_of, entry_point, entry_with, required, size_of}
 use Rattle.spv_valid.specs.Stack.{stack_cells}
 use Rattle.spv_base.specs.Answers.{after}
-use Rattle.spv_valid.specs.Acceptance.{Accepted, IsAccepted, Passes, acceptance, accepted, code_of, front_of, known_of}
+use Rattle.spv_valid.specs.Acceptance.{Accepted, IsAccepted, Passes, acceptance, accepted, code_of, decoded_in, front_of, known_of}
 
 after-after : {T U V : Type 0} (due : Result T Refusal) (next : T → Result U Refusal) (last : U → Result V Refusal)
     → after (after due next) last ≡ after due (λ x. after (next x) last)
@@ -27,22 +28,22 @@ after-after (Ok x) next last = refl
 after-after (Err r) next last = refl
 
 -- the passes, some of them together
-pub in_parts : (insts : List Inst) (bound : ℕ) (name : Option (List ℕ)) (over : List (ℕ × ℤ)) → acceptance insts bound name over ≡
-    after (front_of bound insts) (λ _. after (known_of insts over) (λ known. after (code_of known insts) (λ flow.
-    after (entry_of known.0 known.1 flow insts name) (λ entry. Ok (accepted insts known flow entry)))))
+pub in_parts : (m : Decoded) (name : Option (List ℕ)) (over : List (ℕ × ℤ)) → acceptance m name over ≡
+    after (front_of m) (λ _. after (known_of m.insts over) (λ known. after (code_of known m.insts) (λ flow.
+    after (entry_of known.0 known.1 flow m.insts name) (λ entry. Ok (accepted m known flow entry)))))
 unfolding acceptance
-in_parts insts bound name over = simp after-after
+in_parts m name over = simp after-after
 
 -- what a pass gave, where all went on to the end
 pub after_ok : {T U : Type 0} (due : Result T Refusal) (next : T → Result U Refusal) (y : U) → after due next ≡ Ok y → (x : T) × (due ≡ Ok x) × (next x ≡ Ok y)
 after_ok (Ok x) next y is = (x, refl, is)
 after_ok (Err r) next y is = absurd (cc)
 
-pub none_refused : (insts : List Inst) (bound : ℕ) (name : Option (List ℕ)) (over : List (ℕ × ℤ)) (known : Types × Constants) (flow : Flow) (entry : Entry) (cells : ℕ)
-    → front_of bound insts ≡ Ok tt → known_of insts over ≡ Ok known → code_of known insts ≡ Ok flow → entry_of known.0 known.1 flow insts name ≡ Ok entry
-    → cells ≡ stack_cells known.0 insts entry.function
-    → acceptance insts bound name over ≡ Ok (record (accepted insts known flow entry) { stack_cells = cells })
-none_refused insts bound name over known flow entry cells front known_is code entry_is cells_are = rw (in_parts, front, known_is, code, entry_is, cells_are) refl
+pub none_refused : (m : Decoded) (name : Option (List ℕ)) (over : List (ℕ × ℤ)) (known : Types × Constants) (flow : Flow) (entry : Entry) (cells : ℕ)
+    → front_of m ≡ Ok tt → known_of m.insts over ≡ Ok known → code_of known m.insts ≡ Ok flow → entry_of known.0 known.1 flow m.insts name ≡ Ok entry
+    → cells ≡ stack_cells known.0 m.insts entry.function
+    → acceptance m name over ≡ Ok (record (accepted m known flow entry) { stack_cells = cells })
+none_refused m name over known flow entry cells front known_is code entry_is cells_are = rw (in_parts, front, known_is, code, entry_is, cells_are) refl
 
 -- ---- what the pass of the entry point says
 
@@ -77,19 +78,19 @@ depth-carried b a same depth = subst (λ (x : Accepted). reads x.entry x.flow.de
 
 pub accepted_depth : (a : Accepted) → IsAccepted a → reads a.entry a.flow.depths ≡ Some a.depth
 accepted_depth a h =
-    let front = after_ok (front_of h.bound a.insts) _ a (rw in_parts at h.is) in
+    let front = after_ok (front_of (decoded_in a)) _ a (rw in_parts at h.is) in
     let known = after_ok (known_of a.insts h.over) _ a front.2 in
     let flow = after_ok (code_of known.0 a.insts) _ a known.2 in
     let entry = after_ok (entry_of known.0.0 known.0.1 flow.0 a.insts h.name) _ a flow.2 in
-    depth-carried (accepted a.insts known.0 flow.0 entry.0) a (cc) (entry_depth known.0.0 known.0.1 flow.0 a.insts h.name entry.0 entry.1)
+    depth-carried (accepted (decoded_in a) known.0 flow.0 entry.0) a (cc) (entry_depth known.0.0 known.0.1 flow.0 a.insts h.name entry.0 entry.1)
 
 -- ---- pass by pass
 
-passes_seen : (insts : List Inst) (bound : ℕ) (name : Option (List ℕ)) (over : List (ℕ × ℤ)) (declared : Types) (known : Types × Constants) (flow : Flow) (entry : Entry)
-    → sections_of insts ≡ Ok nothing → ids_of bound insts ≡ Ok nothing → capabilities_of insts ≡ Ok nothing → types_of insts ≡ Ok declared
-    → constants_of declared insts over ≡ Ok known → layout_of known.0 insts ≡ Ok nothing → flow_of insts ≡ Ok flow → bodies_of known.0 known.1 insts ≡ Ok nothing
-    → entry_of known.0 known.1 flow insts name ≡ Ok entry → Passes (accepted insts known flow entry) bound name over
-passes_seen insts bound name over declared known flow entry sections ids capabilities types constants layout code bodies start = record {
+passes_seen : (m : Decoded) (name : Option (List ℕ)) (over : List (ℕ × ℤ)) (declared : Types) (known : Types × Constants) (flow : Flow) (entry : Entry)
+    → sections_of m.insts ≡ Ok nothing → ids_of m.bound m.insts ≡ Ok nothing → capabilities_of m.insts ≡ Ok nothing → types_of m.insts ≡ Ok declared
+    → constants_of declared m.insts over ≡ Ok known → layout_of known.0 m.insts ≡ Ok nothing → flow_of m.insts ≡ Ok flow → bodies_of known.0 known.1 m.insts ≡ Ok nothing
+    → entry_of known.0 known.1 flow m.insts name ≡ Ok entry → Passes (accepted m known flow entry) name over
+passes_seen m name over declared known flow entry sections ids capabilities types constants layout code bodies start = record {
   sections = sections;
   ids = ids;
   capabilities = capabilities;
@@ -103,14 +104,14 @@ passes_seen insts bound name over declared known flow entry sections ids capabil
   cells = refl;
 }
 
-passes_carried : (b a : Accepted) (bound : ℕ) (name : Option (List ℕ)) (over : List (ℕ × ℤ)) → b ≡ a → Passes b bound name over → Passes a bound name over
-passes_carried b a bound name over same passes = subst (λ (x : Accepted). Passes x bound name over) same passes
+passes_carried : (b a : Accepted) (name : Option (List ℕ)) (over : List (ℕ × ℤ)) → b ≡ a → Passes b name over → Passes a name over
+passes_carried b a name over same passes = subst (λ (x : Accepted). Passes x name over) same passes
 
-pub accepted_passes : (a : Accepted) (bound : ℕ) (name : Option (List ℕ)) (over : List (ℕ × ℤ)) → acceptance a.insts bound name over ≡ Ok a → Passes a bound name over
+pub accepted_passes : (a : Accepted) (name : Option (List ℕ)) (over : List (ℕ × ℤ)) → acceptance (decoded_in a) name over ≡ Ok a → Passes a name over
 unfolding acceptance
-accepted_passes a bound name over is =
+accepted_passes a name over is =
     let sections = after_ok (sections_of a.insts) _ a is in
-    let ids = after_ok (ids_of bound a.insts) _ a sections.2 in
+    let ids = after_ok (ids_of a.bound a.insts) _ a sections.2 in
     let capabilities = after_ok (capabilities_of a.insts) _ a ids.2 in
     let types = after_ok (types_of a.insts) _ a capabilities.2 in
     let constants = after_ok (constants_of types.0 a.insts over) _ a types.2 in
@@ -118,22 +119,22 @@ accepted_passes a bound name over is =
     let flow = after_ok (flow_of a.insts) _ a layout.2 in
     let bodies = after_ok (bodies_of constants.0.0 constants.0.1 a.insts) _ a flow.2 in
     let entry = after_ok (entry_of constants.0.0 constants.0.1 flow.0 a.insts name) _ a bodies.2 in
-    passes_carried (accepted a.insts constants.0 flow.0 entry.0) a bound name over (cc)
-    (passes_seen a.insts bound name over types.0 constants.0 flow.0 entry.0 sections.1 ids.1 capabilities.1 types.1 constants.1 layout.1 flow.1 bodies.1 entry.1)
+    passes_carried (accepted (decoded_in a) constants.0 flow.0 entry.0) a name over (cc)
+    (passes_seen (decoded_in a) name over types.0 constants.0 flow.0 entry.0 sections.1 ids.1 capabilities.1 types.1 constants.1 layout.1 flow.1 bodies.1 entry.1)
 
-pub passed_accepted : (a : Accepted) (bound : ℕ) (name : Option (List ℕ)) (over : List (ℕ × ℤ)) → Passes a bound name over → acceptance a.insts bound name over ≡ Ok a
+pub passed_accepted : (a : Accepted) (name : Option (List ℕ)) (over : List (ℕ × ℤ)) → Passes a name over → acceptance (decoded_in a) name over ≡ Ok a
 unfolding acceptance
-passed_accepted a bound name over passes =
+passed_accepted a name over passes =
     rw (passes.sections, passes.ids, passes.capabilities, passes.types, passes.constants, passes.layout, passes.flow, passes.bodies, passes.entry, ← passes.cells) refl
 
--- the instructions of an accepted module are those that were given
-pub accepted_insts : (insts : List Inst) (bound : ℕ) (name : Option (List ℕ)) (over : List (ℕ × ℤ)) (a : Accepted) → acceptance insts bound name over ≡ Ok a → insts ≡ a.insts
-accepted_insts insts bound name over a is =
-    let front = after_ok (front_of bound insts) _ a (rw in_parts at is) in
-    let known = after_ok (known_of insts over) _ a front.2 in
-    let flow = after_ok (code_of known.0 insts) _ a known.2 in
-    let entry = after_ok (entry_of known.0.0 known.0.1 flow.0 insts name) _ a flow.2 in
-    insts_are (accepted insts known.0 flow.0 entry.0) a entry.2
+-- an accepted module is the one that was given
+pub accepted_module : (m : Decoded) (name : Option (List ℕ)) (over : List (ℕ × ℤ)) (a : Accepted) → acceptance m name over ≡ Ok a → m ≡ decoded_in a
+accepted_module m name over a is =
+    let front = after_ok (front_of m) _ a (rw in_parts at is) in
+    let known = after_ok (known_of m.insts over) _ a front.2 in
+    let flow = after_ok (code_of known.0 m.insts) _ a known.2 in
+    let entry = after_ok (entry_of known.0.0 known.0.1 flow.0 m.insts name) _ a flow.2 in
+    module_is (accepted m known.0 flow.0 entry.0) a entry.2
   where
-    insts_are : (x y : Accepted) → Path (Result Accepted Refusal) (Ok x) (Ok y) → x.insts ≡ y.insts
-    insts_are x y same = cc
+    module_is : (x y : Accepted) → Path (Result Accepted Refusal) (Ok x) (Ok y) → decoded_in x ≡ decoded_in y
+    module_is x y same = cc

@@ -34,6 +34,7 @@ use Rattle.spv_valid.specs.Entry.{entry_of}
 use Rattle.spv_base.specs.Answers.{after}
 use Rattle.spv_valid.specs.Acceptance.{Accepted, acceptance, accepted}
 use Rattle.spv_base.specs.Order.{Ascend}
+use Rattle.spv_ops.specs.Module.{Decoded}
 use Rattle.spv_valid.specs.Breaches.{IsLeast, at_words, bodies_breaches, breaches, constant_breaches, first_with, flow_breaches, known_read, layout_breaches, refused_in, types_read}
 use Rattle.spv_valid.proofs.OrderLemmas.{bodies_in_order, capabilities_in_order, ids_in_order, layout_in_order, order_in_order, types_in_order}
 use Rattle.spv_valid.proofs.LeastLemmas.{IsLeastOf, Tells, earlier, joined_least, lowest_least, tells_after, tells_led, tells_refused}
@@ -176,38 +177,38 @@ flow_is insts flow is = by_refusal (refusal (lowest (block_breaches insts)) (low
     by_refusal None e = cc
     by_refusal (Some r) e = absurd (cc)
 
-tells_entry : (insts : List Inst) (name : Option (List ℕ)) (known : Types × Constants) (flow : Flow) → flow ≡ flow_in insts
-    → Tells (after (entry_of known.0 known.1 flow insts name) (λ entry. Ok (accepted insts known flow entry)))
-    (first_with (refused_in (entry_of known.0 known.1 (flow_in insts) insts name) ∷ []))
-tells_entry insts name known flow is =
-    rw is (tells_after {U = Accepted} (entry_of known.0 known.1 (flow_in insts) insts name) (λ entry. Ok (accepted insts known (flow_in insts) entry)) (refused_in (entry_of known.0 known.1 (flow_in insts) insts name)) [] (tells_refused (entry_of known.0 known.1 (flow_in insts) insts name)) (λ entry same. refl))
+tells_entry : (m : Decoded) (name : Option (List ℕ)) (known : Types × Constants) (flow : Flow) → flow ≡ flow_in m.insts
+    → Tells (after (entry_of known.0 known.1 flow m.insts name) (λ entry. Ok (accepted m known flow entry)))
+    (first_with (refused_in (entry_of known.0 known.1 (flow_in m.insts) m.insts name) ∷ []))
+tells_entry m name known flow is =
+    rw is (tells_after {U = Accepted} (entry_of known.0 known.1 (flow_in m.insts) m.insts name) (λ entry. Ok (accepted m known (flow_in m.insts) entry)) (refused_in (entry_of known.0 known.1 (flow_in m.insts) m.insts name)) [] (tells_refused (entry_of known.0 known.1 (flow_in m.insts) m.insts name)) (λ entry same. refl))
 
-tells_code : (insts : List Inst) (name : Option (List ℕ)) (known : Types × Constants) → Ascend 0 insts
-    → Tells (after (flow_of insts) (λ flow. after (bodies_of known.0 known.1 insts) (λ _. after (entry_of known.0 known.1 flow insts name) (λ entry. Ok (accepted insts known flow entry)))))
-    (first_with (flow_breaches insts ∷ bodies_breaches known insts ∷ refused_in (entry_of known.0 known.1 (flow_in insts) insts name) ∷ []))
-tells_code insts name known ascend =
-    tells_after {U = Accepted} (flow_of insts) _ (flow_breaches insts) _ (tells_flow insts) (λ flow is.
-    tells_after {U = Accepted} (bodies_of known.0 known.1 insts) _ (bodies_breaches known insts) _ (tells_bodies known insts ascend) (λ _ _.
-    tells_entry insts name known flow (flow_is insts flow is)))
+tells_code : (m : Decoded) (name : Option (List ℕ)) (known : Types × Constants) → Ascend 0 m.insts
+    → Tells (after (flow_of m.insts) (λ flow. after (bodies_of known.0 known.1 m.insts) (λ _. after (entry_of known.0 known.1 flow m.insts name) (λ entry. Ok (accepted m known flow entry)))))
+    (first_with (flow_breaches m.insts ∷ bodies_breaches known m.insts ∷ refused_in (entry_of known.0 known.1 (flow_in m.insts) m.insts name) ∷ []))
+tells_code m name known ascend =
+    tells_after {U = Accepted} (flow_of m.insts) _ (flow_breaches m.insts) _ (tells_flow m.insts) (λ flow is.
+    tells_after {U = Accepted} (bodies_of known.0 known.1 m.insts) _ (bodies_breaches known m.insts) _ (tells_bodies known m.insts ascend) (λ _ _.
+    tells_entry m name known flow (flow_is m.insts flow is)))
 
 known_is : (insts : List Inst) (over : List (ℕ × ℤ)) (known : Types × Constants) → constants_of (types_read insts) insts over ≡ Ok known → known_read insts over ≡ known
 known_is insts over known same = ap (λ (r : Result (Types × Constants) Refusal). result_unwrap_or r ([], [])) same
 
-tells_known : (insts : List Inst) (name : Option (List ℕ)) (over : List (ℕ × ℤ)) (types : Types) → types ≡ types_read insts → Ascend 0 insts
-    → Tells (after (constants_of types insts over) (λ known. after (layout_of known.0 insts) (λ _. after (flow_of insts) (λ flow.
-    after (bodies_of known.0 known.1 insts) (λ _. after (entry_of known.0 known.1 flow insts name) (λ entry. Ok (accepted insts known flow entry)))))))
-    (first_with (constant_breaches (types_read insts) insts over ∷ layout_breaches (known_read insts over).0 insts ∷ flow_breaches insts ∷ bodies_breaches (known_read insts over) insts
-    ∷ refused_in (entry_of (known_read insts over).0 (known_read insts over).1 (flow_in insts) insts name) ∷ []))
-tells_known insts name over types is ascend =
-    rw is (tells_after {U = Accepted} (constants_of (types_read insts) insts over) _ (constant_breaches (types_read insts) insts over) _ (tells_constants (types_read insts) insts over) (λ known same.
-    rw (known_is insts over known same)
-    (tells_after {U = Accepted} (layout_of known.0 insts) _ (layout_breaches known.0 insts) _ (tells_layout known.0 insts ascend) (λ _ _. tells_code insts name known ascend))))
+tells_known : (m : Decoded) (name : Option (List ℕ)) (over : List (ℕ × ℤ)) (types : Types) → types ≡ types_read m.insts → Ascend 0 m.insts
+    → Tells (after (constants_of types m.insts over) (λ known. after (layout_of known.0 m.insts) (λ _. after (flow_of m.insts) (λ flow.
+    after (bodies_of known.0 known.1 m.insts) (λ _. after (entry_of known.0 known.1 flow m.insts name) (λ entry. Ok (accepted m known flow entry)))))))
+    (first_with (constant_breaches (types_read m.insts) m.insts over ∷ layout_breaches (known_read m.insts over).0 m.insts ∷ flow_breaches m.insts ∷ bodies_breaches (known_read m.insts over) m.insts
+    ∷ refused_in (entry_of (known_read m.insts over).0 (known_read m.insts over).1 (flow_in m.insts) m.insts name) ∷ []))
+tells_known m name over types is ascend =
+    rw is (tells_after {U = Accepted} (constants_of (types_read m.insts) m.insts over) _ (constant_breaches (types_read m.insts) m.insts over) _ (tells_constants (types_read m.insts) m.insts over) (λ known same.
+    rw (known_is m.insts over known same)
+    (tells_after {U = Accepted} (layout_of known.0 m.insts) _ (layout_breaches known.0 m.insts) _ (tells_layout known.0 m.insts ascend) (λ _ _. tells_code m name known ascend))))
 
-pub tells_all : (insts : List Inst) (bound : ℕ) (name : Option (List ℕ)) (over : List (ℕ × ℤ)) → Ascend 0 insts → Tells (acceptance insts bound name over) (breaches insts bound name over)
+pub tells_all : (m : Decoded) (name : Option (List ℕ)) (over : List (ℕ × ℤ)) → Ascend 0 m.insts → Tells (acceptance m name over) (breaches m name over)
 unfolding acceptance breaches
-tells_all insts bound name over ascend =
-    tells_after {U = Accepted} (sections_of insts) _ _ _ (tells_sections insts ascend) (λ _ _.
-    tells_after {U = Accepted} (ids_of bound insts) _ _ _ (tells_ids bound insts ascend) (λ _ _.
-    tells_after {U = Accepted} (capabilities_of insts) _ _ _ (tells_capabilities insts ascend) (λ _ _.
-    tells_after {U = Accepted} (types_of insts) _ _ _ (tells_types insts ascend) (λ types is.
-    tells_known insts name over types (types_are insts types is) ascend))))
+tells_all m name over ascend =
+    tells_after {U = Accepted} (sections_of m.insts) _ _ _ (tells_sections m.insts ascend) (λ _ _.
+    tells_after {U = Accepted} (ids_of m.bound m.insts) _ _ _ (tells_ids m.bound m.insts ascend) (λ _ _.
+    tells_after {U = Accepted} (capabilities_of m.insts) _ _ _ (tells_capabilities m.insts ascend) (λ _ _.
+    tells_after {U = Accepted} (types_of m.insts) _ _ _ (tells_types m.insts ascend) (λ types is.
+    tells_known m name over types (types_are m.insts types is) ascend))))

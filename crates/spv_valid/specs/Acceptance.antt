@@ -4,6 +4,7 @@ use Rattle.std.specs.Prelude.{◌≡◌, ℕ, ℤ, List, Option, Result, Ok, Err
 use Rattle.spv_base.specs.Answers.{after}
 use Rattle.spv_base.specs.declared.causes.Refusal.{Refusal}
 use Rattle.spv_base.specs.declared.instructions.Inst.{Inst}
+use Rattle.spv_ops.specs.Module.{Decoded, IsDecoded}
 use Rattle.spv_types.specs.Types.{Types}
 use Rattle.spv_types.specs.Build.{types_of}
 use Rattle.spv_types.specs.Blocks.{layout_of, nothing}
@@ -21,6 +22,7 @@ use Rattle.spv_valid.specs.Stack.{stack_cells}
 -- what a debugger reads off an accepted module
 pub record Accepted : Type 0 where
   pub insts : List Inst
+  pub bound : ℕ  -- every id is below it
   pub types : Types
   pub constants : Constants
   pub flow : Flow
@@ -30,45 +32,50 @@ pub record Accepted : Type 0 where
   pub stack_cells : ℕ  -- the most cells that the frames of an invocation have together
 
 -- what is read off a module in which no pass has a breach
-abbrev pub accepted : List Inst → Types × Constants → Flow → Entry → Accepted
-accepted insts known flow entry = record {
-  insts = insts;
+abbrev pub accepted : Decoded → Types × Constants → Flow → Entry → Accepted
+accepted m known flow entry = record {
+  insts = m.insts;
+  bound = m.bound;
   types = known.0;
   constants = known.1;
   flow = flow;
   entry = entry.function;
   size = entry.size;
   depth = entry.depth;
-  stack_cells = stack_cells known.0 insts entry.function;
+  stack_cells = stack_cells known.0 m.insts entry.function;
 }
 
--- A module with a Bound of its ids, for an entry point of a name or the first one, and values for its SpecIds: the order of
+-- A decoded module, for an entry point of a name or the first one, and values for its SpecIds: the order of
 -- its sections, its ids, what it declares, its types, its constants, the layout of its blocks, its functions and their
 -- blocks, the bodies of the functions, and its entry point.
-unfoldable pub acceptance : List Inst → ℕ → Option (List ℕ) → List (ℕ × ℤ) → Result Accepted Refusal
-acceptance insts bound name over =
-    after (sections_of insts) (λ _.
-    after (ids_of bound insts) (λ _.
-    after (capabilities_of insts) (λ _.
-    after (types_of insts) (λ types.
-    after (constants_of types insts over) (λ known.
-    after (layout_of known.0 insts) (λ _.
-    after (flow_of insts) (λ flow.
-    after (bodies_of known.0 known.1 insts) (λ _.
-    after (entry_of known.0 known.1 flow insts name) (λ entry.
-    Ok (accepted insts known flow entry))))))))))
+unfoldable pub acceptance : Decoded → Option (List ℕ) → List (ℕ × ℤ) → Result Accepted Refusal
+acceptance m name over =
+    after (sections_of m.insts) (λ _.
+    after (ids_of m.bound m.insts) (λ _.
+    after (capabilities_of m.insts) (λ _.
+    after (types_of m.insts) (λ types.
+    after (constants_of types m.insts over) (λ known.
+    after (layout_of known.0 m.insts) (λ _.
+    after (flow_of m.insts) (λ flow.
+    after (bodies_of known.0 known.1 m.insts) (λ _.
+    after (entry_of known.0 known.1 flow m.insts name) (λ entry.
+    Ok (accepted m known flow entry))))))))))
 
--- a module that is accepted with some bound, entry point and values
+-- the decoded module
+abbrev pub decoded_in : Accepted → Decoded
+decoded_in a = record { insts = a.insts; bound = a.bound }
+
+-- a decoded module that is accepted with some entry point and values
 pub record IsAccepted (a : Accepted) : Type 0 where
-  pub bound : ℕ
+  pub decoded : IsDecoded (decoded_in a)
   pub name : Option (List ℕ)
   pub over : List (ℕ × ℤ)
-  pub is : acceptance a.insts bound name over ≡ Ok a
+  pub is : acceptance (decoded_in a) name over ≡ Ok a
 
 -- no pass over a module has a breach, and what is read off it is what they give
-pub record Passes (a : Accepted) (bound : ℕ) (name : Option (List ℕ)) (over : List (ℕ × ℤ)) : Type 0 where
+pub record Passes (a : Accepted) (name : Option (List ℕ)) (over : List (ℕ × ℤ)) : Type 0 where
   pub sections : sections_of a.insts ≡ Ok nothing
-  pub ids : ids_of bound a.insts ≡ Ok nothing
+  pub ids : ids_of a.bound a.insts ≡ Ok nothing
   pub capabilities : capabilities_of a.insts ≡ Ok nothing
   pub declared : Types
   pub types : types_of a.insts ≡ Ok declared
@@ -82,8 +89,8 @@ pub record Passes (a : Accepted) (bound : ℕ) (name : Option (List ℕ)) (over 
 -- ---- some passes together
 
 -- the order of the sections, the ids and what a module declares
-abbrev pub front_of : ℕ → List Inst → Result (Unit {0}) Refusal
-front_of bound insts = after (sections_of insts) (λ _. after (ids_of bound insts) (λ _. capabilities_of insts))
+abbrev pub front_of : Decoded → Result (Unit {0}) Refusal
+front_of m = after (sections_of m.insts) (λ _. after (ids_of m.bound m.insts) (λ _. capabilities_of m.insts))
 
 -- the types with the lengths of their arrays, and the constants, where blocks are laid out
 abbrev pub known_of : List Inst → List (ℕ × ℤ) → Result (Types × Constants) Refusal

@@ -3,8 +3,11 @@ use Rattle.std.specs.Prelude.{◌≡◌, ◌<◌, ◌≤◌, ◌⊎◌, ℕ, ℤ
 use Rattle.std.specs.List.{All, Contains, flat_map}
 use Rattle.std.specs.Option.{option_to_list}
 use Rattle.std.specs.Result.{result_unwrap_or}
+use Rattle.spv_base.specs.declared.causes.Fail.{Fail}
+use Rattle.spv_base.specs.declared.causes.Fail.TheVariants.{NoMemory, Refused}
 use Rattle.spv_base.specs.declared.causes.Refusal.{Refusal}
 use Rattle.spv_base.specs.declared.instructions.Inst.{Inst}
+use Rattle.spv_ops.specs.Module.{Decoded}
 use Rattle.spv_types.specs.Types.{Types}
 use Rattle.spv_types.specs.Typing.{before_functions, types_in}
 use Rattle.spv_types.specs.Build.{type_breaches}
@@ -57,17 +60,17 @@ abbrev pub bodies_breaches : Types × Constants → List Inst → List Refusal
 bodies_breaches known insts = body_breaches (known_of known.0 known.1 insts) nowhere (drop (length (before_functions insts)) insts)
 
 -- the passes in their order, by the types that a module has, and by those with the lengths of their arrays and its constants
-abbrev pub breaches_by : List Inst → ℕ → Option (List ℕ) → List (ℕ × ℤ) → Types → Types × Constants → List (List Refusal)
-breaches_by insts bound name over types known =
-    order_breaches (sets_of insts) outside 0 insts
-    ∷ id_breaches (ids_in bound insts) (sets_of insts) false outside insts
-    ∷ capability_breaches insts
-    ∷ type_breaches insts [] (before_functions insts)
-    ∷ constant_breaches types insts over
-    ∷ layout_breaches known.0 insts
-    ∷ flow_breaches insts
-    ∷ bodies_breaches known insts
-    ∷ refused_in (entry_of known.0 known.1 (flow_in insts) insts name)
+abbrev pub breaches_by : Decoded → Option (List ℕ) → List (ℕ × ℤ) → Types → Types × Constants → List (List Refusal)
+breaches_by m name over types known =
+    order_breaches (sets_of m.insts) outside 0 m.insts
+    ∷ id_breaches (ids_in m.bound m.insts) (sets_of m.insts) false outside m.insts
+    ∷ capability_breaches m.insts
+    ∷ type_breaches m.insts [] (before_functions m.insts)
+    ∷ constant_breaches types m.insts over
+    ∷ layout_breaches known.0 m.insts
+    ∷ flow_breaches m.insts
+    ∷ bodies_breaches known m.insts
+    ∷ refused_in (entry_of known.0 known.1 (flow_in m.insts) m.insts name)
     ∷ []
 
 abbrev pub types_read : List Inst → Types
@@ -77,8 +80,8 @@ abbrev pub known_read : List Inst → List (ℕ × ℤ) → Types × Constants
 known_read insts over = result_unwrap_or (constants_of (types_read insts) insts over) ([], [])
 
 -- The breaches of a module: those of a later pass only where the passes before it have none.
-unfoldable pub breaches : List Inst → ℕ → Option (List ℕ) → List (ℕ × ℤ) → List Refusal
-breaches insts bound name over = first_with (breaches_by insts bound name over (types_read insts) (known_read insts over))
+unfoldable pub breaches : Decoded → Option (List ℕ) → List (ℕ × ℤ) → List Refusal
+breaches m name over = first_with (breaches_by m name over (types_read m.insts) (known_read m.insts over))
 
 -- ---- the least
 
@@ -90,3 +93,9 @@ IsBefore r s = (r.word < s.word) ⊎ ((r.word ≡ s.word) × (r.code ≤ s.code)
 pub record IsLeast (rs : List Refusal) (r : Refusal) : Type 0 where
   pub among : Contains rs r
   pub least : All (IsBefore r) rs
+
+-- of a result, where it refuses
+abbrev pub refuses_least : {T : Type 0} → List Refusal → Result T (Fail Refusal) → Type 0
+refuses_least rs (Ok x) = Unit {0}
+refuses_least rs (Err NoMemory) = Unit {0}
+refuses_least rs (Err (Refused r)) = IsLeast rs r

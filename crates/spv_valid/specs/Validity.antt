@@ -16,9 +16,8 @@ use Rattle.spv_bodies.specs.Setting.{known_of}
 use Rattle.spv_valid.specs.Acceptance.{Accepted}
 
 pub record IsValid (a : Accepted) : Type 0 where
-  -- the ids are below a Bound, and stand for what the operands ask
-  pub bound : ℕ
-  pub ids : AreInOrder (ids_in bound a.insts) (sets_of a.insts) false outside a.insts
+  -- the ids are below the Bound, and stand for what the operands ask
+  pub ids : AreInOrder (ids_in a.bound a.insts) (sets_of a.insts) false outside a.insts
   -- no id is defined twice, and constants come after their types
   pub named : AreNamed a.insts
   -- the types keep the rules of their forms and come after their parts, and each array has its length

@@ -1,10 +1,11 @@
 //! Which modules are accepted.
 ghost use Rattle.std.specs.Prelude.{◌≡◌, ◌↔◌, ℕ, ℤ, IfOk, List, Option, Ok, option_copied};
 ghost use Rattle.spv_base.specs.Answers.{Answers};
-ghost use Rattle.spv_base.specs.Order.{Ascend};
-ghost use Rattle.spv_valid.specs.Acceptance.{Accepted, Passes, acceptance, code_of, front_of, known_of};
+ghost use Rattle.spv_valid.specs.Acceptance.{Accepted, Passes, acceptance, code_of, decoded_in, front_of, known_of};
+ghost use Rattle.spv_valid.specs.Breaches.{breaches, refuses_least};
 ghost use Rattle.spv_valid.specs.Validity.{IsValid};
 
+use crate::breaches::refusals_are_least_breaches;
 use crate::entry::entry_of;
 use crate::modules::Module;
 use crate::stack::stack_cells;
@@ -13,17 +14,19 @@ use spv_base::{Fail, Inst, Overrides, Refusal};
 use spv_bodies::check_bodies;
 use spv_cfg::Code;
 use spv_consts::ConstTable;
+use spv_index::Index;
+use spv_ops::DecodedModule;
 use spv_sections::{check_capabilities, check_ids, check_sections};
 use spv_types::TypeTable;
 use std::alloc::Global;
 
 /// Checks the order of the sections, the ids and what a module declares.
-fn check_front(alloc: Global, insts: &[Inst], bound: u32) -> Result<(), Fail<Refusal>>
-    ensures { Answers (front_of bound insts.now) result }
+fn check_front(alloc: Global, index: &Index) -> Result<(), Fail<Refusal>>
+    ensures { Answers (front_of index.now) result }
 {
-    check_sections(alloc, insts)?;
-    check_ids(alloc, insts, bound)?;
-    check_capabilities(insts)?;
+    check_sections(alloc, index.insts())?;
+    check_ids(alloc, index.insts(), index.bound())?;
+    check_capabilities(index.insts())?;
     Ok(())
 }
 
@@ -57,31 +60,32 @@ fn read_code(
 
 /// A module, where no rule is broken.
 ///
-/// `bound` is the Bound of its ids, `name` that of its entry point, where it isn't to be the first one, and `over`
-/// has values for its SpecIds.
+/// `name` is that of its entry point, where it isn't to be the first one, and `over` has values for its SpecIds.
 ///
 /// Refuses the breach of the first pass that has one: of those at the lowest word the one with the lowest code.
 #[tactic(auto, using(crate::proofs::AcceptedLemmas::in_parts))]
 pub fn accept(
     alloc: Global,
-    insts: Vec<Inst>,
-    bound: u32,
+    decoded: DecodedModule,
     name: Option<&[u8]>,
     over: &Overrides,
 ) -> Result<Module, Fail<Refusal>>
-    ensures due { Answers (acceptance insts.items bound (option_copied name.entry) over.now) result }
+    ensures due { Answers (acceptance decoded (option_copied name.entry) over.now) result }
+    // The refusal is the least of the breaches.
+    ensures least { refuses_least (breaches decoded (option_copied name.entry) over.now) result }
     // What the module gives to a run over it.
-    ensures valid { Ascend 0 insts.items → IfOk result IsValid }
+    ensures valid { IfOk result IsValid }
 {
     accepted_modules_are_valid();
-    let list = insts.as_slice();
-    check_front(alloc, list, bound)?;
-    let (types, consts) = read_types(alloc, list, over)?;
-    let code = read_code(alloc, &types, &consts, list)?;
-    let entry = entry_of(alloc, &types, &consts, &code, list, name)?;
-    let stack_cells = stack_cells(alloc, &types, list, entry.function)?;
+    refusals_are_least_breaches();
+    let index = Index::of(alloc, decoded)?;
+    check_front(alloc, &index)?;
+    let (types, consts) = read_types(alloc, index.insts(), over)?;
+    let code = read_code(alloc, &types, &consts, index.insts())?;
+    let entry = entry_of(alloc, &types, &consts, &code, index.insts(), name)?;
+    let stack_cells = stack_cells(alloc, &types, index.insts(), entry.function)?;
     Ok(Module {
-        insts,
+        index,
         types,
         consts,
         code,
@@ -93,5 +97,5 @@ pub fn accept(
 /// A law, with nothing to run: a module is accepted, and is seen as it is, exactly where no pass over it has a breach and
 /// what is read off it is what the passes give.
 pub fn accepted_modules_pass()
-    ensures { (a : Accepted) (bound : ℕ) (name : Option (List ℕ)) (over : List (ℕ × ℤ)) → (acceptance a.insts bound name over ≡ Ok a) ↔ Passes a bound name over }
+    ensures { (a : Accepted) (name : Option (List ℕ)) (over : List (ℕ × ℤ)) → (acceptance (decoded_in a) name over ≡ Ok a) ↔ Passes a name over }
 {}

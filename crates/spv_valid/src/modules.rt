@@ -1,7 +1,6 @@
 //! Modules that broke no rule.
 ghost use Rattle.std.specs.Prelude.{◌≡◌, Some};
 ghost use Rattle.spv_base.specs.Entries.{reads};
-ghost use Rattle.spv_base.specs.Order.{Ascend};
 ghost use Rattle.spv_valid.specs.Acceptance.{IsAccepted};
 ghost use Rattle.spv_valid.specs.Validity.{IsValid};
 
@@ -10,13 +9,14 @@ use crate::validity::accepted_modules_are_valid;
 use spv_base::Inst;
 use spv_cfg::Code;
 use spv_consts::ConstTable;
+use spv_index::Index;
 use spv_types::TypeTable;
 use std::marker::Model;
 
 /// A module that broke no rule, and what was read off it.
 #[derive(Drop)]
 pub struct Module {
-    pub(crate) insts: Vec<Inst>,
+    pub(crate) index: Index,
     pub(crate) types: TypeTable,
     pub(crate) consts: ConstTable,
     pub(crate) code: Code,
@@ -47,10 +47,25 @@ impl Module {
         ensures insts { result.now ≡ self.now.insts }
         ensures accepted { ∥ IsAccepted self.now ∥₁ }
         // What they, with the types, constants and blocks, give to a run over them.
-        ensures valid { Ascend 0 self.now.insts → ∥ IsValid self.now ∥₁ }
+        ensures valid { ∥ IsValid self.now ∥₁ }
     {
         accepted_modules_are_valid();
-        self.insts.as_slice()
+        self.index.insts()
+    }
+
+    /// The index: who defines an id, what stands at a word, and what the module says of ids.
+    pub fn index(&self) -> &Index
+        ensures insts { result.now.insts ≡ self.now.insts }
+        ensures bound { result.now.bound ≡ self.now.bound }
+    {
+        &self.index
+    }
+
+    /// The Bound: every id is below it. It is at most 1,048,576.
+    pub fn bound(&self) -> u32
+        ensures { result ≡ self.now.bound }
+    {
+        self.index.bound()
     }
 
     /// The types.

@@ -1,8 +1,5 @@
 //! What accepted modules give to a run over them.
-ghost use Rattle.std.specs.Prelude.{◌≡◌, ℕ, ℤ, List, Option, Ok};
-ghost use Rattle.spv_base.specs.Order.{Ascend};
-ghost use Rattle.spv_base.specs.declared.instructions.Inst.{Inst};
-ghost use Rattle.spv_valid.specs.Acceptance.{Accepted, acceptance};
+ghost use Rattle.spv_valid.specs.Acceptance.{Accepted, IsAccepted};
 ghost use Rattle.spv_valid.specs.Validity.{IsValid};
 
 use spv_bodies::instructions_keep_their_rules;
@@ -12,11 +9,9 @@ use spv_cfg::laws::{
 use spv_consts::laws::constants::constants_have_the_shapes_of_their_types;
 use spv_sections::laws::{ids_stand_for_what_is_asked, results_are_defined_once};
 
-/// A law, with nothing to run: where the words of an accepted module ascend, as those of decoded instructions do, its ids,
-/// types, constants, blocks and bodies are what a run over it needs.
+/// A law, with nothing to run: the ids, types, constants, blocks and bodies of an accepted module are what a run over it needs.
 pub fn accepted_modules_are_valid()
-    ensures { (insts : List Inst) (bound : ℕ) (name : Option (List ℕ)) (over : List (ℕ × ℤ)) (a : Accepted) → Ascend 0 insts
-        → acceptance insts bound name over ≡ Ok a → IsValid a }
+    ensures { (a : Accepted) → IsAccepted a → IsValid a }
 {
     ids_stand_for_what_is_asked();
     results_are_defined_once();

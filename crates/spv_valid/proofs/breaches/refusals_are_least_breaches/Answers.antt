@@ -5,11 +5,11 @@ use Rattle.spv_valid.proofs.LeastLemmas.{accepted_none, least_refused, none_acce
 use Rattle.spv_valid.proofs.breaches.refusals_are_least_breaches.Goals as goal
 
 pub returns-clause-refused : goal.returns-clause-refused
-returns-clause-refused c = λ insts bound name over r ascend.
-    let tells = tells_all insts bound name over ascend in
-    (refused_least (acceptance insts bound name over) (breaches insts bound name over) r tells, least_refused (acceptance insts bound name over) (breaches insts bound name over) r tells)
+returns-clause-refused c = λ m name over r decoded.
+    let tells = tells_all m name over decoded.ascend in
+    (refused_least (acceptance m name over) (breaches m name over) r tells, least_refused (acceptance m name over) (breaches m name over) r tells)
 
 pub returns-clause-accepted : goal.returns-clause-accepted
-returns-clause-accepted c = λ insts bound name over ascend.
-    let tells = tells_all insts bound name over ascend in
-    (accepted_none (acceptance insts bound name over) (breaches insts bound name over) tells, none_accepted (acceptance insts bound name over) (breaches insts bound name over) tells)
+returns-clause-accepted c = λ m name over decoded.
+    let tells = tells_all m name over decoded.ascend in
+    (accepted_none (acceptance m name over) (breaches m name over) tells, none_accepted (acceptance m name over) (breaches m name over) tells)
