@@ -4,6 +4,7 @@ use Rattle.spv_base.specs.Answers.{after}
 use Rattle.spv_base.specs.declared.causes.Refusal.{Refusal}
 use Rattle.spv_words.specs.Words.{ModuleWords}
 use Rattle.spv_words.specs.Cuts.{raw_of}
+use Rattle.spv_ops.specs.Module.{Decoded}
 use Rattle.spv_ops.specs.Reading.{insts_of}
 use Rattle.spv_valid.specs.Acceptance.{Accepted, acceptance}
 
@@ -11,7 +12,11 @@ use Rattle.spv_valid.specs.Acceptance.{Accepted, acceptance}
 abbrev pub bound_of : ModuleWords → ℕ
 bound_of words = slice_index words.items 3
 
--- The module with these words that is accepted: its instructions as words, its instructions, and these by the rules of modules,
--- for the first entry point and with no values for SpecIds.
+-- The decoded module with these words: its instructions as words, and its instructions with the Bound.
+unfoldable pub decoded_of : ModuleWords → Result Decoded Refusal
+decoded_of words = after (raw_of words.items) (λ raws. after (insts_of raws) (λ insts. Ok (record { insts = insts; bound = bound_of words })))
+
+-- The module with these words that is accepted: decoded, and by the rules of modules, for the first entry point and with no values for
+-- SpecIds.
 unfoldable pub accepted_of : ModuleWords → Result Accepted Refusal
-accepted_of words = after (raw_of words.items) (λ raws. after (insts_of raws) (λ insts. acceptance insts (bound_of words) None []))
+accepted_of words = after (decoded_of words) (λ m. acceptance m None [])

@@ -14,7 +14,7 @@ use Rattle.spv_app.specs.Acceptance.{accepted_of, bound_of}
 -- the program of a module's bytes: its words, the accepted module of them, and the form that can be run
 abbrev pub program_in : List ℕ → Result Program Refusal
 program_in bytes =
-    after (words_of bytes) (λ words. after (accepted_of words) (λ accepted. program_of accepted (bound_of words)))
+    after (words_of bytes) (λ words. after (accepted_of words) program_of)
 
 -- whose refusal it is
 abbrev pub of_setup : {A : Type 0} → Result A SetupRefusal → Result A OpeningRefusal

@@ -8,13 +8,29 @@ ghost use Rattle.spv_ops.specs.Reading.{insts_of};
 ghost use Rattle.spv_words.specs.Cuts.{raw_of};
 ghost use Rattle.spv_words.specs.Words.{Fit32};
 ghost use Rattle.spv_valid.specs.Validity.{IsValid};
-ghost use Rattle.spv_app.specs.Acceptance.{accepted_of};
+ghost use Rattle.spv_app.specs.Acceptance.{accepted_of, decoded_of};
 
 use spv_base::{Fail, Overrides, Refusal};
-use spv_ops::{decode_all, instructions_stand_at_their_words};
+use spv_ops::{DecodedModule, decode_all, instructions_stand_at_their_words};
 use spv_valid::{Module, accept};
 use spv_words::{WordList, instructions_are_cut, raw};
 use std::alloc::Global;
+
+/// The instructions of these words, with the Bound; or the first rule that is broken. Rules of a later pass are looked at only
+/// where the one before finds nothing: the cuts, the instructions.
+#[tactic(auto, unfolding(crate::specs::Acceptance::decoded_of))]
+fn decoded(alloc: Global, list: &WordList) -> Result<DecodedModule, Fail<Refusal>>
+    ensures { Answers (decoded_of list.now) result }
+{
+    // There are at most 1,048,576 words.
+    let _words = list.items();
+    let raws = raw(alloc, list)?;
+    let insts = decode_all(alloc, &raws)?;
+    match DecodedModule::of(insts, list.bound()) {
+        Some(decoded) => Ok(decoded),
+        None => unreachable!(),
+    }
+}
 
 /// The module with these words, for its first entry point and with no values for SpecIds; or the first rule that is broken.
 /// Rules of a later pass are looked at only where the one before finds nothing: the cuts, the instructions, the passes of
@@ -22,12 +38,10 @@ use std::alloc::Global;
 #[tactic(auto, unfolding(crate::specs::Acceptance::accepted_of))]
 pub fn accepted(alloc: Global, list: &WordList) -> Result<Module, Fail<Refusal>>
     ensures due { Answers (accepted_of list.now) result }
-    // The words of what is decoded ascend, so the module gives all that a run over it needs.
+    // The module gives all that a run over it needs.
     ensures valid { IfOk result IsValid }
 {
-    let raws = raw(alloc, list)?;
-    let insts = decode_all(alloc, &raws)?;
-    accept(alloc, insts, list.bound(), None, &Overrides::new(alloc))
+    accept(alloc, decoded(alloc, list)?, None, &Overrides::new(alloc))
 }
 
 /// A law, with nothing to run: the words of the instructions that are decoded from a module's words ascend.

@@ -47,7 +47,7 @@ fn module_of(alloc: Global, bytes: &[u8]) -> Result<Runnable, Fail<Refusal>>
 {
     let list = words(alloc, bytes)?;
     let module = accepted(alloc, &list)?;
-    Runnable::of(alloc, module, list.bound())
+    Runnable::of(alloc, module)
 }
 
 /// The setup of this text.

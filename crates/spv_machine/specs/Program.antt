@@ -13,9 +13,9 @@ use Rattle.spv_machine.specs.Form as form
 pub record Program : Type 0 where
   pub insts : List Inst
 
--- An accepted module in the first form, under a Bound, is a program. Any other is refused at the first instruction's word.
-unfoldable pub program_of : Accepted → ℕ → Result Program Refusal
-program_of accepted bound = if form.is_first_form accepted.insts bound then Ok (record { insts = accepted.insts }) else Err (record { code = 0; word = 5 })
+-- An accepted module in the first form is a program. Any other is refused at the first instruction's word.
+unfoldable pub program_of : Accepted → Result Program Refusal
+program_of accepted = if form.is_first_form accepted.insts accepted.bound then Ok (record { insts = accepted.insts }) else Err (record { code = 0; word = 5 })
 
 -- the entry function's id
 abbrev pub entry_of : Program → ℕ

@@ -57,16 +57,16 @@ fn is_function(inst: &Inst, id: u32) -> bool
 
 /// An accepted module is a program exactly where it is in the first form, and the program has its instructions.
 pub fn first_form()
-    ensures { (accepted : Accepted) (bound : ℕ) (p : program.Program) → (program.program_of accepted bound ≡ Ok p) ↔ (form.IsFirstForm accepted.insts bound × (p.insts ≡ accepted.insts)) }
+    ensures { (accepted : Accepted) (p : program.Program) → (program.program_of accepted ≡ Ok p) ↔ (form.IsFirstForm accepted.insts accepted.bound × (p.insts ≡ accepted.insts)) }
 {}
 
 impl Runnable {
-    /// This module, where it is in the first form under this Bound; else refusal 0, at word 5, where the first instruction
+    /// This module, where it is in the first form; else refusal 0, at word 5, where the first instruction
     /// stands.
-    pub fn of(alloc: Global, accepted: Module, bound: u32) -> Result<Runnable, Fail<Refusal>>
-        ensures { Answers (program.program_of accepted bound) result }
+    pub fn of(alloc: Global, accepted: Module) -> Result<Runnable, Fail<Refusal>>
+        ensures { Answers (program.program_of accepted) result }
     {
-        if !is_first_form(alloc, accepted.insts(), bound)? {
+        if !is_first_form(alloc, accepted.insts(), accepted.bound())? {
             return Err(Fail::Refused(Refusal { code: 0, word: 5 }));
         }
         let entry = entry_of(accepted.insts());

@@ -9,6 +9,7 @@ use spv_base::{
     Fail as Cause, Inst, Items, Kind, NoMemory, Operand, Overrides, Refusal, Status4, Steps, Text,
     Value,
 };
+use spv_ops::DecodedModule;
 use spv_valid::accept;
 use std::alloc::{AllocError, Global};
 use std::marker::Brand;
@@ -79,8 +80,11 @@ fn example(alloc: Global, op: u16) -> Result<Vec<Inst>, Fail> {
 
 /// The module of these instructions, where it is accepted under the Bound 12 and in the first form.
 fn runnable(alloc: Global, insts: Vec<Inst>) -> Result<Runnable, Cause<Refusal>> {
-    let module = accept(alloc, insts, 12, None, &Overrides::new(alloc))?;
-    Runnable::of(alloc, module, 12)
+    let Some(decoded) = DecodedModule::of(insts, 12) else {
+        return Err(Cause::NoMemory);
+    };
+    let module = accept(alloc, decoded, None, &Overrides::new(alloc))?;
+    Runnable::of(alloc, module)
 }
 
 /// One event of the invocation, as its word, or 0 where it is idle.

@@ -4,6 +4,7 @@ ghost use Rattle.std.specs.Prelude.{◌≡◌, ◌<◌, IfOk, IfSome};
 use crate::{Group, Next, Session, Setup};
 use spv_base::{Inst, Items, NoMemory, Operand, Overrides, Steps, Text};
 use spv_machine::Runnable;
+use spv_ops::DecodedModule;
 use spv_valid::accept;
 use std::alloc::Global;
 use std::marker::Brand;
@@ -64,10 +65,13 @@ fn sample(alloc: Global) -> Result<Option<Runnable>, NoMemory> {
             operands: operands(alloc, *parts)?,
         })?;
     }
-    let Ok(module) = accept(alloc, insts, 12, None, &Overrides::new(alloc)) else {
+    let Some(decoded) = DecodedModule::of(insts, 12) else {
         return Ok(None);
     };
-    Ok(Runnable::of(alloc, module, 12).ok())
+    let Ok(module) = accept(alloc, decoded, None, &Overrides::new(alloc)) else {
+        return Ok(None);
+    };
+    Ok(Runnable::of(alloc, module).ok())
 }
 
 fn group(alloc: Global, setup: &str) -> Result<Option<Group>, NoMemory>

@@ -3,8 +3,6 @@ use Rattle.std.specs.Prelude.{◌≡◌, ◌<◌, ◌≤◌, ◌⊎◌, ℕ, ℤ
 use Rattle.std.specs.List.{All, Contains, flat_map}
 use Rattle.std.specs.Option.{option_to_list}
 use Rattle.std.specs.Result.{result_unwrap_or}
-use Rattle.spv_base.specs.declared.causes.Fail.{Fail}
-use Rattle.spv_base.specs.declared.causes.Fail.TheVariants.{NoMemory, Refused}
 use Rattle.spv_base.specs.declared.causes.Refusal.{Refusal}
 use Rattle.spv_base.specs.declared.instructions.Inst.{Inst}
 use Rattle.spv_ops.specs.Module.{Decoded}
@@ -93,9 +91,3 @@ IsBefore r s = (r.word < s.word) ⊎ ((r.word ≡ s.word) × (r.code ≤ s.code)
 pub record IsLeast (rs : List Refusal) (r : Refusal) : Type 0 where
   pub among : Contains rs r
   pub least : All (IsBefore r) rs
-
--- of a result, where it refuses
-abbrev pub refuses_least : {T : Type 0} → List Refusal → Result T (Fail Refusal) → Type 0
-refuses_least rs (Ok x) = Unit {0}
-refuses_least rs (Err NoMemory) = Unit {0}
-refuses_least rs (Err (Refused r)) = IsLeast rs r

@@ -2,10 +2,8 @@
 ghost use Rattle.std.specs.Prelude.{◌≡◌, ◌↔◌, ℕ, ℤ, IfOk, List, Option, Ok, option_copied};
 ghost use Rattle.spv_base.specs.Answers.{Answers};
 ghost use Rattle.spv_valid.specs.Acceptance.{Accepted, Passes, acceptance, code_of, decoded_in, front_of, known_of};
-ghost use Rattle.spv_valid.specs.Breaches.{breaches, refuses_least};
 ghost use Rattle.spv_valid.specs.Validity.{IsValid};
 
-use crate::breaches::refusals_are_least_breaches;
 use crate::entry::entry_of;
 use crate::modules::Module;
 use crate::stack::stack_cells;
@@ -71,13 +69,10 @@ pub fn accept(
     over: &Overrides,
 ) -> Result<Module, Fail<Refusal>>
     ensures due { Answers (acceptance decoded (option_copied name.entry) over.now) result }
-    // The refusal is the least of the breaches.
-    ensures least { refuses_least (breaches decoded (option_copied name.entry) over.now) result }
     // What the module gives to a run over it.
     ensures valid { IfOk result IsValid }
 {
     accepted_modules_are_valid();
-    refusals_are_least_breaches();
     let index = Index::of(alloc, decoded)?;
     check_front(alloc, &index)?;
     let (types, consts) = read_types(alloc, index.insts(), over)?;

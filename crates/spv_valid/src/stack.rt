@@ -10,9 +10,9 @@ ghost use Rattle.spv_valid.specs.Stack as spec;
 
 use spv_base::{Inst, NoMemory};
 use spv_cfg::calls::{calls_of, functions_of, numbers_by_id};
+use spv_index::Table;
 use spv_index::classes::{class_of, sets_of};
 use spv_index::positions::Position;
-use spv_index::Table;
 use spv_types::opcodes::VARIABLE;
 use spv_types::{Form, TypeTable};
 use std::alloc::Global;

@@ -1,7 +1,7 @@
 //! Two small functions, and some changes to their module at a time.
 use crate::accept;
 use spv_base::{Fail as Failure, Inst, NoMemory, Overrides, RawInst, Refusal, Words};
-use spv_ops::decode;
+use spv_ops::{DecodedModule, decode};
 use std::alloc::Global;
 use std::test::Fail;
 
@@ -217,8 +217,10 @@ fn read(
     for (n, row) in MODULE.iter().enumerate() {
         push_changed(alloc, &mut insts, changes, n, *row)?;
     }
-    let over = Overrides::new(alloc);
-    match accept(alloc, insts, BOUND, name, &over) {
+    let Some(decoded) = DecodedModule::of(insts, BOUND) else {
+        return Err(NoMemory);
+    };
+    match accept(alloc, decoded, name, &Overrides::new(alloc)) {
         Ok(module) => Ok(Ok((module.size(), module.depth(), module.stack_cells()))),
         Err(Failure::Refused(Refusal { code, word })) => Ok(Err((code, word))),
         Err(Failure::NoMemory) => Err(NoMemory),

@@ -1,9 +1,25 @@
-use Rattle.std.proofs.Common.{◌≡◌, Ok}
+use Rattle.std.proofs.Common.{◌≡◌, Ok, subst}
 use Rattle.std.specs.Option.{option_copied}
+use Rattle.spv_ops.specs.Module.{Decoded}
 use Rattle.spv_valid.specs.Acceptance.{IsAccepted, acceptance, decoded_in}
 use Rattle.spv_valid.specs.Modules.{view_of}
 use Rattle.spv_valid.proofs.AcceptedLemmas.{none_refused}
 use Rattle.spv_valid.proofs.acceptance.accept.Goals as goal
 
+-- no pass refuses the module that is made
+accepted_so : (c : goal.In_ok-stack_cells)
+    → IsAccepted (view_of (record { index = c.in_ok-index.index; types = c.in_ok-types.types; consts = c.in_ok-types.consts; code = c.in_ok-code.code; entry = c.in_ok-entry.entry; stack_cells = c.in_ok-stack_cells.stack_cells }))
+accepted_so c = record {
+  decoded = c.insts.ensures.decoded;
+  name = option_copied c.args.name;
+  over = c.args.over.now;
+  is = none_refused c.in_ok-index.index (option_copied c.args.name) c.args.over.now (c.in_ok-types.types, c.in_ok-types.consts) c.in_ok-code.code c.in_ok-entry.entry c.in_ok-stack_cells.stack_cells
+      c.in_ok-check_front.ensures (rw c.insts.ensures.insts at c.in_ok-types.ensures) (rw c.insts-2.ensures.insts at c.in_ok-code.ensures)
+      (rw c.insts-3.ensures.insts at c.in_ok-entry.ensures) (rw c.insts-4.ensures.insts at c.in_ok-stack_cells.ensures);
+}
+
 pub invariant_of-result : goal.invariant_of-result
-invariant_of-result c = ?
+invariant_of-result c = ∣ accepted_so c ∣₁
+
+pub returns-clause-valid : goal.returns-clause-valid
+returns-clause-valid c = c.accepted_modules_are_valid.ensures _ (accepted_so c)

@@ -10,8 +10,9 @@ returns-then-not-branch c = search rules
 
 pub invariant_of-result : goal.invariant_of-result
 invariant_of-result c =
-    let yes' : is_first_form c.args.accepted.insts c.args.bound ≡ true = sym (c.in_ok-is_first_form.ensures ∙ ap (λ l. is_first_form l c.args.bound) c.insts.ensures.insts) ∙ c.if-not-branch.false in
-    (c.entry_of-entry.ensures ∙ ap entry_of c.insts-2.ensures.insts, valid c.args.accepted.insts c.args.bound yes')
+    let due : c.in_ok-is_first_form.first ≡ is_first_form c.args.accepted.insts c.args.accepted.bound = c.in_ok-is_first_form.ensures ∙ rw (c.insts.ensures.insts, c.bound.ensures) refl in
+    let yes' : is_first_form c.args.accepted.insts c.args.accepted.bound ≡ true = sym due ∙ c.if-not-branch.false in
+    (c.entry_of-entry.ensures ∙ ap entry_of c.insts-2.ensures.insts, valid c.args.accepted.insts c.args.accepted.bound yes')
 
 pub returns : goal.returns
 unfolding program_of
