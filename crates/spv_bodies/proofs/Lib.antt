@@ -1,4 +1,5 @@
 pub mod CallLemmas
 pub mod AlikeLemmas
 pub mod BodyLemmas
+pub mod TestLemmas
 pub mod RuleLaws

@@ -1,15 +1,15 @@
 -- Types that agree but for decorations (SPIR-V 1.6 section 3.42.12, "OpCopyLogical"): they have one form, with parts that
 -- agree. Offsets, strides and Block are not looked at.
-use Rattle.std.specs.Prelude.{ℕ, ◌==◌, ◌&&◌, ◌||◌, Bool, true, false, List, [], ◌∷◌, length, Option, Some, None}
+use Rattle.std.specs.Prelude.{◌≡◌, ℕ, ◌==◌, ◌&&◌, ◌||◌, Bool, true, false, List, [], ◌∷◌, length, Option, Some, None}
 use Rattle.std.specs.Option.{option_map_or}
 use Rattle.spv_base.specs.declared.instructions.Inst.{Inst}
 use Rattle.spv_types.specs.declared.forms.Form.{Form}
 use Rattle.spv_types.specs.declared.forms.Form.TheVariants.{Void, Bool as Boolean, Int, Vector, Array, Runtime, Struct, Pointer, Function}
 use Rattle.spv_types.specs.declared.forms.Member.{Member}
-use Rattle.spv_types.specs.Rules.{is_data}
+use Rattle.spv_typing.specs.Fitting.{is_selectable}
 use Rattle.spv_types.specs.Types.{Types, form_of, in_first}
 use Rattle.spv_types.specs.declared.views.Components.{Components}
-use Rattle.spv_bodies.specs.Setting.{Known, type_at}
+use Rattle.spv_bodies.specs.Context.{HasType, Known, type_at}
 use Rattle.spv_types.specs.Views.{components_in, is_boolean}
 
 -- an integer of a width and sign
@@ -96,6 +96,9 @@ like_among ts = in_first unlike (like_step ts) ts
 abbrev pub are_alike : Types → ℕ → ℕ → Bool
 are_alike ts a b = same_or (like_among ts (length ts)) a b
 
--- CopyLogical (operand): data of a type that agrees with the result's
+-- CopyLogical 400 (operand): its type is the result's or agrees with it, and is no pointer type
+abbrev pub KeepsCopyLogical : Known → Inst → Type 0
+KeepsCopyLogical k i = (is_selectable (form_of k.types i.ty) ≡ true) × ((ty : ℕ) × HasType k i 0 ty × (are_alike k.types ty i.ty ≡ true))
+
 abbrev pub keeps_copy_logical : Known → Inst → Bool
-keeps_copy_logical k i = is_data (form_of k.types i.ty) && are_alike k.types (type_at k i 0) i.ty
+keeps_copy_logical k i = is_selectable (form_of k.types i.ty) && option_map_or (λ ty. are_alike k.types ty i.ty) (type_at k i 0) false

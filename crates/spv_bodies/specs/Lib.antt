@@ -1,4 +1,4 @@
-pub mod Setting
+pub mod Context
 pub mod Memory
 pub mod Chains
 pub mod Atomics
@@ -8,5 +8,6 @@ pub mod Lanes
 pub mod Composites
 pub mod Alike
 pub mod Rules
+pub mod Places
 pub mod Bodies
 pub mod Laws

@@ -1,9 +1,9 @@
 -- The rule that each opcode has in a function body (SPIR-V 1.6 sections 3.42.1 and 3.42.8 to 3.42.20).
-use Rattle.std.specs.Prelude.{ℕ, ◌==◌, ◌&&◌, ◌||◌, nat_le, Bool, if◌then◌else◌, [], ◌∷◌, Option, unwrap_or}
+use Rattle.std.specs.Prelude.{ℕ, [], ◌∷◌, Option, unwrap_or}
 use Rattle.std.specs.Option.{option_map_or}
 use Rattle.spv_base.specs.Entries.{reads}
 use Rattle.spv_bodies.specs.declared.rules.Rule.{Rule}
-use Rattle.spv_bodies.specs.declared.rules.Rule.TheVariants.{Free, Lanes, Extended, Memory, Atomic, Composite, Control, Missing}
+use Rattle.spv_bodies.specs.declared.rules.Rule.TheVariants.{Free, Lanes, Extended, Memory, Atomic, Composite, Control}
 use Rattle.spv_bodies.specs.declared.rules.MemoryRule.{MemoryRule}
 use Rattle.spv_bodies.specs.declared.rules.MemoryRule.TheVariants.{Undef, Variable, Load, Store, CopyMemory, ArrayLength, Chain}
 use Rattle.spv_bodies.specs.declared.rules.AtomicRule.{AtomicRule}
@@ -34,23 +34,12 @@ control_rule op = reads op
     ((54, Function) ∷ (55, Parameter) ∷ (57, Call) ∷ (245, Phi) ∷ (250, Branch) ∷ (251, Switch) ∷ (253, Return)
     ∷ (254, ReturnValue) ∷ [])
 
-abbrev pub is_from : ℕ → ℕ → ℕ → Bool
-is_from low high op = nat_le low op && nat_le op high
-
--- Lane-wise: UConvert 113, SConvert 114, Bitcast 124, SNegate 126, arithmetic 128 to 139, extended arithmetic 149 to 152, Any 154
--- and All 155, logical operations, Select and comparisons 164 to 179, shifts, bitwise operations and bit fields 194 to 205
-abbrev pub is_lane_wise : ℕ → Bool
-is_lane_wise op =
-    ((is_from 113 114 op || (op == 124 || op == 126)) || (is_from 128 139 op || is_from 149 152 op))
-    || ((is_from 154 155 op || is_from 164 179 op) || is_from 194 205 op)
-
--- Nop, Line, FunctionEnd, LoopMerge, SelectionMerge, Label, Branch, Unreachable and NoLine keep their rule wherever they stand; 12 is
--- ExtInst. An opcode of no table has no rule to keep, and stands in no function.
+-- Nop 0, Line 8, FunctionEnd 56, LoopMerge 246, SelectionMerge 247, Label 248, Branch 249, Unreachable 255 and NoLine 317 keep their rule
+-- wherever they stand; ExtInst is 12. Every other opcode is lane-wise: one without a rule of types is kept by no instruction.
 unfoldable pub other_rule : ℕ → Rule
 other_rule op =
-    if is_lane_wise op then Lanes
-    else unwrap_or (reads op
-    ((0, Free) ∷ (8, Free) ∷ (12, Extended) ∷ (56, Free) ∷ (246, Free) ∷ (247, Free) ∷ (248, Free) ∷ (249, Free) ∷ (255, Free) ∷ (317, Free) ∷ [])) Missing
+    unwrap_or (reads op
+    ((0, Free) ∷ (8, Free) ∷ (12, Extended) ∷ (56, Free) ∷ (246, Free) ∷ (247, Free) ∷ (248, Free) ∷ (249, Free) ∷ (255, Free) ∷ (317, Free) ∷ [])) Lanes
 
 abbrev pub rule_of : ℕ → Rule
 rule_of op =

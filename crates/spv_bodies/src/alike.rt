@@ -3,10 +3,11 @@ ghost use Rattle.std.specs.Prelude.{◌≡◌, IfOk, IfSome, length, option_copi
 ghost use Rattle.spv_bodies.specs.Alike as spec;
 ghost use Rattle.spv_bodies.specs.Alike.{like_among, same_or};
 
-use crate::setting::Setting;
+use crate::context::Context;
 use spv_base::{Inst, NoMemory};
 use spv_types::views::{components_in, is_boolean};
 use spv_types::{Form, Member, TypeTable};
+use spv_typing::fitting::is_selectable;
 use std::alloc::Global;
 use std::collections::BTreeMap;
 use std::marker::Model;
@@ -210,16 +211,21 @@ impl<'a> Likeness<'a> {
     }
 }
 
-impl Setting<'_> {
-    /// Whether a copy is of data with a type that agrees with the result's.
-    pub fn keeps_copy_logical(&self, likeness: &mut Likeness, inst: &Inst) -> Result<bool, NoMemory>
-        requires { likeness.old ≡ self.now.types }
-        ensures same { likeness.new ≡ likeness.old }
-        ensures kept { IfOk result (λ kept. kept ≡ spec.keeps_copy_logical self.now inst.now) }
-    {
-        if !self.types().is_data(inst.ty) {
-            return Ok(false);
-        }
-        likeness.are_alike(self.type_at(inst, 0), inst.ty)
+/// Whether a copy is of a type that agrees with the result's, which is no pointer type.
+pub fn keeps_copy_logical(
+    context: &Context,
+    likeness: &mut Likeness,
+    inst: &Inst,
+) -> Result<bool, NoMemory>
+    requires { likeness.old ≡ context.now.types }
+    ensures same { likeness.new ≡ likeness.old }
+    ensures kept { IfOk result (λ kept. kept ≡ spec.keeps_copy_logical context.now inst.now) }
+{
+    if !is_selectable(context.types(), inst.ty) {
+        return Ok(false);
+    }
+    match context.type_at(inst, 0) {
+        Some(ty) => likeness.are_alike(ty, inst.ty),
+        None => Ok(false),
     }
 }

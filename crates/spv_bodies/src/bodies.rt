@@ -4,146 +4,166 @@ ghost use Rattle.spv_base.specs.Answers.{Answers};
 ghost use Rattle.spv_types.specs.Build.{unless_refused};
 ghost use Rattle.spv_types.specs.Blocks.{nothing};
 ghost use Rattle.spv_bodies.specs.Bodies as spec;
+ghost use Rattle.spv_bodies.specs.Places.{nowhere, place, placed_from};
 
-use crate::alike::Likeness;
+use crate::alike::{Likeness, keeps_copy_logical};
+use crate::atomics::{
+    keeps_atomic_compare, keeps_atomic_read, keeps_atomic_store, keeps_atomic_update,
+    keeps_control_barrier, keeps_memory_barrier,
+};
+use crate::calls::{keeps_call, keeps_function, keeps_parameter};
+use crate::chains::keeps_chain;
+use crate::composites::{
+    keeps_construct, keeps_copy_object, keeps_extract, keeps_extract_dynamic, keeps_insert,
+    keeps_insert_dynamic, keeps_shuffle,
+};
+use crate::context::Context;
+use crate::control::{keeps_branch, keeps_phi, keeps_return, keeps_return_value, keeps_switch};
+use crate::lanes::{keeps_extended, keeps_lanes};
+use crate::memory::{
+    keeps_array_length, keeps_copy_memory, keeps_load, keeps_store, keeps_undef, keeps_variable,
+};
 use crate::rules::{AtomicRule, CompositeRule, ControlRule, MemoryRule, Rule, rule_of};
-use crate::setting::Setting;
 use crate::within::Within;
 use spv_base::{Fail, Inst, NoMemory, Refusal};
 use spv_consts::ConstTable;
-use spv_types::{TypeTable, functions_start};
+use spv_index::Index;
+use spv_types::TypeTable;
 use std::alloc::Global;
 
 /// The code of the rules of types.
 const TYPE_CODE: u8 = 12;
 
-impl Setting<'_> {
-    fn keeps_memory(&self, inst: &Inst, rule: MemoryRule) -> bool
-        ensures { result ≡ spec.keeps_memory self.now inst.now rule }
-    {
-        match rule {
-            MemoryRule::Undef => self.keeps_undef(inst),
-            MemoryRule::Variable => self.keeps_variable(inst),
-            MemoryRule::Load => self.keeps_load(inst),
-            MemoryRule::Store => self.keeps_store(inst),
-            MemoryRule::CopyMemory => self.keeps_copy_memory(inst),
-            MemoryRule::ArrayLength => self.keeps_array_length(inst),
-            MemoryRule::Chain => self.keeps_chain(inst),
-        }
+fn keeps_memory(context: &Context, inst: &Inst, rule: MemoryRule) -> bool
+    ensures { result ≡ spec.keeps_memory context.now inst.now rule }
+{
+    match rule {
+        MemoryRule::Undef => keeps_undef(context, inst),
+        MemoryRule::Variable => keeps_variable(context, inst),
+        MemoryRule::Load => keeps_load(context, inst),
+        MemoryRule::Store => keeps_store(context, inst),
+        MemoryRule::CopyMemory => keeps_copy_memory(context, inst),
+        MemoryRule::ArrayLength => keeps_array_length(context, inst),
+        MemoryRule::Chain => keeps_chain(context, inst),
     }
+}
 
-    fn keeps_atomic(&self, inst: &Inst, rule: AtomicRule) -> bool
-        ensures { result ≡ spec.keeps_atomic self.now inst.now rule }
-    {
-        match rule {
-            AtomicRule::Read => self.keeps_atomic_read(inst),
-            AtomicRule::Store => self.keeps_atomic_store(inst),
-            AtomicRule::Update => self.keeps_atomic_update(inst),
-            AtomicRule::Compare => self.keeps_atomic_compare(inst),
-            AtomicRule::ControlBarrier => self.keeps_control_barrier(inst),
-            AtomicRule::MemoryBarrier => self.keeps_memory_barrier(inst),
-        }
+fn keeps_atomic(context: &Context, inst: &Inst, rule: AtomicRule) -> bool
+    ensures { result ≡ spec.keeps_atomic context.now inst.now rule }
+{
+    match rule {
+        AtomicRule::Read => keeps_atomic_read(context, inst),
+        AtomicRule::Store => keeps_atomic_store(context, inst),
+        AtomicRule::Update => keeps_atomic_update(context, inst),
+        AtomicRule::Compare => keeps_atomic_compare(context, inst),
+        AtomicRule::ControlBarrier => keeps_control_barrier(context, inst),
+        AtomicRule::MemoryBarrier => keeps_memory_barrier(context, inst),
     }
+}
 
-    fn keeps_composite(
-        &self,
-        likeness: &mut Likeness,
-        inst: &Inst,
-        rule: CompositeRule,
-    ) -> Result<bool, NoMemory>
-        requires { likeness.old ≡ self.now.types }
-        ensures same { likeness.new ≡ likeness.old }
-        ensures kept { IfOk result (λ kept. kept ≡ spec.keeps_composite self.now inst.now rule) }
-    {
-        match rule {
-            CompositeRule::ExtractDynamic => Ok(self.keeps_extract_dynamic(inst)),
-            CompositeRule::InsertDynamic => Ok(self.keeps_insert_dynamic(inst)),
-            CompositeRule::Shuffle => Ok(self.keeps_shuffle(inst)),
-            CompositeRule::Construct => Ok(self.keeps_construct(inst)),
-            CompositeRule::Extract => Ok(self.keeps_extract(inst)),
-            CompositeRule::Insert => Ok(self.keeps_insert(inst)),
-            CompositeRule::CopyObject => Ok(self.keeps_copy_object(inst)),
-            CompositeRule::CopyLogical => self.keeps_copy_logical(likeness, inst),
-        }
+fn keeps_composite(
+    context: &Context,
+    likeness: &mut Likeness,
+    inst: &Inst,
+    rule: CompositeRule,
+) -> Result<bool, NoMemory>
+    requires { likeness.old ≡ context.now.types }
+    ensures same { likeness.new ≡ likeness.old }
+    ensures kept { IfOk result (λ kept. kept ≡ spec.keeps_composite context.now inst.now rule) }
+{
+    match rule {
+        CompositeRule::ExtractDynamic => Ok(keeps_extract_dynamic(context, inst)),
+        CompositeRule::InsertDynamic => Ok(keeps_insert_dynamic(context, inst)),
+        CompositeRule::Shuffle => Ok(keeps_shuffle(context, inst)),
+        CompositeRule::Construct => Ok(keeps_construct(context, inst)),
+        CompositeRule::Extract => Ok(keeps_extract(context, inst)),
+        CompositeRule::Insert => Ok(keeps_insert(context, inst)),
+        CompositeRule::CopyObject => Ok(keeps_copy_object(context, inst)),
+        CompositeRule::CopyLogical => keeps_copy_logical(context, likeness, inst),
     }
+}
 
-    /// Whether a rule is kept in the function at hand and before the rest of the instructions.
-    fn keeps_control(&self, within: Within, inst: &Inst, rest: &[Inst], rule: ControlRule) -> bool
-        ensures { result ≡ spec.keeps_control self.now within inst.now rest.now rule }
-    {
-        match rule {
-            ControlRule::Phi => self.keeps_phi(inst),
-            ControlRule::Branch => self.keeps_branch(inst),
-            ControlRule::Switch => self.keeps_switch(inst),
-            ControlRule::Return => self.keeps_return(within.returns),
-            ControlRule::ReturnValue => self.keeps_return_value(within.returns, inst),
-            ControlRule::Function => self.keeps_function(inst, rest),
-            ControlRule::Parameter => self.keeps_parameter(within.ty, within.parameters, inst),
-            ControlRule::Call => self.keeps_call(inst),
-        }
+/// Whether a rule is kept in the function at hand and before the rest of the instructions.
+fn keeps_control(
+    context: &Context,
+    within: Within,
+    inst: &Inst,
+    rest: &[Inst],
+    rule: ControlRule,
+) -> bool
+    ensures { result ≡ spec.keeps_control context.now (place inst.now within rest.now) rule }
+{
+    match rule {
+        ControlRule::Phi => keeps_phi(context, inst),
+        ControlRule::Branch => keeps_branch(context, inst),
+        ControlRule::Switch => keeps_switch(context, inst),
+        ControlRule::Return => keeps_return(context, within.returns),
+        ControlRule::ReturnValue => keeps_return_value(context, within.returns, inst),
+        ControlRule::Function => keeps_function(context, inst, rest),
+        ControlRule::Parameter => keeps_parameter(context, within.ty, within.parameters, inst),
+        ControlRule::Call => keeps_call(context, inst),
     }
+}
 
-    /// Whether an instruction keeps a rule, in the function at hand and before the rest of the instructions.
-    fn keeps(
-        &self,
-        likeness: &mut Likeness,
-        within: Within,
-        inst: &Inst,
-        rest: &[Inst],
-        rule: Rule,
-    ) -> Result<bool, NoMemory>
-        requires { likeness.old ≡ self.now.types }
-        ensures same { likeness.new ≡ likeness.old }
-        ensures kept { IfOk result (λ kept. kept ≡ spec.keeps self.now within inst.now rest.now rule) }
-    {
-        match rule {
-            Rule::Free => Ok(true),
-            Rule::Lanes => Ok(self.keeps_lanes(inst)),
-            Rule::Extended => Ok(self.keeps_extended(inst)),
-            Rule::Memory(rule) => Ok(self.keeps_memory(inst, rule)),
-            Rule::Atomic(rule) => Ok(self.keeps_atomic(inst, rule)),
-            Rule::Composite(rule) => self.keeps_composite(likeness, inst, rule),
-            Rule::Control(rule) => Ok(self.keeps_control(within, inst, rest, rule)),
-            Rule::Missing => Ok(false),
-        }
+/// Whether an instruction keeps a rule, in the function at hand and before the rest of the instructions.
+fn keeps(
+    context: &Context,
+    likeness: &mut Likeness,
+    within: Within,
+    inst: &Inst,
+    rest: &[Inst],
+    rule: Rule,
+) -> Result<bool, NoMemory>
+    requires { likeness.old ≡ context.now.types }
+    ensures same { likeness.new ≡ likeness.old }
+    ensures kept { IfOk result (λ kept. kept ≡ spec.keeps context.now (place inst.now within rest.now) rule) }
+{
+    match rule {
+        Rule::Free => Ok(true),
+        Rule::Lanes => Ok(keeps_lanes(context, inst)),
+        Rule::Extended => Ok(keeps_extended(context, inst)),
+        Rule::Memory(rule) => Ok(keeps_memory(context, inst, rule)),
+        Rule::Atomic(rule) => Ok(keeps_atomic(context, inst, rule)),
+        Rule::Composite(rule) => keeps_composite(context, likeness, inst, rule),
+        Rule::Control(rule) => Ok(keeps_control(context, within, inst, rest, rule)),
     }
+}
 
-    /// Whether an instruction's result has no runtime array, and its opcode's rule is kept.
-    #[tactic(auto, unfolding(crate::specs::Bodies::keeps_body))]
-    fn keeps_body(
-        &self,
-        likeness: &mut Likeness,
-        within: Within,
-        inst: &Inst,
-        rest: &[Inst],
-    ) -> Result<bool, NoMemory>
-        requires { likeness.old ≡ self.now.types }
-        ensures same { likeness.new ≡ likeness.old }
-        ensures kept { IfOk result (λ kept. kept ≡ spec.keeps_body self.now within inst.now rest.now) }
-    {
-        if self.types().has_runtime(inst.ty) {
-            return Ok(false);
-        }
-        self.keeps(likeness, within, inst, rest, rule_of(inst.op))
+/// Whether an instruction's result has no runtime array, and its opcode's rule is kept.
+#[tactic(auto, unfolding(crate::specs::Bodies::keeps_body))]
+fn keeps_body(
+    context: &Context,
+    likeness: &mut Likeness,
+    within: Within,
+    inst: &Inst,
+    rest: &[Inst],
+) -> Result<bool, NoMemory>
+    requires { likeness.old ≡ context.now.types }
+    ensures same { likeness.new ≡ likeness.old }
+    ensures kept { IfOk result (λ kept. kept ≡ spec.keeps_body context.now (place inst.now within rest.now)) }
+{
+    if context.types().has_runtime(inst.ty) {
+        return Ok(false);
     }
+    keeps(context, likeness, within, inst, rest, rule_of(inst.op))
+}
 
-    /// Refuses the first instruction that breaks a rule.
-    fn check(&self, alloc: Global, insts: &[Inst]) -> Result<(), Fail<Refusal>>
-        ensures { Answers (unless_refused nothing (spec.body_breaches self.now spec.nowhere insts.now)) result }
-    {
-        let mut likeness = Likeness::of(alloc, self.types());
-        let mut within = Within::nowhere();
-        for (n, inst) in insts.iter().enumerate() {
-            if !self.keeps_body(&mut likeness, within, inst, &insts[n + 1..])? {
-                return Err(Fail::Refused(Refusal {
-                    code: TYPE_CODE,
-                    word: inst.word,
-                }));
-            }
-            within = within.after(inst);
+/// Refuses the first instruction that breaks a rule.
+fn check_all(alloc: Global, context: &Context, insts: &[Inst]) -> Result<(), Fail<Refusal>>
+    ensures { Answers (unless_refused nothing (spec.body_breaches context.now (placed_from nowhere insts.now))) result }
+{
+    let mut likeness = Likeness::of(alloc, context.types());
+    let mut within = Within::nowhere();
+    for (n, inst) in insts.iter().enumerate() {
+        if !keeps_body(context, &mut likeness, within, inst, &insts[n + 1..])? {
+            return Err(Fail::Refused(Refusal {
+                code: TYPE_CODE,
+                word: inst.word,
+            }));
         }
-        Ok(())
+        within = within.after(inst);
     }
+    Ok(())
 }
 
 /// Refuses M12, at the first instruction in a function that breaks a typing rule: the types of operands and results, access
@@ -154,10 +174,10 @@ pub fn check_bodies(
     alloc: Global,
     types: &TypeTable,
     consts: &ConstTable,
-    insts: &[Inst],
+    index: &Index,
 ) -> Result<(), Fail<Refusal>>
-    ensures { Answers (spec.bodies_of types.now consts.now insts.now) result }
+    ensures { Answers (spec.bodies_of types.now consts.now index.now.insts) result }
 {
-    let setting = Setting::of(alloc, types, consts, insts)?;
-    setting.check(alloc, &insts[functions_start(insts)..])
+    let context = Context::of(types, consts, index);
+    check_all(alloc, &context, &index.insts()[index.functions_start()..])
 }

@@ -2,13 +2,13 @@
 ghost use Rattle.std.specs.Prelude.{◌≡◌, option_copied};
 ghost use Rattle.spv_bodies.specs.Calls as spec;
 
-use crate::opcodes::{FUNCTION_PARAMETER, LABEL};
+use crate::context::Context;
 use crate::operands::operands_from;
-use crate::setting::Setting;
 use spv_base::{Inst, Operand};
-use spv_types::opcodes::FUNCTION;
+use spv_index::id_operand;
+use spv_ops::op;
+use spv_types::Form;
 use spv_types::views::{is_pointer, parameters_in, returned};
-use spv_types::{Form, id_at};
 
 /// How many parameters stand before the first block.
 fn parameters_ahead(insts: &[Inst]) -> usize
@@ -17,8 +17,8 @@ fn parameters_ahead(insts: &[Inst]) -> usize
     let mut count = 0;
     for inst in insts {
         match inst.op {
-            FUNCTION | LABEL => return count,
-            FUNCTION_PARAMETER => count += 1,
+            op::FUNCTION | op::LABEL => return count,
+            op::FUNCTION_PARAMETER => count += 1,
             _ => {}
         }
     }
@@ -32,64 +32,79 @@ fn returns_type(form: Option<&Form>, ty: u32) -> bool
     returned(form) == Some(ty)
 }
 
-impl Setting<'_> {
-    /// The form of the function type that an OpFunction names.
-    fn function_form(&self, inst: &Inst) -> Option<&Form>
-        ensures { option_copied result ≡ spec.function_form self.now inst.now }
-    {
-        self.form(id_at(inst, 1))
+/// The form of the function type that an OpFunction names.
+fn function_form<'a>(context: &'a Context, inst: &Inst) -> Option<&'a Form>
+    ensures { option_copied result ≡ spec.function_form context.now inst.now }
+{
+    match id_operand(inst, 1) {
+        Some(ty) => context.form(ty),
+        None => None,
     }
+}
 
-    /// Whether a function returns its result type, and has all the parameters of its type.
-    pub fn keeps_function(&self, inst: &Inst, rest: &[Inst]) -> bool
-        ensures { result ≡ spec.keeps_function self.now inst.now rest.now }
-    {
-        let form = self.function_form(inst);
-        returns_type(form, inst.ty) && parameters_in(form).len() <= parameters_ahead(rest)
+/// Whether a function returns its result type, and has all the parameters of its type.
+pub fn keeps_function(context: &Context, inst: &Inst, rest: &[Inst]) -> bool
+    ensures { result ≡ spec.keeps_function context.now inst.now rest.now }
+{
+    let form = function_form(context, inst);
+    returns_type(form, inst.ty) && parameters_in(form).len() <= parameters_ahead(rest)
+}
+
+/// The type of parameter `n` of a function type.
+fn parameter_type(context: &Context, n: usize, ty: Option<u32>) -> Option<u32>
+    ensures { result ≡ spec.parameter_type context.now n ty }
+{
+    parameters_in(context.form(ty?)).get(n).copied()
+}
+
+/// Whether parameter number `n` of a function with a function type has the type that this names.
+pub fn keeps_parameter(context: &Context, ty: Option<u32>, n: usize, inst: &Inst) -> bool
+    ensures { result ≡ spec.keeps_parameter context.now ty n inst.now }
+{
+    parameter_type(context, n, ty) == Some(inst.ty)
+}
+
+/// Whether there is one operand for each type, and of this type.
+fn are_of(context: &Context, types: &[u32], operands: &[Operand]) -> bool
+    ensures { result ≡ spec.are_of context.now types.now operands.now }
+{
+    if types.len() != operands.len() {
+        return false;
     }
-
-    /// Whether parameter number `n` of a function of a type has the type that this names.
-    pub fn keeps_parameter(&self, ty: u32, n: usize, inst: &Inst) -> bool
-        ensures { result ≡ spec.keeps_parameter self.now ty n inst.now }
-    {
-        match parameters_in(self.form(ty)).get(n) {
-            Some(parameter) => *parameter == inst.ty,
-            None => false,
-        }
-    }
-
-    /// Whether there is one operand for each type, and of this type.
-    fn are_of(&self, types: &[u32], operands: &[Operand]) -> bool
-        ensures { result ≡ spec.are_of self.now types.now operands.now }
-    {
-        if types.len() != operands.len() {
+    for (n, ty) in types.iter().enumerate() {
+        if context.type_in(&operands[n]) != Some(*ty) {
             return false;
         }
-        for (n, ty) in types.iter().enumerate() {
-            if self.type_in(&operands[n]) != *ty {
-                return false;
-            }
-        }
-        true
     }
+    true
+}
 
-    /// The form of the function type of the function with an id.
-    fn callee_form(&self, id: u32) -> Option<&Form>
-        ensures { option_copied result ≡ spec.callee_form self.now id }
-    {
-        match self.index().defining(id) {
-            Some(inst) if inst.op == FUNCTION => self.function_form(inst),
-            _ => None,
-        }
+/// The form of the function type of the function with an id.
+fn callee_form<'a>(context: &'a Context, id: u32) -> Option<&'a Form>
+    ensures { option_copied result ≡ spec.callee_form context.now id }
+{
+    match context.defining(id) {
+        Some(inst) if inst.op == op::FUNCTION => function_form(context, inst),
+        _ => None,
     }
+}
 
-    /// Whether a call gives what the function returns, no pointer, and has an argument for each parameter.
-    pub fn keeps_call(&self, inst: &Inst) -> bool
-        ensures { result ≡ spec.keeps_call self.now inst.now }
-    {
-        let form = self.callee_form(id_at(inst, 0));
-        returns_type(form, inst.ty)
-            && !is_pointer(self.form(inst.ty))
-            && self.are_of(parameters_in(form), operands_from(inst, 1))
+/// The form of the function type of the function that a call names.
+fn called_form<'a>(context: &'a Context, inst: &Inst) -> Option<&'a Form>
+    ensures { option_copied result ≡ spec.called_form context.now inst.now }
+{
+    match id_operand(inst, 0) {
+        Some(id) => callee_form(context, id),
+        None => None,
     }
+}
+
+/// Whether a call gives what the function returns, no pointer, and has an argument for each parameter.
+pub fn keeps_call(context: &Context, inst: &Inst) -> bool
+    ensures { result ≡ spec.keeps_call context.now inst.now }
+{
+    let form = called_form(context, inst);
+    returns_type(form, inst.ty)
+        && !is_pointer(context.form(inst.ty))
+        && are_of(context, parameters_in(form), operands_from(inst, 1))
 }

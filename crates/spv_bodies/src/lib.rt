@@ -7,14 +7,13 @@ mod bodies;
 mod calls;
 mod chains;
 mod composites;
+mod context;
 mod control;
 mod lanes;
 mod laws;
 mod memory;
-mod opcodes;
 mod operands;
 mod rules;
-mod setting;
 #[cfg(test)]
 mod tests;
 mod within;

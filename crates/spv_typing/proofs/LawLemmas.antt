@@ -16,6 +16,7 @@ use Rattle.spv_typing.specs.declared.rules.Rule.TheVariants.{Convert, Bitcast, I
 use Rattle.spv_typing.specs.Rules.{is_constant_operation, is_constant_rule, operand_count, rule_count, rule_of}
 use Rattle.spv_typing.specs.Glsl.{fits_glsl, glsl_rule, has_count}
 use Rattle.spv_typing.specs.Laws.{IsCondition, IsTyped, booleans, integers}
+use Rattle.spv_typing.specs.Operands.{operand_type, types_by}
 
 -- ---- tests and numbers
 
@@ -405,3 +406,35 @@ constants_have_operands op h = counted (rule_of op) (parts (option_map_or is_con
     counted (Some Select) h = (3, refl, omega arith, omega arith)
     counted (Some InsertField) h = impossible h
     counted (Some ExtractField) h = impossible h
+
+-- ---- only the first four operands are asked for
+
+rule_by : (ts : Types) (rule : Rule) (r : ℕ) (ty : ℕ → ℕ) → fits_rule ts rule r (operand_type (types_by ty)) ≡ fits_rule ts rule r ty
+rule_by ts Convert r ty = refl
+rule_by ts Bitcast r ty = refl
+rule_by ts Integer r ty = refl
+rule_by ts Integers r ty = refl
+rule_by ts Clamp r ty = refl
+rule_by ts Shift r ty = refl
+rule_by ts OneBoolean r ty = refl
+rule_by ts Booleans r ty = refl
+rule_by ts Reduce r ty = refl
+rule_by ts Compare r ty = refl
+rule_by ts Extended r ty = refl
+rule_by ts Select r ty = refl
+rule_by ts InsertField r ty = refl
+rule_by ts ExtractField r ty = refl
+
+pub fits_by : (ts : Types) (op r : ℕ) (ty : ℕ → ℕ) → fits ts op r (operand_type (types_by ty)) ≡ fits ts op r ty
+fits_by ts op r ty = found (rule_of op)
+  where
+    found : (o : Option Rule) → option_map_or (λ rule. fits_rule ts rule r (operand_type (types_by ty))) o false ≡ option_map_or (λ rule. fits_rule ts rule r ty) o false
+    found None = refl
+    found (Some rule) = rule_by ts rule r ty
+
+pub fits_glsl_by : (ts : Types) (number count r : ℕ) (ty : ℕ → ℕ) → fits_glsl ts number count r (operand_type (types_by ty)) ≡ fits_glsl ts number count r ty
+fits_glsl_by ts number count r ty = found (glsl_rule number)
+  where
+    found : (o : Option Rule) → option_map_or (λ rule. has_count count (rule_count rule) && fits_rule ts rule r (operand_type (types_by ty))) o false ≡ option_map_or (λ rule. has_count count (rule_count rule) && fits_rule ts rule r ty) o false
+    found None = refl
+    found (Some rule) = rw (rule_by ts rule r ty) refl

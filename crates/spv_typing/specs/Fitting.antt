@@ -48,7 +48,7 @@ is_pair_of ty (Some (Struct members block)) = is_pair ty members
 is_pair_of ty (Some (Pointer class target)) = false
 is_pair_of ty (Some (Function returns parameters)) = false
 
--- what Select chooses: a value that is no pointer; void is accepted, as for other copies
+-- what Select chooses: a value of any type but a pointer type. Of void and of a function type too, as for other copies
 abbrev pub is_selectable : Option Form → Bool
 is_selectable None = false
 is_selectable (Some Void) = true
@@ -59,7 +59,7 @@ is_selectable (Some (Array element length stride)) = true
 is_selectable (Some (Runtime element stride)) = true
 is_selectable (Some (Struct members block)) = true
 is_selectable (Some (Pointer class target)) = false
-is_selectable (Some (Function returns parameters)) = false
+is_selectable (Some (Function returns parameters)) = true
 
 -- one Boolean for the whole, or one for each component of a vector
 abbrev pub is_condition : Option Lanes → Option Lanes → Bool

@@ -1,3 +1,4 @@
+pub mod Operands
 pub mod Lanes
 pub mod Rules
 pub mod Fitting

@@ -4,12 +4,13 @@ ghost use Rattle.spv_index.specs.Definitions.{type_of};
 ghost use Rattle.spv_types.specs.Operands.{id_at};
 ghost use Rattle.spv_types.specs.Types.{form_of};
 ghost use Rattle.spv_typing.specs.Fitting as spec;
+ghost use Rattle.spv_typing.specs.Operands.{operand_type};
 
 use crate::lanes::{
     Lanes, are_booleans, are_integers, are_several, is_single, lanes_of, same_count, same_lanes,
     same_size,
 };
-use crate::operands::Operands;
+use crate::operands::{OperandTypes, types_from};
 use crate::rules::{Rule, rule_of};
 use spv_base::Inst;
 use spv_index::Definitions as Index;
@@ -64,12 +65,12 @@ pub fn is_pair_of(types: &TypeTable, ty: u32, outcome: u32) -> bool
     }
 }
 
-/// Whether Select may choose values of a type: no pointers.
+/// Whether Select may choose values of a type, and CopyLogical copy them: of any type but a pointer type.
 pub fn is_selectable(types: &TypeTable, ty: u32) -> bool
     ensures { result ≡ spec.is_selectable (form_of types.now ty) }
 {
     match types.form(ty) {
-        None | Some(Form::Pointer { .. } | Form::Function { .. }) => false,
+        None | Some(Form::Pointer { .. }) => false,
         _ => true,
     }
 }
@@ -180,50 +181,49 @@ pub fn is_field(offset: Option<Lanes>, count: Option<Lanes>) -> bool
     is_one_integer(offset) && is_one_integer(count)
 }
 
-impl<'a> Operands<'a> {
-    /// Whether the operands fit an outcome of a type, by a rule.
-    pub(crate) fn fit(&self, rule: Rule, outcome: u32) -> bool
-        ensures { result ≡ spec.fits_rule self.now.types.now rule outcome (λ k. type_of self.now.index.now (id_at self.now.inst.now.operands (self.now.from + k))) }
-    {
-        let types = self.types;
-        let lanes = lanes_of(types, outcome);
-        match rule {
-            Rule::Convert => fits_convert(lanes, self.lanes(0)),
-            Rule::Bitcast => fits_bitcast(lanes, self.lanes(0)),
-            Rule::Integer => fits_integer(lanes, self.lanes(0)),
-            Rule::Integers => fits_integers(lanes, self.lanes(0), self.lanes(1)),
-            Rule::Clamp => fits_clamp(lanes, self.lanes(0), self.lanes(1), self.lanes(2)),
-            Rule::Shift => fits_shift(lanes, self.lanes(0), self.lanes(1)),
-            Rule::Boolean => fits_boolean(lanes, self.lanes(0)),
-            Rule::Booleans => fits_booleans(lanes, self.lanes(0), self.lanes(1)),
-            Rule::Reduce => fits_reduce(lanes, self.lanes(0)),
-            Rule::Compare => fits_compare(lanes, self.lanes(0), self.lanes(1)),
-            Rule::Extended => fits_extended(types, outcome, self.ty(0), self.ty(1)),
-            Rule::Select => fits_select(types, outcome, self.ty(0), self.ty(1), self.ty(2)),
-            Rule::InsertField => {
-                fits_integers(lanes, self.lanes(0), self.lanes(1))
-                    && is_field(self.lanes(2), self.lanes(3))
-            }
-            Rule::ExtractField => {
-                fits_integer(lanes, self.lanes(0)) && is_field(self.lanes(1), self.lanes(2))
-            }
+/// Whether operands of these types fit an outcome of a type, by a rule.
+pub(crate) fn fits_rule(types: &TypeTable, rule: Rule, outcome: u32, tys: OperandTypes) -> bool
+    ensures { result ≡ spec.fits_rule types.now rule outcome (operand_type tys) }
+{
+    let lanes = lanes_of(types, outcome);
+    let first = lanes_of(types, tys.first);
+    let second = lanes_of(types, tys.second);
+    let third = lanes_of(types, tys.third);
+    match rule {
+        Rule::Convert => fits_convert(lanes, first),
+        Rule::Bitcast => fits_bitcast(lanes, first),
+        Rule::Integer => fits_integer(lanes, first),
+        Rule::Integers => fits_integers(lanes, first, second),
+        Rule::Clamp => fits_clamp(lanes, first, second, third),
+        Rule::Shift => fits_shift(lanes, first, second),
+        Rule::Boolean => fits_boolean(lanes, first),
+        Rule::Booleans => fits_booleans(lanes, first, second),
+        Rule::Reduce => fits_reduce(lanes, first),
+        Rule::Compare => fits_compare(lanes, first, second),
+        Rule::Extended => fits_extended(types, outcome, tys.first, tys.second),
+        Rule::Select => fits_select(types, outcome, tys.first, tys.second, tys.third),
+        Rule::InsertField => {
+            fits_integers(lanes, first, second) && is_field(third, lanes_of(types, tys.fourth))
         }
+        Rule::ExtractField => fits_integer(lanes, first) && is_field(second, third),
+    }
+}
+
+/// Whether operands of these types fit the outcome of an operation, whose opcode is `op`.
+pub fn fits_types(types: &TypeTable, op: u16, outcome: u32, tys: OperandTypes) -> bool
+    ensures { result ≡ spec.fits types.now op outcome (operand_type tys) }
+{
+    match rule_of(op) {
+        Some(rule) => fits_rule(types, rule, outcome, tys),
+        None => false,
     }
 }
 
 /// Whether the types of an operation's operands fit the type of its result. The operation's first operand is the operand
 /// of the instruction after the first `from`.
+#[tactic(auto, using(crate::proofs::LawLemmas::fits_by))]
 pub fn fits(types: &TypeTable, index: &Index, inst: &Inst, op: u16, from: usize) -> bool
     ensures { result ≡ spec.fits types.now op inst.now.ty (λ k. type_of index.now (id_at inst.now.operands (from + k))) }
 {
-    let operands = Operands {
-        types,
-        index,
-        inst,
-        from,
-    };
-    match rule_of(op) {
-        Some(rule) => operands.fit(rule, inst.ty),
-        None => false,
-    }
+    fits_types(types, op, inst.ty, types_from(index, inst, from))
 }

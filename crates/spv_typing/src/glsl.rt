@@ -3,12 +3,15 @@ ghost use Rattle.std.specs.Prelude.{◌≡◌, ◌+◌, ◌-◌, length};
 ghost use Rattle.spv_index.specs.Definitions.{type_of};
 ghost use Rattle.spv_types.specs.Operands.{id_at};
 ghost use Rattle.spv_typing.specs.Glsl as spec;
+ghost use Rattle.spv_typing.specs.Operands.{operand_type};
 ghost use Rattle.spv_typing.specs.Rules.{rule_count};
 
-use crate::operands::Operands;
+use crate::fitting::fits_rule;
+use crate::operands::{OperandTypes, types_from};
 use crate::rules::Rule;
 use spv_base::Inst;
 use spv_index::Definitions as Index;
+use spv_ops::glsl;
 use spv_types::TypeTable;
 
 /// The rule of an instruction's number; none where there is no such instruction.
@@ -16,9 +19,11 @@ pub fn glsl_rule(number: u32) -> Option<Rule>
     ensures { result ≡ spec.glsl_rule number }
 {
     match number {
-        5 | 7 | 73 | 74 | 75 => Some(Rule::Integer),
-        38 | 39 | 41 | 42 => Some(Rule::Integers),
-        44 | 45 => Some(Rule::Clamp),
+        glsl::S_ABS | glsl::S_SIGN | glsl::FIND_I_LSB | glsl::FIND_S_MSB | glsl::FIND_U_MSB => Some(
+            Rule::Integer,
+        ),
+        glsl::U_MIN | glsl::S_MIN | glsl::U_MAX | glsl::S_MAX => Some(Rule::Integers),
+        glsl::U_CLAMP | glsl::S_CLAMP => Some(Rule::Clamp),
         _ => None,
     }
 }
@@ -33,20 +38,28 @@ fn has_count(rule: Rule, count: usize) -> bool
     }
 }
 
+/// Whether so many operands of these types fit the outcome of an instruction of GLSL.std.450, by its number.
+pub fn fits_glsl_types(
+    types: &TypeTable,
+    number: u32,
+    count: usize,
+    outcome: u32,
+    tys: OperandTypes,
+) -> bool
+    ensures { result ≡ spec.fits_glsl types.now number count outcome (operand_type tys) }
+{
+    match glsl_rule(number) {
+        Some(rule) => has_count(rule, count) && fits_rule(types, rule, outcome, tys),
+        None => false,
+    }
+}
+
 /// Whether the operands of an instruction of GLSL.std.450, by its number, fit the type of its result. They are the
 /// operands of the OpExtInst after the first `from`.
+#[tactic(auto, using(crate::proofs::LawLemmas::fits_glsl_by))]
 pub fn fits_glsl(types: &TypeTable, index: &Index, inst: &Inst, number: u32, from: usize) -> bool
     ensures { result ≡ spec.fits_glsl types.now number (length inst.now.operands - from) inst.now.ty (λ k. type_of index.now (id_at inst.now.operands (from + k))) }
 {
-    let operands = Operands {
-        types,
-        index,
-        inst,
-        from,
-    };
     let count = inst.operands.len().saturating_sub(from);
-    match glsl_rule(number) {
-        Some(rule) => has_count(rule, count) && operands.fit(rule, inst.ty),
-        None => false,
-    }
+    fits_glsl_types(types, number, count, inst.ty, types_from(index, inst, from))
 }

@@ -1,13 +1,22 @@
 //! The operands of an operation, by their types.
-ghost use Rattle.std.specs.Prelude.{◌≡◌, ◌+◌, ◌-◌, length};
+ghost use Rattle.std.specs.Prelude.{◌≡◌, ◌+◌};
 ghost use Rattle.spv_index.specs.Definitions.{type_of};
 ghost use Rattle.spv_types.specs.Operands.{id_at};
-ghost use Rattle.spv_typing.specs.Lanes as spec;
+ghost use Rattle.spv_typing.specs.Operands as spec;
 
-use crate::lanes::{Lanes, lanes_of};
 use spv_base::Inst;
 use spv_index::Definitions as Index;
-use spv_types::{TypeTable, id_at};
+use spv_types::id_at;
+
+/// The types of the operands of an operation, which has at most four. Where there is none, or it has no type, this is 0, which
+/// is no type.
+#[derive(Clone, Copy, Debug, PartialEq, Eq)]
+pub struct OperandTypes {
+    pub first: u32,
+    pub second: u32,
+    pub third: u32,
+    pub fourth: u32,
+}
 
 /// The id at a place after the first `from` operands, or 0.
 #[tactic(auto, using(std::proofs::lemmas::Option::slice_get_past))]
@@ -21,27 +30,14 @@ fn id_from(inst: &Inst, from: usize, place: usize) -> u32
     id_at(inst, from + place)
 }
 
-/// The operands of an operation: those of an instruction after the first `from`.
-#[derive(Clone, Copy)]
-pub(crate) struct Operands<'a> {
-    pub(crate) types: &'a TypeTable,
-    pub(crate) index: &'a Index<'a>,
-    pub(crate) inst: &'a Inst,
-    pub(crate) from: usize,
-}
-
-impl<'a> Operands<'a> {
-    /// The type of an operand, or 0.
-    pub(crate) fn ty(&self, place: usize) -> u32
-        ensures { result ≡ type_of self.now.index.now (id_at self.now.inst.now.operands (self.now.from + place)) }
-    {
-        self.index.type_of(id_from(self.inst, self.from, place))
-    }
-
-    /// The lanes of an operand.
-    pub(crate) fn lanes(&self, place: usize) -> Option<Lanes>
-        ensures { result ≡ spec.lanes_of self.now.types.now (type_of self.now.index.now (id_at self.now.inst.now.operands (self.now.from + place))) }
-    {
-        lanes_of(self.types, self.ty(place))
+/// The types of the operands of an instruction after the first `from`.
+pub(crate) fn types_from(index: &Index, inst: &Inst, from: usize) -> OperandTypes
+    ensures { result ≡ spec.types_by (λ k. type_of index.now (id_at inst.now.operands (from + k))) }
+{
+    OperandTypes {
+        first: index.type_of(id_from(inst, from, 0)),
+        second: index.type_of(id_from(inst, from, 1)),
+        third: index.type_of(id_from(inst, from, 2)),
+        fourth: index.type_of(id_from(inst, from, 3)),
     }
 }

@@ -2,6 +2,8 @@
 ghost use Rattle.std.specs.Prelude.{◌≡◌};
 ghost use Rattle.spv_typing.specs.Rules as spec;
 
+use spv_ops::op;
+
 /// How the types of the operands and of the result belong together.
 #[derive(Clone, Copy, Debug, PartialEq, Eq)]
 pub enum Rule {
@@ -41,19 +43,44 @@ pub fn rule_of(op: u16) -> Option<Rule>
     ensures { result ≡ spec.rule_of op }
 {
     match op {
-        113 | 114 => Some(Rule::Convert),
-        124 => Some(Rule::Bitcast),
-        126 | 200 | 204 | 205 => Some(Rule::Integer),
-        128 | 130 | 132 | 134 | 135 | 137 | 138 | 139 | 197 | 198 | 199 => Some(Rule::Integers),
-        149 | 150 | 151 | 152 => Some(Rule::Extended),
-        154 | 155 => Some(Rule::Reduce),
-        164 | 165 | 166 | 167 => Some(Rule::Booleans),
-        168 => Some(Rule::Boolean),
-        169 => Some(Rule::Select),
-        170 | 171 | 172 | 173 | 174 | 175 | 176 | 177 | 178 | 179 => Some(Rule::Compare),
-        194 | 195 | 196 => Some(Rule::Shift),
-        201 => Some(Rule::InsertField),
-        202 | 203 => Some(Rule::ExtractField),
+        op::U_CONVERT | op::S_CONVERT => Some(Rule::Convert),
+        op::BITCAST => Some(Rule::Bitcast),
+        op::S_NEGATE | op::NOT | op::BIT_REVERSE | op::BIT_COUNT => Some(Rule::Integer),
+        op::I_ADD
+        | op::I_SUB
+        | op::I_MUL
+        | op::U_DIV
+        | op::S_DIV
+        | op::U_MOD
+        | op::S_REM
+        | op::S_MOD
+        | op::BITWISE_OR
+        | op::BITWISE_XOR
+        | op::BITWISE_AND => Some(Rule::Integers),
+        op::I_ADD_CARRY | op::I_SUB_BORROW | op::U_MUL_EXTENDED | op::S_MUL_EXTENDED => Some(
+            Rule::Extended,
+        ),
+        op::ANY | op::ALL => Some(Rule::Reduce),
+        op::LOGICAL_EQUAL | op::LOGICAL_NOT_EQUAL | op::LOGICAL_OR | op::LOGICAL_AND => Some(
+            Rule::Booleans,
+        ),
+        op::LOGICAL_NOT => Some(Rule::Boolean),
+        op::SELECT => Some(Rule::Select),
+        op::I_EQUAL
+        | op::I_NOT_EQUAL
+        | op::U_GREATER_THAN
+        | op::S_GREATER_THAN
+        | op::U_GREATER_THAN_EQUAL
+        | op::S_GREATER_THAN_EQUAL
+        | op::U_LESS_THAN
+        | op::S_LESS_THAN
+        | op::U_LESS_THAN_EQUAL
+        | op::S_LESS_THAN_EQUAL => Some(Rule::Compare),
+        op::SHIFT_RIGHT_LOGICAL | op::SHIFT_RIGHT_ARITHMETIC | op::SHIFT_LEFT_LOGICAL => Some(
+            Rule::Shift,
+        ),
+        op::BIT_FIELD_INSERT => Some(Rule::InsertField),
+        op::BIT_FIELD_S_EXTRACT | op::BIT_FIELD_U_EXTRACT => Some(Rule::ExtractField),
         _ => None,
     }
 }
@@ -107,7 +134,7 @@ pub fn is_constant_operation(op: u16) -> bool
     ensures { result ≡ spec.is_constant_operation op }
 {
     match rule_of(op) {
-        Some(rule) => rule.is_constant() && !matches!(op, 204 | 205),
+        Some(rule) => rule.is_constant() && !matches!(op, op::BIT_REVERSE | op::BIT_COUNT),
         None => false,
     }
 }

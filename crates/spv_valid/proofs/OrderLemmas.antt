@@ -18,9 +18,11 @@ use Rattle.spv_sections.specs.declared.ids.Scope.{Scope}
 use Rattle.spv_sections.specs.Definitions.{Ids}
 use Rattle.spv_sections.specs.Ids.{breaches_at, has_begun, id_breaches, is_naming, is_numbered, naming_breach, number_breach, scope_of}
 use Rattle.spv_sections.specs.Capabilities.{capability_breaches, capability_code, is_here}
-use Rattle.spv_bodies.specs.Setting.{Known}
+use Rattle.spv_index.specs.Definitions.{before_functions as front_of}
+use Rattle.spv_bodies.specs.Context.{Known}
 use Rattle.spv_bodies.specs.declared.within.Within.{Within}
-use Rattle.spv_bodies.specs.Bodies.{body_breaches, breach as body_breach, keeps_body, within_after}
+use Rattle.spv_bodies.specs.Bodies.{body_breaches, breach as body_breach, keeps_body}
+use Rattle.spv_bodies.specs.Places.{nowhere, place, placed, placed_from, within_after}
 use Rattle.spv_base.specs.Order.{Ascend}
 use Rattle.spv_valid.specs.Breaches.{IsBefore, layout_breaches}
 
@@ -157,10 +159,9 @@ layout_in_order_from all ts before from (i ∷ is) (first, rest) =
 pub layout_in_order : (ts : Types) (from : ℕ) (insts : List Inst) → Ascend from insts → InOrder from (layout_breaches ts insts)
 layout_in_order ts from insts ascend = layout_in_order_from insts ts [] from insts ascend
 
-bodies_in_order_from : (k : Known) (w : Within) (from : ℕ) (insts : List Inst) → Ascend from insts → InOrder from (body_breaches k w insts)
-unfolding body_breaches
+bodies_in_order_from : (k : Known) (w : Within) (from : ℕ) (insts : List Inst) → Ascend from insts → InOrder from (body_breaches k (placed_from w insts))
 bodies_in_order_from k w from [] ascend = none_in_order from
-bodies_in_order_from k w from (i ∷ is) (first, rest) = one_in_order from (keeps_body k w i is) (body_breach i) _ first (bodies_in_order_from k (within_after w i) (suc i.word) is rest)
+bodies_in_order_from k w from (i ∷ is) (first, rest) = one_in_order from (keeps_body k (place i w is)) (body_breach i) _ first (bodies_in_order_from k (within_after w i) (suc i.word) is rest)
 
-pub bodies_in_order : (k : Known) (w : Within) (n from : ℕ) (insts : List Inst) → Ascend from insts → InOrder from (body_breaches k w (drop n insts))
-bodies_in_order k w n from insts ascend = bodies_in_order_from k w from (drop n insts) (Ascend-drop n from insts ascend)
+pub bodies_in_order : (k : Known) (from : ℕ) (insts : List Inst) → Ascend from insts → InOrder from (body_breaches k (placed insts))
+bodies_in_order k from insts ascend = bodies_in_order_from k nowhere from (drop (length (front_of insts)) insts) (Ascend-drop (length (front_of insts)) from insts ascend)

@@ -28,8 +28,8 @@ use Rattle.spv_consts.specs.Rules.{keeps_rules}
 use Rattle.spv_consts.specs.SpecIds.{lower, lowest_wrong, wrong_spec_id}
 use Rattle.spv_consts.specs.Steps.{breach, entered, limited, passes_limit, stepped, walked}
 use Rattle.spv_consts.specs.Build.{built_of, constants_of, context_of, start_of, unless_earlier}
-use Rattle.spv_bodies.specs.Setting.{known_of}
-use Rattle.spv_bodies.specs.Bodies.{bodies_of, nowhere}
+use Rattle.spv_bodies.specs.Context.{known_of}
+use Rattle.spv_bodies.specs.Bodies.{bodies_of}
 use Rattle.spv_valid.specs.Entry.{entry_of}
 use Rattle.spv_base.specs.Answers.{after}
 use Rattle.spv_valid.specs.Acceptance.{Accepted, acceptance, accepted}
@@ -61,7 +61,7 @@ tells_layout ts insts ascend = tells_led nothing _ (layout_in_order ts 0 insts a
 
 tells_bodies : (known : Types × Constants) (insts : List Inst) → Ascend 0 insts → Tells (bodies_of known.0 known.1 insts) (bodies_breaches known insts)
 unfolding bodies_of
-tells_bodies known insts ascend = tells_led nothing _ (bodies_in_order (known_of known.0 known.1 insts) nowhere (length (before_functions insts)) 0 insts ascend).led
+tells_bodies known insts ascend = tells_led nothing _ (bodies_in_order (known_of known.0 known.1 insts) 0 insts ascend).led
 
 -- ---- functions and calls
 

@@ -21,8 +21,9 @@ use Rattle.spv_consts.specs.Numbers.{rules_code}
 use Rattle.spv_consts.specs.SpecIds.{wrong_spec_id}
 use Rattle.spv_consts.specs.Steps.{walked}
 use Rattle.spv_consts.specs.Build.{constants_of, context_of, start_of}
-use Rattle.spv_bodies.specs.Bodies.{body_breaches, nowhere}
-use Rattle.spv_bodies.specs.Setting.{known_of}
+use Rattle.spv_bodies.specs.Bodies.{body_breaches}
+use Rattle.spv_bodies.specs.Context.{known_of}
+use Rattle.spv_bodies.specs.Places.{placed}
 use Rattle.spv_valid.specs.Entry.{entry_of}
 
 -- the breaches of the first list that has any
@@ -55,7 +56,7 @@ abbrev pub flow_breaches : List Inst → List Refusal
 flow_breaches insts = at_words 15 (block_breaches insts) ++ at_words 16 (call_breaches insts)
 
 abbrev pub bodies_breaches : Types × Constants → List Inst → List Refusal
-bodies_breaches known insts = body_breaches (known_of known.0 known.1 insts) nowhere (drop (length (before_functions insts)) insts)
+bodies_breaches known insts = body_breaches (known_of known.0 known.1 insts) (placed insts)
 
 -- the passes in their order, by the types that a module has, and by those with the lengths of their arrays and its constants
 abbrev pub breaches_by : Decoded → Option (List ℕ) → List (ℕ × ℤ) → Types → Types × Constants → List (List Refusal)

@@ -1,8 +1,7 @@
 -- What an accepted module gives to a run over it (SPIR-V 1.6 section 2.16): operands of their kinds and types, targets that
 -- exist, an executable that comes next where none ends the block, and constants of the shapes of their types.
-use Rattle.std.specs.Prelude.{ℕ, false, List, Option, length, drop}
+use Rattle.std.specs.Prelude.{ℕ, false, List, Option, length}
 use Rattle.spv_base.specs.declared.values.Root.{Root}
-use Rattle.spv_types.specs.Typing.{before_functions}
 use Rattle.spv_types.specs.Laws.{AreComplete, AreNamed, AreSound}
 use Rattle.spv_index.specs.Classes.{sets_of}
 use Rattle.spv_index.specs.Positions.{outside}
@@ -10,9 +9,8 @@ use Rattle.spv_cfg.specs.Laws.{BlocksAreEntered, FunctionsAreEntered, FunctionsH
 use Rattle.spv_sections.specs.Ids.{ids_in}
 use Rattle.spv_sections.specs.Laws.{AreInOrder}
 use Rattle.spv_consts.specs.Laws.{HaveShapes, HaveValues}
-use Rattle.spv_bodies.specs.Bodies.{nowhere}
 use Rattle.spv_bodies.specs.Laws.{KeepRules}
-use Rattle.spv_bodies.specs.Setting.{known_of}
+use Rattle.spv_bodies.specs.Context.{known_of}
 use Rattle.spv_valid.specs.Acceptance.{Accepted}
 
 pub record IsValid (a : Accepted) : Type 0 where
@@ -34,4 +32,4 @@ pub record IsValid (a : Accepted) : Type 0 where
   -- behind each executable but the last of a block the next one comes
   pub nexts : RunsGoOn a.insts a.flow
   -- the instructions of functions have operands of the types that their opcodes ask
-  pub rules : KeepRules (known_of a.types a.constants a.insts) nowhere (drop (length (before_functions a.insts)) a.insts)
+  pub rules : KeepRules (known_of a.types a.constants a.insts) a.insts

@@ -47,12 +47,12 @@ fn read_code(
     alloc: Global,
     types: &TypeTable,
     consts: &ConstTable,
-    insts: &[Inst],
+    index: &Index,
 ) -> Result<Code, Fail<Refusal>>
-    ensures { Answers (code_of (types.now, consts.now) insts.now) result }
+    ensures { Answers (code_of (types.now, consts.now) index.now.insts) result }
 {
-    let code = Code::build(alloc, insts)?;
-    check_bodies(alloc, types, consts, insts)?;
+    let code = Code::build(alloc, index.insts())?;
+    check_bodies(alloc, types, consts, index)?;
     Ok(code)
 }
 
@@ -76,7 +76,7 @@ pub fn accept(
     let index = Index::of(alloc, decoded)?;
     check_front(alloc, &index)?;
     let (types, consts) = read_types(alloc, index.insts(), over)?;
-    let code = read_code(alloc, &types, &consts, index.insts())?;
+    let code = read_code(alloc, &types, &consts, &index)?;
     let entry = entry_of(alloc, &types, &consts, &code, index.insts(), name)?;
     let stack_cells = stack_cells(alloc, &types, index.insts(), entry.function)?;
     Ok(Module {

@@ -23,5 +23,5 @@ returns c a is =
       functions = c.functions_are_entered.ensures.first_block a.insts a.flow passes.flow;
       depths = c.functions_are_entered.ensures.depth a.insts a.flow passes.flow;
       nexts = c.runs_go_on.ensures a.insts a.flow words passes.flow;
-      rules = (c.instructions_keep_their_rules.ensures a.types a.constants a.insts).0 passes.bodies;
+      rules = (c.instructions_keep_their_rules.ensures.all a.types a.constants a.insts).0 passes.bodies;
     }

@@ -1,7 +1,0 @@
-use Rattle.std.proofs.Common.{◌≡◌, drop}
-use Rattle.spv_bodies.specs.Composites.{are_members}
-use Rattle.spv_bodies.proofs.setting.Setting.are_members.Given as goal
-
--- the operands so far are of their members' types
-abbrev pub invariant-loop-n : goal.invariant-loop-n
-invariant-loop-n l = are_members l.self (drop l.n l.members) (drop l.n l.operands) ≡ are_members l.self l.members l.operands

@@ -1,0 +1,144 @@
+//! The validation context: what the rules of function bodies ask about.
+ghost use Rattle.std.specs.Prelude.{◌≡◌, option_copied};
+ghost use Rattle.spv_index.specs.Definitions.{defining};
+ghost use Rattle.spv_types.specs.Types.{form_of};
+ghost use Rattle.spv_bodies.specs.Context as spec;
+
+use crate::operands::id_in;
+use spv_base::{Inst, Operand};
+use spv_consts::ConstTable;
+use spv_index::{Index, Table, id_operand};
+use spv_types::facts::is_constant;
+use spv_types::views::{Pointed, is_integer, pointee};
+use spv_types::{Form, TypeTable};
+use std::marker::Model;
+
+/// The types, the values of the constants and the index of a module.
+#[derive(Drop)]
+pub struct Context<'a> {
+    types: &'a TypeTable,
+    consts: &'a ConstTable,
+    index: &'a Index,
+}
+
+impl<'a> Model for Context<'a> {
+    ghost use Rattle.std.specs.Coded.{codes};
+    ghost use Rattle.spv_base.specs.contracts.values.Value as tree;
+    ghost use Rattle.spv_bodies.specs.Context.{Known, known_of};
+
+    ghost Value = { Known };
+
+    ghost coded = { Prim.hlevel (codes, tree.the_row.coded) };
+
+    ghost view = { λ c. known_of c.types.now c.consts.now c.index.now.insts };
+}
+
+impl<'a> Context<'a> {
+    /// The context of a module with these types and constants.
+    pub fn of(types: &'a TypeTable, consts: &'a ConstTable, index: &'a Index) -> Context<'a>
+        ensures { result ≡ spec.known_of types.now consts.now index.now.insts }
+    {
+        Context {
+            types,
+            consts,
+            index,
+        }
+    }
+
+    /// The types of the module.
+    pub fn types(&self) -> &TypeTable
+        ensures { result.now ≡ self.now.types }
+    {
+        self.types
+    }
+
+    /// The values of the constants.
+    pub fn consts(&self) -> &ConstTable
+        ensures { result.now ≡ self.now.consts }
+    {
+        self.consts
+    }
+
+    /// The instruction that defines an id.
+    pub fn defining(&self, id: u32) -> Option<&Inst>
+        ensures { option_copied result ≡ defining self.now.insts id }
+    {
+        self.index.defining(id)
+    }
+
+    /// The imported sets, each with whether it has no meaning at run time.
+    pub fn sets(&self) -> &Table<bool>
+        ensures { result.now ≡ self.now.sets }
+    {
+        self.index.sets()
+    }
+
+    /// The form of a type.
+    pub fn form(&self, ty: u32) -> Option<&Form>
+        ensures { option_copied result ≡ form_of self.now.types ty }
+    {
+        self.types.form(ty)
+    }
+
+    /// The type of an id.
+    pub fn type_of(&self, id: u32) -> Option<u32>
+        ensures { result ≡ spec.type_of self.now id }
+    {
+        self.index.result_type(id)
+    }
+
+    /// The type of an id's constant. An OpUndef is none.
+    pub fn constant_in(&self, id: u32) -> Option<u32>
+        ensures { result ≡ spec.constant_in self.now id }
+    {
+        match self.index.defining(id) {
+            Some(inst) if is_constant(inst.op) => Some(inst.ty),
+            _ => None,
+        }
+    }
+
+    /// The type of the id that an operand is.
+    pub fn type_in(&self, operand: &Operand) -> Option<u32>
+        ensures { result ≡ spec.type_in self.now operand.now }
+    {
+        self.type_of(id_in(operand)?)
+    }
+
+    /// The type of the id at a place among the operands.
+    pub fn type_at(&self, inst: &Inst, place: usize) -> Option<u32>
+        ensures { result ≡ spec.type_at self.now inst.now place }
+    {
+        self.type_of(id_operand(inst, place)?)
+    }
+
+    /// The form of that type.
+    pub fn form_at(&self, inst: &Inst, place: usize) -> Option<&Form>
+        ensures { option_copied result ≡ spec.form_at self.now inst.now place }
+    {
+        match self.type_at(inst, place) {
+            Some(ty) => self.form(ty),
+            None => None,
+        }
+    }
+
+    /// Whether the operand at a place is a scalar integer.
+    pub fn is_integer_at(&self, inst: &Inst, place: usize) -> bool
+        ensures { result ≡ spec.is_integer_at self.now inst.now place }
+    {
+        is_integer(self.form_at(inst, place))
+    }
+
+    /// Where the pointer at a place among the operands leads.
+    pub fn pointee_at(&self, inst: &Inst, place: usize) -> Option<Pointed>
+        ensures { result ≡ spec.pointee_at self.now inst.now place }
+    {
+        pointee(self.form_at(inst, place))
+    }
+
+    /// The type of the constant at a place among the operands.
+    pub fn constant_at(&self, inst: &Inst, place: usize) -> Option<u32>
+        ensures { result ≡ spec.constant_at self.now inst.now place }
+    {
+        self.constant_in(id_operand(inst, place)?)
+    }
+}
