@@ -2,7 +2,8 @@
 use Rattle.std.proofs.Common.{Bool, ◌≡◌, ◌≢◌, ◌↔◌, true, if◌then◌else◌, ◌∷◌, get_or, String, string_bytes, codes, inl, inr, ℕ, ◌≤◌, ◌<◌, List, [], ◌++◌, length, sym, ap, ◌∙◌, subst, Option, Some, None, Result, Err, refl, arith}
 use Rattle.std.specs.Str.{bytes_eq}
 use Rattle.std.specs.declared.alloc.Global.{Global}
-use Rattle.spv_base.specs.Outside.{Told, Reads, CountsFailure}
+use Rattle.std.specs.Io.KnownBytes.{Appends}
+use Rattle.spv_base.specs.Outside.{Told, Asked, Holds, HoldsMore, Asks, Reads, CountsFailure}
 use Rattle.spv_base.specs.declared.causes.FileErr.{FileErr}
 use Rattle.spv_base.specs.declared.causes.FileErr.TheVariants.{Failed, TooLong}
 use Rattle.spv_base.specs.declared.causes.FileErr.TheVariants as error
@@ -11,25 +12,30 @@ use Rattle.spv_app.specs.declared.checking.Report.{Report}
 use Rattle.spv_app.specs.declared.status.Status.{Status}
 use Rattle.spv_app.specs.declared.status.Status.TheVariants.{FileFault, ReadFault, WriteFault, NoMemory}
 use Rattle.spv_app.specs.Command_line.{check_name}
-use Rattle.spv_app.specs.Debug.{SaysLine, binary_limit, status_of_file}
+use Rattle.spv_app.specs.Debug.{SaysLine}
+use Rattle.spv_app.specs.File_status.{status_of_file}
+use Rattle.spv_app.specs.Limits.{binary_limit}
+use Rattle.spv_app.specs.Outside.{Library}
 use Rattle.spv_app.specs.Checking.{Checked, Unread, Read, SaysUnread, checking, check_line, check_status}
 use Rattle.spv_app.proofs.Headlines.{NothingFails, held_now, same_content, not_more, line_whole, not_counted}
 
-module _ (m : List ℕ → Option (List ℕ)) (name : List ℕ) (taken : ℕ) (failed before : List ℕ) (held_new : Option (List ℕ)) (status : Status)
+module _ (m : List ℕ → Option (List ℕ)) (name : List ℕ) (before after : Library) (held_before held_after : Option (List ℕ)) (held : List ℕ) (status : Status)
+    (told : before.told ≡ Some m) (held_is : held_before ≡ Some held)
     (binary : List ℕ) (binary_is : m name ≡ Some binary) (few : length binary ≤ binary_limit) (ok : NothingFails status) where
   abbrev Due : Result Report Refusal → Type 0
-  Due due = (held_new ≡ Some (before ++ check_line due)) × (status ≡ check_status due)
+  Due due = (held_after ≡ Some (held ++ check_line due)) × (status ≡ check_status due)
 
-  due_of : Checked (Some m) name taken failed (Some before) held_new status → Due (checking binary)
+  due_of : Checked name before after held_before held_after status → Due (checking binary)
   due_of (Unread status says kept) =
       elim says [
         | inl fault ↦ absurd (ok.file fault.0)
-        | inr (inl long) ↦ absurd (not_more m name binary binary_limit binary_is few long.2)
-        | inr (inr memory) ↦ absurd (ok.memory memory)
+        | inr (inl long) ↦ absurd (not_more m name binary binary_limit binary_is few (subst (λ t. HoldsMore t name binary_limit) told long.2))
+        | inr (inr memory) ↦ absurd (ok.memory memory.0)
       ]
-  due_of (Read status b put read wrote says) =
+  due_of (Read status b put asks read wrote says) =
       let whole = line_whole (check_status (checking b)) status (check_line (checking b)) put ok says in
-      subst (λ bytes. Due (checking bytes)) (same_content m name b binary read.content binary_is) (held_now before put held_new wrote ∙ ap (λ l. Some (before ++ l)) whole.1, whole.0)
+      let now = held_now held put held_after (subst (λ h. Appends h held_after put) held_is wrote) in
+      subst (λ bytes. Due (checking bytes)) (same_content m name b binary (subst (λ t. Holds t name b) told read.content) binary_is) (now ∙ ap (λ l. Some (held ++ l)) whole.1, whole.0)
 
 pub nothing_fails : (status : Status) (files_old files_new writes_old writes_new : ℕ)
     → (status ≡ FileFault) ↔ (files_old < files_new) → status ≢ ReadFault → (status ≡ WriteFault) ↔ (writes_old < writes_new)
@@ -41,19 +47,14 @@ nothing_fails status files_old files_new writes_old writes_new file read write f
   memory = memory;
 }
 
-pub check_headline : (told : Told) (name read_name : List ℕ) (taken : ℕ) (failed : List ℕ) (held_old held_new : Option (List ℕ)) (status : Status)
-    (m : List ℕ → Option (List ℕ)) (binary before : List ℕ)
-    → read_name ≡ name → Checked told read_name taken failed held_old held_new status → NothingFails status
-    → told ≡ Some m → m name ≡ Some binary → length binary ≤ binary_limit → held_old ≡ Some before
-    → (held_new ≡ Some (before ++ check_line (checking binary))) × (status ≡ check_status (checking binary))
-check_headline told name read_name taken failed held_old held_new status m binary before same_name checked ok told_is binary_is few held_is =
-    due_of m name taken failed before held_new status binary binary_is few ok (
-    subst (λ h. Checked (Some m) name taken failed h held_new status) held_is (
-    subst (λ t. Checked t name taken failed held_old held_new status) told_is (
-    subst (λ n. Checked told n taken failed held_old held_new status) same_name checked
-    )
-    )
-    )
+pub check_headline : (name read_name : List ℕ) (before after : Library) (held_before held_after : Option (List ℕ)) (status : Status)
+    (m : List ℕ → Option (List ℕ)) (binary held : List ℕ)
+    → read_name ≡ name → Checked read_name before after held_before held_after status → NothingFails status
+    → before.told ≡ Some m → m name ≡ Some binary → length binary ≤ binary_limit → held_before ≡ Some held
+    → (held_after ≡ Some (held ++ check_line (checking binary))) × (status ≡ check_status (checking binary))
+check_headline name read_name before after held_before held_after status m binary held same_name checked ok told binary_is few held_is =
+    due_of m name before after held_before held_after held status told held_is binary binary_is few ok
+    (subst (λ n. Checked n before after held_before held_after status) same_name checked)
 
 -- ---- the words
 
@@ -85,11 +86,12 @@ name_lent words command binary name command_text binary_name is_check low high c
 -- ---- the calls of `check`
 
 -- why the module's name wasn't read
-pub says_unread : (told : Told) (name : List ℕ) (taken before now : ℕ) (last_before last_now : List ℕ) (error : FileErr)
-    → Reads told name binary_limit taken (Err error) → CountsFailure name before now last_before last_now (Err error) → SaysUnread told name taken last_now (status_of_file error)
-says_unread told name taken before now last_before last_now Failed reads counts = inl (refl, counts.1)
-says_unread told name taken before now last_before last_now TooLong reads counts = inr (inl (refl, reads.0, reads.1))
-says_unread told name taken before now last_before last_now error.NoMemory reads counts = inr (inr refl)
+pub says_unread : (name : List ℕ) (told : Told) (asked asked_after : Asked) (taken_after : ℕ) (failed failed_after : List ℕ) (faults faults_after : ℕ) (error : FileErr)
+    → Reads told name binary_limit taken_after (Err error) → Asks asked asked_after name (Err error) → CountsFailure name faults faults_after failed failed_after (Err error)
+    → SaysUnread name (record { told = told; asked = asked; taken = 0; failed = failed }) (record { told = told; asked = asked_after; taken = taken_after; failed = failed_after }) (status_of_file error)
+says_unread name told asked asked_after taken_after failed failed_after faults faults_after Failed reads asks counts = inl (refl, counts.1, asks)
+says_unread name told asked asked_after taken_after failed failed_after faults faults_after TooLong reads asks counts = inr (inl (refl, reads.0, reads.1, asks))
+says_unread name told asked asked_after taken_after failed failed_after faults faults_after error.NoMemory reads asks counts = inr (inr (refl, asks))
 
 -- the line that was written is the one that is due
 pub says_due : (binary bytes put : List ℕ) (due : Result Report Refusal) (status : Status) → bytes ≡ binary → checking bytes ≡ due

@@ -3,7 +3,7 @@ use Rattle.std.proofs.Common.{Bool, ◌≡◌, ◌≢◌, ◌↔◌, true, if◌
 use Rattle.std.specs.Io.KnownBytes.{Appends, Consumes}
 use Rattle.std.specs.Str.{bytes_eq}
 use Rattle.std.specs.declared.alloc.Global.{Global}
-use Rattle.spv_base.specs.Outside.{Told, HoldsMore}
+use Rattle.spv_base.specs.Outside.{Holds, HoldsMore}
 use Rattle.spv_session.specs.View.{View}
 use Rattle.spv_app.specs.declared.status.Status.{Status}
 use Rattle.spv_app.specs.declared.status.Status.TheVariants.{Done, Usage, ModuleRefused, SetupRefused, FileFault, ReadFault, WriteFault, NoMemory, InputTooLong, FileTooLong}
@@ -13,7 +13,9 @@ use Rattle.spv_app.specs.Transcript.{transcript}
 use Rattle.spv_app.specs.Command_line.{Names, debug_names}
 use Rattle.spv_app.specs.Command_loop.{Says, with_rest}
 use Rattle.spv_app.specs.Opening.{opening, refusal_line}
-use Rattle.spv_app.specs.Debug.{Debugged, Unopened, Refused, Opened, IsPair, IsTooLong, SaysLine, binary_limit, setup_limit, status_of_refusal, due_text, due_status}
+use Rattle.spv_app.specs.Limits.{binary_limit, setup_limit, input_limit}
+use Rattle.spv_app.specs.Outside.{Library, Streams, Outside}
+use Rattle.spv_app.specs.Debug.{Debugged, Unopened, Refused, Opened, IsPair, IsTooLong, SaysLine, status_of_refusal, due_text, due_status}
 
 -- none of these is the status
 pub record NothingFails (status : Status) : Type 0 where
@@ -41,10 +43,10 @@ not_more m name xs limit p few more =
     let e : length more.0 ≡ length xs = ap length (same_content m name more.0 xs more.1 p) in
     omega arith
 
-not_too_long : (m : List ℕ → Option (List ℕ)) (names : Names) (binary setup : List ℕ) (taken : ℕ) → m names.binary ≡ Some binary → m names.setup ≡ Some setup
-    → length binary ≤ binary_limit → length setup ≤ setup_limit → IsTooLong (Some m) names taken → ⊥
-not_too_long m names binary setup taken p q few_binary few_setup (inl h) = not_more m names.binary binary binary_limit p few_binary h.1
-not_too_long m names binary setup taken p q few_binary few_setup (inr h) = not_more m names.setup setup setup_limit q few_setup h.1
+not_too_long : (m : List ℕ → Option (List ℕ)) (names : Names) (binary setup : List ℕ) (before after : Library) → before.told ≡ Some m → m names.binary ≡ Some binary → m names.setup ≡ Some setup
+    → length binary ≤ binary_limit → length setup ≤ setup_limit → IsTooLong names before after → ⊥
+not_too_long m names binary setup before after told p q few_binary few_setup (inl h) = not_more m names.binary binary binary_limit p few_binary (subst (λ t. HoldsMore t names.binary binary_limit) told h.1)
+not_too_long m names binary setup before after told p q few_binary few_setup (inr h) = not_more m names.setup setup setup_limit q few_setup (subst (λ t. HoldsMore t names.setup setup_limit) told h.1)
 
 -- the line was written whole
 pub line_whole : (due status : Status) (line put : List ℕ) → NothingFails status → SaysLine due line status put → (status ≡ due) × (put ≡ line)
@@ -53,8 +55,8 @@ line_whole due status line put ok (inr (inl h)) = absurd (ok.write h.0)
 line_whole due status line put ok (inr (inr h)) = absurd (ok.memory h.0)
 
 -- the command loop answered all lines
-loop_whole : (view : View) (status : Status) (xs got put : List ℕ) (left : Option (List ℕ)) → NothingFails status → Consumes (Some xs) left got → length xs ≤ 16777216
-    → (status ≡ InputTooLong → length got ≡ 16777217) → Says status view got (with_rest got left) put → (status ≡ Done) × (put ≡ transcript view (lines_of xs))
+loop_whole : (view : View) (status : Status) (xs got put : List ℕ) (left : Option (List ℕ)) → NothingFails status → Consumes (Some xs) left got → length xs ≤ input_limit
+    → (status ≡ InputTooLong → length got ≡ input_limit + 1) → Says status view got (with_rest got left) put → (status ≡ Done) × (put ≡ transcript view (lines_of xs))
 loop_whole view Done xs got put left ok took few long says = (refl, says.0 ∙ ap (λ l. transcript view (lines_of l)) (all_of xs got left took))
 loop_whole view ReadFault xs got put left ok took few long says = absurd (ok.read refl)
 loop_whole view WriteFault xs got put left ok took few long says = absurd (ok.write refl)
@@ -69,30 +71,36 @@ loop_whole view SetupRefused xs got put left ok took few long says = absurd says
 loop_whole view FileFault xs got put left ok took few long says = absurd says
 loop_whole view FileTooLong xs got put left ok took few long says = absurd says
 
-module _ (m : List ℕ → Option (List ℕ)) (names : Names) (taken : ℕ) (failed : List ℕ) (unread : Type 0) (xs before : List ℕ) (left_new held_new : Option (List ℕ)) (status : Status)
+module _ (m : List ℕ → Option (List ℕ)) (names : Names) (before after : Outside) (unread : Type 0) (xs held : List ℕ) (status : Status)
+    (told : before.files.told ≡ Some m) (left_is : before.streams.left ≡ Some xs) (held_is : before.streams.held ≡ Some held)
     (binary setup : List ℕ) (binary_is : m names.binary ≡ Some binary) (setup_is : m names.setup ≡ Some setup)
-    (few_binary : length binary ≤ binary_limit) (few_setup : length setup ≤ setup_limit) (few : length xs ≤ 16777216) (ok : NothingFails status) where
+    (few_binary : length binary ≤ binary_limit) (few_setup : length setup ≤ setup_limit) (few : length xs ≤ input_limit) (ok : NothingFails status) where
   abbrev Due : Result View OpeningRefusal → Type 0
-  Due opened = (held_new ≡ Some (before ++ due_text opened xs)) × (status ≡ due_status opened)
+  Due opened = (after.streams.held ≡ Some (held ++ due_text opened xs)) × (status ≡ due_status opened)
 
   -- the pair that was read is the one that is told
-  same_pair : (binary' setup' : List ℕ) → IsPair (Some m) names binary' setup' → opening binary' setup' ≡ opening binary setup
+  same_pair : (binary' setup' : List ℕ) → IsPair before.files.told names binary' setup' → opening binary' setup' ≡ opening binary setup
   same_pair binary' setup' pair =
-      ap (λ b. opening b setup') (same_content m names.binary binary' binary pair.binary_is binary_is) ∙ ap (opening binary) (same_content m names.setup setup' setup pair.setup_is setup_is)
+      ap (λ b. opening b setup') (same_content m names.binary binary' binary (subst (λ t. Holds t names.binary binary') told pair.binary_is) binary_is)
+      ∙ ap (opening binary) (same_content m names.setup setup' setup (subst (λ t. Holds t names.setup setup') told pair.setup_is) setup_is)
 
-  due_of : Debugged (Some m) names taken failed unread (Some xs) left_new (Some before) held_new status → Due (opening binary setup)
-  due_of (Unopened status says unread kept) =
+  -- what the sink holds when this was written
+  held_with : (put : List ℕ) → Appends before.streams.held after.streams.held put → after.streams.held ≡ Some (held ++ put)
+  held_with put wrote = held_now held put after.streams.held (subst (λ h. Appends h after.streams.held put) held_is wrote)
+
+  due_of : Debugged names before after unread status → Due (opening binary setup)
+  due_of (Unopened status says unread kept steps) =
       elim says [
         | inl fault ↦ absurd (ok.file fault.0)
-        | inr (inl long) ↦ absurd (not_too_long m names binary setup taken binary_is setup_is few_binary few_setup long.1)
-        | inr (inr memory) ↦ absurd (ok.memory memory)
+        | inr (inl long) ↦ absurd (not_too_long m names binary setup before.files after.files told binary_is setup_is few_binary few_setup long.1)
+        | inr (inr memory) ↦ absurd (ok.memory memory.0)
       ]
-  due_of (Refused status b s refusal put pair refused unread wrote says) =
+  due_of (Refused status b s refusal put asks pair refused unread wrote says steps) =
       let whole = line_whole (status_of_refusal refusal) status (refusal_line refusal) put ok says in
-      subst Due (sym refused ∙ same_pair b s pair) (held_now before put held_new wrote ∙ ap (λ l. Some (before ++ l)) whole.1, whole.0)
-  due_of (Opened status b s view pair opened ran) =
-      let whole = loop_whole view status xs ran.got ran.put left_new ok ran.taken few ran.too_long.0 ran.says in
-      subst Due (sym opened ∙ same_pair b s pair) (held_now before ran.put held_new ran.written ∙ ap (λ l. Some (before ++ l)) whole.1, whole.0)
+      subst Due (sym refused ∙ same_pair b s pair) (held_with put wrote ∙ ap (λ l. Some (held ++ l)) whole.1, whole.0)
+  due_of (Opened status b s view asks pair opened ran) =
+      let whole = loop_whole view status xs ran.got ran.put after.streams.left ok (subst (λ l. Consumes l after.streams.left ran.got) left_is ran.taken) few ran.too_long.0 ran.says in
+      subst Due (sym opened ∙ same_pair b s pair) (held_with ran.put ran.written ∙ ap (λ l. Some (held ++ l)) whole.1, whole.0)
 
 -- a status that tells faults isn't it where none was counted
 pub not_counted : (status fault : Status) (old new : ℕ) → (status ≡ fault) ↔ (old < new) → new ≡ old → status ≢ fault
@@ -110,23 +118,15 @@ nothing_fails status files_old files_new reads_old reads_new writes_old writes_n
   memory = memory;
 }
 
-pub headline : (told : Told) (names read_names : Names) (taken : ℕ) (failed : List ℕ) (unread : Type 0) (left_old left_new held_old held_new : Option (List ℕ)) (status : Status)
-    (m : List ℕ → Option (List ℕ)) (binary setup xs before : List ℕ)
-    → read_names ≡ names → Debugged told read_names taken failed unread left_old left_new held_old held_new status → NothingFails status
-    → told ≡ Some m → m names.binary ≡ Some binary → m names.setup ≡ Some setup → length binary ≤ binary_limit → length setup ≤ setup_limit
-    → left_old ≡ Some xs → length xs ≤ 16777216 → held_old ≡ Some before
-    → (held_new ≡ Some (before ++ due_text (opening binary setup) xs)) × (status ≡ due_status (opening binary setup))
-headline told names read_names taken failed unread left_old left_new held_old held_new status m binary setup xs before
-    same_names debugged ok told_is binary_is setup_is few_binary few_setup left_is few held_is =
-    due_of m names taken failed unread xs before left_new held_new status binary setup binary_is setup_is few_binary few_setup few ok (
-    subst (λ h. Debugged (Some m) names taken failed unread (Some xs) left_new h held_new status) held_is (
-    subst (λ l. Debugged (Some m) names taken failed unread l left_new held_old held_new status) left_is (
-    subst (λ t. Debugged t names taken failed unread left_old left_new held_old held_new status) told_is (
-    subst (λ n. Debugged told n taken failed unread left_old left_new held_old held_new status) same_names debugged
-    )
-    )
-    )
-    )
+pub headline : (names read_names : Names) (before after : Outside) (unread : Type 0) (status : Status)
+    (m : List ℕ → Option (List ℕ)) (binary setup xs held : List ℕ)
+    → read_names ≡ names → Debugged read_names before after unread status → NothingFails status
+    → before.files.told ≡ Some m → m names.binary ≡ Some binary → m names.setup ≡ Some setup → length binary ≤ binary_limit → length setup ≤ setup_limit
+    → before.streams.left ≡ Some xs → length xs ≤ input_limit → before.streams.held ≡ Some held
+    → (after.streams.held ≡ Some (held ++ due_text (opening binary setup) xs)) × (status ≡ due_status (opening binary setup))
+headline names read_names before after unread status m binary setup xs held same_names debugged ok told binary_is setup_is few_binary few_setup left_is few held_is =
+    due_of m names before after unread xs held status told left_is held_is binary setup binary_is setup_is few_binary few_setup few ok
+    (subst (λ n. Debugged n before after unread status) same_names debugged)
 
 -- ---- the words
 

@@ -10,7 +10,7 @@ use Rattle.spv_app.specs.declared.status.Stop.TheVariants.{WriteFault, NoMemory}
 use Rattle.spv_session.specs.View.{View}
 use Rattle.spv_base.specs.Prefix.{IsPrefixOf}
 use Rattle.spv_app.specs.Transcript.{transcript, view_after, has_quit}
-use Rattle.spv_app.specs.Command_loop.{next_of, StopSays}
+use Rattle.spv_app.specs.Stops.{next_of, StopSays}
 use Rattle.spv_app.proofs.Transcripts.{transcript_goes, view_after-append, has_quit-append, transcript_front, prefix_trans, prefix_under, proper_under}
 
 -- what a `?` that hands on an error of its own type returns

@@ -9,23 +9,28 @@ use Rattle.spv_app.specs.declared.status.Status.TheVariants.{Done, Usage, Module
 use Rattle.spv_session.specs.View.{View}
 use Rattle.spv_base.specs.Prefix.{IsPrefixOf, IsProperPrefixOf}
 use Rattle.spv_app.specs.Lines.{complete_from, rest_from, complete_lines, rest_of, lines_of, last_line}
-use Rattle.spv_app.specs.Transcript.{transcript, view_after, has_quit}
-use Rattle.spv_app.specs.Command_loop.{Says, AnswersInTime, with_rest, Ran, StopSays, status_of}
-use Rattle.spv_app.proofs.Transcripts.{transcript_goes, transcript_quits, has_quit-append, transcript_front, prefix_refl, prefix_trans, prefix_under, prefix_nil, prefix_of_proper, proper_under}
+use Rattle.spv_app.specs.Limits.{input_limit, piece_limit}
+use Rattle.spv_app.specs.Outside.{Streams}
+use Rattle.spv_app.specs.Transcript.{transcript, transcript_cost, view_after, has_quit}
+use Rattle.spv_app.specs.Command_loop.{Says, AnswersInTime, with_rest, Ran}
+use Rattle.spv_app.specs.Stops.{StopSays, status_of}
+use Rattle.spv_app.proofs.Transcripts.{transcript_goes, transcript_quits, has_quit-append, transcript_front, prefix_refl, prefix_trans, prefix_under, prefix_nil, prefix_of_proper, proper_under, cost_goes, cost_front}
 use Rattle.spv_app.proofs.Pieces.{view_more, quit_more, stop_more}
 use Rattle.spv_app.proofs.Cuts.{complete_from-append, rest_from-append, lines_from, lines_from-append}
 
 -- Between two reads: got was taken, put was written, all complete lines were answered, none of them is `quit`, and `line` has come of the next.
-pub record Stands (start : View) (left_old left_now held_old held_now : Option (List ℕ)) (view : View) (line : List ℕ) (count : ℕ) : Type 0 where
+pub record Stands (start : View) (old now : Streams) (view : View) (line : List ℕ) (count : ℕ) : Type 0 where
   pub got : List ℕ
   pub put : List ℕ
-  pub taken : Consumes left_old left_now got
-  pub written : Appends held_old held_now put
+  pub taken : Consumes old.left now.left got
+  pub written : Appends old.held now.held put
   pub counted : length got ≡ count
   pub goes : has_quit (complete_lines got) ≡ false
   pub due : put ≡ transcript start (complete_lines got)
   pub at : view ≡ view_after start (complete_lines got)
   pub rest : line ≡ rest_of got
+  pub risen : old.steps ≤ now.steps
+  pub cost : now.steps ≤ old.steps + transcript_cost start (complete_lines got)
 
 -- what is due from there on, of these bytes
 abbrev pub due_from : View → List ℕ → List ℕ → List ℕ
@@ -58,13 +63,13 @@ or_false : (a b : Bool) → (a || b) ≡ false → a ≡ false
 or_false true b h = absurd (cc)
 or_false false b h = refl
 
-module _ (start : View) (left_old left_now left_new held_old held_now held_new : Option (List ℕ)) (view : View) (line : List ℕ) (count : ℕ)
-    (s : Stands start left_old left_now held_old held_now view line count) (piece x : List ℕ) where
+module _ (start : View) (old now new : Streams) (view : View) (line : List ℕ) (count : ℕ)
+    (s : Stands start old now view line count) (piece x : List ℕ) where
   abbrev more : List ℕ
-  more = unwrap_or left_new []
+  more = unwrap_or new.left []
 
   -- what is due of all is what was written and what is due from here on
-  due_all : transcript start (lines_of (with_rest (s.got ++ piece) left_new)) ≡ s.put ++ due_from view line (piece ++ more)
+  due_all : transcript start (lines_of (with_rest (s.got ++ piece) new.left)) ≡ s.put ++ due_from view line (piece ++ more)
   due_all =
       ap (λ l. transcript start (lines_of l)) (append_assoc s.got piece more)
       ∙ ap (transcript start) (lines_from-append [] s.got (piece ++ more))
@@ -74,7 +79,7 @@ module _ (start : View) (left_old left_now left_new held_old held_now held_new :
       ∙ ap (λ l. s.put ++ due_from view l (piece ++ more)) (sym s.rest)
 
   -- the lines that ended before the last piece were answered
-  in_time : length piece ≤ 4096 → AnswersInTime start (s.got ++ piece) (s.put ++ x)
+  in_time : length piece ≤ piece_limit → AnswersInTime start (s.got ++ piece) (s.put ++ x)
   in_time h front rest e long =
       let f = front_of_front front rest s.got piece (sym e) (omega arith) in
       let cut : complete_lines s.got ≡ complete_lines front ++ complete_from (rest_of front) f.0 = ap complete_lines f.1 ∙ complete_from-append [] front f.0 in (
@@ -94,7 +99,7 @@ module _ (start : View) (left_old left_now left_new held_old held_now held_new :
   begins FileFault h = absurd h
   begins FileTooLong h = absurd h
 
-  says : (status : Status) → SaysLast status view line piece more x → Says status start (s.got ++ piece) (with_rest (s.got ++ piece) left_new) (s.put ++ x)
+  says : (status : Status) → SaysLast status view line piece more x → Says status start (s.got ++ piece) (with_rest (s.got ++ piece) new.left) (s.put ++ x)
   says Done h = (
     ap (λ l. s.put ++ l) h.0 ∙ sym due_all,
     elim h.1 [
@@ -115,15 +120,24 @@ module _ (start : View) (left_old left_now left_new held_old held_now held_new :
   says FileFault h = h
   says FileTooLong h = h
 
+  -- the steps of all lines so far, with those of the last piece
+  cost_all : transcript_cost start (lines_of (s.got ++ piece)) ≡ transcript_cost start (complete_lines s.got) + transcript_cost view (lines_from line piece)
+  cost_all =
+      ap (transcript_cost start) (lines_from-append [] s.got piece)
+      ∙ cost_goes start (complete_lines s.got) (lines_from (rest_of s.got) piece) s.goes
+      ∙ ap (λ v. transcript_cost start (complete_lines s.got) + transcript_cost v (lines_from (rest_of s.got) piece)) (sym s.at)
+      ∙ ap (λ l. transcript_cost start (complete_lines s.got) + transcript_cost view (lines_from l piece)) (sym s.rest)
+
   -- an exit with a last piece
-  pub ran : (status : Status) → Consumes left_now left_new piece → Appends held_now held_new x → length piece ≤ 4096 → SaysLast status view line piece more x
-      → (status ≡ InputTooLong) ↔ (count + length piece ≡ 16777217) → count + length piece ≤ 16777217
-      → Ran start left_old left_new held_old held_new status
-  ran status took wrote short last long few = record {
+  pub ran : (status : Status) → Consumes now.left new.left piece → Appends now.held new.held x → length piece ≤ piece_limit → SaysLast status view line piece more x
+      → (status ≡ InputTooLong) ↔ (count + length piece ≡ input_limit + 1) → count + length piece ≤ input_limit + 1
+      → now.steps ≤ new.steps → new.steps ≤ now.steps + transcript_cost view (lines_from line piece)
+      → Ran start old new status
+  ran status took wrote short last long few risen cost = record {
     got = s.got ++ piece;
     put = s.put ++ x;
-    taken = Consumes-trans left_old left_now left_new s.got piece s.taken took;
-    written = Appends-trans held_old held_now held_new s.put x s.written wrote;
+    taken = Consumes-trans old.left now.left new.left s.got piece s.taken took;
+    written = Appends-trans old.held now.held new.held s.put x s.written wrote;
     begins = subst (IsPrefixOf (s.put ++ x)) (sym due_all) (prefix_under s.put x _ (begins status last));
     says = says status last;
     in_time = in_time short;
@@ -131,33 +145,42 @@ module _ (start : View) (left_old left_now left_new held_old held_now held_new :
         let e : length (s.got ++ piece) ≡ count + length piece = length-append s.got piece ∙ ap (λ n. n + length piece) s.counted in
         (λ h. e ∙ long.0 h, λ h. long.1 (sym e ∙ h));
     at_most = omega (arith, length-append s.got piece, s.counted);
+    counted = omega (arith, s.risen);
+    cost = let all = cost_all in omega (arith, s.cost);
   }
 
 -- ---- one more piece that was answered
 
-pub stands_more : (start : View) (left_old left_now left_new held_old held_now held_new : Option (List ℕ)) (view view' : View) (line line' : List ℕ) (count : ℕ) (piece : List ℕ)
-    → Stands start left_old left_now held_old held_now view line count → Consumes left_now left_new piece → Appends held_now held_new (transcript view (complete_from line piece))
+pub stands_more : (start : View) (old now new : Streams) (view view' : View) (line line' : List ℕ) (count : ℕ) (piece : List ℕ)
+    → Stands start old now view line count → Consumes now.left new.left piece → Appends now.held new.held (transcript view (complete_from line piece))
     → has_quit (complete_from line piece) ≡ false → view' ≡ view_after view (complete_from line piece) → line' ≡ rest_from line piece
-    → Stands start left_old left_new held_old held_new view' line' (count + length piece)
-stands_more start left_old left_now left_new held_old held_now held_new view view' line line' count piece s took wrote go at rest =
+    → now.steps ≤ new.steps → new.steps ≤ now.steps + transcript_cost view (complete_from line piece)
+    → Stands start old new view' line' (count + length piece)
+stands_more start old now new view view' line line' count piece s took wrote go at rest risen cost =
     let lines : complete_lines (s.got ++ piece) ≡ complete_lines s.got ++ complete_from line piece =
     complete_from-append [] s.got piece ∙ ap (λ l. complete_lines s.got ++ complete_from l piece) (sym s.rest) in
     record {
       got = s.got ++ piece;
       put = s.put ++ transcript view (complete_from line piece);
-      taken = Consumes-trans left_old left_now left_new s.got piece s.taken took;
-      written = Appends-trans held_old held_now held_new s.put _ s.written wrote;
+      taken = Consumes-trans old.left now.left new.left s.got piece s.taken took;
+      written = Appends-trans old.held now.held new.held s.put _ s.written wrote;
       counted = length-append s.got piece ∙ ap (λ n. n + length piece) s.counted;
       goes = ap has_quit lines ∙ quit_more (complete_lines s.got) (complete_from line piece) s.goes ∙ go;
       due = ap (λ l. l ++ transcript view (complete_from line piece)) s.due ∙ ap (λ v. transcript start (complete_lines s.got) ++ transcript v (complete_from line piece)) s.at
           ∙ sym (transcript_goes start (complete_lines s.got) (complete_from line piece) s.goes) ∙ ap (transcript start) (sym lines);
       at = at ∙ ap (λ v. view_after v (complete_from line piece)) s.at ∙ sym (view_more start (complete_lines s.got) (complete_from line piece) s.goes) ∙ ap (view_after start) (sym lines);
       rest = rest ∙ ap (λ l. rest_from l piece) s.rest ∙ sym (rest_from-append [] s.got piece);
+      risen = omega (arith, s.risen);
+      cost =
+          let all : transcript_cost start (complete_lines (s.got ++ piece)) ≡ transcript_cost start (complete_lines s.got) + transcript_cost view (complete_from line piece) =
+          ap (transcript_cost start) lines ∙ cost_goes start (complete_lines s.got) (complete_from line piece) s.goes
+          ∙ ap (λ v. transcript_cost start (complete_lines s.got) + transcript_cost v (complete_from line piece)) (sym s.at) in
+          omega (arith, s.cost);
     }
 
 -- ---- the exits
 
-within : (status : Status) (n : ℕ) → (status ≡ InputTooLong → ⊥) → n ≤ 16777216 → (status ≡ InputTooLong) ↔ (n ≡ 16777217)
+within : (status : Status) (n : ℕ) → (status ≡ InputTooLong → ⊥) → n ≤ input_limit → (status ≡ InputTooLong) ↔ (n ≡ input_limit + 1)
 within status n other few = (λ h. absurd (other h), λ h. absurd (omega arith))
 
 at_end_is_nil : (o : Option (List ℕ)) → IsAtEnd o → unwrap_or o [] ≡ []
@@ -187,47 +210,61 @@ piece_front view line piece more =
     subst (IsPrefixOf (transcript view (complete_from line piece))) (ap (transcript view) (sym (lines_from-append line piece more)))
     (transcript_front view (complete_from line piece) (lines_from (rest_from line piece) more))
 
-module _ (start : View) (left_old left_now left_new held_old held_now held_new : Option (List ℕ)) (view : View) (line : List ℕ) (count : ℕ)
-    (s : Stands start left_old left_now held_old held_now view line count) where
-  pub ran_read_fault : Keeps left_now left_new → count ≤ 16777216 → Ran start left_old left_new held_old held_now ReadFault
-  ran_read_fault kept few =
-      ran start left_old left_now left_new held_old held_now held_now view line count s [] [] ReadFault (takes_none left_now left_new kept) (writes_none held_now) (omega arith) (refl, refl)
-      (within ReadFault (count + 0) (λ h. cc) (omega arith)) (omega arith)
+-- the lines that end in a piece take no more than all of it
+piece_cost : (view : View) (line piece : List ℕ) → transcript_cost view (complete_from line piece) ≤ transcript_cost view (lines_from line piece)
+piece_cost view line piece = cost_front view (complete_from line piece) (last_line (rest_from line piece))
 
-  -- at the end of the input
-  module _ (last : List ℕ) (same : last ≡ line) (piece : List ℕ) (none : piece ≡ []) (took : Consumes left_now left_new piece) (end : IsAtEnd left_new) (few : count ≤ 16777216) where
-    ended_due : transcript view (last_line last) ≡ due_from view line ([] ++ unwrap_or left_new [])
-    ended_due = ap (λ l. transcript view (last_line l)) same ∙ ap (due_from view line) (sym (at_end_is_nil left_new end))
+module _ (start : View) (old now new : Streams) (view : View) (line : List ℕ) (count : ℕ) (s : Stands start old now view line count) where
+  -- the streams as they are, but that the input was asked
+  module _ (same_held : new.held ≡ now.held) (same_steps : new.steps ≡ now.steps) where
+    pub ran_read_fault : Keeps now.left new.left → count ≤ input_limit → Ran start old new ReadFault
+    ran_read_fault kept few =
+        ran start old now new view line count s [] [] ReadFault (takes_none now.left new.left kept) (subst (λ h. Appends now.held h []) (sym same_held) (writes_none now.held)) (omega arith) (refl, refl)
+        (within ReadFault (count + 0) (λ h. cc) (omega arith)) (omega arith) (omega arith) (omega arith)
 
-    pub ran_end : Appends held_now held_new (transcript view (last_line last)) → Ran start left_old left_new held_old held_new Done
-    ran_end wrote =
-        ran start left_old left_now left_new held_old held_now held_new view line count s [] (transcript view (last_line last)) Done (subst (Consumes left_now left_new) none took) wrote (omega arith)
-        (ended_due, inl (at_end_is_nil left_new end)) (within Done (count + 0) (λ h. cc) (omega arith)) (omega arith)
+    pub ran_too_long : (piece : List ℕ) (n : ℕ) → length piece ≡ n → n ≤ piece_limit → Consumes now.left new.left piece → count + n ≡ input_limit + 1 → Ran start old new InputTooLong
+    ran_too_long piece n is short took long =
+        ran start old now new view line count s piece [] InputTooLong took (subst (λ h. Appends now.held h []) (sym same_held) (writes_none now.held)) (omega arith) refl
+        (λ _. omega arith, λ _. refl) (omega arith) (omega arith) (omega arith)
 
-    pub ran_end_stop : (stop : Stop) → (put : List ℕ) × Appends held_now held_new put × StopSays stop put (transcript view (last_line last)) → Ran start left_old left_new held_old held_new (status_of stop)
-    ran_end_stop stop w =
-        ran start left_old left_now left_new held_old held_now held_new view line count s [] w.0 (status_of stop) (subst (Consumes left_now left_new) none took) w.1 (omega arith)
-        (stop_says stop view line [] (unwrap_or left_new []) w.0 (subst (StopSays stop w.0) ended_due w.2)) (within (status_of stop) (count + 0) (stop_is_short stop) (omega arith)) (omega arith)
+  module _ (risen : now.steps ≤ new.steps) where
+    -- at the end of the input
+    module _ (last : List ℕ) (same : last ≡ line) (piece : List ℕ) (none : piece ≡ []) (took : Consumes now.left new.left piece) (end : IsAtEnd new.left) (few : count ≤ input_limit)
+        (cost : new.steps ≤ now.steps + transcript_cost view (last_line last)) where
+      ended_due : transcript view (last_line last) ≡ due_from view line ([] ++ unwrap_or new.left [])
+      ended_due = ap (λ l. transcript view (last_line l)) same ∙ ap (due_from view line) (sym (at_end_is_nil new.left end))
 
-  -- after a piece
-  module _ (piece : List ℕ) (n : ℕ) (is : length piece ≡ n) (short : n ≤ 4096) (took : Consumes left_now left_new piece) where
-    pub ran_too_long : count + n ≡ 16777217 → Ran start left_old left_new held_old held_now InputTooLong
-    ran_too_long long =
-        ran start left_old left_now left_new held_old held_now held_now view line count s piece [] InputTooLong took (writes_none held_now) (omega arith) refl
-        (λ _. omega arith, λ _. refl) (omega arith)
+      ended_cost : new.steps ≤ now.steps + transcript_cost view (lines_from line [])
+      ended_cost = subst (λ l. new.steps ≤ now.steps + transcript_cost view (last_line l)) same cost
 
-    pub ran_quit : count + n ≤ 16777216 → Appends held_now held_new (transcript view (complete_from line piece)) → has_quit (complete_from line piece) ≡ true → Ran start left_old left_new held_old held_new Done
-    ran_quit few wrote quit =
-        ran start left_old left_now left_new held_old held_now held_new view line count s piece (transcript view (complete_from line piece)) Done took wrote (omega arith) (
-          sym (transcript_quits view (complete_from line piece) (lines_from (rest_from line piece) (unwrap_or left_new [])) quit)
-              ∙ ap (transcript view) (sym (lines_from-append line piece (unwrap_or left_new []))),
-          inr quit,
-        )
-        (within Done (count + length piece) (λ h. cc) (omega arith)) (omega arith)
+      pub ran_end : Appends now.held new.held (transcript view (last_line last)) → Ran start old new Done
+      ran_end wrote =
+          ran start old now new view line count s [] (transcript view (last_line last)) Done (subst (Consumes now.left new.left) none took) wrote (omega arith)
+          (ended_due, inl (at_end_is_nil new.left end)) (within Done (count + 0) (λ h. cc) (omega arith)) (omega arith) risen ended_cost
 
-    pub ran_stop : count + n ≤ 16777216 → (stop : Stop) → (put : List ℕ) × Appends held_now held_new put × StopSays stop put (transcript view (complete_from line piece))
-        → Ran start left_old left_new held_old held_new (status_of stop)
-    ran_stop few stop w =
-        ran start left_old left_now left_new held_old held_now held_new view line count s piece w.0 (status_of stop) took w.1 (omega arith)
-        (stop_says stop view line piece (unwrap_or left_new []) w.0 (stop_more stop w.0 _ _ w.2 (piece_front view line piece (unwrap_or left_new []))))
-        (within (status_of stop) (count + length piece) (stop_is_short stop) (omega arith)) (omega arith)
+      pub ran_end_stop : (stop : Stop) → (put : List ℕ) × Appends now.held new.held put × StopSays stop put (transcript view (last_line last)) → Ran start old new (status_of stop)
+      ran_end_stop stop w =
+          ran start old now new view line count s [] w.0 (status_of stop) (subst (Consumes now.left new.left) none took) w.1 (omega arith)
+          (stop_says stop view line [] (unwrap_or new.left []) w.0 (subst (StopSays stop w.0) ended_due w.2)) (within (status_of stop) (count + 0) (stop_is_short stop) (omega arith)) (omega arith)
+          risen ended_cost
+
+    -- after a piece
+    module _ (piece : List ℕ) (n : ℕ) (is : length piece ≡ n) (short : n ≤ piece_limit) (took : Consumes now.left new.left piece) (few : count + n ≤ input_limit)
+        (cost : new.steps ≤ now.steps + transcript_cost view (complete_from line piece)) where
+      within_all : new.steps ≤ now.steps + transcript_cost view (lines_from line piece)
+      within_all = let front = piece_cost view line piece in omega arith
+
+      pub ran_quit : Appends now.held new.held (transcript view (complete_from line piece)) → has_quit (complete_from line piece) ≡ true → Ran start old new Done
+      ran_quit wrote quit =
+          ran start old now new view line count s piece (transcript view (complete_from line piece)) Done took wrote (omega arith) (
+            sym (transcript_quits view (complete_from line piece) (lines_from (rest_from line piece) (unwrap_or new.left [])) quit)
+                ∙ ap (transcript view) (sym (lines_from-append line piece (unwrap_or new.left []))),
+            inr quit,
+          )
+          (within Done (count + length piece) (λ h. cc) (omega arith)) (omega arith) risen within_all
+
+      pub ran_stop : (stop : Stop) → (put : List ℕ) × Appends now.held new.held put × StopSays stop put (transcript view (complete_from line piece)) → Ran start old new (status_of stop)
+      ran_stop stop w =
+          ran start old now new view line count s piece w.0 (status_of stop) took w.1 (omega arith)
+          (stop_says stop view line piece (unwrap_or new.left []) w.0 (stop_more stop w.0 _ _ w.2 (piece_front view line piece (unwrap_or new.left []))))
+          (within (status_of stop) (count + length piece) (stop_is_short stop) (omega arith)) (omega arith) risen within_all

@@ -1,7 +1,7 @@
 -- What `check` tells of a module, and what a call of it may have written when it ends with a status.
-use Rattle.std.specs.Prelude.{◌≡◌, ◌⊎◌, ℕ, ◌≤◌, ◌<◌, List, ◌++◌, length, codes, decimal, Option, Result, Ok, Err}
+use Rattle.std.specs.Prelude.{◌≡◌, ◌⊎◌, ℕ, ◌≤◌, ◌<◌, List, [], ◌∷◌, ◌++◌, length, codes, decimal, Option, Result, Ok, Err}
 use Rattle.std.specs.Io.KnownBytes.{Appends, Keeps}
-use Rattle.spv_base.specs.Outside.{Told, Holds, HoldsMore}
+use Rattle.spv_base.specs.Outside.{Told, AsksFor, Holds, HoldsMore}
 use Rattle.spv_base.specs.Answers.{after}
 use Rattle.spv_base.specs.declared.causes.Refusal.{Refusal}
 use Rattle.spv_words.specs.Words.{words_of}
@@ -11,7 +11,9 @@ use Rattle.spv_app.specs.declared.status.Status.{Status}
 use Rattle.spv_app.specs.declared.status.Status.TheVariants.{Done, ModuleRefused, FileFault, NoMemory, FileTooLong}
 use Rattle.spv_app.specs.Acceptance.{accepted_of}
 use Rattle.spv_app.specs.Opening.{refusal_line}
-use Rattle.spv_app.specs.Debug.{SaysLine, binary_limit}
+use Rattle.spv_app.specs.Debug.{SaysLine}
+use Rattle.spv_app.specs.Limits.{binary_limit}
+use Rattle.spv_app.specs.Outside.{Library}
 
 -- how many words and instructions a module has that is accepted, or why it is refused
 unfoldable pub checking : List ℕ → Result Report Refusal
@@ -42,17 +44,22 @@ pub record IsModule (told : Told) (name binary : List ℕ) : Type 0 where
   pub content : Holds told name binary
   pub fits : length binary ≤ binary_limit
 
--- why no module was read, or none was checked though no rule is broken
-abbrev pub SaysUnread : Told → (name : List ℕ) (taken : ℕ) (failed : List ℕ) → Status → Type 0
-SaysUnread told name taken failed status =
-    ((status ≡ FileFault) × (failed ≡ name)) ⊎ (((status ≡ FileTooLong) × (binary_limit < taken) × HoldsMore told name binary_limit) ⊎ (status ≡ NoMemory))
+-- The module was asked for once, and nothing else was.
+abbrev pub AsksForName : List ℕ → Library → Library → Type 0
+AsksForName name before after = AsksFor before.asked after.asked (name ∷ [])
 
--- A run of `check`, by what the files are, how many bytes their last call took, which name failed last, and by what the output
--- holds before and after the call.
-pub data Checked (told : Told) (name : List ℕ) (taken : ℕ) (failed : List ℕ) (held_old held_new : Option (List ℕ)) : Status → Type 0 where
+-- why no module was read, or none was checked though no rule is broken
+abbrev pub SaysUnread : (name : List ℕ) → Library → Library → Status → Type 0
+SaysUnread name before after status =
+    ((status ≡ FileFault) × (after.failed ≡ name) × AsksForName name before after)
+    ⊎ (((status ≡ FileTooLong) × (binary_limit < after.taken) × HoldsMore before.told name binary_limit × AsksForName name before after)
+    ⊎ ((status ≡ NoMemory) × (AsksFor before.asked after.asked [] ⊎ AsksForName name before after)))
+
+-- A run of `check`, by what the outside tells before and after it.
+pub data Checked (name : List ℕ) (before after : Library) (held_before held_after : Option (List ℕ)) : Status → Type 0 where
   -- no module is read, and none is refused: nothing is written
-  Unread : (status : Status) → SaysUnread told name taken failed status → Keeps held_old held_new → Checked told name taken failed held_old held_new status
+  Unread : (status : Status) → SaysUnread name before after status → Keeps held_before held_after → Checked name before after held_before held_after status
   -- the module is read: the line is due that tells whether it is accepted
-  Read : (status : Status) (binary put : List ℕ) → IsModule told name binary → Appends held_old held_new put
+  Read : (status : Status) (binary put : List ℕ) → AsksForName name before after → IsModule before.told name binary → Appends held_before held_after put
       → SaysLine (check_status (checking binary)) (check_line (checking binary)) status put
-      → Checked told name taken failed held_old held_new status
+      → Checked name before after held_before held_after status

@@ -1,16 +1,16 @@
 -- What a call of the program may have taken and written when it ends with a status.
-use Rattle.std.specs.Prelude.{◌≡◌, ◌⊎◌, ℕ, ◌≤◌, ◌<◌, List, [], length, Option, Some, None, Result, Ok, Err}
+use Rattle.std.specs.Prelude.{◌≡◌, ◌⊎◌, ℕ, ◌≤◌, ◌<◌, List, [], ◌∷◌, length, Option, Some, None, Result, Ok, Err}
 use Rattle.std.specs.Io.KnownBytes.{Appends, Keeps}
 use Rattle.spv_base.specs.Prefix.{IsProperPrefixOf}
-use Rattle.spv_base.specs.Outside.{Told, Holds, HoldsMore}
-use Rattle.spv_base.specs.declared.causes.FileErr.{FileErr}
-use Rattle.spv_base.specs.declared.causes.FileErr.TheVariants as error
+use Rattle.spv_base.specs.Outside.{Told, Asked, AsksFor, Holds, HoldsMore}
 use Rattle.spv_session.specs.View.{View}
 use Rattle.spv_app.specs.declared.status.Status.{Status}
 use Rattle.spv_app.specs.declared.status.Status.TheVariants.{Done, ModuleRefused, SetupRefused, FileFault, WriteFault, NoMemory, FileTooLong}
 use Rattle.spv_app.specs.declared.opening.OpeningRefusal.{OpeningRefusal}
 use Rattle.spv_app.specs.declared.opening.OpeningRefusal.TheVariants.{Module, Setup}
+use Rattle.spv_app.specs.Limits.{binary_limit, setup_limit}
 use Rattle.spv_app.specs.Lines.{lines_of}
+use Rattle.spv_app.specs.Outside.{Library, Outside}
 use Rattle.spv_app.specs.Transcript.{transcript}
 use Rattle.spv_app.specs.Command_line.{Names}
 use Rattle.spv_app.specs.Command_loop.{Ran}
@@ -28,12 +28,6 @@ status_of_refusal (Setup refusal) = SetupRefused
 
 -- ---- the pair of files
 
-abbrev pub binary_limit : ℕ
-binary_limit = 4194304
-
-abbrev pub setup_limit : ℕ
-setup_limit = 67108864
-
 -- the pair of files that was read
 pub record IsPair (told : Told) (names : Names) (binary setup : List ℕ) : Type 0 where
   pub binary_is : Holds told names.binary binary
@@ -41,51 +35,61 @@ pub record IsPair (told : Told) (names : Names) (binary setup : List ℕ) : Type
   pub binary_fits : length binary ≤ binary_limit
   pub setup_fits : length setup ≤ setup_limit
 
+-- The module was asked for once, and nothing else was.
+abbrev pub AsksForModule : Names → Library → Library → Type 0
+AsksForModule names before after = AsksFor before.asked after.asked (names.binary ∷ [])
+
+-- The module was asked for once, and then the setup once, and nothing else was.
+abbrev pub AsksForBoth : Names → Library → Library → Type 0
+AsksForBoth names before after = AsksFor before.asked after.asked (names.binary ∷ (names.setup ∷ []))
+
 -- the name was read: it has a content of at most so many bytes
 abbrev pub WasRead : Told → List ℕ → (limit : ℕ) → Type 0
 WasRead told name limit = (bytes : List ℕ) × Holds told name bytes × (length bytes ≤ limit)
 
 -- The file that failed last is the module's, or, where that was read, the setup's.
-abbrev pub HasFailed : Told → Names → (failed : List ℕ) → Type 0
-HasFailed told names failed = (failed ≡ names.binary) ⊎ ((failed ≡ names.setup) × WasRead told names.binary binary_limit)
+abbrev pub HasFailed : Names → Library → Library → Type 0
+HasFailed names before after =
+    ((after.failed ≡ names.binary) × AsksForModule names before after)
+    ⊎ ((after.failed ≡ names.setup) × WasRead before.told names.binary binary_limit × AsksForBoth names before after)
 
 -- The last reading took more bytes than the module may have, or, where that was read, the setup; and it has more where that is told.
-abbrev pub IsTooLong : Told → Names → (taken : ℕ) → Type 0
-IsTooLong told names taken =
-    ((binary_limit < taken) × HoldsMore told names.binary binary_limit)
-    ⊎ ((setup_limit < taken) × HoldsMore told names.setup setup_limit × WasRead told names.binary binary_limit)
+abbrev pub IsTooLong : Names → Library → Library → Type 0
+IsTooLong names before after =
+    ((binary_limit < after.taken) × HoldsMore before.told names.binary binary_limit × AsksForModule names before after)
+    ⊎ ((setup_limit < after.taken) × HoldsMore before.told names.setup setup_limit × WasRead before.told names.binary binary_limit × AsksForBoth names before after)
+
+-- Where memory ran out, no more was asked for.
+abbrev pub AsksForAtMost : Names → Library → Library → Type 0
+AsksForAtMost names before after = AsksFor before.asked after.asked [] ⊎ (AsksForModule names before after ⊎ AsksForBoth names before after)
 
 -- why no pair was read, or none was opened though no rule is broken
-abbrev pub SaysUnopened : Told → Names → (taken : ℕ) (failed : List ℕ) → Status → Type 0
-SaysUnopened told names taken failed status =
-    ((status ≡ FileFault) × HasFailed told names failed) ⊎ (((status ≡ FileTooLong) × IsTooLong told names taken) ⊎ (status ≡ NoMemory))
+abbrev pub SaysUnopened : Names → Library → Library → Status → Type 0
+SaysUnopened names before after status =
+    ((status ≡ FileFault) × HasFailed names before after)
+    ⊎ (((status ≡ FileTooLong) × IsTooLong names before after) ⊎ ((status ≡ NoMemory) × AsksForAtMost names before after))
 
 -- the name is one of the two
 abbrev pub IsOneOf : Option Names → List ℕ → Type 0
 IsOneOf None name = ⊥
 IsOneOf (Some names) name = (name ≡ names.binary) ⊎ (name ≡ names.setup)
 
-abbrev pub status_of_file : FileErr → Status
-status_of_file error.Failed = FileFault
-status_of_file error.TooLong = FileTooLong
-status_of_file error.NoMemory = NoMemory
-
 -- ---- a whole call of `debug`
 
--- A run of `debug`, by what the files are, how many bytes their last call took, which name failed last, whether the input was left
--- as it was, and by what the input has left and the output holds before and after the call.
-pub data Debugged (told : Told) (names : Names) (taken : ℕ) (failed : List ℕ) (unread : Type 0) (left_old left_new held_old held_new : Option (List ℕ)) : Status → Type 0 where
-  -- no pair is opened, and none is refused: nothing is read and nothing is written
-  Unopened : (status : Status) → SaysUnopened told names taken failed status → unread → Keeps held_old held_new
-      → Debugged told names taken failed unread left_old left_new held_old held_new status
-  -- the pair is refused: nothing is read, and the refusal's line is due
-  Refused : (status : Status) (binary setup : List ℕ) (refusal : OpeningRefusal) (put : List ℕ) → IsPair told names binary setup → opening binary setup ≡ Err refusal
-      → unread → Appends held_old held_new put → SaysLine (status_of_refusal refusal) (refusal_line refusal) status put
-      → Debugged told names taken failed unread left_old left_new held_old held_new status
+-- A run of `debug`, by what the outside tells before and after it, and whether the input was left as it was.
+pub data Debugged (names : Names) (before after : Outside) (unread : Type 0) : Status → Type 0 where
+  -- no pair is opened, and none is refused: nothing is read, nothing is written, and there is no step
+  Unopened : (status : Status) → SaysUnopened names before.files after.files status → unread → Keeps before.streams.held after.streams.held
+      → after.streams.steps ≡ before.streams.steps → Debugged names before after unread status
+  -- the pair is refused: nothing is read, there is no step, and the refusal's line is due
+  Refused : (status : Status) (binary setup : List ℕ) (refusal : OpeningRefusal) (put : List ℕ) → AsksForBoth names before.files after.files
+      → IsPair before.files.told names binary setup → opening binary setup ≡ Err refusal
+      → unread → Appends before.streams.held after.streams.held put → SaysLine (status_of_refusal refusal) (refusal_line refusal) status put
+      → after.streams.steps ≡ before.streams.steps → Debugged names before after unread status
   -- the pair is opened: the command loop runs from its view
-  Opened : (status : Status) (binary setup : List ℕ) (view : View) → IsPair told names binary setup → opening binary setup ≡ Ok view
-      → Ran view left_old left_new held_old held_new status
-      → Debugged told names taken failed unread left_old left_new held_old held_new status
+  Opened : (status : Status) (binary setup : List ℕ) (view : View) → AsksForBoth names before.files after.files
+      → IsPair before.files.told names binary setup → opening binary setup ≡ Ok view
+      → Ran view before.streams after.streams status → Debugged names before after unread status
 
 -- ---- what is due where nothing fails
 

@@ -1,8 +1,13 @@
+pub mod Limits
 pub mod Lines
+pub mod Outside
 pub mod Transcript
 pub mod Command_loop
+pub mod Stops
 pub mod Acceptance
 pub mod Opening
 pub mod Checking
 pub mod Command_line
 pub mod Debug
+pub mod File_status
+pub mod Status_numbers

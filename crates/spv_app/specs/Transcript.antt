@@ -1,8 +1,9 @@
 -- The replies to lines, to their end or to `quit`.
-use Rattle.std.specs.Prelude.{ℕ, if◌then◌else◌, Bool, List, [], ◌∷◌, ◌++◌}
+use Rattle.std.specs.Prelude.{ℕ, ◌+◌, if◌then◌else◌, Bool, List, [], ◌∷◌, ◌++◌}
 use Rattle.std.specs.List.{list_any}
 use Rattle.spv_session.specs.View.{View}
 use Rattle.spv_session.specs.Reply.{reply, is_quit}
+use Rattle.spv_session.specs.Costs.{line_cost}
 
 -- the text of a reply, and the view after it
 abbrev pub text_of : View → List ℕ → List ℕ
@@ -24,3 +25,8 @@ view_after view (line ∷ lines) = if is_quit line then view_of view line else v
 -- one of the lines is a `quit`
 abbrev pub has_quit : List (List ℕ) → Bool
 has_quit lines = list_any is_quit lines
+
+-- the most steps that the replies to the lines take, to their end or to the first `quit`
+abbrev pub transcript_cost : View → List (List ℕ) → ℕ
+transcript_cost view [] = 0
+transcript_cost view (line ∷ lines) = line_cost view line + (if is_quit line then 0 else transcript_cost (view_of view line) lines)

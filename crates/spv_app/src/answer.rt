@@ -1,10 +1,11 @@
 //! The answers to one line, and to the lines that end in one piece of input.
-ghost use Rattle.std.specs.Prelude.{◌≡◌, ◌<◌, ◌-◌, ◌^◌, List, ℕ, IfOk, IfErr, OnOk, MatchResult};
+ghost use Rattle.std.specs.Prelude.{◌≡◌, ◌<◌, ◌≤◌, ◌+◌, ◌-◌, ◌^◌, List, ℕ, IfOk, IfErr, OnOk, MatchResult};
 ghost use Rattle.std.specs.Io.KnownBytes.{Appends};
+ghost use Rattle.spv_session.specs.Costs.{line_cost};
 ghost use Rattle.spv_session.specs.Reply.{is_quit};
 ghost use Rattle.spv_app.specs.Lines.{complete_from, rest_from, ended_by, line_after};
-ghost use Rattle.spv_app.specs.Transcript.{text_of, view_of, transcript, view_after, has_quit};
-ghost use Rattle.spv_app.specs.Command_loop.{next_of, StopSays, StopCounts};
+ghost use Rattle.spv_app.specs.Transcript.{text_of, view_of, transcript, transcript_cost, view_after, has_quit};
+ghost use Rattle.spv_app.specs.Stops.{next_of, StopSays, StopCounts};
 
 use crate::status::Stop;
 use spv_base::{Sink, Steps, write_all};
@@ -28,6 +29,8 @@ pub fn answer<K: Sink, L: Ledger>(
     ensures view { OnOk result (session.new ≡ view_of session.old line.now) }
     ensures stop { IfErr result (λ stop. (put : List ℕ) × Appends (K.taken out.old) (K.taken out.new) put × StopSays stop put (text_of session.old line.now)) }
     ensures count { MatchResult result (λ _. K.faults out.new ≡ K.faults out.old) (λ stop. StopCounts stop (K.faults out.old) (K.faults out.new)) }
+    ensures counted { steps.old ≤ steps.new }
+    ensures cost { steps.new ≤ steps.old + line_cost session.old line.now }
 {
     let mut reply = Vec::new(alloc);
     let next = session.command(line, &mut reply, steps)?;
@@ -52,6 +55,8 @@ fn answer_byte<K: Sink, L: Ledger>(
     ensures stop { IfErr result (λ stop. (put : List ℕ) × Appends (K.taken out.old) (K.taken out.new) put
         × StopSays stop put (transcript session.old (ended_by line.old.items byte))) }
     ensures count { MatchResult result (λ _. K.faults out.new ≡ K.faults out.old) (λ stop. StopCounts stop (K.faults out.old) (K.faults out.new)) }
+    ensures counted { steps.old ≤ steps.new }
+    ensures cost { steps.new ≤ steps.old + transcript_cost session.old (ended_by line.old.items byte) }
 {
     if byte == LF {
         let next = answer(alloc, session, line, out, steps)?;
@@ -79,6 +84,8 @@ pub fn answer_piece<K: Sink, L: Ledger>(
     ensures stop { IfErr result (λ stop. (put : List ℕ) × Appends (K.taken out.old) (K.taken out.new) put
         × StopSays stop put (transcript session.old (complete_from line.old.items piece.now))) }
     ensures count { MatchResult result (λ _. K.faults out.new ≡ K.faults out.old) (λ stop. StopCounts stop (K.faults out.old) (K.faults out.new)) }
+    ensures counted { steps.old ≤ steps.new }
+    ensures cost { steps.new ≤ steps.old + transcript_cost session.old (complete_from line.old.items piece.now) }
 {
     for byte in piece {
         match answer_byte(alloc, session, line, *byte, out, steps)? {

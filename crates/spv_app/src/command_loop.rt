@@ -1,12 +1,15 @@
 //! The command loop: input is taken in pieces, and each line that ends in one is answered before more is taken.
-ghost use Rattle.std.specs.Prelude.{◌≡◌, ◌↔◌, ◌<◌, ◌≤◌, ◌-◌, ◌^◌, List, ℕ, length, min, take, IfOk, IfErr, OnOk, OnErr, MatchResult};
+ghost use Rattle.std.specs.Prelude.{◌≡◌, ◌↔◌, ◌<◌, ◌≤◌, ◌+◌, ◌-◌, ◌^◌, List, ℕ, length, min, take, IfOk, IfErr, OnOk, OnErr, MatchResult};
 ghost use Rattle.std.specs.Io.KnownBytes.{Appends, Consumes, Keeps, IsAtEnd};
 ghost use Rattle.spv_base.specs.Outside.{CountsFault};
 ghost use Rattle.spv_app.specs.Lines.{last_line};
-ghost use Rattle.spv_app.specs.Transcript.{transcript};
-ghost use Rattle.spv_app.specs.Command_loop.{Ran, StopSays, StopCounts};
+ghost use Rattle.spv_app.specs.Transcript.{transcript, transcript_cost};
+ghost use Rattle.spv_app.specs.Command_loop.{Ran};
+ghost use Rattle.spv_app.specs.Limits.{piece_limit};
+ghost use Rattle.spv_app.specs.Stops.{StopSays, StopCounts};
 
 use crate::answer::{answer, answer_piece};
+use crate::limits::INPUT_LIMIT;
 use crate::status::{Status, Stop};
 use spv_base::{Failed, Sink, Source, Steps};
 use spv_session::{Next, Session};
@@ -16,14 +19,11 @@ use std::sync::ledger::Ledger;
 /// The most bytes that one read takes.
 const PIECE: usize = 4096;
 
-/// The most bytes that are taken in all, one more than the input may have.
-const LIMIT: usize = 16_777_217;
-
 /// Reads at most `room` bytes to the buffer's front.
 fn read_piece<I: Source>(input: &mut I, buf: &mut [u8; PIECE], room: usize) -> Result<usize, Failed>
     requires faults { I.faults input.old < 2 ^ 64 - 1 }
     requires room { 0 < room }
-    ensures bound { IfOk result (λ n. n ≤ min room 4096) }
+    ensures bound { IfOk result (λ n. n ≤ min room piece_limit) }
     ensures count_is { IfOk result (λ n. length (take n buf.new) ≡ n) }
     ensures bytes { IfOk result (λ n. Consumes (I.left input.old) (I.left input.new) (take n buf.new)) }
     ensures end { IfOk result (λ n. n ≡ 0 → IsAtEnd (I.left input.new)) }
@@ -47,6 +47,8 @@ fn answer_last<K: Sink, L: Ledger>(
     ensures stop { IfErr result (λ stop. (put : List ℕ) × Appends (K.taken out.old) (K.taken out.new) put
         × StopSays stop put (transcript session.old (last_line line.now))) }
     ensures count { MatchResult result (λ _. K.faults out.new ≡ K.faults out.old) (λ stop. StopCounts stop (K.faults out.old) (K.faults out.new)) }
+    ensures counted { steps.old ≤ steps.new }
+    ensures cost { steps.new ≤ steps.old + transcript_cost session.old (last_line line.now) }
 {
     if line.is_empty() {
         return Ok(());
@@ -65,7 +67,8 @@ pub fn run<I: Source, K: Sink, L: Ledger>(
 ) -> Status
     requires input { I.faults input.old < 2 ^ 64 - 1 }
     requires out { K.faults out.old < 2 ^ 64 - 1 }
-    ensures ran { Ran session.old (I.left input.old) (I.left input.new) (K.taken out.old) (K.taken out.new) result }
+    ensures ran { Ran session.old (record { left = I.left input.old; held = K.taken out.old; steps = steps.old })
+        (record { left = I.left input.new; held = K.taken out.new; steps = steps.new }) result }
     ensures read_fault { (result ≡ Status.ReadFault) ↔ (I.faults input.old < I.faults input.new) }
     ensures write_fault { (result ≡ Status.WriteFault) ↔ (K.faults out.old < K.faults out.new) }
     ensures reads_counted { I.faults input.old ≤ I.faults input.new }
@@ -75,7 +78,7 @@ pub fn run<I: Source, K: Sink, L: Ledger>(
     let mut buf = [0; PIECE];
     let mut taken = 0;
     loop {
-        let count = match read_piece(input, &mut buf, LIMIT - taken) {
+        let count = match read_piece(input, &mut buf, INPUT_LIMIT + 1 - taken) {
             Ok(count) => count,
             Err(_) => return Status::ReadFault,
         };
@@ -86,7 +89,7 @@ pub fn run<I: Source, K: Sink, L: Ledger>(
             };
         }
         taken += count;
-        if taken == LIMIT {
+        if taken > INPUT_LIMIT {
             return Status::InputTooLong;
         }
         match answer_piece(alloc, session, &mut line, &buf[..count], out, steps) {

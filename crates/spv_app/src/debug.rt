@@ -1,25 +1,23 @@
 //! The top call.
-ghost use Rattle.std.specs.Prelude.{◌≡◌, ◌≢◌, ◌↔◌, ◌⊎◌, ◌<◌, ◌≤◌, ◌-◌, ◌^◌, ◌++◌, List, ℕ, Option, Some, None, All, vec_len, length, IfOk, IfErr, IsErrOf};
+ghost use Rattle.std.specs.Prelude.{◌≡◌, ◌≢◌, ◌↔◌, ◌⊎◌, ◌<◌, ◌≤◌, ◌-◌, ◌^◌, [], ◌∷◌, ◌++◌, List, ℕ, Option, Some, None, All, vec_len, length, IfOk, IfErr, IsOk, IsErrOf};
 ghost use Rattle.std.specs.Io.KnownBytes.{Appends};
 ghost use Rattle.spv_app.specs.Command_line.{Names, debug_names, check_name, usage_line};
 ghost use Rattle.spv_app.specs.Opening.{opening, refusal_line};
-ghost use Rattle.spv_app.specs.Debug.{Debugged, IsPair, IsOneOf, binary_limit, setup_limit, SaysLine, SaysUnopened, status_of_file, status_of_refusal, due_text, due_status};
+ghost use Rattle.spv_app.specs.Debug.{Debugged, IsPair, IsOneOf, SaysLine, SaysUnopened, status_of_refusal, due_text, due_status};
+ghost use Rattle.spv_base.specs.Outside.{AsksFor};
+ghost use Rattle.spv_app.specs.File_status.{status_of_file};
+ghost use Rattle.spv_app.specs.Limits.{binary_limit, setup_limit, input_limit};
 ghost use Rattle.spv_app.specs.Checking.{Checked, checking, check_line, check_status, report_line};
 
 use crate::checking::{Report, check_bytes};
 use crate::command_loop::run;
+use crate::limits::{BINARY_LIMIT, SETUP_LIMIT};
 use crate::opening::{OpeningRefusal, open};
 use crate::status::Status;
 use spv_base::{Fail, Failed, FileErr, Files, Probe, Sink, Source, Steps, write_all};
 use spv_session::Session;
 use std::alloc::Global;
 use std::sync::ledger::Ledger;
-
-/// The most bytes of a module.
-const BINARY_LIMIT: u64 = 4_194_304;
-
-/// The most bytes of a setup.
-const SETUP_LIMIT: u64 = 67_108_864;
 
 impl From<OpeningRefusal> for Status {
     ghost from_gives = { λ refusal status. status ≡ status_of_refusal refusal };
@@ -68,10 +66,13 @@ fn read_pair<F: Files>(
 ) -> Result<(Vec<u8>, Vec<u8>), FileErr>
     requires { F.faults files.old < 2 ^ 64 - 1 }
     ensures pair { IfOk result (λ pair. IsPair (F.contents files.old) (record { binary = binary_name.now; setup = setup_name.now }) pair.0.items pair.1.items) }
+    ensures asked { IsOk result → AsksFor (F.asked files.old) (F.asked files.new) (binary_name.now ∷ (setup_name.now ∷ [])) }
     ensures failed { IsErrOf result FileErr.Failed ↔ (F.faults files.old < F.faults files.new) }
     ensures counted { F.faults files.old ≤ F.faults files.new }
     ensures name { IsErrOf result FileErr.Failed → (F.failed_name files.new ≡ binary_name.now) ⊎ (F.failed_name files.new ≡ setup_name.now) }
-    ensures says { IfErr result (λ error. SaysUnopened (F.contents files.old) (record { binary = binary_name.now; setup = setup_name.now }) (F.taken files.new) (F.failed_name files.new) (status_of_file error)) }
+    ensures says { IfErr result (λ error. SaysUnopened (record { binary = binary_name.now; setup = setup_name.now })
+        (record { told = F.contents files.old; asked = F.asked files.old; taken = F.taken files.old; failed = F.failed_name files.old })
+        (record { told = F.contents files.new; asked = F.asked files.new; taken = F.taken files.new; failed = F.failed_name files.new }) (status_of_file error)) }
 {
     let binary = files.read_all(alloc, binary_name, BINARY_LIMIT)?;
     let setup = files.read_all(alloc, setup_name, SETUP_LIMIT)?;
@@ -94,8 +95,9 @@ fn debug<F: Files, I: Source, K: Sink, L: Ledger>(
     requires files { F.faults files.old < 2 ^ 64 - 1 }
     requires input { I.faults input.old < 2 ^ 64 - 1 }
     requires out { K.faults out.old < 2 ^ 64 - 1 }
-    ensures debugged { Debugged (F.contents files.old) (record { binary = binary_name.now; setup = setup_name.now }) (F.taken files.new) (F.failed_name files.new) (input.new ≡ input.old)
-        (I.left input.old) (I.left input.new) (K.taken out.old) (K.taken out.new) result }
+    ensures debugged { Debugged (record { binary = binary_name.now; setup = setup_name.now })
+        (record { files = record { told = F.contents files.old; asked = F.asked files.old; taken = F.taken files.old; failed = F.failed_name files.old }; streams = record { left = I.left input.old; held = K.taken out.old; steps = steps.old } })
+        (record { files = record { told = F.contents files.new; asked = F.asked files.new; taken = F.taken files.new; failed = F.failed_name files.new }; streams = record { left = I.left input.new; held = K.taken out.new; steps = steps.new } }) (input.new ≡ input.old) result }
     ensures file_fault { (result ≡ Status.FileFault) ↔ (F.faults files.old < F.faults files.new) }
     ensures file_name { result ≡ Status.FileFault → (F.failed_name files.new ≡ binary_name.now) ⊎ (F.failed_name files.new ≡ setup_name.now) }
     ensures read_fault { (result ≡ Status.ReadFault) ↔ (I.faults input.old < I.faults input.new) }
@@ -135,7 +137,9 @@ fn tell_report<K: Sink>(alloc: Global, report: Report, out: &mut K) -> Status
 fn check<F: Files, K: Sink>(alloc: Global, binary_name: &str, files: &mut F, out: &mut K) -> Status
     requires files { F.faults files.old < 2 ^ 64 - 1 }
     requires out { K.faults out.old < 2 ^ 64 - 1 }
-    ensures checked { Checked (F.contents files.old) binary_name.now (F.taken files.new) (F.failed_name files.new) (K.taken out.old) (K.taken out.new) result }
+    ensures checked { Checked binary_name.now
+        (record { told = F.contents files.old; asked = F.asked files.old; taken = F.taken files.old; failed = F.failed_name files.old })
+        (record { told = F.contents files.new; asked = F.asked files.new; taken = F.taken files.new; failed = F.failed_name files.new }) (K.taken out.old) (K.taken out.new) result }
     ensures file_fault { (result ≡ Status.FileFault) ↔ (F.faults files.old < F.faults files.new) }
     ensures file_name { result ≡ Status.FileFault → F.failed_name files.new ≡ binary_name.now }
     ensures no_read { result ≢ Status.ReadFault }
@@ -186,7 +190,7 @@ pub fn debug_main<F: Files, I: Source, K: Sink, L: Ledger>(
     ensures headline { (names : Names) (m : List ℕ → Option (List ℕ)) (binary setup xs before : List ℕ)
         → debug_names words.now ≡ Some names → F.contents files.old ≡ Some m → m names.binary ≡ Some binary → m names.setup ≡ Some setup
         → length binary ≤ binary_limit → length setup ≤ setup_limit
-        → I.left input.old ≡ Some xs → length xs ≤ 16777216 → K.taken out.old ≡ Some before
+        → I.left input.old ≡ Some xs → length xs ≤ input_limit → K.taken out.old ≡ Some before
         → F.faults files.new ≡ F.faults files.old → I.faults input.new ≡ I.faults input.old → K.faults out.new ≡ K.faults out.old
         → result ≢ Status.NoMemory
         → (K.taken out.new ≡ Some (before ++ due_text (opening binary setup) xs)) × (result ≡ due_status (opening binary setup)) }
@@ -200,12 +204,17 @@ pub fn debug_main<F: Files, I: Source, K: Sink, L: Ledger>(
 
     // What each status says, whatever was told and whatever failed.
     ensures debugged { (names : Names) → debug_names words.now ≡ Some names
-        → Debugged (F.contents files.old) names (F.taken files.new) (F.failed_name files.new) (input.new ≡ input.old) (I.left input.old) (I.left input.new) (K.taken out.old) (K.taken out.new) result }
+        → Debugged names
+        (record { files = record { told = F.contents files.old; asked = F.asked files.old; taken = F.taken files.old; failed = F.failed_name files.old }; streams = record { left = I.left input.old; held = K.taken out.old; steps = steps.old } })
+        (record { files = record { told = F.contents files.new; asked = F.asked files.new; taken = F.taken files.new; failed = F.failed_name files.new }; streams = record { left = I.left input.new; held = K.taken out.new; steps = steps.new } }) (input.new ≡ input.old) result }
     ensures checked { (name : List ℕ) → check_name words.now ≡ Some name
         → (input.new ≡ input.old) × (steps.new ≡ steps.old)
-        × Checked (F.contents files.old) name (F.taken files.new) (F.failed_name files.new) (K.taken out.old) (K.taken out.new) result }
+        × Checked name
+        (record { told = F.contents files.old; asked = F.asked files.old; taken = F.taken files.old; failed = F.failed_name files.old })
+        (record { told = F.contents files.new; asked = F.asked files.new; taken = F.taken files.new; failed = F.failed_name files.new }) (K.taken out.old) (K.taken out.new) result }
     ensures usage { debug_names words.now ≡ None → check_name words.now ≡ None
-        → (files.new ≡ files.old) × (input.new ≡ input.old) × ((put : List ℕ) × Appends (K.taken out.old) (K.taken out.new) put × SaysLine Status.Usage usage_line result put) }
+        → (files.new ≡ files.old) × (input.new ≡ input.old) × (steps.new ≡ steps.old)
+        × ((put : List ℕ) × Appends (K.taken out.old) (K.taken out.new) put × SaysLine Status.Usage usage_line result put) }
 
     // Faults are told exactly where they were counted.
     ensures file_fault { (result ≡ Status.FileFault) ↔ (F.faults files.old < F.faults files.new) }

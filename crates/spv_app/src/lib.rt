@@ -6,6 +6,7 @@ pub mod answer;
 pub mod checking;
 pub mod command_loop;
 pub mod debug;
+pub mod limits;
 pub mod lines;
 pub mod opening;
 pub mod status;

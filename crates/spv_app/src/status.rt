@@ -1,13 +1,14 @@
 //! How a call of the program ends.
 ghost use Rattle.std.specs.Prelude.{◌≡◌};
-ghost use Rattle.spv_app.specs.Command_loop.{status_of};
-ghost use Rattle.spv_app.specs.Debug.{status_of_file};
+ghost use Rattle.spv_app.specs.File_status.{status_of_file};
+ghost use Rattle.spv_app.specs.Status_numbers.{status_number};
+ghost use Rattle.spv_app.specs.Stops.{status_of};
 ghost use Rattle.spv_app.specs.declared.status.Stop.TheVariants as stop;
 
 use spv_base::{Failed, FileErr, NoMemory};
 use std::alloc::AllocFailed;
 
-/// How a call of the program ends. Its number is the exit status.
+/// How a call of the program ends.
 #[derive(Clone, Copy, Debug, PartialEq, Eq)]
 pub enum Status {
     /// The work was done to its end.
@@ -30,6 +31,15 @@ pub enum Status {
     InputTooLong = 9,
     /// The module has more than 4,194,304 bytes, or the setup more than 67,108,864.
     FileTooLong = 10,
+}
+
+impl Status {
+    /// The number with which the program ends.
+    pub fn number(self) -> u8
+        ensures { result ≡ status_number self }
+    {
+        self as u8
+    }
 }
 
 /// Why an answer wasn't written whole.

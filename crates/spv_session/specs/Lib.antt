@@ -7,3 +7,4 @@ pub mod Line
 pub mod Texts
 pub mod Reply
 pub mod Motion
+pub mod Costs

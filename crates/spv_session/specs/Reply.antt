@@ -1,5 +1,5 @@
 -- The reply to a line, and the view after it. How a position was reached doesn't matter to it.
-use Rattle.std.specs.Prelude.{◌≡◌, ℕ, ◌==◌, Bool, true, false, List, [], ◌++◌, Option, Some, None, slice_get, Result, Ok, Err}
+use Rattle.std.specs.Prelude.{◌≡◌, ℕ, ◌==◌, Bool, true, false, List, [], ◌++◌, Option, Some, None, is_some, if◌then◌else◌, slice_get, Result, Ok, Err}
 use Rattle.spv_base.specs.State.{Frame, frames_of}
 use Rattle.spv_session.specs.declared.line.Command.{Command}
 use Rattle.spv_session.specs.declared.line.Command.TheVariants.{Nothing, Goto, Regs, Quit}
@@ -50,6 +50,17 @@ is_motion (Ok Quit) = false
 is_motion (Ok Regs) = false
 is_motion (Ok (Goto n)) = true
 
--- the line is refused with this number
+-- the refusal of a command, by its number: that of its line, or of a finished focus
+abbrev pub refusal_by : View → Result Command Refused → Option ℕ
+refusal_by v (Err refused) = Some (code_of refused)
+refusal_by v (Ok Nothing) = None
+refusal_by v (Ok Quit) = None
+refusal_by v (Ok Regs) = if is_some (focus_frame v) then None else Some (code_of FocusFinished)
+refusal_by v (Ok (Goto n)) = None
+
+unfoldable pub refusal_of : View → List ℕ → Option ℕ
+refusal_of v line = refusal_by v (command_of line)
+
+-- the line's command is refused with this number
 abbrev pub IsRefused : View → List ℕ → ℕ → Type 0
-IsRefused v line code = (reply v line).0 ≡ refusal_line code
+IsRefused v line code = refusal_of v line ≡ Some code

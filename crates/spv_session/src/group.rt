@@ -2,6 +2,7 @@
 ghost use Rattle.std.specs.Prelude.{◌≡◌, ◌≤◌, ◌<◌, ◌+◌, IfOk, OnOk, OnErr, IfErr, length, slice_get, Some, ℕ};
 ghost use Rattle.spv_machine.specs.Sound.{IsSound};
 ghost use Rattle.spv_base.specs.declared.causes.Fail.TheVariants as fail;
+ghost use Rattle.spv_session.specs.Costs.{ForthCounts, BackCounts, goto_cost};
 ghost use Rattle.spv_session.specs.Motion.{Goes, Returns};
 ghost use Rattle.spv_session.specs.View.{first_view, view_at, entries_in, state_in, end_in, end_cause_in, goto_target};
 
@@ -106,19 +107,21 @@ impl Group {
         cause_here(self.alloc, &self.module, &self.run.world, next)
     }
 
-    /// Makes the next event, with one step at most. After want of memory all is as before.
+    /// Makes the next event, with one step, or none at an end that is no fault. After want of memory all is as before.
     pub fn forth<L: Ledger>(&mut self, steps: &mut Steps<L>) -> Result<Forth, NoMemory>
         ensures goes { Goes self.old.program (entries_in self.old) result self.old.position self.new.position }
         ensures kept { self.new ≡ view_at self.new.position self.old }
-        ensures cost { steps.new ≤ steps.old + 1 }
+        ensures cost { ForthCounts result steps.old steps.new }
     {
         self.run.forth(self.alloc, &self.module, &self.setup, steps)
     }
 
-    /// Takes the last event back, by running again from the start. After want of memory all is as before.
+    /// Takes the last event back, by running again from the start, with a step for each event on the way. After want of memory
+    /// all is as before.
     pub fn back<L: Ledger>(&mut self, steps: &mut Steps<L>) -> Result<Back, NoMemory>
         ensures goes { Returns self.old.program (entries_in self.old) result self.old.position self.new.position }
         ensures kept { self.new ≡ view_at self.new.position self.old }
+        ensures cost { BackCounts result self.old.position steps.old steps.new }
     {
         let Some(happening) = self.run.last else {
             return Ok(Back::AtStart);
@@ -131,11 +134,17 @@ impl Group {
     }
 
     /// Goes to a position, or to the end where that comes first. One before the present is reached by running again from the
-    /// start. After want of memory the group is at some position.
-    pub fn goto<L: Ledger>(&mut self, target: u64, steps: &mut Steps<L>) -> Result<(), NoMemory>
+    /// start. After want of memory the group is at some position, so this call is the session's alone.
+    pub(crate) fn goto<L: Ledger>(
+        &mut self,
+        target: u64,
+        steps: &mut Steps<L>,
+    ) -> Result<(), NoMemory>
         ensures target { OnOk result (self.new.position ≡ goto_target self.old target) }
         ensures kept { self.new ≡ view_at self.new.position self.old }
         ensures within { self.new.position ≤ end_in self.old }
+        ensures counted { steps.old ≤ steps.new }
+        ensures cost { steps.new ≤ steps.old + goto_cost self.old target }
     {
         if target < self.run.position {
             self.run = Run::start(self.alloc, &self.module, &self.setup)?;

@@ -1,7 +1,8 @@
 //! A run at a position, always by running on from the start.
-ghost use Rattle.std.specs.Prelude.{◌≡◌, ◌≤◌, ◌+◌, ◌<◌, length, IfOk, OnOk, OnErr, max, min};
+ghost use Rattle.std.specs.Prelude.{◌≡◌, ◌≤◌, ◌+◌, ◌-◌, ◌<◌, length, IfOk, OnOk, OnErr, max, min};
 ghost use Rattle.spv_machine.specs.Sound.{IsSound};
 ghost use Rattle.spv_session.specs.Motion.{IsRun, Makes, Goes};
+ghost use Rattle.spv_session.specs.Costs.{ForthCounts, run_cost};
 ghost use Rattle.spv_session.specs.Run.{entries_of, end_of, idle_event};
 
 use crate::ends::{all_finished, is_stuck};
@@ -72,7 +73,7 @@ impl Run {
         })
     }
 
-    /// Makes the next event. It takes one step at most.
+    /// Makes the next event. It takes one step, or none at an end that is no fault.
     pub fn forth<L: Ledger>(
         &mut self,
         alloc: Global,
@@ -83,7 +84,7 @@ impl Run {
         requires { IsRun m.now setup.now self.old.world self.old.position self.old.last }
         ensures run { IsRun m.now setup.now self.new.world self.new.position self.new.last }
         ensures goes { Goes m.now (entries_of m.now setup.now) result self.old.position self.new.position }
-        ensures cost { steps.new ≤ steps.old + 1 }
+        ensures cost { ForthCounts result steps.old steps.new }
     {
         if all_finished(&self.world) {
             return Ok(Forth::AtEnd(EndCause::Finished));
@@ -105,7 +106,8 @@ impl Run {
         }
     }
 
-    /// Runs on to a position, or to the end where that comes first.
+    /// Runs on to a position, or to the end where that comes first. It takes a step for each event, and one more at most where
+    /// the end comes first.
     pub fn run_to<L: Ledger>(
         &mut self,
         alloc: Global,
@@ -117,6 +119,8 @@ impl Run {
         requires { IsRun m.now setup.now self.old.world self.old.position self.old.last }
         ensures run { IsRun m.now setup.now self.new.world self.new.position self.new.last }
         ensures position { OnOk result (self.new.position ≡ max self.old.position (min target (end_of m.now (entries_of m.now setup.now)))) }
+        ensures counted { steps.old + (self.new.position - self.old.position) ≤ steps.new }
+        ensures cost { steps.new ≤ steps.old + run_cost (end_of m.now (entries_of m.now setup.now)) self.old.position target }
     {
         'up: while self.position < target {
             if let Forth::AtEnd(_) = self.forth(alloc, m, setup, steps)? {

@@ -1,7 +1,9 @@
 //! A group and the replies to lines of input.
-ghost use Rattle.std.specs.Prelude.{◌≡◌, ℕ, ◌≤◌, ◌++◌, false, List, All, IfOk, OnOk, OnErr, vec_len, if◌then◌else◌};
+ghost use Rattle.std.specs.Prelude.{◌≡◌, ℕ, ◌≤◌, ◌+◌, ◌++◌, false, List, All, IfOk, OnOk, OnErr, vec_len, if◌then◌else◌};
 ghost use Rattle.spv_base.specs.Prefix.{IsPrefixOf};
+ghost use Rattle.spv_session.specs.Costs.{command_cost, line_cost};
 ghost use Rattle.spv_session.specs.Reply.{reply, reply_to, is_quit, is_quit_command, is_motion, IsRefused, focus_frame, registers_reply, stop_reply};
+ghost use Rattle.spv_session.specs.Texts.{refusal_line};
 ghost use Rattle.spv_session.specs.View.{view_at, end_in};
 ghost use Rattle.spv_session.specs.declared.session.Next.TheVariants as answers;
 
@@ -50,9 +52,10 @@ impl Session {
         Ok(Session { alloc, group })
     }
 
-    /// Answers a line: appends the reply. After want of memory a front of the reply was appended, and the group is at some
+    /// Answers a line: appends the reply. Only a motion takes steps: to a position before it one for each event from the start on,
+    /// to a later one as many as it goes forth, and one more where the end comes first. After want of memory a front of the reply was appended, and the group is at some
     /// position of its run.
-    #[tactic(auto, unfolding(crate::specs::Reply::reply, crate::specs::Reply::is_quit))]
+    #[tactic(auto, unfolding(crate::specs::Reply::reply, crate::specs::Reply::is_quit, crate::specs::Reply::refusal_of, crate::specs::Costs::line_cost))]
     pub fn command<L: Ledger>(
         &mut self,
         line: &[u8],
@@ -65,7 +68,10 @@ impl Session {
         ensures front { OnErr result ((text : List ℕ) × (out.new.items ≡ out.old.items ++ text) × IsPrefixOf text (reply self.old line.now).0) }
         ensures kept { self.new ≡ view_at self.new.position self.old }
         ensures within { self.new.position ≤ end_in self.old }
-        ensures refused { (code : ℕ) → IsRefused self.old line.now code → self.new ≡ self.old }
+        ensures refused { (code : ℕ) → IsRefused self.old line.now code
+            → (self.new ≡ self.old) × OnOk result (out.new.items ≡ out.old.items ++ refusal_line code) }
+        ensures counted { steps.old ≤ steps.new }
+        ensures cost { steps.new ≤ steps.old + line_cost self.old line.now }
     {
         let mut text = Vec::new(self.alloc);
         let next = self.answer(parse(line), &mut text, steps)?;
@@ -86,6 +92,8 @@ impl Session {
         ensures kept { self.new ≡ view_at self.new.position self.old }
         ensures within { self.new.position ≤ end_in self.old }
         ensures still { is_motion command ≡ false → self.new ≡ self.old }
+        ensures counted { steps.old ≤ steps.new }
+        ensures cost { steps.new ≤ steps.old + command_cost self.old command }
     {
         match command {
             Err(refused) => text.extend_from_slice(refusal_line(refused))?,

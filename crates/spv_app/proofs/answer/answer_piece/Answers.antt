@@ -1,8 +1,9 @@
-use Rattle.std.proofs.Common.{◌≡◌, ◌∷◌, ◌++◌, drop, get_or, ◌+◌, false, ap, sym, ◌∙◌}
+use Rattle.std.proofs.Common.{◌≡◌, ◌∷◌, ◌++◌, drop, get_or, ◌+◌, ◌≤◌, false, ap, sym, ◌∙◌, refl, arith}
 use Rattle.std.proofs.lemmas.List.{drop_more}
 use Rattle.std.proofs.KnownBytes.{Appends-trans}
 use Rattle.spv_app.specs.Lines.{complete_from, rest_from, ended_by, line_after}
-use Rattle.spv_app.specs.Transcript.{transcript, view_after, has_quit}
+use Rattle.spv_app.specs.Transcript.{transcript, transcript_cost, view_after, has_quit}
+use Rattle.spv_app.proofs.Transcripts.{cost_goes, cost_front}
 use Rattle.spv_app.proofs.Pieces.{hands_on, goes, due_more, view_more, quit_more, stop_first}
 use Rattle.spv_app.proofs.answer.answer_piece.Goals as goal
 
@@ -28,6 +29,11 @@ loop-byte-preserved g c =
       view = rw (h.view, now) (sym (view_more c.loop-byte.session (ended_by line b) later go) ∙ ap (view_after c.loop-byte.session) (sym all) ∙ inv.view);
       rest = ap (λ l. rest_from l bs) h.rest ∙ ap (rest_from line) (sym e) ∙ inv.rest;
       count = h.count ∙ inv.count;
+      risen = omega (arith, inv.risen, h.counted);
+      cost =
+          let sum : transcript_cost c.loop-byte.session (complete_from line (drop c.loop-byte.byte-index c.args.piece.now)) ≡ transcript_cost c.loop-byte.session (ended_by line b) + transcript_cost c.answer_byte.new.session (complete_from c.answer_byte.new.line.items bs) =
+          ap (transcript_cost c.loop-byte.session) all ∙ cost_goes c.loop-byte.session (ended_by line b) later go ∙ rw (h.view, now) refl in
+          omega (arith, inv.cost, h.cost);
     }
 
 pub returns-in_err-answer_byte-clause-stop : goal.returns-in_err-answer_byte-clause-stop

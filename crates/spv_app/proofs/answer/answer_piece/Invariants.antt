@@ -1,7 +1,7 @@
-use Rattle.std.proofs.Common.{◌≡◌, List, ℕ, ◌++◌, drop}
+use Rattle.std.proofs.Common.{◌≡◌, ◌≤◌, ◌+◌, List, ℕ, ◌++◌, drop}
 use Rattle.std.specs.Io.KnownBytes.{Appends}
 use Rattle.spv_app.specs.Lines.{complete_from, rest_from}
-use Rattle.spv_app.specs.Transcript.{transcript, view_after, has_quit}
+use Rattle.spv_app.specs.Transcript.{transcript, transcript_cost, view_after, has_quit}
 use Rattle.spv_app.proofs.answer.answer_piece.Given as goal
 
 -- what was written and what is due of the bytes left are what is due of all
@@ -13,4 +13,6 @@ invariant-loop-byte g l = record {
   view : view_after l.session (complete_from l.line.items (drop l.byte-index l.piece)) ≡ view_after l.fn.session (complete_from l.fn.line.items l.piece);
   rest : rest_from l.line.items (drop l.byte-index l.piece) ≡ rest_from l.fn.line.items l.piece;
   count : g.K.Sink.faults l.out ≡ g.K.Sink.faults l.fn.out;
+  risen : l.fn.steps ≤ l.steps;
+  cost : l.steps + transcript_cost l.session (complete_from l.line.items (drop l.byte-index l.piece)) ≤ l.fn.steps + transcript_cost l.fn.session (complete_from l.fn.line.items l.piece);
 }

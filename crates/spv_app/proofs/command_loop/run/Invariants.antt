@@ -1,11 +1,13 @@
 use Rattle.std.proofs.Common.{◌≡◌, ◌≤◌, ◌-◌}
+use Rattle.spv_app.specs.Limits.{input_limit}
 use Rattle.spv_app.proofs.Runs.{Stands}
 use Rattle.spv_app.proofs.command_loop.run.Given as goal
 
 abbrev pub invariant-loop-count : goal.invariant-loop-count
 invariant-loop-count g l = record {
-  stands : Stands l.fn.session (g.I.Source.left l.fn.input) (g.I.Source.left l.input) (g.K.Sink.taken l.fn.out) (g.K.Sink.taken l.out) l.session l.line.items l.taken;
-  few : l.taken ≤ 16777216;
+  stands : Stands l.fn.session (record { left = g.I.Source.left l.fn.input; held = g.K.Sink.taken l.fn.out; steps = l.fn.steps })
+      (record { left = g.I.Source.left l.input; held = g.K.Sink.taken l.out; steps = l.steps }) l.session l.line.items l.taken;
+  few : l.taken ≤ input_limit;
   reads : g.I.Source.faults l.input ≡ g.I.Source.faults l.fn.input;
   writes : g.K.Sink.faults l.out ≡ g.K.Sink.faults l.fn.out;
 }

@@ -1,22 +1,23 @@
 use Rattle.std.proofs.Common.{refl, inr}
 use Rattle.std.proofs.KnownBytes.{Keeps-refl}
-use Rattle.spv_app.specs.Debug.{Unopened, Refused, Opened, status_of_file}
+use Rattle.spv_app.specs.Debug.{Unopened, Refused, Opened}
+use Rattle.spv_app.specs.File_status.{status_of_file}
 use Rattle.spv_app.proofs.debug.debug.Goals as goal
 
 pub returns-in-Err-clause-debugged : goal.returns-in-Err-clause-debugged
-returns-in-Err-clause-debugged g c = rw c.from.ensures (Unopened (status_of_file c.in-Err.error) c.in-Err.ensures.says refl (Keeps-refl _))
+returns-in-Err-clause-debugged g c = rw c.from.ensures (Unopened (status_of_file c.in-Err.error) c.in-Err.ensures.says refl (Keeps-refl _) refl)
 
 pub returns-in-Err-Refused-clause-debugged : goal.returns-in-Err-Refused-clause-debugged
 returns-in-Err-Refused-clause-debugged g c =
     let s = c.tell_refusal.ensures.says in
-    Refused _ c.in-Ok.pair.0.items c.in-Ok.pair.1.items c.in-Err-Refused.refusal s.0 c.in-Ok.ensures.pair (rw c.in-Err-Refused.field-0-is at c.in-Err-Refused.ensures.opening) refl s.1 s.2
+    Refused _ c.in-Ok.pair.0.items c.in-Ok.pair.1.items c.in-Err-Refused.refusal s.0 (c.in-Ok.ensures.asked refl) c.in-Ok.ensures.pair (rw c.in-Err-Refused.field-0-is at c.in-Err-Refused.ensures.opening) refl s.1 s.2 refl
 
 pub returns-in-Err-NoMemory-clause-debugged : goal.returns-in-Err-NoMemory-clause-debugged
-returns-in-Err-NoMemory-clause-debugged g c = Unopened _ (inr (inr refl)) refl (Keeps-refl _)
+returns-in-Err-NoMemory-clause-debugged g c = Unopened _ (inr (inr (refl, inr (inr (c.in-Ok.ensures.asked refl))))) refl (Keeps-refl _) refl
 
 pub returns-in-Err-open-clause-debugged : goal.returns-in-Err-open-clause-debugged
-returns-in-Err-open-clause-debugged g c = Unopened _ (inr (inr refl)) refl (Keeps-refl _)
+returns-in-Err-open-clause-debugged g c = Unopened _ (inr (inr (refl, inr (inr (c.in-Ok.ensures.asked refl))))) refl (Keeps-refl _) refl
 
 pub returns-clause-debugged : goal.returns-clause-debugged
 returns-clause-debugged g c =
-    Opened _ c.in-Ok.pair.0.items c.in-Ok.pair.1.items c.in-Ok-open-2.session c.in-Ok.ensures.pair (rw (← c.in-Ok-open-2.ensures) at c.in-Ok-open.ensures.opening) c.run.ensures.ran
+    Opened _ c.in-Ok.pair.0.items c.in-Ok.pair.1.items c.in-Ok-open-2.session (c.in-Ok.ensures.asked refl) c.in-Ok.ensures.pair (rw (← c.in-Ok-open-2.ensures) at c.in-Ok-open.ensures.opening) c.run.ensures.ran

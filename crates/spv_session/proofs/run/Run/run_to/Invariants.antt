@@ -1,4 +1,4 @@
-use Rattle.std.proofs.Common.{◌≤◌, ◌-◌, max}
+use Rattle.std.proofs.Common.{◌≡◌, ◌≤◌, ◌+◌, ◌-◌, max}
 use Rattle.spv_session.specs.Motion.{IsRun}
 use Rattle.spv_session.proofs.run.Run.run_to.Given as goal
 
@@ -7,6 +7,7 @@ invariant-up g l = record {
   run : IsRun l.m l.setup l.self.world l.self.position l.self.last;
   later : l.fn.self.position ≤ l.self.position;
   until : l.self.position ≤ max l.fn.self.position l.target;
+  counted : l.steps ≡ l.fn.steps + (l.self.position - l.fn.self.position);
 }
 
 abbrev pub decreases-up : goal.decreases-up

@@ -1,0 +1,47 @@
+-- How many steps the motions of a group and the commands take. A step is a call of the machine's `step`; nothing else counts one.
+use Rattle.std.specs.Prelude.{◌≡◌, ℕ, ◌+◌, ◌-◌, ◌≤◌, min, max, nat_lt, if◌then◌else◌, List, Result, Ok, Err}
+use Rattle.spv_base.specs.declared.causes.NoMemory.{NoMemory}
+use Rattle.spv_base.specs.declared.happenings.EndCause.TheVariants as end
+use Rattle.spv_session.specs.declared.line.Command.{Command}
+use Rattle.spv_session.specs.declared.line.Command.TheVariants.{Nothing, Goto, Regs, Quit}
+use Rattle.spv_session.specs.declared.line.Refused.{Refused}
+use Rattle.spv_session.specs.declared.motion.Forth.{Forth}
+use Rattle.spv_session.specs.declared.motion.Forth.TheVariants as forth
+use Rattle.spv_session.specs.declared.motion.Back.{Back}
+use Rattle.spv_session.specs.declared.motion.Back.TheVariants as back
+use Rattle.spv_session.specs.Line.{command_of}
+use Rattle.spv_session.specs.View.{View, end_in}
+
+-- One event forth is one step, also where it faults or memory runs out in it. The other ends take none.
+abbrev pub ForthCounts : Result Forth NoMemory → (before now : ℕ) → Type 0
+ForthCounts (Ok (forth.Went h)) before now = now ≡ before + 1
+ForthCounts (Ok (forth.AtEnd (end.Fault f))) before now = now ≡ before + 1
+ForthCounts (Ok (forth.AtEnd end.Finished)) before now = now ≡ before
+ForthCounts (Ok (forth.AtEnd end.Stuck)) before now = now ≡ before
+ForthCounts (Ok (forth.AtEnd end.Schedule)) before now = now ≡ before
+ForthCounts (Err error) before now = now ≡ before + 1
+
+-- One event back from a position runs again from the start to the position before it.
+abbrev pub BackCounts : Result Back NoMemory → (position before now : ℕ) → Type 0
+BackCounts (Ok (back.Went h)) position before now = now ≡ before + (position - 1)
+BackCounts (Ok back.AtStart) position before now = now ≡ before
+BackCounts (Err error) position before now = (before ≤ now) × (now ≤ before + (position - 1))
+
+-- the most steps of a run from one position on to another: one for each event between them, and one more where the end comes before
+abbrev pub run_cost : (end from target : ℕ) → ℕ
+run_cost end from target = (max from (min target end) - from) + (if nat_lt end target then 1 else 0)
+
+-- the most steps of a motion to a number: forth as far as it goes, and one more where the end comes before; back from the start on
+abbrev pub goto_cost : View → ℕ → ℕ
+goto_cost v n = if nat_lt n v.position then n else run_cost (end_in v) v.position n
+
+-- the most steps of a command; only motions take any
+abbrev pub command_cost : View → Result Command Refused → ℕ
+command_cost v (Err refused) = 0
+command_cost v (Ok Nothing) = 0
+command_cost v (Ok Quit) = 0
+command_cost v (Ok Regs) = 0
+command_cost v (Ok (Goto n)) = goto_cost v n
+
+unfoldable pub line_cost : View → List ℕ → ℕ
+line_cost v line = command_cost v (command_of line)
