@@ -71,9 +71,9 @@ chosen : (b : Bool) (x p : Program) (r : Refusal) → cond b (Ok x) (Err r) ≡ 
 chosen true x p r e = (refl, cc)
 chosen false x p r e = absurd (cc)
 
-pub form_law : (accepted : Accepted) (bound : ℕ) (p : Program) → (program_of accepted bound ≡ Ok p) ↔ (IsFirstForm accepted.insts bound × (p.insts ≡ accepted.insts))
+pub form_law : (accepted : Accepted) (p : Program) → (program_of accepted ≡ Ok p) ↔ (IsFirstForm accepted.insts accepted.bound × (p.insts ≡ accepted.insts))
 unfolding program_of
-form_law accepted bound p = let insts = accepted.insts in (
+form_law accepted p = let insts = accepted.insts in let bound = accepted.bound in (
   λ e. let r = chosen (is_first_form insts bound) (record { insts = insts }) p (record { code = 0; word = 5 }) e in (form_of insts bound r.0, ap (λ (q : Program). q.insts) (sym r.1)),
   λ h. ap (λ b. cond b (Ok (record { insts = insts })) (Err (record { code = 0; word = 5 }))) (is_form insts bound h.0) ∙ ap Ok (λ i. record { insts = sym h.1 i }),
 )
