@@ -6,7 +6,7 @@ use Rattle.spv_index.specs.Classes.{sets_of}
 use Rattle.spv_index.specs.Positions.{outside}
 use Rattle.spv_cfg.specs.Lowest.{lowest, sooner}
 use Rattle.spv_cfg.specs.Layout.{layout_breaches}
-use Rattle.spv_cfg.specs.Branches.{names_of, branch_breaches}
+use Rattle.spv_cfg.specs.Branches.{branch_breaches}
 use Rattle.spv_cfg.specs.Phis.{phi_breaches}
 use Rattle.spv_cfg.specs.Flow.{Flow, flow_in, flow_of, block_breaches, call_breaches, refusal, unless_refused}
 use Rattle.spv_cfg.proofs.LayoutLemmas.{IsWhole, nil_parts}
@@ -42,7 +42,7 @@ none_refused (Some b) (Some c) due f is = absurd (cc)
 -- what it means for a module to have a flow
 pub record IsAccepted (insts : List Inst) (f : Flow) : Type 0 where
   pub whole : IsWhole (sets_of insts) outside insts
-  pub branches : branch_breaches (names_of insts) insts ≡ []
+  pub branches : branch_breaches insts ≡ []
   pub calls : call_breaches insts ≡ []
   pub flow : f ≡ flow_in insts
 
@@ -50,8 +50,8 @@ pub flow_accepted : (insts : List Inst) (f : Flow) → flow_of insts ≡ Ok f �
 unfolding flow_of
 flow_accepted insts f is =
     let none = none_refused (lowest (block_breaches insts)) (lowest (call_breaches insts)) (flow_in insts) f is in
-    let blocks = nil_parts (layout_breaches (sets_of insts) insts) _ (lowest-none (block_breaches insts) none.0) in
-    let rest = nil_parts (branch_breaches (names_of insts) insts) (phi_breaches (names_of insts) insts) blocks.1 in
+    let blocks = nil_parts (layout_breaches insts) _ (lowest-none (block_breaches insts) none.0) in
+    let rest = nil_parts (branch_breaches insts) (phi_breaches insts) blocks.1 in
     record {
       whole = blocks.0;
       branches = rest.0;

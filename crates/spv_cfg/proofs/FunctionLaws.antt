@@ -9,13 +9,11 @@ use Rattle.spv_base.specs.Entries.{reads}
 use Rattle.spv_base.specs.declared.instructions.Inst.{Inst}
 use Rattle.spv_index.specs.declared.classes.Class.{Class}
 use Rattle.spv_index.specs.declared.classes.Class.TheVariants.{Function, Executable}
-use Rattle.spv_cfg.specs.declared.names.Home.{Home}
-use Rattle.spv_cfg.specs.declared.names.Names.{Names}
 use Rattle.spv_index.specs.declared.positions.Position.{Position}
 use Rattle.spv_index.specs.Classes.{is_debug, number_at, class_of, classes}
 use Rattle.spv_index.specs.Positions.{Stand, stands, begins, position_after}
 use Rattle.spv_cfg.specs.Executables.{executable_of}
-use Rattle.spv_cfg.specs.Branches.{label_of}
+use Rattle.spv_cfg.specs.Branches.{Home, label_of}
 use Rattle.spv_cfg.specs.Calls.{depths, function_of, functions_of, lengths, limit, longest, over, too_deep}
 use Rattle.spv_cfg.specs.Flow.{Flow}
 use Rattle.spv_cfg.specs.Laws.{HasDepth, HasFirstBlock}
@@ -119,27 +117,27 @@ depths_are_known f calls whole sets position (inst ∷ insts) front depths_are n
 
 -- ---- first blocks
 
-begun_at : (r : Class) (f : Flow) (names : Names) (position : Position) (inst : Inst) (labels rest : List (ℕ × Home)) (front es : List (ℕ × ℕ))
+begun_at : (r : Class) (f : Flow) (known : List (ℕ × Home)) (position : Position) (inst : Inst) (labels rest : List (ℕ × Home)) (front es : List (ℕ × ℕ))
     → (position_after position r inst ≡ begins inst → Begun inst.id rest es)
-    → labels ++ (label_of (record { position = position; class = r; inst = inst }) ++ rest) ≡ names.labels
+    → labels ++ (label_of (record { position = position; class = r; inst = inst }) ++ rest) ≡ known
     → front ++ (executable_of (record { position = position; class = r; inst = inst }) ++ es) ≡ f.blocks
-    → r ≡ Function → HasFirstBlock names f inst.id
-begun_at Function f names position inst labels rest front es begun labels_are blocks_are class =
+    → r ≡ Function → HasFirstBlock known f inst.id
+begun_at Function f known position inst labels rest front es begun labels_are blocks_are class =
     let found = begun refl in
     (found.0, rw labels_are at (Contains-append_right labels rest _ found.1), first_among f front es found.0 found.2 blocks_are)
-begun_at other f names position inst labels rest front es begun labels_are blocks_are class = absurd (cc)
+begun_at other f known position inst labels rest front es begun labels_are blocks_are class = absurd (cc)
 
-pub functions_begin : (f : Flow) (names : Names) (sets : List (ℕ × Bool)) (position : Position) (insts : List Inst) (labels : List (ℕ × Home)) (front : List (ℕ × ℕ))
-    → IsWhole sets position insts → labels ++ flat_map label_of (stands sets position insts) ≡ names.labels → front ++ executables_from sets position insts ≡ f.blocks
-    → AllByRecursion (λ (s : Stand). s.class ≡ Function → HasFirstBlock names f s.inst.id) (stands sets position insts)
-functions_begin f names sets position [] labels front whole labels_are blocks_are = tt
-functions_begin f names sets position (inst ∷ insts) labels front whole labels_are blocks_are =
+pub functions_begin : (f : Flow) (known : List (ℕ × Home)) (sets : List (ℕ × Bool)) (position : Position) (insts : List Inst) (labels : List (ℕ × Home)) (front : List (ℕ × ℕ))
+    → IsWhole sets position insts → labels ++ flat_map label_of (stands sets position insts) ≡ known → front ++ executables_from sets position insts ≡ f.blocks
+    → AllByRecursion (λ (s : Stand). s.class ≡ Function → HasFirstBlock known f s.inst.id) (stands sets position insts)
+functions_begin f known sets position [] labels front whole labels_are blocks_are = tt
+functions_begin f known sets position (inst ∷ insts) labels front whole labels_are blocks_are =
     let parts = whole_parts sets position inst insts whole in
     let after : Position = position_after position (class_of sets inst) inst in
     let here : Stand = stand sets position inst in
     let rest : List (ℕ × Home) = flat_map label_of (stands sets after insts) in
     let es : List (ℕ × ℕ) = executables_from sets after insts in (
-      begun_at (class_of sets inst) f names position inst labels rest front es (λ same. rw same (function_begins sets inst insts (rw same at parts.1))) labels_are blocks_are,
-      functions_begin f names sets after insts (labels ++ label_of here) (front ++ executable_of here) parts.1
-          (one_further labels (label_of here) rest names.labels labels_are) (one_further front (executable_of here) es f.blocks blocks_are),
+      begun_at (class_of sets inst) f known position inst labels rest front es (λ same. rw same (function_begins sets inst insts (rw same at parts.1))) labels_are blocks_are,
+      functions_begin f known sets after insts (labels ++ label_of here) (front ++ executable_of here) parts.1
+          (one_further labels (label_of here) rest known labels_are) (one_further front (executable_of here) es f.blocks blocks_are),
     )

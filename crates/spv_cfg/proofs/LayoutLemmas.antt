@@ -4,7 +4,6 @@ use Rattle.std.specs.List.{Contains, flat_map}
 use Rattle.spv_base.specs.declared.instructions.Inst.{Inst}
 use Rattle.spv_index.specs.declared.classes.Class.{Class}
 use Rattle.spv_index.specs.declared.classes.Class.TheVariants.{Function, Parameter, End, Label, Line, Phi, Variable, Terminator, Passed, Executable}
-use Rattle.spv_cfg.specs.declared.names.Home.{Home}
 use Rattle.spv_index.specs.declared.positions.Stage.{Stage}
 use Rattle.spv_index.specs.declared.positions.Stage.TheVariants.{Body, Variables}
 use Rattle.spv_index.specs.declared.positions.Position.{Position}
@@ -12,7 +11,7 @@ use Rattle.spv_index.specs.Classes.{class_of}
 use Rattle.spv_index.specs.Positions.{stands, position_after, position_behind, begins, in_block, among_variables}
 use Rattle.spv_cfg.specs.Executables.{executable_of}
 use Rattle.spv_cfg.specs.Layout.{layout_breach, lacking, unended, unfinished}
-use Rattle.spv_cfg.specs.Branches.{label_of}
+use Rattle.spv_cfg.specs.Branches.{Home, label_of}
 use Rattle.spv_cfg.proofs.Walks.{stand}
 
 pub nil_parts : {X : Type 0} (xs ys : List X) → xs ++ ys ≡ [] → (xs ≡ []) × (ys ≡ [])

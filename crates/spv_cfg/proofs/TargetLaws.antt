@@ -1,40 +1,37 @@
 -- Each label that a terminator may go to is one of its function, and its block has a first executable.
-use Rattle.std.proofs.Common.{◌≡◌, ◌==◌, ℕ, Bool, true, false, not, cond, List, [], ◌∷◌, ◌++◌, ◌&&◌, Option, Some, None, refl, subst}
+use Rattle.std.proofs.Common.{◌≡◌, ◌==◌, ℕ, Bool, true, false, not, cond, List, [], ◌∷◌, ◌&&◌, Some, None, refl, subst}
 use Rattle.std.proofs.lemmas.Bool.{eqb-true}
 use Rattle.std.specs.List.{AllByRecursion, flat_map, list_all}
-use Rattle.spv_base.specs.Entries.{reads}
-use Rattle.spv_cfg.specs.declared.names.Home.{Home}
-use Rattle.spv_cfg.specs.declared.names.Names.{Names}
 use Rattle.spv_index.specs.Classes.{is_label, is_terminator}
-use Rattle.spv_index.specs.Positions.{Stand, in_block, in_function, is_head}
-use Rattle.spv_cfg.specs.Branches.{branch_breach, is_branch_right, is_home, is_target, label_of, selector_width, targets_of}
+use Rattle.spv_index.specs.Positions.{Stand, in_block, in_function, is_head, stand_of, standing, stands_of}
+use Rattle.spv_index.specs.Definitions.{has_result, is_id}
+use Rattle.spv_base.specs.declared.instructions.Inst.{Inst}
+use Rattle.std.specs.Prelude.{find}
+use Rattle.std.specs.Option.{option_map}
+use Rattle.spv_cfg.specs.Branches.{branch_breach, is_branch_right, is_later_block_of, is_target, selector_width, stands_so, targets_of}
 use Rattle.spv_cfg.specs.Flow.{Flow}
 use Rattle.spv_cfg.specs.Laws.{HasFirst, IsEntered}
 use Rattle.spv_cfg.proofs.LayoutLemmas.{nil_parts}
 
-home_known : (function : ℕ) (o : Option Home) → is_home function o ≡ true → (home : Home) × (o ≡ Some home)
-home_known function None is = absurd (cc)
-home_known function (Some home) is = (home, refl)
-
--- a label that has a home has a first executable, as each label of a function has
-label_entered : (f : Flow) (stood : List Stand) (label : ℕ) (home : Home)
+-- the label that stands so is one of a block, and its block has a first executable, as each block of a function has
+label_entered : (f : Flow) (function label : ℕ) (stood : List Stand)
     → AllByRecursion (λ (s : Stand). (is_label s.class && in_function s.position.stage) ≡ true → HasFirst f s.inst.id) stood
-    → reads label (flat_map label_of stood) ≡ Some home → HasFirst f label
-label_entered f [] label home entered read = absurd (cc)
-label_entered f (s ∷ more) label home entered read = by_class (is_label s.class && in_function s.position.stage) entered.0 (label_entered f more label home entered.1) read
+    → stands_so (is_later_block_of function) (option_map standing (find (λ (s : Stand). has_result label s.inst) stood)) ≡ true → HasFirst f label
+label_entered f function label [] entered so = absurd (cc)
+label_entered f function label (s ∷ more) entered so = by_label (s.inst.id == label) refl entered.0 (label_entered f function label more entered.1) so
   where
-    here : Home
-    here = record { function = s.position.function; first = is_head s.position.stage }
+    labels : (c stage own later : Bool) → (c && (stage && own)) && later ≡ true → (c && stage) ≡ true
+    labels true true own later is = refl
+    labels true false own later is = absurd (cc)
+    labels false stage own later is = absurd (cc)
 
-    by_label : (b : Bool) → (s.inst.id == label) ≡ b → HasFirst f s.inst.id → (reads label (flat_map label_of more) ≡ Some home → HasFirst f label)
-        → cond b (Some here) (reads label (flat_map label_of more)) ≡ Some home → HasFirst f label
-    by_label true same first later is = subst (HasFirst f) (eqb-true s.inst.id label same) first
+    by_label : (b : Bool) → (s.inst.id == label) ≡ b → ((is_label s.class && in_function s.position.stage) ≡ true → HasFirst f s.inst.id)
+        → (stands_so (is_later_block_of function) (option_map standing (find (λ (t : Stand). has_result label t.inst) more)) ≡ true → HasFirst f label)
+        → stands_so (is_later_block_of function) (option_map standing (cond b (Some s) (find (λ (t : Stand). has_result label t.inst) more))) ≡ true → HasFirst f label
+    by_label true same first later is =
+        subst (HasFirst f) (eqb-true s.inst.id label same)
+        (first (labels (is_label s.class) (in_function s.position.stage) (s.position.function == function) (not (is_head s.position.stage)) is))
     by_label false same first later is = later is
-
-    by_class : (b : Bool) → (b ≡ true → HasFirst f s.inst.id) → (reads label (flat_map label_of more) ≡ Some home → HasFirst f label)
-        → reads label (cond b ((s.inst.id, here) ∷ []) [] ++ flat_map label_of more) ≡ Some home → HasFirst f label
-    by_class true first later is = by_label (s.inst.id == label) refl (first refl) later is
-    by_class false first later is = later is
 
 pub all_from_test : {X : Type 0} (test : X → Bool) (P : X → Type 0) → ((x : X) → test x ≡ true → P x) → (xs : List X) → list_all test xs ≡ true → AllByRecursion P xs
 all_from_test test P holds [] passed = tt
@@ -54,23 +51,27 @@ first_part : (p q : Bool) → (p && q) ≡ true → p ≡ true
 first_part true q is = refl
 first_part false q is = cc
 
-pub branches_are_entered : (f : Flow) (names : Names) (stood : List Stand) → ((function label : ℕ) → is_target names.labels function label ≡ true → HasFirst f label)
-    → flat_map (branch_breach names) stood ≡ []
+pub branches_are_entered : (f : Flow) (insts : List Inst) (stood : List Stand) → ((function label : ℕ) → is_target insts function label ≡ true → HasFirst f label)
+    → flat_map (branch_breach insts) stood ≡ []
     → AllByRecursion (λ (s : Stand). (is_terminator s.class && in_block s.position.stage) ≡ true
-    → AllByRecursion (IsEntered names f s.position.function) (targets_of (selector_width names s.inst) s.inst)) stood
-branches_are_entered f names [] first none = tt
-branches_are_entered f names (s ∷ more) first none =
-    let parts = nil_parts (branch_breach names s) (flat_map (branch_breach names) more) none in
-    let width : ℕ = selector_width names s.inst in (
+    → AllByRecursion (IsEntered insts f s.position.function) (targets_of (selector_width insts s.inst) s.inst)) stood
+branches_are_entered f insts [] first none = tt
+branches_are_entered f insts (s ∷ more) first none =
+    let parts = nil_parts (branch_breach insts s) (flat_map (branch_breach insts) more) none in
+    let width : ℕ = selector_width insts s.inst in (
       λ ends.
-          let right = right_from_none (is_terminator s.class && in_block s.position.stage) (is_branch_right names.labels width s.position.function s.inst) s.inst.word ends parts.0 in
-          all_from_test (is_target names.labels s.position.function) (IsEntered names f s.position.function) (λ label is. (is, first s.position.function label is)) (targets_of width s.inst)
-          (first_part (list_all (is_target names.labels s.position.function) (targets_of width s.inst)) _ right),
-      branches_are_entered f names more first parts.1,
+          let right = right_from_none (is_terminator s.class && in_block s.position.stage) (is_branch_right insts width s.position.function s.inst) s.inst.word ends parts.0 in
+          all_from_test (is_target insts s.position.function) (IsEntered insts f s.position.function) (λ label is. (is, first s.position.function label is)) (targets_of width s.inst)
+          (first_part (list_all (is_target insts s.position.function) (targets_of width s.inst)) _ right),
+      branches_are_entered f insts more first parts.1,
     )
 
-pub target_entered : (f : Flow) (stood : List Stand) → AllByRecursion (λ (s : Stand). (is_label s.class && in_function s.position.stage) ≡ true → HasFirst f s.inst.id) stood
-    → (function label : ℕ) → is_target (flat_map label_of stood) function label ≡ true → HasFirst f label
-target_entered f stood entered function label is =
-    let home = home_known function (reads label (flat_map label_of stood)) is in
-    label_entered f stood label home.0 entered home.1
+pub target_entered : (f : Flow) (insts : List Inst)
+    → AllByRecursion (λ (s : Stand). (is_label s.class && in_function s.position.stage) ≡ true → HasFirst f s.inst.id) (stands_of insts)
+    → (function label : ℕ) → is_target insts function label ≡ true → HasFirst f label
+unfolding stand_of
+target_entered f insts entered function label is = by_id (is_id label) is
+  where
+    by_id : (b : Bool) → stands_so (is_later_block_of function) (option_map standing (cond b (find (λ (s : Stand). has_result label s.inst) (stands_of insts)) None)) ≡ true → HasFirst f label
+    by_id true so = label_entered f function label (stands_of insts) entered so
+    by_id false so = absurd (cc)

@@ -1,12 +1,17 @@
 -- Breaches of branches (SPIR-V 1.6 section 2.16.1, and OpBranch, OpBranchConditional, OpSwitch): their targets, and the literals of switches.
-use Rattle.std.specs.Prelude.{ℕ, Bool, true, false, not, List, [], ◌∷◌, ◌+◌, ◌*◌, ◌%◌, ◌^◌, ◌==◌, ◌&&◌, if◌then◌else◌, Option, Some, None, unwrap_or, map, length, drop}
+use Rattle.std.specs.Prelude.{ℕ, Bool, true, false, not, List, [], ◌∷◌, ◌+◌, ◌*◌, ◌%◌, ◌^◌, ◌==◌, ◌&&◌, if◌then◌else◌, Option, Some, None, map, length, drop}
+use Rattle.std.specs.Option.{option_and_then, option_map}
 use Rattle.std.specs.List.{flat_map, list_any, list_all}
-use Rattle.spv_base.specs.Entries.{reads}
 use Rattle.spv_base.specs.declared.instructions.Inst.{Inst}
-use Rattle.spv_cfg.specs.declared.names.Home.{Home}
-use Rattle.spv_cfg.specs.declared.names.Names.{Names}
-use Rattle.spv_index.specs.Classes.{is_label, is_terminator, numbers_of, number_at, sets_of}
-use Rattle.spv_index.specs.Positions.{Stand, stands, outside, in_block, in_function, is_head}
+use Rattle.spv_index.specs.declared.positions.Standing.{Standing}
+use Rattle.spv_index.specs.Classes.{is_label, is_terminator, numbers_of, number_at}
+use Rattle.spv_index.specs.Positions.{Stand, in_block, in_function, is_head, stand_of, standing, stands_of}
+use Rattle.spv_index.specs.Definitions.{defining, result_type}
+
+-- the id of a label's function, and whether the label is the first one there
+pub record Home : Type 0 where
+  pub function : ℕ
+  pub first : Bool
 
 -- the labels, each with its function and whether it is the first one there
 abbrev pub label_of : Stand → List (ℕ × Home)
@@ -15,36 +20,38 @@ label_of s =
     then (s.inst.id, record { function = s.position.function; first = is_head s.position.stage }) ∷ []
     else []
 
-abbrev pub labels_of : List (ℕ × Bool) → List Inst → List (ℕ × Home)
-labels_of sets insts = flat_map label_of (stands sets outside insts)
+abbrev pub labels_of : List Inst → List (ℕ × Home)
+labels_of insts = flat_map label_of (stands_of insts)
+
+-- where a label of a function stands, and where one that isn't its first
+abbrev pub is_block_of : ℕ → Standing → Bool
+is_block_of function s = is_label s.class && (in_function s.position.stage && (s.position.function == function))
+
+abbrev pub is_later_block_of : ℕ → Standing → Bool
+is_later_block_of function s = is_block_of function s && not (is_head s.position.stage)
+
+abbrev pub stands_so : (Standing → Bool) → Option Standing → Bool
+stands_so test None = false
+stands_so test (Some s) = test s
+
+-- a label of this function
+abbrev pub is_within : List Inst → ℕ → ℕ → Bool
+is_within insts function label = stands_so (is_block_of function) (option_map standing (stand_of insts label))
 
 -- a label of this function, but not its first
-abbrev pub is_home : ℕ → Option Home → Bool
-is_home function None = false
-is_home function (Some home) = (home.function == function) && not home.first
-
-abbrev pub is_target : List (ℕ × Home) → ℕ → ℕ → Bool
-is_target labels function label = is_home function (reads label labels)
+abbrev pub is_target : List Inst → ℕ → ℕ → Bool
+is_target insts function label = stands_so (is_later_block_of function) (option_map standing (stand_of insts label))
 
 -- ---- switches
 
--- the results, each with its type, and the integer types, each with its width
-abbrev pub types_of : List Inst → List (ℕ × ℕ)
-types_of insts = map (λ i. (i.id, i.ty)) insts
+-- the width of an integer type (21); another type counts as one of 32 bits
+abbrev pub width_in : Option Inst → ℕ
+width_in None = 32
+width_in (Some i) = if i.op == 21 then number_at i 0 else 32
 
-abbrev pub width_in : Inst → List (ℕ × ℕ)
-width_in inst = if inst.op == 21 then (inst.id, number_at inst 0) ∷ [] else []
-
-abbrev pub widths_of : List Inst → List (ℕ × ℕ)
-widths_of insts = flat_map width_in insts
-
--- what the ids of a module stand for
-abbrev pub names_of : List Inst → Names
-names_of insts = record { sets = sets_of insts; labels = labels_of (sets_of insts) insts; types = types_of insts; widths = widths_of insts }
-
--- the width of the selector's integer type, the selector being the first operand; another type counts as one of 32 bits
-abbrev pub selector_width : Names → Inst → ℕ
-selector_width names inst = unwrap_or (reads (unwrap_or (reads (number_at inst 0) names.types) 0) names.widths) 32
+-- the width of the selector's type, the selector being the first operand
+abbrev pub selector_width : List Inst → Inst → ℕ
+selector_width insts inst = width_in (option_and_then (defining insts) (result_type insts (number_at inst 0)))
 
 -- pairs of a literal and a label: a literal has one word, or two, the low one first
 abbrev pub cases_by_word : List ℕ → List (ℕ × ℕ)
@@ -91,15 +98,15 @@ targets_of width inst =
     else if inst.op == 251 then number_at inst 1 ∷ map (λ c. c.1) (cases width (case_words inst))
     else []
 
-abbrev pub is_branch_right : List (ℕ × Home) → ℕ → ℕ → Inst → Bool
-is_branch_right labels width function inst =
-    list_all (is_target labels function) (targets_of width inst) && (if inst.op == 251 then is_switch_right width inst else true)
+abbrev pub is_branch_right : List Inst → ℕ → ℕ → Inst → Bool
+is_branch_right insts width function inst =
+    list_all (is_target insts function) (targets_of width inst) && (if inst.op == 251 then is_switch_right width inst else true)
 
-abbrev pub branch_breach : Names → Stand → List ℕ
-branch_breach names s =
+abbrev pub branch_breach : List Inst → Stand → List ℕ
+branch_breach insts s =
     if (is_terminator s.class && in_block s.position.stage)
-    && not (is_branch_right names.labels (selector_width names s.inst) s.position.function s.inst)
+    && not (is_branch_right insts (selector_width insts s.inst) s.position.function s.inst)
     then s.inst.word ∷ [] else []
 
-abbrev pub branch_breaches : Names → List Inst → List ℕ
-branch_breaches names insts = flat_map (branch_breach names) (stands names.sets outside insts)
+abbrev pub branch_breaches : List Inst → List ℕ
+branch_breaches insts = flat_map (branch_breach insts) (stands_of insts)

@@ -2,11 +2,10 @@
 use Rattle.std.specs.Prelude.{ℕ, length, List, ◌++◌, Option, Some, None, Result, Ok, Err, nat_lt, if◌then◌else◌}
 use Rattle.spv_base.specs.declared.causes.Refusal.{Refusal}
 use Rattle.spv_base.specs.declared.instructions.Inst.{Inst}
-use Rattle.spv_index.specs.Classes.{sets_of}
 use Rattle.spv_cfg.specs.Executables.{executables_of, followed}
 use Rattle.spv_cfg.specs.Lowest.{lowest}
 use Rattle.spv_cfg.specs.Layout.{layout_breaches}
-use Rattle.spv_cfg.specs.Branches.{names_of, branch_breaches}
+use Rattle.spv_cfg.specs.Branches.{branch_breaches}
 use Rattle.spv_cfg.specs.Phis.{phi_breaches}
 use Rattle.spv_cfg.specs.Calls.{functions_of, calls_of, lengths, depths, too_deep}
 
@@ -31,7 +30,7 @@ flow_in insts = record {
 -- where a rule of blocks, terminators or phis is broken
 abbrev pub block_breaches : List Inst → List ℕ
 block_breaches insts =
-    layout_breaches (sets_of insts) insts ++ (branch_breaches (names_of insts) insts ++ phi_breaches (names_of insts) insts)
+    layout_breaches insts ++ (branch_breaches insts ++ phi_breaches insts)
 
 -- where a chain of calls is too long, or a cycle
 abbrev pub call_breaches : List Inst → List ℕ

@@ -3,16 +3,11 @@ use Rattle.std.specs.Prelude.{◌≡◌, ◌&&◌, ◌≤◌, ℕ, true, false, 
 use Rattle.std.specs.List.{AllByRecursion, Contains}
 use Rattle.spv_base.specs.Entries.{reads}
 use Rattle.spv_base.specs.declared.instructions.Inst.{Inst}
-use Rattle.spv_cfg.specs.declared.names.Names.{Names}
 use Rattle.spv_index.specs.declared.classes.Class.TheVariants.{Function}
-use Rattle.spv_index.specs.Classes.{is_executable, is_label, is_terminator, sets_of}
-use Rattle.spv_index.specs.Positions.{Stand, in_block, in_function, stands, outside}
-use Rattle.spv_cfg.specs.Branches.{is_target, names_of, selector_width, targets_of}
+use Rattle.spv_index.specs.Classes.{is_executable, is_label, is_terminator}
+use Rattle.spv_index.specs.Positions.{Stand, in_block, in_function, stands_of}
+use Rattle.spv_cfg.specs.Branches.{Home, is_target, labels_of, selector_width, targets_of}
 use Rattle.spv_cfg.specs.Flow.{Flow}
-
--- each instruction of a module with where it stands
-abbrev pub stood : List Inst → List Stand
-stood insts = stands (sets_of insts) outside insts
 
 -- a run that comes to the block with this label stops first at this word
 abbrev pub FirstAt : Flow → ℕ → ℕ → Type 0
@@ -26,37 +21,37 @@ abbrev pub HasNext : Flow → Stand → Type 0
 HasNext f s = (w : ℕ) × (reads s.inst.word f.nexts ≡ Some (Some w)) × Contains f.blocks (s.position.label, w)
 
 -- a branch in this function may go to this label: it is one of the function, but not its first, and a run can begin there
-abbrev pub IsEntered : Names → Flow → ℕ → ℕ → Type 0
-IsEntered names f function label = (is_target names.labels function label ≡ true) × HasFirst f label
+abbrev pub IsEntered : List Inst → Flow → ℕ → ℕ → Type 0
+IsEntered insts f function label = (is_target insts function label ≡ true) × HasFirst f label
 
 -- the longest chain of calls from this function is known, and not too long
 abbrev pub HasDepth : Flow → ℕ → Type 0
 HasDepth f id = (n : ℕ) × (reads id f.depths ≡ Some n) × (1 ≤ n) × (n ≤ 64)
 
 -- a call of this function has a block to begin with
-abbrev pub HasFirstBlock : Names → Flow → ℕ → Type 0
-HasFirstBlock names f id = (label : ℕ) × Contains names.labels (label, record { function = id; first = true }) × HasFirst f label
+abbrev pub HasFirstBlock : List (ℕ × Home) → Flow → ℕ → Type 0
+HasFirstBlock labels f id = (label : ℕ) × Contains labels (label, record { function = id; first = true }) × HasFirst f label
 
 -- ---- of all that stands in a module
 
 -- each block of a function has a first executable
 abbrev pub BlocksAreEntered : List Inst → Flow → Type 0
-BlocksAreEntered insts f = AllByRecursion (λ (s : Stand). (is_label s.class && in_function s.position.stage) ≡ true → HasFirst f s.inst.id) (stood insts)
+BlocksAreEntered insts f = AllByRecursion (λ (s : Stand). (is_label s.class && in_function s.position.stage) ≡ true → HasFirst f s.inst.id) (stands_of insts)
 
 -- each executable of a block that is no terminator has a next one
 abbrev pub RunsGoOn : List Inst → Flow → Type 0
-RunsGoOn insts f = AllByRecursion (λ (s : Stand). (is_executable s.class && in_block s.position.stage) ≡ true → is_terminator s.class ≡ false → HasNext f s) (stood insts)
+RunsGoOn insts f = AllByRecursion (λ (s : Stand). (is_executable s.class && in_block s.position.stage) ≡ true → is_terminator s.class ≡ false → HasNext f s) (stands_of insts)
 
 -- each label that a terminator may go to can be gone to
 abbrev pub TargetsAreEntered : List Inst → Flow → Type 0
 TargetsAreEntered insts f =
     AllByRecursion (λ (s : Stand). (is_terminator s.class && in_block s.position.stage) ≡ true
-    → AllByRecursion (IsEntered (names_of insts) f s.position.function) (targets_of (selector_width (names_of insts) s.inst) s.inst)) (stood insts)
+    → AllByRecursion (IsEntered insts f s.position.function) (targets_of (selector_width insts s.inst) s.inst)) (stands_of insts)
 
 -- each function has a depth
 abbrev pub FunctionsHaveDepths : List Inst → Flow → Type 0
-FunctionsHaveDepths insts f = AllByRecursion (λ (s : Stand). s.class ≡ Function → HasDepth f s.inst.id) (stood insts)
+FunctionsHaveDepths insts f = AllByRecursion (λ (s : Stand). s.class ≡ Function → HasDepth f s.inst.id) (stands_of insts)
 
 -- each function has a block to begin with
 abbrev pub FunctionsAreEntered : List Inst → Flow → Type 0
-FunctionsAreEntered insts f = AllByRecursion (λ (s : Stand). s.class ≡ Function → HasFirstBlock (names_of insts) f s.inst.id) (stood insts)
+FunctionsAreEntered insts f = AllByRecursion (λ (s : Stand). s.class ≡ Function → HasFirstBlock (labels_of insts) f s.inst.id) (stands_of insts)

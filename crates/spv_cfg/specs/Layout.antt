@@ -5,8 +5,8 @@ use Rattle.spv_base.specs.declared.instructions.Inst.{Inst}
 use Rattle.spv_index.specs.declared.classes.Class.{Class}
 use Rattle.spv_index.specs.declared.classes.Class.TheVariants.{Function, Parameter, End, Label, Line, Phi, Variable, Terminator, Passed, Executable}
 use Rattle.spv_index.specs.declared.positions.Position.{Position}
-use Rattle.spv_index.specs.Classes.{ends_block}
-use Rattle.spv_index.specs.Positions.{Stand, stands, outside, position_behind, in_block, in_function, is_head, among_phis, among_variables}
+use Rattle.spv_index.specs.Classes.{ends_block, sets_of}
+use Rattle.spv_index.specs.Positions.{Stand, outside, position_after, position_behind, stands_of, in_block, in_function, is_head, among_phis, among_variables}
 
 -- A block that has no terminator: the next label, or the end of the function, comes first. It stands at its OpLabel.
 abbrev pub unended : Position → Class → List ℕ
@@ -51,5 +51,10 @@ layout_breach s = unended s.position s.class ++ (lacking s.position s.class ++ m
 abbrev pub unfinished : Position → List ℕ
 unfinished position = unended position Function ++ lacking position Function
 
-abbrev pub layout_breaches : List (ℕ × Bool) → List Inst → List ℕ
-layout_breaches sets insts = flat_map layout_breach (stands sets outside insts) ++ unfinished (position_behind sets outside insts)
+-- the position behind instructions, which stand so, where the one behind those before them is known
+abbrev pub behind : Position → List Stand → Position
+behind position [] = position
+behind position (s ∷ more) = behind (position_after s.position s.class s.inst) more
+
+abbrev pub layout_breaches : List Inst → List ℕ
+layout_breaches insts = flat_map layout_breach (stands_of insts) ++ unfinished (position_behind (sets_of insts) outside insts)

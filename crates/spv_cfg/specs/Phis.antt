@@ -1,36 +1,28 @@
 -- Breaches of phis (SPIR-V 1.6, OpPhi): one pair for each predecessor of the block.
-use Rattle.std.specs.Prelude.{ℕ, Bool, false, not, List, [], ◌∷◌, ◌++◌, ◌%◌, ◌==◌, ◌&&◌, if◌then◌else◌, Option, Some, None, map, length}
+use Rattle.std.specs.Prelude.{ℕ, Bool, not, List, [], ◌∷◌, ◌++◌, ◌%◌, ◌==◌, ◌&&◌, if◌then◌else◌, map, length}
 use Rattle.std.specs.List.{flat_map, filter, list_any, list_all, count_by}
-use Rattle.spv_base.specs.Entries.{reads}
 use Rattle.spv_base.specs.declared.instructions.Inst.{Inst}
-use Rattle.spv_cfg.specs.declared.names.Home.{Home}
-use Rattle.spv_cfg.specs.declared.names.Names.{Names}
 use Rattle.spv_index.specs.Classes.{is_phi, is_terminator, numbers_of}
-use Rattle.spv_index.specs.Positions.{Stand, stands, outside, in_block}
-use Rattle.spv_cfg.specs.Branches.{targets_of, selector_width, cases_by_word, are_distinct}
+use Rattle.spv_index.specs.Positions.{Stand, in_block, stands_of}
+use Rattle.spv_cfg.specs.Branches.{is_within, targets_of, selector_width, cases_by_word, are_distinct}
 
 -- each number once
 abbrev pub distinct : List ℕ → List ℕ
 distinct [] = []
 distinct (number ∷ numbers) = distinct numbers ++ (if list_any (λ n. n == number) numbers then [] else number ∷ [])
 
--- a label of this function
-abbrev pub is_within : ℕ → Option Home → Bool
-is_within function None = false
-is_within function (Some home) = home.function == function
-
 -- the edges from a block to the blocks of its function: the label of the target, and the label of the block
-abbrev pub edges_by : Names → ℕ → ℕ → Inst → List (ℕ × ℕ)
-edges_by names function label inst =
+abbrev pub edges_by : List Inst → ℕ → ℕ → Inst → List (ℕ × ℕ)
+edges_by insts function label inst =
     map (λ target. (target, label))
-    (distinct (filter (λ target. is_within function (reads target names.labels)) (targets_of (selector_width names inst) inst)))
+    (distinct (filter (λ target. is_within insts function target) (targets_of (selector_width insts inst) inst)))
 
-abbrev pub edges_from : Names → Stand → List (ℕ × ℕ)
-edges_from names s =
-    if is_terminator s.class && in_block s.position.stage then edges_by names s.position.function s.position.label s.inst else []
+abbrev pub edges_from : List Inst → Stand → List (ℕ × ℕ)
+edges_from insts s =
+    if is_terminator s.class && in_block s.position.stage then edges_by insts s.position.function s.position.label s.inst else []
 
-abbrev pub edges_of : Names → List Inst → List (ℕ × ℕ)
-edges_of names insts = flat_map (edges_from names) (stands names.sets outside insts)
+abbrev pub edges_of : List Inst → List (ℕ × ℕ)
+edges_of insts = flat_map (edges_from insts) (stands_of insts)
 
 -- how many blocks an edge goes from to a label, and whether one goes from this block
 abbrev pub predecessor_count : List (ℕ × ℕ) → ℕ → ℕ
@@ -52,5 +44,5 @@ is_phi_right edges label inst =
 abbrev pub phi_breach : List (ℕ × ℕ) → Stand → List ℕ
 phi_breach edges s = if (is_phi s.class && in_block s.position.stage) && not (is_phi_right edges s.position.label s.inst) then s.inst.word ∷ [] else []
 
-abbrev pub phi_breaches : Names → List Inst → List ℕ
-phi_breaches names insts = flat_map (phi_breach (edges_of names insts)) (stands names.sets outside insts)
+abbrev pub phi_breaches : List Inst → List ℕ
+phi_breaches insts = flat_map (phi_breach (edges_of insts)) (stands_of insts)

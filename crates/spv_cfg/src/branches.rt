@@ -1,28 +1,31 @@
 //! Branches (SPIR-V 1.6 section 2.16.1): their targets, and the literals of switches.
 ghost use Rattle.std.specs.Prelude.{◌≡◌, ◌==◌, IfOk, Bool, true, if◌then◌else◌};
-ghost use Rattle.std.specs.List.{list_all};
+ghost use Rattle.std.specs.List.{flat_map, list_all};
 ghost use Rattle.spv_cfg.specs.Lowest.{lowest};
 ghost use Rattle.spv_cfg.specs.Branches as spec;
 
+use crate::labels::{is_target, selector_width};
 use crate::lowest::sooner;
-use crate::names::Names;
 use crate::switches::{is_switch_right, switch_targets};
 use spv_base::{Inst, NoMemory};
-use spv_index::classes::{Class, class_of, number_at};
+use spv_index::Index;
+use spv_index::classes::{Class, number_at};
 use spv_index::positions::Position;
+use spv_index::stands::Stands;
+use spv_ops::op;
 use std::alloc::Global;
 
 /// The labels that a terminator may go to.
 pub fn targets_of(alloc: Global, width: u32, inst: &Inst) -> Result<Vec<u32>, NoMemory>
     ensures { IfOk result (λ targets. targets.items ≡ spec.targets_of width inst.now) }
 {
-    if inst.op == 251 {
+    if inst.op == op::SWITCH {
         return switch_targets(alloc, width, inst, number_at(inst, 1));
     }
     let mut targets = Vec::new(alloc);
-    if inst.op == 249 {
+    if inst.op == op::BRANCH {
         targets.push(number_at(inst, 0))?;
-    } else if inst.op == 250 {
+    } else if inst.op == op::BRANCH_CONDITIONAL {
         targets.push(number_at(inst, 1))?;
         targets.push(number_at(inst, 2))?;
     }
@@ -30,11 +33,11 @@ pub fn targets_of(alloc: Global, width: u32, inst: &Inst) -> Result<Vec<u32>, No
 }
 
 /// Whether all are labels of this function, but not its first.
-fn are_targets(names: &Names, function: u32, targets: &[u32]) -> bool
-    ensures { result ≡ list_all (spec.is_target names.now.labels function) targets.now }
+fn are_targets(index: &Index, function: u32, targets: &[u32]) -> bool
+    ensures { result ≡ list_all (spec.is_target index.now.insts function) targets.now }
 {
     for target in targets {
-        if !names.is_target(function, *target) {
+        if !is_target(index, function, *target) {
             return false;
         }
     }
@@ -45,7 +48,7 @@ fn are_targets(names: &Names, function: u32, targets: &[u32]) -> bool
 fn are_literals_right(alloc: Global, width: u32, inst: &Inst) -> Result<bool, NoMemory>
     ensures { IfOk result (λ right. right ≡ (if inst.now.op == 251 then spec.is_switch_right width inst.now else true)) }
 {
-    if inst.op == 251 {
+    if inst.op == op::SWITCH {
         is_switch_right(alloc, width, inst)
     } else {
         Ok(true)
@@ -55,32 +58,32 @@ fn are_literals_right(alloc: Global, width: u32, inst: &Inst) -> Result<bool, No
 /// Whether the targets and the literals of a terminator are right.
 fn is_branch_right(
     alloc: Global,
-    names: &Names,
+    index: &Index,
     function: u32,
     inst: &Inst,
 ) -> Result<bool, NoMemory>
-    ensures { IfOk result (λ right. right ≡ spec.is_branch_right names.now.labels (spec.selector_width names.now inst.now) function inst.now) }
+    ensures { IfOk result (λ right. right ≡ spec.is_branch_right index.now.insts (spec.selector_width index.now.insts inst.now) function inst.now) }
 {
-    let width = names.selector_width(inst);
+    let width = selector_width(index, inst);
     let targets = targets_of(alloc, width, inst)?;
     let literals = are_literals_right(alloc, width, inst)?;
-    Ok(are_targets(names, function, targets.as_slice()) && literals)
+    Ok(are_targets(index, function, targets.as_slice()) && literals)
 }
 
 /// The instruction, where it is a terminator whose targets or literals are not right.
 fn breach_at(
     alloc: Global,
-    names: &Names,
+    index: &Index,
     position: Position,
     class: Class,
     inst: &Inst,
 ) -> Result<Option<u32>, NoMemory>
-    ensures { IfOk result (λ breach. breach ≡ lowest (spec.branch_breach names.now (record { position = position; class = class; inst = inst.now }))) }
+    ensures { IfOk result (λ breach. breach ≡ lowest (spec.branch_breach index.now.insts (record { position = position; class = class; inst = inst.now }))) }
 {
     if !(class.is_terminator() && position.stage.in_block()) {
         return Ok(None);
     }
-    if is_branch_right(alloc, names, position.function, inst)? {
+    if is_branch_right(alloc, index, position.function, inst)? {
         Ok(None)
     } else {
         Ok(Some(inst.word))
@@ -88,16 +91,14 @@ fn breach_at(
 }
 
 /// The lowest word of a terminator whose targets or literals are not right.
-pub fn branch_breach(alloc: Global, names: &Names, insts: &[Inst]) -> Result<Option<u32>, NoMemory>
-    ensures { IfOk result (λ least. least ≡ lowest (spec.branch_breaches names.now insts.now)) }
+pub fn branch_breach(alloc: Global, index: &Index, stands: &Stands) -> Result<Option<u32>, NoMemory>
+    ensures { IfOk result (λ least. least ≡ lowest (flat_map (spec.branch_breach index.now.insts) stands.now)) }
 {
     let mut least = None;
-    let mut position = Position::outside();
-    for inst in insts {
-        let class = class_of(&names.sets, inst);
-        let next = breach_at(alloc, names, position, class, inst)?;
+    for n in 0..stands.len() {
+        let stand = stands.at(n);
+        let next = breach_at(alloc, index, stand.position, stand.class, stand.inst)?;
         least = sooner(least, next);
-        position = position.after(class, inst);
     }
     Ok(least)
 }

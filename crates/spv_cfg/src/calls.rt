@@ -1,6 +1,6 @@
 //! Chains of calls: which function calls which, and how long a chain of calls may become.
 ghost use Rattle.std.specs.Prelude.{◌≡◌, ◌<◌, ◌≤◌, ◌++◌, ◌∷◌, [], List, ℕ, suc, IfOk, length, slice_index};
-ghost use Rattle.std.specs.List.{All};
+ghost use Rattle.std.specs.List.{All, flat_map};
 ghost use Rattle.spv_cfg.specs.Lowest.{lowest};
 ghost use Rattle.spv_cfg.specs.Calls as spec;
 
@@ -9,6 +9,8 @@ use spv_base::{Inst, NoMemory};
 use spv_index::Table;
 use spv_index::classes::{class_of, number_at};
 use spv_index::positions::Position;
+use spv_index::stands::Stands;
+use spv_ops::op;
 use std::alloc::Global;
 
 /// The functions: the id and the word of each OpFunction.
@@ -17,7 +19,7 @@ pub fn functions_of(alloc: Global, insts: &[Inst]) -> Result<Vec<(u32, u32)>, No
 {
     let mut functions = Vec::new(alloc);
     for inst in insts {
-        if inst.op == 54 {
+        if inst.op == op::FUNCTION {
             functions.push((inst.id, inst.word))?;
         }
     }
@@ -47,7 +49,7 @@ pub fn calls_of(
     let mut calls = Vec::new(alloc);
     let mut position = Position::outside();
     for inst in insts {
-        if inst.op == 57 && position.stage.in_function() {
+        if inst.op == op::FUNCTION_CALL && position.stage.in_function() {
             if let Some(caller) = numbers.get(position.function) {
                 if let Some(callee) = numbers.get(number_at(inst, 0)) {
                     calls.push((caller, callee))?;
@@ -55,6 +57,29 @@ pub fn calls_of(
             }
         }
         position = position.after(class_of(sets, inst), inst);
+    }
+    Ok(calls)
+}
+
+/// The calls among instructions, each by the number of the function that it stands in and the number of the one that it
+/// names.
+fn calls_among(
+    alloc: Global,
+    numbers: &Table<usize>,
+    stands: &Stands,
+) -> Result<Vec<(usize, usize)>, NoMemory>
+    ensures { IfOk result (λ calls. calls.items ≡ flat_map (spec.call_of numbers.now) stands.now) }
+{
+    let mut calls = Vec::new(alloc);
+    for n in 0..stands.len() {
+        let stand = stands.at(n);
+        if stand.inst.op == op::FUNCTION_CALL && stand.position.stage.in_function() {
+            if let Some(caller) = numbers.get(stand.position.function) {
+                if let Some(callee) = numbers.get(number_at(stand.inst, 0)) {
+                    calls.push((caller, callee))?;
+                }
+            }
+        }
     }
     Ok(calls)
 }
@@ -100,15 +125,14 @@ fn longest_chains(
 /// For each function the length of the longest chain of calls from it, of the chains of at most 65 functions.
 pub fn lengths_of(
     alloc: Global,
-    sets: &Table<bool>,
     functions: &[(u32, u32)],
-    insts: &[Inst],
+    stands: &Stands,
 ) -> Result<Vec<u32>, NoMemory>
-    ensures lengths { IfOk result (λ lengths. lengths.items ≡ spec.lengths (spec.calls_in sets.now (spec.numbered 0 functions.now) insts.now) 0 (length functions.now)) }
+    ensures lengths { IfOk result (λ lengths. lengths.items ≡ spec.lengths (flat_map (spec.call_of (spec.numbered 0 functions.now)) stands.now) 0 (length functions.now)) }
     ensures len { IfOk result (λ lengths. length lengths.items ≡ length functions.now) }
 {
     let numbers = numbers_by_id(alloc, functions)?;
-    let calls = calls_of(alloc, sets, &numbers, insts)?;
+    let calls = calls_among(alloc, &numbers, stands)?;
     longest_chains(alloc, calls.as_slice(), functions.len())
 }
 

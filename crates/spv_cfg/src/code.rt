@@ -4,7 +4,6 @@ ghost use Rattle.spv_base.specs.Answers.{Answers};
 ghost use Rattle.spv_base.specs.Entries.{reads};
 ghost use Rattle.spv_cfg.specs.Lowest.{lowest};
 ghost use Rattle.spv_cfg.specs.Flow as spec;
-ghost use Rattle.spv_cfg.specs.Branches.{names_of as names_in};
 ghost use Rattle.spv_cfg.specs.Calls.{functions_of as functions_in};
 
 use crate::branches::branch_breach;
@@ -13,10 +12,9 @@ use crate::edges::edges_of;
 use crate::executables::{executables_of, followed};
 use crate::layout::layout_breach;
 use crate::lowest::sooner;
-use crate::names::{Names, names_of};
 use crate::phis::phi_breach;
-use spv_base::{Fail, Inst, NoMemory, Refusal};
-use spv_index::Table;
+use spv_base::{Fail, NoMemory, Refusal};
+use spv_index::{Index, Table};
 use std::alloc::Global;
 use std::marker::Model;
 
@@ -40,15 +38,35 @@ impl Model for Code {
 }
 
 /// The lowest word where a rule of blocks, terminators or phis is broken.
-fn block_breach(alloc: Global, names: &Names, insts: &[Inst]) -> Result<Option<u32>, NoMemory>
-    requires { names.now ≡ names_in insts.now }
-    ensures { IfOk result (λ least. least ≡ lowest (spec.block_breaches insts.now)) }
+fn block_breach(alloc: Global, index: &Index) -> Result<Option<u32>, NoMemory>
+    ensures { IfOk result (λ least. least ≡ lowest (spec.block_breaches index.now.insts)) }
 {
-    let layout = layout_breach(&names.sets, insts);
-    let branches = branch_breach(alloc, names, insts)?;
-    let edges = edges_of(alloc, names, insts)?;
-    let phis = phi_breach(alloc, names, &edges, insts)?;
+    let stands = index.stands();
+    let layout = layout_breach(&stands);
+    let branches = branch_breach(alloc, index, &stands)?;
+    let edges = edges_of(alloc, index, &stands)?;
+    let phis = phi_breach(alloc, &edges, &stands)?;
     Ok(sooner(layout, sooner(branches, phis)))
+}
+
+/// For each function the length of the longest chain of calls from it.
+fn chains_of(alloc: Global, index: &Index, functions: &[(u32, u32)]) -> Result<Vec<u32>, NoMemory>
+    requires { functions.now ≡ functions_in index.now.insts }
+    ensures lengths { IfOk result (λ lengths. lengths.items ≡ spec.lengths_of index.now.insts) }
+    ensures len { IfOk result (λ lengths. length lengths.items ≡ length functions.now) }
+{
+    let stands = index.stands();
+    lengths_of(alloc, functions, &stands)
+}
+
+/// The lowest word of a function from which a chain of calls is too long.
+fn chain_breach(index: &Index, functions: &[(u32, u32)], lengths: &[u32]) -> Option<u32>
+    requires functions { functions.now ≡ functions_in index.now.insts }
+    requires lengths { lengths.now ≡ spec.lengths_of index.now.insts }
+    requires len { length lengths.now ≡ length functions.now }
+    ensures { result ≡ lowest (spec.call_breaches index.now.insts) }
+{
+    call_breach(functions, lengths)
 }
 
 /// The lower of two breaches, and at one word the one of blocks.
@@ -74,46 +92,37 @@ fn refusal_of(block: Option<u32>, call: Option<u32>) -> Option<Refusal>
 }
 
 impl Code {
-    /// The functions and blocks of a module's instructions, unless a rule of theirs is broken: the lowest breach is
+    /// The functions and blocks of a module, unless a rule of theirs is broken: the lowest breach is
     /// refused, with code 15 for blocks, terminators and phis (SPIR-V 1.6 sections 2.4 and 2.16.1), and with code 16
     /// for calls, where a chain of more than 64 functions or a cycle begins at a function.
     #[tactic(auto, unfolding(crate::specs::Flow::flow_of))]
-    pub fn build(alloc: Global, insts: &[Inst]) -> Result<Code, Fail<Refusal>>
-        ensures { Answers (spec.flow_of insts.now) result }
+    pub fn build(alloc: Global, index: &Index) -> Result<Code, Fail<Refusal>>
+        ensures { Answers (spec.flow_of index.now.insts) result }
     {
-        let names = names_of(alloc, insts)?;
-        let block = block_breach(alloc, &names, insts)?;
-        let functions = functions_of(alloc, insts)?;
-        let lengths = lengths_of(alloc, &names.sets, functions.as_slice(), insts)?;
-        let call = call_breach(functions.as_slice(), lengths.as_slice());
+        let block = block_breach(alloc, index)?;
+        let functions = functions_of(alloc, index.insts())?;
+        let lengths = chains_of(alloc, index, functions.as_slice())?;
+        let call = chain_breach(index, functions.as_slice(), lengths.as_slice());
         match refusal_of(block, call) {
             Some(refusal) => Err(Fail::Refused(refusal)),
-            None => Ok(Code::new(
-                alloc,
-                &names,
-                functions.as_slice(),
-                lengths.as_slice(),
-                insts,
-            )?),
+            None => Ok(Code::new(alloc, index, functions.as_slice(), lengths.as_slice())?),
         }
     }
 
     /// The functions and blocks of these instructions.
     fn new(
         alloc: Global,
-        names: &Names,
+        index: &Index,
         functions: &[(u32, u32)],
         lengths: &[u32],
-        insts: &[Inst],
     ) -> Result<Code, NoMemory>
-        requires names { names.now ≡ names_in insts.now }
-        requires functions { functions.now ≡ functions_in insts.now }
-        requires lengths { lengths.now ≡ spec.lengths_of insts.now }
+        requires functions { functions.now ≡ functions_in index.now.insts }
+        requires lengths { lengths.now ≡ spec.lengths_of index.now.insts }
         requires len { length lengths.now ≡ length functions.now }
-        ensures { IfOk result (λ code. code ≡ spec.flow_in insts.now) }
+        ensures { IfOk result (λ code. code ≡ spec.flow_in index.now.insts) }
     {
         let depths = depths_of(alloc, functions, lengths)?;
-        let executables = executables_of(alloc, &names.sets, insts)?;
+        let executables = executables_of(alloc, &index.stands())?;
         let nexts = followed(alloc, executables.as_slice())?;
         let blocks = Table::new(alloc, executables)?;
         Ok(Code {

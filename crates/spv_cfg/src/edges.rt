@@ -1,18 +1,20 @@
 //! The edges between the blocks of functions.
 ghost use Rattle.std.specs.Prelude.{◌≡◌, ◌==◌, ◌&&◌, ℕ, IfOk, map, unwrap_or};
-ghost use Rattle.std.specs.List.{filter, list_any, count_by};
+ghost use Rattle.std.specs.List.{filter, flat_map, list_any, count_by};
 ghost use Rattle.std.specs.Ordering.{nat_cmp, ordering_then};
 ghost use Rattle.std.specs.BTreeMap as tree;
 ghost use Rattle.std.specs.BTreeSet as sorted;
-ghost use Rattle.spv_base.specs.Entries.{reads};
+ghost use Rattle.spv_cfg.specs.Branches.{is_within};
 ghost use Rattle.spv_cfg.specs.Phis as spec;
 
 use crate::branches::targets_of;
 use crate::distinct::distinct;
-use crate::names::Names;
+use crate::labels::{is_within, selector_width};
 use spv_base::{Inst, NoMemory};
-use spv_index::classes::{Class, class_of};
+use spv_index::Index;
+use spv_index::classes::Class;
 use spv_index::positions::Position;
+use spv_index::stands::Stands;
 use std::alloc::Global;
 use std::collections::{BTreeMap, BTreeSet};
 use std::marker::Model;
@@ -102,15 +104,15 @@ impl Edges {
 /// The targets that are labels of this function.
 fn within(
     alloc: Global,
-    names: &Names,
+    index: &Index,
     function: u32,
     targets: &[u32],
 ) -> Result<Vec<u32>, NoMemory>
-    ensures { IfOk result (λ kept. kept.items ≡ filter (λ target. spec.is_within function (reads target names.now.labels)) targets.now) }
+    ensures { IfOk result (λ kept. kept.items ≡ filter (is_within index.now.insts function) targets.now) }
 {
     let mut kept = Vec::new(alloc);
     for target in targets {
-        if names.is_within(function, *target) {
+        if is_within(index, function, *target) {
             kept.push(*target)?;
         }
     }
@@ -131,15 +133,15 @@ fn edges_to(alloc: Global, label: u32, targets: &[u32]) -> Result<Vec<(u32, u32)
 /// The edges from a block of a function, with its terminator.
 fn edges_by(
     alloc: Global,
-    names: &Names,
+    index: &Index,
     function: u32,
     label: u32,
     inst: &Inst,
 ) -> Result<Vec<(u32, u32)>, NoMemory>
-    ensures { IfOk result (λ edges. edges.items ≡ spec.edges_by names.now function label inst.now) }
+    ensures { IfOk result (λ edges. edges.items ≡ spec.edges_by index.now.insts function label inst.now) }
 {
-    let targets = targets_of(alloc, names.selector_width(inst), inst)?;
-    let kept = within(alloc, names, function, targets.as_slice())?;
+    let targets = targets_of(alloc, selector_width(index, inst), inst)?;
+    let kept = within(alloc, index, function, targets.as_slice())?;
     let once = distinct(alloc, kept.as_slice())?;
     edges_to(alloc, label, once.as_slice())
 }
@@ -147,31 +149,29 @@ fn edges_by(
 /// The edges from a block, at its terminator.
 fn edges_from(
     alloc: Global,
-    names: &Names,
+    index: &Index,
     position: Position,
     class: Class,
     inst: &Inst,
 ) -> Result<Vec<(u32, u32)>, NoMemory>
-    ensures { IfOk result (λ edges. edges.items ≡ spec.edges_from names.now (record { position = position; class = class; inst = inst.now })) }
+    ensures { IfOk result (λ edges. edges.items ≡ spec.edges_from index.now.insts (record { position = position; class = class; inst = inst.now })) }
 {
     if class.is_terminator() && position.stage.in_block() {
-        edges_by(alloc, names, position.function, position.label, inst)
+        edges_by(alloc, index, position.function, position.label, inst)
     } else {
         Ok(Vec::new(alloc))
     }
 }
 
 /// The edges between the blocks of each function.
-pub fn edges_of(alloc: Global, names: &Names, insts: &[Inst]) -> Result<Edges, NoMemory>
-    ensures { IfOk result (λ edges. edges ≡ spec.edges_of names.now insts.now) }
+pub fn edges_of(alloc: Global, index: &Index, stands: &Stands) -> Result<Edges, NoMemory>
+    ensures { IfOk result (λ edges. edges ≡ flat_map (spec.edges_from index.now.insts) stands.now) }
 {
     let mut edges = Vec::new(alloc);
-    let mut position = Position::outside();
-    for inst in insts {
-        let class = class_of(&names.sets, inst);
-        let more = edges_from(alloc, names, position, class, inst)?;
+    for n in 0..stands.len() {
+        let stand = stands.at(n);
+        let more = edges_from(alloc, index, stand.position, stand.class, stand.inst)?;
         edges.extend_from_slice(more.as_slice())?;
-        position = position.after(class, inst);
     }
     Edges::new(alloc, edges)
 }

@@ -1,29 +1,23 @@
 //! The executables of each block, and which one comes after which.
 ghost use Rattle.std.specs.Prelude.{◌≡◌, IfOk};
+ghost use Rattle.std.specs.List.{flat_map};
 ghost use Rattle.spv_cfg.specs.Executables as spec;
 
-use spv_base::{Inst, NoMemory};
+use spv_base::NoMemory;
 use spv_index::Table;
-use spv_index::classes::class_of;
-use spv_index::positions::Position;
+use spv_index::stands::Stands;
 use std::alloc::Global;
 
 /// The executables of all blocks: the label of the block, and the word of the executable.
-pub fn executables_of(
-    alloc: Global,
-    sets: &Table<bool>,
-    insts: &[Inst],
-) -> Result<Vec<(u32, u32)>, NoMemory>
-    ensures { IfOk result (λ executables. executables.items ≡ spec.executables_in sets.now insts.now) }
+pub fn executables_of(alloc: Global, stands: &Stands) -> Result<Vec<(u32, u32)>, NoMemory>
+    ensures { IfOk result (λ executables. executables.items ≡ flat_map spec.executable_of stands.now) }
 {
     let mut executables = Vec::new(alloc);
-    let mut position = Position::outside();
-    for inst in insts {
-        let class = class_of(sets, inst);
-        if class.is_executable() && position.stage.in_block() {
-            executables.push((position.label, inst.word))?;
+    for n in 0..stands.len() {
+        let stand = stands.at(n);
+        if stand.class.is_executable() && stand.position.stage.in_block() {
+            executables.push((stand.position.label, stand.inst.word))?;
         }
-        position = position.after(class, inst);
     }
     Ok(executables)
 }

@@ -1,13 +1,15 @@
 //! The order inside functions (SPIR-V 1.6 sections 2.4 and 2.16.1): parameters, blocks, terminators, variables and phis.
-ghost use Rattle.std.specs.Prelude.{◌≡◌, IfOk};
+ghost use Rattle.std.specs.Prelude.{◌≡◌, ◌++◌};
+ghost use Rattle.std.specs.List.{flat_map};
+ghost use Rattle.spv_index.specs.Positions.{outside};
 ghost use Rattle.spv_cfg.specs.Lowest.{lowest};
 ghost use Rattle.spv_cfg.specs.Layout as spec;
 
 use crate::lowest::sooner;
 use spv_base::Inst;
-use spv_index::Table;
-use spv_index::classes::{Class, class_of};
+use spv_index::classes::Class;
 use spv_index::positions::Position;
+use spv_index::stands::Stands;
 
 /// The OpLabel of the block at hand, where it has no terminator and should have ended.
 fn unended(position: Position, class: Class) -> Option<u32>
@@ -92,15 +94,15 @@ fn unfinished(position: Position) -> Option<u32>
 }
 
 /// The lowest word where the order inside a function is broken.
-pub fn layout_breach(sets: &Table<bool>, insts: &[Inst]) -> Option<u32>
-    ensures { result ≡ lowest (spec.layout_breaches sets.now insts.now) }
+pub fn layout_breach(stands: &Stands) -> Option<u32>
+    ensures { result ≡ lowest (flat_map spec.layout_breach stands.now ++ spec.unfinished (spec.behind outside stands.now)) }
 {
     let mut least = None;
     let mut position = Position::outside();
-    for inst in insts {
-        let class = class_of(sets, inst);
-        least = sooner(least, breach_at(position, class, inst));
-        position = position.after(class, inst);
+    for n in 0..stands.len() {
+        let stand = stands.at(n);
+        least = sooner(least, breach_at(stand.position, stand.class, stand.inst));
+        position = stand.position.after(stand.class, stand.inst);
     }
     sooner(least, unfinished(position))
 }

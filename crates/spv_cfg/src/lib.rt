@@ -8,10 +8,10 @@ mod code;
 mod distinct;
 mod edges;
 mod executables;
+mod labels;
 pub mod laws;
 mod layout;
 mod lowest;
-mod names;
 mod phis;
 mod switches;
 #[cfg(test)]

@@ -2,17 +2,16 @@
 ghost use Rattle.std.specs.Prelude.{◌≡◌, IfOk, map};
 ghost use Rattle.std.specs.List.{list_all, flat_map};
 ghost use Rattle.spv_cfg.specs.Lowest.{lowest};
-ghost use Rattle.spv_index.specs.Positions.{stands, outside};
 ghost use Rattle.spv_cfg.specs.Phis as spec;
 
 use crate::distinct::are_distinct;
 use crate::edges::Edges;
 use crate::lowest::sooner;
-use crate::names::Names;
 use crate::switches::{cases_by_word, numbers_of};
 use spv_base::{Inst, NoMemory};
-use spv_index::classes::{Class, class_of};
+use spv_index::classes::Class;
 use spv_index::positions::Position;
+use spv_index::stands::Stands;
 use std::alloc::Global;
 
 /// The second of each pair.
@@ -72,21 +71,14 @@ fn breach_at(
 }
 
 /// The lowest word of a phi that is not right.
-pub fn phi_breach(
-    alloc: Global,
-    names: &Names,
-    edges: &Edges,
-    insts: &[Inst],
-) -> Result<Option<u32>, NoMemory>
-    ensures { IfOk result (λ least. least ≡ lowest (flat_map (spec.phi_breach edges.now) (stands names.now.sets outside insts.now))) }
+pub fn phi_breach(alloc: Global, edges: &Edges, stands: &Stands) -> Result<Option<u32>, NoMemory>
+    ensures { IfOk result (λ least. least ≡ lowest (flat_map (spec.phi_breach edges.now) stands.now)) }
 {
     let mut least = None;
-    let mut position = Position::outside();
-    for inst in insts {
-        let class = class_of(&names.sets, inst);
-        let next = breach_at(alloc, edges, position, class, inst)?;
+    for n in 0..stands.len() {
+        let stand = stands.at(n);
+        let next = breach_at(alloc, edges, stand.position, stand.class, stand.inst)?;
         least = sooner(least, next);
-        position = position.after(class, inst);
     }
     Ok(least)
 }

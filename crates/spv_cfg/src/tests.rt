@@ -1,6 +1,8 @@
 //! Small modules with one rule broken in each, a shader that `spirv-as` wrote, and chains of calls at and over the limit.
 use crate::Code;
 use spv_base::{Fail, Inst, Items, NoMemory, Operand, Refusal};
+use spv_index::Index;
+use spv_ops::DecodedModule;
 use std::alloc::Global;
 use std::test::Fail as TestFail;
 
@@ -61,9 +63,17 @@ fn push_inst(alloc: Global, insts: &mut Vec<Inst>, row: Row) -> Result<(), NoMem
     Ok(())
 }
 
+/// The index of a module of these instructions.
+fn indexed(alloc: Global, insts: Vec<Inst>) -> Result<Index, NoMemory> {
+    match DecodedModule::of(insts, 200_000) {
+        Some(module) => Index::of(alloc, module),
+        None => Err(NoMemory),
+    }
+}
+
 /// The refusal of a module, or none.
-fn refusal(alloc: Global, insts: &[Inst]) -> Result<Option<(u8, u32)>, NoMemory> {
-    match Code::build(alloc, insts) {
+fn refusal(alloc: Global, insts: Vec<Inst>) -> Result<Option<(u8, u32)>, NoMemory> {
+    match Code::build(alloc, &indexed(alloc, insts)?) {
         Ok(_) => Ok(None),
         Err(Fail::Refused(Refusal { code, word })) => Ok(Some((code, word))),
         Err(Fail::NoMemory) => Err(NoMemory),
@@ -75,7 +85,7 @@ fn refusal_of(alloc: Global, rows: &[Row]) -> Result<Option<(u8, u32)>, NoMemory
     for row in rows {
         push_inst(alloc, &mut insts, *row)?;
     }
-    refusal(alloc, insts.as_slice())
+    refusal(alloc, insts)
 }
 
 #[test]
@@ -295,10 +305,10 @@ fn holds_the_limit_of_chains(rt: HostRuntime) -> Result<(), TestFail> {
     ];
     for (count, group, due) in table {
         let insts = chains(alloc, count, group)?;
-        assert_eq!(rt; refusal(alloc, insts.as_slice())?, due, "{count} functions");
+        assert_eq!(rt; refusal(alloc, insts)?, due, "{count} functions");
     }
     let insts = chains(alloc, 64, 64)?;
-    let code = Code::build(alloc, insts.as_slice())?;
+    let code = Code::build(alloc, &indexed(alloc, insts)?)?;
     for (function, due) in [(1, 64), (2, 63), (64, 1)] {
         assert!(rt; code.is_function(function));
         assert_eq!(rt; code.depth(function), due);
@@ -328,7 +338,7 @@ fn goes_through_blocks(rt: HostRuntime) -> Result<(), TestFail> {
     for row in rows {
         push_inst(alloc, &mut insts, row)?;
     }
-    let code = Code::build(alloc, insts.as_slice())?;
+    let code = Code::build(alloc, &indexed(alloc, insts)?)?;
     for (label, due) in [(20, 3), (21, 7), (22, 11)] {
         assert!(rt; code.is_block(label));
         assert_eq!(rt; code.first(label), due);

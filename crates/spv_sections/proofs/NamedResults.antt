@@ -1,11 +1,11 @@
 -- What modules give whose ids are in order.
-use Rattle.std.proofs.Common.{◌≡◌, ◌≢◌, ◌⊎◌, inl, inr, ℕ, ◌<◌, ◌≤◌, ◌==◌, Bool, true, false, cond, List, [], Option, Some, Ok, refl, arith, min}
+use Rattle.std.proofs.Common.{◌≡◌, ◌≢◌, ◌⊎◌, inl, inr, ℕ, ◌<◌, ◌≤◌, ◌==◌, Bool, true, false, cond, List, [], Option, Some, Ok, refl, arith}
 use Rattle.std.proofs.lemmas.Bool.{and_from, and_parts, both_ways, cases_eq, eqb-true, lt-ltb, ltb-true, not-true, or_cases}
 use Rattle.std.specs.Prelude.{nat_lt, ◌||◌}
 use Rattle.std.specs.List.{AllByRecursion, find}
 use Rattle.std.specs.Option.{is_some}
-use Rattle.spv_base.specs.Order.{Ascend}
 use Rattle.spv_base.specs.declared.instructions.Inst.{Inst}
+use Rattle.spv_ops.specs.Module.{Decoded, IsDecoded}
 use Rattle.spv_index.specs.Classes.{sets_of}
 use Rattle.spv_index.specs.Positions.{outside}
 use Rattle.spv_index.specs.Definitions.{defining, has_result as is_result_of, is_id as is_limited}
@@ -16,8 +16,8 @@ use Rattle.spv_types.specs.Facts.{is_constant}
 use Rattle.spv_types.specs.Laws.{AreNamed, HasResult}
 use Rattle.spv_types.specs.Typing.{defined_form}
 use Rattle.spv_types.specs.declared.forms.Form.{Form}
-use Rattle.spv_sections.specs.Definitions.{Ids, is_id}
-use Rattle.spv_sections.specs.Ids.{has_result, head_of, ids_in, ids_of, is_result}
+use Rattle.spv_sections.specs.Definitions.{is_id}
+use Rattle.spv_sections.specs.Ids.{has_result, head_of, ids_of, is_result}
 use Rattle.spv_sections.proofs.InOrder.{in_order}
 use Rattle.spv_sections.proofs.Results.{all_found, both, distinct, each, has_id, results_in}
 use Rattle.spv_sections.proofs.TypesFirst.{constant_has_type, typed_has_result, types_first}
@@ -47,12 +47,12 @@ defines all i h = by_case (or_cases (is_some (defined_form all i)) (is_constant 
 
 -- ---- results
 
-id_of : (ids : Ids) (i : Inst) → is_result ids i ≡ true → has_result (head_of i.op) ≡ true → is_id ids.bound i.id ≡ true
-id_of ids i result head = by_id (cases_eq i.id 0)
+id_of : (decoded : Decoded) (i : Inst) → is_result decoded i ≡ true → has_result (head_of i.op) ≡ true → is_id decoded.bound i.id ≡ true
+id_of decoded i result head = by_id (cases_eq i.id 0)
   where
-    by_id : (i.id ≡ 0) ⊎ (i.id ≡ 0 → ⊥) → is_id ids.bound i.id ≡ true
+    by_id : (i.id ≡ 0) ⊎ (i.id ≡ 0 → ⊥) → is_id decoded.bound i.id ≡ true
     by_id (inl none) = absurd (both_ways (has_result (head_of i.op)) (not-true (has_result (head_of i.op)) (rw none at result)) head)
-    by_id (inr some) = (has_id ids i result some).0
+    by_id (inr some) = (has_id decoded i result some).0
 
 limited : (bound limit id : ℕ) → bound ≤ limit → is_id bound id ≡ true → (0 < id) × (id < limit)
 limited bound limit id le h =
@@ -62,44 +62,42 @@ limited bound limit id le h =
     let under : id < limit = omega arith in
     (low, under)
 
-within : (bound limit : ℕ) → min bound limit ≤ limit
-within bound limit = omega arith
+has_results : (decoded : Decoded) (all : List Inst) (i : Inst) → decoded.bound ≤ 1048576 → is_result decoded i ≡ true → HasResult all i
+has_results decoded all i limit result = λ defined. limited decoded.bound 1048576 i.id limit (id_of decoded i result (defines all i defined))
 
-has_results : (bound : ℕ) (all : List Inst) (i : Inst) → is_result (ids_in bound all) i ≡ true → HasResult all i
-has_results bound all i result =
-    λ defined. limited (min bound 1048576) 1048576 i.id (within bound 1048576) (id_of (ids_in bound all) i result (defines all i defined))
-
-pub named : (bound : ℕ) (insts : List Inst) → Ascend 0 insts → ids_of bound insts ≡ Ok nothing → AreNamed insts
-named bound insts ascend passed =
-    let order = in_order bound insts passed in
-    let results = results_in (ids_in bound insts) (sets_of insts) false outside insts order in
+pub named : (decoded : Decoded) → IsDecoded decoded → ids_of decoded ≡ Ok nothing → AreNamed decoded.insts
+named decoded is passed =
+    let insts = decoded.insts in
+    let order = in_order decoded passed in
+    let results = results_in decoded (sets_of insts) outside insts order in
     record {
-      distinct = distinct (ids_in bound insts) ascend results;
-      results = each (λ (i : Inst). is_result (ids_in bound insts) i ≡ true) (HasResult insts) (has_results bound insts) insts results;
-      types_first = types_first (ids_in bound insts) (sets_of insts) outside 0 [] insts refl ascend order;
+      distinct = distinct decoded is.ascend results;
+      results = each (λ (i : Inst). is_result decoded i ≡ true) (HasResult insts) (λ i. has_results decoded insts i is.limit) insts results;
+      types_first = types_first decoded (sets_of insts) outside 0 [] insts refl is.ascend refl order;
     }
 
 -- ---- the instructions that define them
 
-is_one : (bound : ℕ) (insts : List Inst) (i : Inst) → is_result (ids_in bound insts) i ≡ true → i.id ≢ 0 → is_limited i.id ≡ true
-is_one bound insts i result some =
-    let parts = limited (min bound 1048576) 1048576 i.id (within bound 1048576) (has_id (ids_in bound insts) i result some).0 in
+is_one : (decoded : Decoded) (i : Inst) → decoded.bound ≤ 1048576 → is_result decoded i ≡ true → i.id ≢ 0 → is_limited i.id ≡ true
+is_one decoded i limit result some =
+    let parts = limited decoded.bound 1048576 i.id limit (has_id decoded i result some).0 in
     and_from (nat_lt 0 i.id) (nat_lt i.id 1048576) (lt-ltb 0 i.id parts.0) (lt-ltb i.id 1048576 parts.1)
 
-found_defines : (bound : ℕ) (insts : List Inst) (i : Inst) → is_result (ids_in bound insts) i ≡ true → (i.id ≡ 0) ⊎ (find (is_result_of i.id) insts ≡ Some i)
+found_defines : (decoded : Decoded) (insts : List Inst) (i : Inst) → decoded.bound ≤ 1048576 → is_result decoded i ≡ true → (i.id ≡ 0) ⊎ (find (is_result_of i.id) insts ≡ Some i)
     → (i.id ≡ 0) ⊎ (defining insts i.id ≡ Some i)
 unfolding defining
-found_defines bound insts i result (inl none) = inl none
-found_defines bound insts i result (inr found) = by_id (cases_eq i.id 0)
+found_defines decoded insts i limit result (inl none) = inl none
+found_defines decoded insts i limit result (inr found) = by_id (cases_eq i.id 0)
   where
     by_id : (i.id ≡ 0) ⊎ (i.id ≡ 0 → ⊥) → (i.id ≡ 0) ⊎ (defining insts i.id ≡ Some i)
     by_id (inl none) = inl none
-    by_id (inr some) = inr (rw (is_one bound insts i result some) found)
+    by_id (inr some) = inr (rw (is_one decoded i limit result some) found)
 
-pub defined_once : (bound : ℕ) (insts : List Inst) → Ascend 0 insts → ids_of bound insts ≡ Ok nothing
-    → AllByRecursion (λ (i : Inst). (i.id ≡ 0) ⊎ (defining insts i.id ≡ Some i)) insts
-defined_once bound insts ascend passed =
-    let results = results_in (ids_in bound insts) (sets_of insts) false outside insts (in_order bound insts passed) in
-    both (λ (i : Inst). is_result (ids_in bound insts) i ≡ true) (λ (i : Inst). (i.id ≡ 0) ⊎ (find (is_result_of i.id) insts ≡ Some i))
-    (λ (i : Inst). (i.id ≡ 0) ⊎ (defining insts i.id ≡ Some i)) (found_defines bound insts) insts results
-    (all_found insts (distinct (ids_in bound insts) ascend results))
+pub defined_once : (decoded : Decoded) → IsDecoded decoded → ids_of decoded ≡ Ok nothing
+    → AllByRecursion (λ (i : Inst). (i.id ≡ 0) ⊎ (defining decoded.insts i.id ≡ Some i)) decoded.insts
+defined_once decoded is passed =
+    let insts = decoded.insts in
+    let results = results_in decoded (sets_of insts) outside insts (in_order decoded passed) in
+    both (λ (i : Inst). is_result decoded i ≡ true) (λ (i : Inst). (i.id ≡ 0) ⊎ (find (is_result_of i.id) insts ≡ Some i))
+    (λ (i : Inst). (i.id ≡ 0) ⊎ (defining insts i.id ≡ Some i)) (λ i. found_defines decoded insts i is.limit) insts results
+    (all_found insts (distinct decoded is.ascend results))

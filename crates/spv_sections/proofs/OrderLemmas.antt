@@ -1,41 +1,107 @@
 -- The refusals of the order of sections, one instruction after another.
-use Rattle.std.proofs.Common.{◌≡◌, ◌∙◌, ℕ, ◌+◌, ◌<◌, ◌≤◌, Bool, true, false, List, [], ◌∷◌, ◌++◌, length, max, get_or, drop, drop-cons, drop_of_length-le, add-one, Ok, Err, refl}
-use Rattle.std.specs.Prelude.{if◌then◌else◌}
-use Rattle.spv_base.specs.declared.instructions.Inst.{Inst}
-use Rattle.spv_index.specs.declared.classes.Class.{Class}
-use Rattle.spv_index.specs.declared.positions.Position.{Position}
-use Rattle.spv_index.specs.Classes.{class_of}
-use Rattle.spv_index.specs.Positions.{outside, position_after}
+use Rattle.std.proofs.Common.{◌≡◌, ◌∙◌, ℕ, ◌+◌, ◌<◌, ◌≤◌, ◌&&◌, Bool, true, false, cond, List, [], ◌∷◌, ◌++◌, length, max, drop, drop_of_length-le, Ok, Err, refl, sym, ap, arith, nat_le, nat_lt}
+use Rattle.std.proofs.lemmas.Grind.{common_steps}
+use Rattle.std.specs.Prelude.{◌||◌}
+use Rattle.std.specs.List.{list_all}
+use Rattle.spv_index.specs.declared.positions.Stage.{Stage}
+use Rattle.spv_index.specs.Positions.{Stand, in_function}
 use Rattle.spv_types.specs.Build.{unless_refused}
 use Rattle.spv_types.specs.Blocks.{nothing}
 use Rattle.spv_sections.specs.declared.sections.Part.{Part}
-use Rattle.spv_sections.specs.Sections.{may_stand, order_breach, order_breaches, part_of, rank}
+use Rattle.spv_sections.specs.declared.sections.Part.TheVariants.{Capability, Extension, Import, MemoryModel, EntryPoint, ExecutionMode, Debug, Decoration, Declaration, Value, Line, Nop, Function, Body}
+use Rattle.spv_sections.specs.Sections.{fits_stage, may_follow, may_stand, order_breach, order_breaches_behind, part_at, rank}
 
-order_at : (sets : List (ℕ × Bool)) (position : Position) (reached : ℕ) (insts : List Inst) (n : ℕ) (inst : Inst) → n < length insts → inst ≡ get_or insts n inst
-    → order_breaches sets position reached (drop n insts)
-    ≡ (if may_stand position.stage reached (part_of (class_of sets inst) inst.op) then [] else order_breach inst ∷ [])
-    ++ order_breaches sets (position_after position (class_of sets inst) inst) (max reached (rank (part_of (class_of sets inst) inst.op))) (drop (n + 1) insts)
-unfolding order_breaches
-order_at sets position reached insts n inst l e = rw (drop-cons insts n inst l, ← e, add-one) refl
+-- ---- the last section that was reached
 
--- none of the instructions before number n is refused
-abbrev pub IsOrdered : List (ℕ × Bool) → List Inst → Position → ℕ → ℕ → Type 0
-IsOrdered sets insts position reached n = order_breaches sets outside 0 insts ≡ order_breaches sets position reached (drop n insts)
+abbrev pub reached_by : List Stand → ℕ
+reached_by [] = 0
+reached_by (s ∷ more) = max (rank (part_at s)) (reached_by more)
 
-pub order_refused : (sets : List (ℕ × Bool)) (position : Position) (reached : ℕ) (insts : List Inst) (n : ℕ) (inst : Inst) (class : Class) (part : Part) → n < length insts → inst ≡ get_or insts n inst
-    → class ≡ class_of sets inst → part ≡ part_of class inst.op → false ≡ may_stand position.stage reached part
-    → IsOrdered sets insts position reached n → Err (order_breach inst) ≡ unless_refused nothing (order_breaches sets outside 0 insts)
-order_refused sets position reached insts n inst class part l e r p t h =
-    rw (h, order_at sets position reached insts n inst l e, ← r, ← p, ← t) refl
+max_assoc : (a b c : ℕ) → max a (max b c) ≡ max (max a b) c
+max_assoc a b c = omega arith
 
-pub order_kept : (sets : List (ℕ × Bool)) (position after : Position) (reached more : ℕ) (insts : List Inst) (n : ℕ) (inst : Inst) (class : Class) (part : Part) → n < length insts → inst ≡ get_or insts n inst
-    → class ≡ class_of sets inst → part ≡ part_of class inst.op → true ≡ may_stand position.stage reached part
-    → after ≡ position_after position class inst → more ≡ max reached (rank part)
-    → IsOrdered sets insts position reached n → IsOrdered sets insts after more (n + 1)
-order_kept sets position after reached more insts n inst class part l e r p t a m h =
-    h ∙ order_at sets position reached insts n inst l e ∙ rw (← r, ← p, ← t, a, m) refl
+max_none : (a : ℕ) → max a 0 ≡ max 0 a
+max_none a = omega arith
 
-pub order_done : (sets : List (ℕ × Bool)) (position : Position) (reached : ℕ) (insts : List Inst) (n : ℕ) → length insts ≤ n → IsOrdered sets insts position reached n
-    → Ok nothing ≡ unless_refused nothing (order_breaches sets outside 0 insts)
-unfolding order_breaches
-order_done sets position reached insts n l h = rw (h, drop_of_length-le insts l) refl
+reached_more : (before : List Stand) (s : Stand) → reached_by (before ++ s ∷ []) ≡ max (reached_by before) (rank (part_at s))
+reached_more [] s = max_none (rank (part_at s))
+reached_more (t ∷ more) s = ap (max (rank (part_at t))) (reached_more more s) ∙ max_assoc (rank (part_at t)) (reached_by more) (rank (part_at s))
+
+le_both : (a b n : ℕ) → (nat_le a n && nat_le b n) ≡ nat_le (max a b) n
+le_both a b n = grind (arith, common_steps)
+
+lt_both : (a b n : ℕ) → (nat_lt a n && nat_lt b n) ≡ nat_lt (max a b) n
+lt_both a b n = grind (arith, common_steps)
+
+none_later : (n : ℕ) (before : List Stand) → list_all (λ (t : Stand). nat_le (rank (part_at t)) n) before ≡ nat_le (reached_by before) n
+none_later n [] = grind (arith, common_steps)
+none_later n (t ∷ more) = ap (λ (b : Bool). nat_le (rank (part_at t)) n && b) (none_later n more) ∙ le_both (rank (part_at t)) (reached_by more) n
+
+all_earlier : (n : ℕ) (before : List Stand) → 0 < n → list_all (λ (t : Stand). nat_lt (rank (part_at t)) n) before ≡ nat_lt (reached_by before) n
+all_earlier n [] some = grind (arith, common_steps)
+all_earlier n (t ∷ more) some = ap (λ (b : Bool). nat_lt (rank (part_at t)) n && b) (all_earlier n more some) ∙ lt_both (rank (part_at t)) (reached_by more) n
+
+all_true : (before : List Stand) → list_all (λ (t : Stand). true) before ≡ true
+all_true [] = refl
+all_true (t ∷ more) = all_true more
+
+value_later : (local : Bool) (before : List Stand) → list_all (λ (t : Stand). local || nat_le (rank (part_at t)) 8) before ≡ (local || nat_le (reached_by before) 8)
+value_later true before = all_true before
+value_later false before = none_later 8 before
+
+pub follows_all : (stage : Stage) (part : Part) (before : List Stand) → list_all (λ (t : Stand). may_follow stage part (rank (part_at t))) before ≡ may_follow stage part (reached_by before)
+follows_all stage Capability before = none_later 0 before
+follows_all stage Extension before = none_later 1 before
+follows_all stage Import before = none_later 2 before
+follows_all stage MemoryModel before = all_earlier 3 before (omega arith)
+follows_all stage EntryPoint before = none_later 4 before
+follows_all stage ExecutionMode before = none_later 5 before
+follows_all stage Debug before = none_later 6 before
+follows_all stage Decoration before = none_later 7 before
+follows_all stage Declaration before = none_later 8 before
+follows_all stage Value before = value_later (in_function stage) before
+follows_all stage Line before = all_true before
+follows_all stage Function before = all_true before
+follows_all stage Nop before = all_true before
+follows_all stage Body before = all_true before
+
+may_stand_by : (before : List Stand) (s : Stand) → may_stand before s ≡ (fits_stage s.position.stage (part_at s) && may_follow s.position.stage (part_at s) (reached_by before))
+may_stand_by before s = ap (λ (b : Bool). fits_stage s.position.stage (part_at s) && b) (follows_all s.position.stage (part_at s) before)
+
+-- ---- one instruction after another
+
+-- none of the instructions before number n is refused, and they reached this section
+pub record IsOrdered (stood : List Stand) (n reached : ℕ) : Type 0 where
+  pub before : List Stand
+  pub reached_is : reached ≡ reached_by before
+  pub rest : order_breaches_behind [] stood ≡ order_breaches_behind before (drop n stood)
+
+pub order_begun : (stood : List Stand) (reached : ℕ) → reached ≡ 0 → IsOrdered stood 0 reached
+order_begun stood reached e = record { before = []; reached_is = e; rest = refl }
+
+behind_one : (before more : List Stand) (s : Stand) → order_breaches_behind before (s ∷ more)
+    ≡ cond (may_stand before s) [] (order_breach s.inst ∷ []) ++ order_breaches_behind (before ++ s ∷ []) more
+unfolding order_breaches_behind
+behind_one before more s = refl
+
+pub order_refused : (stood : List Stand) (n reached : ℕ) (s : Stand) (part : Part) → drop n stood ≡ s ∷ drop (n + 1) stood → part ≡ part_at s
+    → false ≡ (fits_stage s.position.stage part && may_follow s.position.stage part reached)
+    → IsOrdered stood n reached → Err (order_breach s.inst) ≡ unless_refused nothing (order_breaches_behind [] stood)
+order_refused stood n reached s part e p t h =
+    let no : may_stand h.before s ≡ false = may_stand_by h.before s ∙ rw (← p, ← h.reached_is) (sym t) in
+    rw (h.rest, e, behind_one h.before (drop (n + 1) stood) s, no) refl
+
+pub order_kept : (stood : List Stand) (n reached more : ℕ) (s : Stand) (part : Part) → drop n stood ≡ s ∷ drop (n + 1) stood → part ≡ part_at s
+    → true ≡ (fits_stage s.position.stage part && may_follow s.position.stage part reached) → more ≡ max reached (rank part)
+    → IsOrdered stood n reached → IsOrdered stood (n + 1) more
+order_kept stood n reached more s part e p t m h =
+    let yes : may_stand h.before s ≡ true = may_stand_by h.before s ∙ rw (← p, ← h.reached_is) (sym t) in
+    record {
+      before = h.before ++ s ∷ [];
+      reached_is = m ∙ rw (p, h.reached_is) (sym (reached_more h.before s));
+      rest = h.rest ∙ rw (e, behind_one h.before (drop (n + 1) stood) s, yes) refl;
+    }
+
+pub order_done : (stood : List Stand) (n reached : ℕ) → length stood ≤ n → IsOrdered stood n reached → Ok nothing ≡ unless_refused nothing (order_breaches_behind [] stood)
+unfolding order_breaches_behind
+order_done stood n reached l h = rw (h.rest, drop_of_length-le stood l) refl

@@ -1,19 +1,20 @@
 -- The results of instructions whose ids are in order: no two of them are one id.
-use Rattle.std.proofs.Common.{◌≡◌, ◌≢◌, ◌⊎◌, inl, inr, ◌∙◌, ℕ, suc, ◌<◌, ◌≤◌, ◌==◌, ◌&&◌, Bool, true, false, List, [], ◌∷◌, Some, refl, sym, arith}
+use Rattle.std.proofs.Common.{◌≡◌, ◌≢◌, ◌⊎◌, inl, inr, ◌∙◌, ℕ, suc, ◌<◌, ◌≤◌, ◌==◌, Bool, true, false, List, [], ◌∷◌, Some, refl, sym, arith}
 use Rattle.std.proofs.lemmas.Bool.{and_parts, cases_eq, eq-eqb, ltb-false, ne_eqb, not-true}
 use Rattle.std.specs.Prelude.{nat_lt, not}
-use Rattle.std.specs.List.{AllByRecursion, find, list_all}
+use Rattle.std.specs.List.{AllByRecursion, find}
 use Rattle.spv_base.specs.Entries.{reads}
 use Rattle.spv_base.specs.Order.{AreDistinct, Ascend}
 use Rattle.spv_base.specs.declared.instructions.Inst.{Inst}
+use Rattle.spv_ops.specs.Module.{Decoded}
 use Rattle.spv_index.specs.declared.positions.Position.{Position}
 use Rattle.spv_index.specs.Classes.{class_of, sets_of}
-use Rattle.spv_index.specs.Positions.{outside, position_after}
+use Rattle.spv_index.specs.Positions.{outside, position_after, stands}
 use Rattle.spv_index.specs.Definitions.{has_result as is_result_of}
 use Rattle.spv_sections.specs.declared.definitions.Definition.{Definition}
-use Rattle.spv_sections.specs.Definitions.{Ids, definition_at, definitions_from, definitions_of, first, is_id}
-use Rattle.spv_sections.specs.Ids.{has_begun, is_before, is_operand, is_result, is_type_id, looked_at}
-use Rattle.spv_sections.specs.Laws.{AreInOrder}
+use Rattle.spv_sections.specs.Definitions.{definition_at, definitions_from, definitions_of, first, is_id}
+use Rattle.spv_sections.specs.Ids.{is_before, is_result}
+use Rattle.spv_sections.specs.Laws.{IsInOrder}
 
 -- ---- one by one
 
@@ -64,46 +65,40 @@ all_defined sets position from (i ∷ is) (first, rest) =
 
 -- ---- results
 
-pub numbered_parts : (ids : Ids) (i : Inst) (operands : Bool) → ((is_result ids i && is_type_id ids i) && operands) ≡ true → (is_result ids i ≡ true) × (is_type_id ids i ≡ true)
-numbered_parts ids i operands h = and_parts (is_result ids i) (is_type_id ids i) (and_parts (is_result ids i && is_type_id ids i) operands h).0
+pub results_in : (decoded : Decoded) (sets : List (ℕ × Bool)) (position : Position) (insts : List Inst) → AllByRecursion (IsInOrder decoded) (stands sets position insts)
+    → AllByRecursion (λ (i : Inst). is_result decoded i ≡ true) insts
+results_in decoded sets position [] order = tt
+results_in decoded sets position (i ∷ is) (here, order) = (here.result, results_in decoded sets (position_after position (class_of sets i) i) is order)
 
-pub results_in : (ids : Ids) (sets : List (ℕ × Bool)) (begun : Bool) (position : Position) (insts : List Inst) → AreInOrder ids sets begun position insts
-    → AllByRecursion (λ (i : Inst). is_result ids i ≡ true) insts
-results_in ids sets begun position [] order = tt
-results_in ids sets begun position (i ∷ is) (numbered, naming, order) = (
-  (numbered_parts ids i (list_all (is_operand ids.bound) (looked_at (class_of sets i) i)) numbered).0,
-  results_in ids sets (has_begun begun i) (position_after position (class_of sets i) i) is order,
-)
+pub has_id : (decoded : Decoded) (i : Inst) → is_result decoded i ≡ true → i.id ≢ 0 → (is_id decoded.bound i.id ≡ true) × (is_before i.word (first decoded i.id) ≡ false)
+has_id decoded i result some =
+    let parts = and_parts (is_id decoded.bound i.id) (not (is_before i.word (first decoded i.id))) (rw (ne_eqb i.id 0 some) at result) in
+    (parts.0, not-true (is_before i.word (first decoded i.id)) parts.1)
 
-pub has_id : (ids : Ids) (i : Inst) → is_result ids i ≡ true → i.id ≢ 0 → (is_id ids.bound i.id ≡ true) × (is_before i.word (first ids i.id) ≡ false)
-has_id ids i result some =
-    let parts = and_parts (is_id ids.bound i.id) (not (is_before i.word (first ids i.id))) (rw (ne_eqb i.id 0 some) at result) in
-    (parts.0, not-true (is_before i.word (first ids i.id)) parts.1)
-
-not_again : (ids : Ids) (i : Inst) (word : ℕ) → is_result ids i ≡ true → i.id ≢ 0 → IsDefinedBy (definitions_of ids.insts) word i.id → word < i.word → ⊥
+not_again : (decoded : Decoded) (i : Inst) (word : ℕ) → is_result decoded i ≡ true → i.id ≢ 0 → IsDefinedBy (definitions_of decoded.insts) word i.id → word < i.word → ⊥
 unfolding first
-not_again ids i word result some by lt =
-    let parts = has_id ids i result some in
+not_again decoded i word result some by lt =
+    let parts = has_id decoded i result some in
     let late : nat_lt by.definition.word i.word ≡ false = rw (parts.0, by.is) at parts.1 in
     let high : i.word ≤ by.definition.word = ltb-false by.definition.word i.word late in
     let early : by.definition.word ≤ word = by.early in
     omega arith
 
-are_distinct : (ids : Ids) (from : ℕ) (insts : List Inst) → Ascend from insts → AllByRecursion (λ (i : Inst). is_result ids i ≡ true) insts
-    → AllByRecursion (λ (i : Inst). IsDefinedBy (definitions_of ids.insts) i.word i.id) insts → AreDistinct insts
-are_distinct ids from [] ascend results defined = tt
-are_distinct ids from (i ∷ is) (first, rest) (result, results) (by, defined) = (here (cases_eq i.id 0), are_distinct ids (suc i.word) is rest results defined)
+are_distinct : (decoded : Decoded) (from : ℕ) (insts : List Inst) → Ascend from insts → AllByRecursion (λ (i : Inst). is_result decoded i ≡ true) insts
+    → AllByRecursion (λ (i : Inst). IsDefinedBy (definitions_of decoded.insts) i.word i.id) insts → AreDistinct insts
+are_distinct decoded from [] ascend results defined = tt
+are_distinct decoded from (i ∷ is) (first, rest) (result, results) (by, defined) = (here (cases_eq i.id 0), are_distinct decoded (suc i.word) is rest results defined)
   where
-    other : (j : Inst) → (i.id ≡ 0 → ⊥) → suc i.word ≤ j.word → is_result ids j ≡ true → j.id ≢ i.id
-    other j some le r e = not_again ids j i.word r (λ z. some (sym e ∙ z)) (rw e by) le
+    other : (j : Inst) → (i.id ≡ 0 → ⊥) → suc i.word ≤ j.word → is_result decoded j ≡ true → j.id ≢ i.id
+    other j some le r e = not_again decoded j i.word r (λ z. some (sym e ∙ z)) (rw e by) le
 
     here : (i.id ≡ 0) ⊎ (i.id ≡ 0 → ⊥) → (i.id ≡ 0) ⊎ AllByRecursion (λ (later : Inst). later.id ≢ i.id) is
     here (inl none) = inl none
-    here (inr some) = inr (both (λ (j : Inst). suc i.word ≤ j.word) (λ (j : Inst). is_result ids j ≡ true) (λ (j : Inst). j.id ≢ i.id) (λ j. other j some) is (above (suc i.word) is rest) results)
+    here (inr some) = inr (both (λ (j : Inst). suc i.word ≤ j.word) (λ (j : Inst). is_result decoded j ≡ true) (λ (j : Inst). j.id ≢ i.id) (λ j. other j some) is (above (suc i.word) is rest) results)
 
-pub distinct : (ids : Ids) → Ascend 0 ids.insts → AllByRecursion (λ (i : Inst). is_result ids i ≡ true) ids.insts → AreDistinct ids.insts
+pub distinct : (decoded : Decoded) → Ascend 0 decoded.insts → AllByRecursion (λ (i : Inst). is_result decoded i ≡ true) decoded.insts → AreDistinct decoded.insts
 unfolding definitions_of
-distinct ids ascend results = are_distinct ids 0 ids.insts ascend results (all_defined (sets_of ids.insts) outside 0 ids.insts ascend)
+distinct decoded ascend results = are_distinct decoded 0 decoded.insts ascend results (all_defined (sets_of decoded.insts) outside 0 decoded.insts ascend)
 
 -- ---- the instruction that defines an id
 

@@ -1,13 +1,15 @@
 -- What each id of a module stands for, and from where it can be named (SPIR-V 1.6 section 2.16.1): the ids that are defined
 -- before the functions and the functions themselves from anywhere, and the others from within their function.
-use Rattle.std.specs.Prelude.{◌≡◌, ◌<◌, ℕ, Bool, true, false, List, ◌==◌, ◌&&◌, nat_lt, if◌then◌else◌, length, map, Option, None, slice_index_or}
+use Rattle.std.specs.Prelude.{ℕ, Bool, true, false, List, ◌==◌, ◌&&◌, nat_lt, if◌then◌else◌, map, Option, Some, None}
 use Rattle.spv_base.specs.Entries.{reads}
 use Rattle.spv_base.specs.declared.instructions.Inst.{Inst}
+use Rattle.spv_ops.specs.Module.{Decoded}
 use Rattle.spv_index.specs.declared.positions.Position.{Position}
+use Rattle.spv_index.specs.declared.positions.Standing.{Standing}
 use Rattle.spv_index.specs.Classes.{sets_of}
 use Rattle.spv_index.specs.Positions.{Stand, stands, outside, in_function}
 use Rattle.spv_sections.specs.declared.definitions.Home.{Home}
-use Rattle.spv_sections.specs.declared.definitions.Home.TheVariants.{Module, Within}
+use Rattle.spv_sections.specs.declared.definitions.Home.TheVariants.{Anywhere, Module, Within}
 use Rattle.spv_sections.specs.declared.definitions.Definition.{Definition}
 use Rattle.spv_sections.specs.Kinds.{kind_of}
 
@@ -17,8 +19,11 @@ home_of position = if in_function position.stage then Within position.function_w
 
 -- an id of the second home can be named from the first
 abbrev pub sees : Home → Home → Bool
+sees Anywhere there = true
+sees Module Anywhere = true
 sees Module Module = true
 sees Module (Within there) = false
+sees (Within here) Anywhere = true
 sees (Within here) Module = true
 sees (Within here) (Within there) = here == there
 
@@ -36,25 +41,18 @@ definitions_from sets position insts = map definition_of (stands sets position i
 unfoldable pub definitions_of : List Inst → List (ℕ × Definition)
 definitions_of insts = definitions_from (sets_of insts) outside insts
 
--- a module's Bound and its instructions
-pub record Ids : Type 0 where
-  pub bound : ℕ
-  pub insts : List Inst
-
 -- an id is not 0, and below the Bound
 abbrev pub is_id : ℕ → ℕ → Bool
 is_id bound id = nat_lt 0 id && nat_lt id bound
 
 -- the first definition of an id
-unfoldable pub first : Ids → ℕ → Option Definition
-first ids id = if is_id ids.bound id then reads id (definitions_of ids.insts) else None
+unfoldable pub first : Decoded → ℕ → Option Definition
+first decoded id = if is_id decoded.bound id then reads id (definitions_of decoded.insts) else None
 
--- ---- by ids
+-- ---- by the index
 
--- what a list has for an id
-abbrev pub slot : List (Option Definition) → ℕ → Option Definition
-slot slots id = slice_index_or slots id None
-
--- a list has, by ids, the first definitions
-abbrev pub AreSlots : List (ℕ × Definition) → List (Option Definition) → Type 0
-AreSlots definitions slots = (id : ℕ) → id < length slots → slot slots id ≡ reads id definitions
+-- what an id stands for that is defined by an instruction with a standing
+abbrev pub by_parts : Option Inst → Option Standing → Option Definition
+by_parts None standing = None
+by_parts (Some inst) None = None
+by_parts (Some inst) (Some standing) = Some (definition_at standing.position inst)

@@ -1,20 +1,35 @@
 -- What it means that the ids of a module are in order.
-use Rattle.std.specs.Prelude.{◌≡◌, ℕ, Bool, true, List, [], ◌∷◌}
-use Rattle.spv_base.specs.declared.instructions.Inst.{Inst}
-use Rattle.spv_index.specs.declared.positions.Position.{Position}
-use Rattle.spv_index.specs.Classes.{class_of}
-use Rattle.spv_index.specs.Positions.{position_after}
-use Rattle.spv_sections.specs.Definitions.{Ids}
-use Rattle.spv_sections.specs.Ids.{has_begun, is_naming, is_numbered, scope_of}
+use Rattle.std.specs.Prelude.{◌≡◌, ◌⊎◌, ℕ, true, List, [], ◌∷◌, Some, slice_get}
+use Rattle.std.specs.List.{AllByRecursion, flat_map}
+use Rattle.spv_base.specs.declared.instructions.Operand.{Operand}
+use Rattle.spv_base.specs.declared.instructions.Operand.TheVariants.{Id, Lit, Text}
+use Rattle.spv_ops.specs.Module.{Decoded}
+use Rattle.spv_index.specs.Positions.{Stand, stands_of}
+use Rattle.spv_sections.specs.declared.kinds.Wanted.TheVariants.{DeclaredType}
+use Rattle.spv_sections.specs.Kinds.{uses_of, wanted}
+use Rattle.spv_sections.specs.Definitions.{is_id}
+use Rattle.spv_sections.specs.Ids.{is_result, is_type_id, looked_at, names, scope_of}
 
--- Of each instruction, the first of which stands at a position, where a function has begun before or not: its ids are at least 1
--- and below the Bound, it has a result and a result type where its opcode has them, nothing at a lower word defines its
--- result, its result type is a type, and each id in its operands is defined where it can be named, and of the kind that the
--- operand asks. What names and decorations are of may have no definition, and of the operands of an instruction with no
--- meaning at run time the set alone is looked at.
-abbrev pub AreInOrder : Ids → List (ℕ × Bool) → Bool → Position → List Inst → Type 0
-AreInOrder ids sets begun position [] = Unit {0}
-AreInOrder ids sets begun position (inst ∷ insts) =
-    (is_numbered ids (class_of sets inst) inst ≡ true)
-    × (is_naming ids (scope_of (has_begun begun inst) position inst) (class_of sets inst) inst ≡ true)
-    × AreInOrder ids sets (has_begun begun inst) (position_after position (class_of sets inst) inst) insts
+-- the ids among operands, in their order
+abbrev pub id_in : Operand → List ℕ
+id_in (Id id) = id ∷ []
+id_in (Lit word) = []
+id_in (Text bytes) = []
+
+abbrev pub ids_among : List Operand → List ℕ
+ids_among operands = flat_map id_in operands
+
+-- The ids of an instruction are in order where it stands. Of the operands of an instruction with no meaning at run time the
+-- set alone is looked at, and what names and decorations are of may have no definition.
+pub record IsInOrder (decoded : Decoded) (s : Stand) : Type 0 where
+  -- it has a result where its opcode has one: an id that is at least 1 and below the Bound, and that nothing at a lower word defines
+  pub result : is_result decoded s.inst ≡ true
+  -- it has a result type where its opcode has one: an id below the Bound, of a type that is defined where it can be named
+  pub has_type : is_type_id decoded s.inst ≡ true
+  pub type_named : (s.inst.ty ≡ 0) ⊎ (names decoded (scope_of s.position s.inst) DeclaredType s.inst.ty ≡ true)
+  -- each id among its operands is below the Bound, defined where it can be named, and of the kind that the operand asks
+  pub operands : (k id : ℕ) → slice_get (ids_among (looked_at s.class s.inst)) k ≡ Some id
+      → (is_id decoded.bound id ≡ true) × (names decoded (scope_of s.position s.inst) (wanted (uses_of s.inst.op) k) id ≡ true)
+
+abbrev pub AreInOrder : Decoded → Type 0
+AreInOrder decoded = AllByRecursion (IsInOrder decoded) (stands_of decoded.insts)

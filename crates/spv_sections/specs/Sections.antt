@@ -1,16 +1,15 @@
 -- The order of the sections of a module (SPIR-V 1.6 section 2.4, Logical Layout of a Module).
 -- This project's profile: lines and instructions with no meaning at run time may stand among the types, in functions and
 -- between functions, and OpNop may stand in blocks alone.
-use Rattle.std.specs.Prelude.{ℕ, Bool, true, false, List, [], ◌∷◌, ◌++◌, ◌||◌, nat_le, nat_lt, if◌then◌else◌, max, unwrap_or, Result}
+use Rattle.std.specs.Prelude.{ℕ, Bool, true, false, List, [], ◌∷◌, ◌++◌, ◌&&◌, ◌||◌, nat_le, nat_lt, if◌then◌else◌, unwrap_or, Result}
+use Rattle.std.specs.List.{list_all}
 use Rattle.spv_base.specs.Entries.{reads}
 use Rattle.spv_base.specs.declared.instructions.Inst.{Inst}
 use Rattle.spv_base.specs.declared.causes.Refusal.{Refusal}
 use Rattle.spv_index.specs.declared.classes.Class.{Class}
 use Rattle.spv_index.specs.declared.classes.Class.TheVariants.{Function as Beginning, Parameter, End, Label, Line as Passing, Phi, Variable, Terminator, Passed, Executable}
 use Rattle.spv_index.specs.declared.positions.Stage.{Stage}
-use Rattle.spv_index.specs.declared.positions.Position.{Position}
-use Rattle.spv_index.specs.Classes.{class_of, sets_of}
-use Rattle.spv_index.specs.Positions.{in_block, in_function, outside, position_after}
+use Rattle.spv_index.specs.Positions.{Stand, in_block, in_function, stands_of}
 use Rattle.spv_types.specs.Build.{unless_refused}
 use Rattle.spv_types.specs.Blocks.{nothing}
 use Rattle.spv_sections.specs.declared.sections.Part.{Part}
@@ -65,35 +64,51 @@ rank Function = 9
 rank Nop = 9
 rank Body = 9
 
--- Whether an instruction may stand at a place, where the last section that was reached has a number: no later section
--- than its own was reached before it. There is one memory model. A variable and an undefined value may stand in a
--- function too, the body of a function stands there alone, and OpNop in a block.
-abbrev pub may_stand : Stage → ℕ → Part → Bool
-may_stand place reached Capability = nat_le reached (rank Capability)
-may_stand place reached Extension = nat_le reached (rank Extension)
-may_stand place reached Import = nat_le reached (rank Import)
-may_stand place reached MemoryModel = nat_lt reached (rank MemoryModel)
-may_stand place reached EntryPoint = nat_le reached (rank EntryPoint)
-may_stand place reached ExecutionMode = nat_le reached (rank ExecutionMode)
-may_stand place reached Debug = nat_le reached (rank Debug)
-may_stand place reached Decoration = nat_le reached (rank Decoration)
-may_stand place reached Declaration = nat_le reached (rank Declaration)
-may_stand place reached Value = in_function place || nat_le reached (rank Value)
-may_stand place reached Line = true
-may_stand place reached Function = true
-may_stand place reached Nop = in_block place
-may_stand place reached Body = in_function place
+-- what a stand is to the order of sections
+abbrev pub part_at : Stand → Part
+part_at s = part_of s.class s.inst.op
+
+-- the body of a function stands in one, and OpNop in a block
+abbrev pub fits_stage : Stage → Part → Bool
+fits_stage stage Nop = in_block stage
+fits_stage stage Body = in_function stage
+fits_stage stage other = true
+
+-- An instruction may stand behind another one, which is of no later section. There is one memory model. A variable and an
+-- undefined value may stand in a function too.
+abbrev pub may_follow : Stage → Part → ℕ → Bool
+may_follow stage Capability earlier = nat_le earlier (rank Capability)
+may_follow stage Extension earlier = nat_le earlier (rank Extension)
+may_follow stage Import earlier = nat_le earlier (rank Import)
+may_follow stage MemoryModel earlier = nat_lt earlier (rank MemoryModel)
+may_follow stage EntryPoint earlier = nat_le earlier (rank EntryPoint)
+may_follow stage ExecutionMode earlier = nat_le earlier (rank ExecutionMode)
+may_follow stage Debug earlier = nat_le earlier (rank Debug)
+may_follow stage Decoration earlier = nat_le earlier (rank Decoration)
+may_follow stage Declaration earlier = nat_le earlier (rank Declaration)
+may_follow stage Value earlier = in_function stage || nat_le earlier (rank Value)
+may_follow stage Line earlier = true
+may_follow stage Function earlier = true
+may_follow stage Nop earlier = true
+may_follow stage Body earlier = true
+
+-- an instruction may stand where it does, behind these
+abbrev pub may_stand : List Stand → Stand → Bool
+may_stand before s =
+    fits_stage s.position.stage (part_at s) && list_all (λ t. may_follow s.position.stage (part_at s) (rank (part_at t))) before
 
 abbrev pub order_breach : Inst → Refusal
 order_breach inst = record { code = order_code; word = inst.word }
 
--- the refusals of instructions of which the first stands at a position, where the last section reached has a number
-unfoldable pub order_breaches : List (ℕ × Bool) → Position → ℕ → List Inst → List Refusal
-order_breaches sets position reached [] = []
-order_breaches sets position reached (inst ∷ insts) =
-    (if may_stand position.stage reached (part_of (class_of sets inst) inst.op) then [] else order_breach inst ∷ [])
-    ++ order_breaches sets (position_after position (class_of sets inst) inst) (max reached (rank (part_of (class_of sets inst) inst.op))) insts
+-- the refusals of instructions that stand behind these
+unfoldable pub order_breaches_behind : List Stand → List Stand → List Refusal
+order_breaches_behind before [] = []
+order_breaches_behind before (s ∷ more) =
+    (if may_stand before s then [] else order_breach s.inst ∷ []) ++ order_breaches_behind (before ++ s ∷ []) more
+
+abbrev pub order_breaches : List Inst → List Refusal
+order_breaches insts = order_breaches_behind [] (stands_of insts)
 
 -- nothing, where the sections of a module are in order, or the first breach
 unfoldable pub sections_of : List Inst → Result (Unit {0}) Refusal
-sections_of insts = unless_refused nothing (order_breaches (sets_of insts) outside 0 insts)
+sections_of insts = unless_refused nothing (order_breaches insts)

@@ -4,7 +4,9 @@ ghost use Rattle.spv_index.specs.Classes.{name_of};
 ghost use Rattle.spv_sections.specs.Capabilities as spec;
 
 use spv_base::{Inst, Operand, Refusal};
+use spv_index::Index;
 use spv_index::classes::number_at;
+use spv_ops::{capability, op};
 
 /// The code of the rules of capabilities, extensions, imports and memory models.
 const CAPABILITY_CODE: u8 = 11;
@@ -26,7 +28,16 @@ fn is_capability(number: u32) -> bool
 {
     matches!(
         number,
-        0 | 1 | 11 | 12 | 22 | 39 | 4433 | 4434 | 4448 | 4449
+        capability::MATRIX
+            | capability::SHADER
+            | capability::INT64
+            | capability::INT64_ATOMICS
+            | capability::INT16
+            | capability::INT8
+            | capability::STORAGE_BUFFER16_BIT_ACCESS
+            | capability::UNIFORM_AND_STORAGE_BUFFER16_BIT_ACCESS
+            | capability::STORAGE_BUFFER8_BIT_ACCESS
+            | capability::UNIFORM_AND_STORAGE_BUFFER8_BIT_ACCESS
     )
 }
 
@@ -52,20 +63,17 @@ fn is_here(inst: &Inst) -> bool
     ensures { result ≡ spec.is_here inst.now }
 {
     match inst.op {
-        10 => is_extension(name_of(inst)),
-        11 => is_set(name_of(inst)),
-        14 => number_at(inst, 0) == 0 && number_at(inst, 1) == 1,
-        17 => is_capability(number_at(inst, 0)),
-        67 | 401 | 402 => false,
+        op::EXTENSION => is_extension(name_of(inst)),
+        op::EXT_INST_IMPORT => is_set(name_of(inst)),
+        op::MEMORY_MODEL => number_at(inst, 0) == 0 && number_at(inst, 1) == 1,
+        op::CAPABILITY => is_capability(number_at(inst, 0)),
+        op::PTR_ACCESS_CHAIN | op::PTR_EQUAL | op::PTR_NOT_EQUAL => false,
         _ => true,
     }
 }
 
-/// Checks what a module declares that it needs.
-///
-/// Refuses M11: at a capability, an extension, an import or a memory model that is not accepted, and at an instruction
-/// that needs such a capability.
-pub fn check_capabilities(insts: &[Inst]) -> Result<(), Refusal>
+/// Refuses the first instruction that asks for something that is not here.
+fn check_all(insts: &[Inst]) -> Result<(), Refusal>
     ensures { result ≡ spec.capabilities_of insts.now }
 {
     for inst in insts {
@@ -77,4 +85,14 @@ pub fn check_capabilities(insts: &[Inst]) -> Result<(), Refusal>
         }
     }
     Ok(())
+}
+
+/// Checks what a module declares that it needs.
+///
+/// Refuses M11: at a capability, an extension, an import or a memory model that is not accepted, and at an instruction
+/// that needs such a capability.
+pub fn check_capabilities(index: &Index) -> Result<(), Refusal>
+    ensures { result ≡ spec.capabilities_of index.now.insts }
+{
+    check_all(index.insts())
 }

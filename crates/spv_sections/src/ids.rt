@@ -1,33 +1,23 @@
 //! The rules of ids (SPIR-V 1.6 sections 2.2.1, 2.4 and 2.16.1).
-ghost use Rattle.std.specs.Prelude.{◌≡◌, false};
-ghost use Rattle.std.specs.List.{list_all};
-ghost use Rattle.spv_base.specs.Answers.{Answers};
-ghost use Rattle.spv_index.specs.Classes.{sets_of};
-ghost use Rattle.spv_index.specs.Positions.{outside};
+ghost use Rattle.std.specs.Prelude.{◌≡◌};
+ghost use Rattle.std.specs.List.{flat_map, list_all};
 ghost use Rattle.spv_types.specs.Build.{unless_refused};
 ghost use Rattle.spv_sections.specs.Ids as spec;
 
-use crate::definitions::{Definition, Definitions, Home};
+use crate::definitions::{Definition, Home, is_id};
 use crate::kinds::{Uses, Wanted};
-use spv_base::{Fail, Inst, Operand, Refusal};
-use spv_index::Table;
-use spv_index::classes::{Class, class_of, sets_of};
+use spv_base::{Inst, Operand, Refusal};
+use spv_index::Index;
+use spv_index::classes::Class;
 use spv_index::positions::Position;
-use spv_ops::{Head, opcode_of};
-use spv_types::opcodes::FUNCTION;
-use std::alloc::Global;
+use spv_index::stands::Stands;
+use spv_ops::{Head, op, opcode_of};
 
 /// The code of the rules of ids as numbers.
 const NUMBER_CODE: u8 = 8;
 
 /// The code of the rules of what ids stand for.
 const NAMING_CODE: u8 = 9;
-
-/// OpExtInst, an instruction of an imported set.
-const EXT_INST: u16 = 12;
-
-/// No Bound counts as more than this.
-const ID_LIMIT: u32 = 1_048_576;
 
 /// From where an instruction names ids.
 #[derive(Clone, Copy, Debug, PartialEq, Eq)]
@@ -66,7 +56,7 @@ fn looked_at(class: Class, inst: &Inst) -> &[Operand]
     ensures { result.now ≡ spec.looked_at class inst.now }
 {
     let operands = inst.operands.as_slice();
-    if matches!(class, Class::Line) && inst.op == EXT_INST && operands.len() > 2 {
+    if matches!(class, Class::Line) && inst.op == op::EXT_INST && operands.len() > 2 {
         &operands[..2]
     } else {
         operands
@@ -77,7 +67,16 @@ fn looked_at(class: Class, inst: &Inst) -> &[Operand]
 fn names_later(op: u16) -> bool
     ensures { result ≡ spec.names_later op }
 {
-    matches!(op, 5 | 6 | 15 | 16 | 71 | 72 | 331)
+    matches!(
+        op,
+        op::NAME
+            | op::MEMBER_NAME
+            | op::ENTRY_POINT
+            | op::EXECUTION_MODE
+            | op::DECORATE
+            | op::MEMBER_DECORATE
+            | op::EXECUTION_MODE_ID
+    )
 }
 
 /// How many ids an operand is.
@@ -86,16 +85,8 @@ fn id_count(operand: &Operand) -> usize
 {
     match operand {
         Operand::Id(_) => 1,
-        Operand::Lit(_) => 0,
-        Operand::Text(_) => 0,
+        Operand::Lit(_) | Operand::Text(_) => 0,
     }
-}
-
-/// Whether an OpFunction is there or was before.
-fn has_begun(begun: bool, inst: &Inst) -> bool
-    ensures { result ≡ spec.has_begun begun inst.now }
-{
-    begun || inst.op == FUNCTION
 }
 
 /// Whether an id was defined by an instruction before this word.
@@ -109,17 +100,20 @@ fn is_before(word: u32, definition: Option<Definition>) -> bool
 }
 
 impl Scope {
-    /// The scope of an instruction at a position, where a function has begun or not.
-    fn of(begun: bool, position: Position, inst: &Inst) -> Scope
-        ensures { result ≡ spec.scope_of begun position inst.now }
+    /// The scope of an instruction at a position.
+    fn of(position: Position, inst: &Inst) -> Scope
+        ensures { result ≡ spec.scope_of position inst.now }
     {
+        let names_later = position.stage.in_function()
+            || inst.op == op::FUNCTION
+            || names_later(inst.op);
         Scope {
-            home: Home::of(position),
-            before: if begun || names_later(inst.op) {
-                None
+            home: if inst.op == op::EXECUTION_MODE_ID {
+                Home::Anywhere
             } else {
-                Some(inst.word)
+                Home::of(position)
             },
+            before: if names_later { None } else { Some(inst.word) },
         }
     }
 
@@ -146,138 +140,128 @@ impl Scope {
     }
 }
 
-impl<'a> Definitions<'a> {
-    fn is_result(&self, inst: &Inst) -> bool
-        ensures { result ≡ spec.is_result self.now inst.now }
-    {
-        if inst.id == 0 {
-            return !has_result(inst.op);
-        }
-        self.is_id(inst.id) && !is_before(inst.word, self.first(inst.id))
+fn is_result(index: &Index, inst: &Inst) -> bool
+    ensures { result ≡ spec.is_result index.now inst.now }
+{
+    if inst.id == 0 {
+        return !has_result(inst.op);
     }
+    is_id(index, inst.id) && !is_before(inst.word, Definition::first(index, inst.id))
+}
 
-    fn is_type_id(&self, inst: &Inst) -> bool
-        ensures { result ≡ spec.is_type_id self.now inst.now }
-    {
-        if inst.ty == 0 {
-            return !has_type(inst.op);
-        }
-        self.is_id(inst.ty)
+fn is_type_id(index: &Index, inst: &Inst) -> bool
+    ensures { result ≡ spec.is_type_id index.now inst.now }
+{
+    if inst.ty == 0 {
+        return !has_type(inst.op);
     }
+    is_id(index, inst.ty)
+}
 
-    fn is_operand(&self, operand: &Operand) -> bool
-        ensures { result ≡ spec.is_operand self.now.bound operand.now }
-    {
-        match operand {
-            Operand::Id(id) => self.is_id(*id),
-            Operand::Lit(_) => true,
-            Operand::Text(_) => true,
-        }
-    }
-
-    fn are_operands(&self, operands: &[Operand]) -> bool
-        ensures { result ≡ list_all (spec.is_operand self.now.bound) operands.now }
-    {
-        for operand in operands {
-            if !self.is_operand(operand) {
-                return false;
-            }
-        }
-        true
-    }
-
-    /// Whether the ids of an instruction are in order as numbers.
-    fn is_numbered(&self, class: Class, inst: &Inst) -> bool
-        ensures { result ≡ spec.is_numbered self.now class inst.now }
-    {
-        self.is_result(inst) && self.is_type_id(inst) && self.are_operands(looked_at(class, inst))
-    }
-
-    /// Whether an id is of what is wanted.
-    fn names(&self, scope: Scope, wanted: Wanted, id: u32) -> bool
-        ensures { result ≡ spec.names self.now scope wanted id }
-    {
-        wanted.is_anything() || scope.serves(wanted, self.first(id))
-    }
-
-    fn operand_names(&self, scope: Scope, wanted: Wanted, operand: &Operand) -> bool
-        ensures { result ≡ spec.operand_names self.now scope wanted operand.now }
-    {
-        match operand {
-            Operand::Id(id) => self.names(scope, wanted, *id),
-            Operand::Lit(_) => true,
-            Operand::Text(_) => true,
-        }
-    }
-
-    fn operands_name(&self, scope: Scope, uses: Uses, operands: &[Operand]) -> bool
-        ensures { result ≡ spec.operands_name self.now scope uses 0 operands.now }
-    {
-        let mut number = 0;
-        for operand in operands {
-            if !self.operand_names(scope, uses.wanted(number), operand) {
-                return false;
-            }
-            number += id_count(operand);
-        }
-        true
-    }
-
-    /// Whether the result type of an instruction and the ids of its operands are of what is wanted.
-    fn is_naming(&self, scope: Scope, class: Class, inst: &Inst) -> bool
-        ensures { result ≡ spec.is_naming self.now scope class inst.now }
-    {
-        (inst.ty == 0 || self.names(scope, Wanted::DeclaredType, inst.ty))
-            && self.operands_name(scope, Uses::of(inst.op), looked_at(class, inst))
-    }
-
-    /// Refuses an instruction whose ids are not in order.
-    #[tactic(auto, unfolding(crate::specs::Ids::breaches_at))]
-    fn check_inst(&self, scope: Scope, class: Class, inst: &Inst) -> Result<(), Refusal>
-        ensures { result ≡ unless_refused tt (spec.breaches_at self.now scope class inst.now) }
-    {
-        if !self.is_numbered(class, inst) {
-            return Err(Refusal {
-                code: NUMBER_CODE,
-                word: inst.word,
-            });
-        }
-        if !self.is_naming(scope, class, inst) {
-            return Err(Refusal {
-                code: NAMING_CODE,
-                word: inst.word,
-            });
-        }
-        Ok(())
-    }
-
-    /// Refuses the first of some instructions whose ids are not in order.
-    fn check_all(&self, sets: &Table<bool>, insts: &[Inst]) -> Result<(), Refusal>
-        ensures { result ≡ unless_refused tt (spec.id_breaches self.now sets.now false outside insts.now) }
-    {
-        let mut begun = false;
-        let mut position = Position::outside();
-        for inst in insts {
-            let class = class_of(sets, inst);
-            begun = has_begun(begun, inst);
-            self.check_inst(Scope::of(begun, position, inst), class, inst)?;
-            position = position.after(class, inst);
-        }
-        Ok(())
+fn is_operand(index: &Index, operand: &Operand) -> bool
+    ensures { result ≡ spec.is_operand index.now.bound operand.now }
+{
+    match operand {
+        Operand::Id(id) => is_id(index, *id),
+        Operand::Lit(_) | Operand::Text(_) => true,
     }
 }
 
-/// Checks the ids of a module with some Bound.
+fn are_operands(index: &Index, operands: &[Operand]) -> bool
+    ensures { result ≡ list_all (spec.is_operand index.now.bound) operands.now }
+{
+    for operand in operands {
+        if !is_operand(index, operand) {
+            return false;
+        }
+    }
+    true
+}
+
+/// Whether the ids of an instruction are in order as numbers.
+fn is_numbered(index: &Index, class: Class, inst: &Inst) -> bool
+    ensures { result ≡ spec.is_numbered index.now class inst.now }
+{
+    is_result(index, inst) && is_type_id(index, inst) && are_operands(index, looked_at(class, inst))
+}
+
+/// Whether an id is of what is wanted.
+fn names(index: &Index, scope: Scope, wanted: Wanted, id: u32) -> bool
+    ensures { result ≡ spec.names index.now scope wanted id }
+{
+    wanted.is_anything() || scope.serves(wanted, Definition::first(index, id))
+}
+
+fn operand_names(index: &Index, scope: Scope, wanted: Wanted, operand: &Operand) -> bool
+    ensures { result ≡ spec.operand_names index.now scope wanted operand.now }
+{
+    match operand {
+        Operand::Id(id) => names(index, scope, wanted, *id),
+        Operand::Lit(_) | Operand::Text(_) => true,
+    }
+}
+
+fn operands_name(index: &Index, scope: Scope, uses: Uses, operands: &[Operand]) -> bool
+    ensures { result ≡ spec.operands_name index.now scope uses 0 operands.now }
+{
+    let mut number = 0;
+    for operand in operands {
+        if !operand_names(index, scope, uses.wanted(number), operand) {
+            return false;
+        }
+        number += id_count(operand);
+    }
+    true
+}
+
+/// Whether the result type of an instruction and the ids of its operands are of what is wanted.
+fn is_naming(index: &Index, scope: Scope, class: Class, inst: &Inst) -> bool
+    ensures { result ≡ spec.is_naming index.now scope class inst.now }
+{
+    (inst.ty == 0 || names(index, scope, Wanted::DeclaredType, inst.ty))
+        && operands_name(index, scope, Uses::of(inst.op), looked_at(class, inst))
+}
+
+/// Refuses an instruction whose ids are not in order.
+#[tactic(auto, unfolding(crate::specs::Ids::breaches_at))]
+fn check_inst(index: &Index, scope: Scope, class: Class, inst: &Inst) -> Result<(), Refusal>
+    ensures { result ≡ unless_refused tt (spec.breaches_at index.now scope class inst.now) }
+{
+    if !is_numbered(index, class, inst) {
+        return Err(Refusal {
+            code: NUMBER_CODE,
+            word: inst.word,
+        });
+    }
+    if !is_naming(index, scope, class, inst) {
+        return Err(Refusal {
+            code: NAMING_CODE,
+            word: inst.word,
+        });
+    }
+    Ok(())
+}
+
+/// Refuses the first instruction whose ids are not in order.
+fn check_all(index: &Index, stands: &Stands) -> Result<(), Refusal>
+    ensures { result ≡ unless_refused tt (flat_map (spec.breaches_of index.now) stands.now) }
+{
+    for n in 0..stands.len() {
+        let stand = stands.at(n);
+        let scope = Scope::of(stand.position, stand.inst);
+        check_inst(index, scope, stand.class, stand.inst)?;
+    }
+    Ok(())
+}
+
+/// Checks the ids of a module.
 ///
 /// Refuses M8 at an instruction with an id that is 0, at or over the Bound, or defined before, and M9 at one that names
-/// an id which isn't defined where it can be named, or stands for something else than the operand asks. A Bound over
-/// 1,048,576 counts as 1,048,576.
+/// an id which isn't defined where it can be named, or stands for something else than the operand asks: of several the one
+/// at the lowest word, and at one word M8.
 #[tactic(auto, unfolding(crate::specs::Ids::ids_of))]
-pub fn check_ids(alloc: Global, insts: &[Inst], bound: u32) -> Result<(), Fail<Refusal>>
-    ensures { Answers (spec.ids_of bound insts.now) result }
+pub fn check_ids(index: &Index) -> Result<(), Refusal>
+    ensures { result ≡ spec.ids_of index.now }
 {
-    let sets = sets_of(alloc, insts)?;
-    let definitions = Definitions::of(alloc, &sets, insts, bound.min(ID_LIMIT))?;
-    definitions.check_all(&sets, insts)?;
-    Ok(())
+    check_all(index, &index.stands())
 }

@@ -2,6 +2,8 @@
 ghost use Rattle.std.specs.Prelude.{◌≡◌};
 ghost use Rattle.spv_sections.specs.Kinds as spec;
 
+use spv_ops::op;
+
 /// What an id stands for.
 #[derive(Clone, Copy, Debug, PartialEq, Eq)]
 pub enum Kind {
@@ -51,34 +53,34 @@ impl Kind {
         ensures { result ≡ spec.kind_of local op }
     {
         match op {
-            7 => Kind::String,
-            11 => Kind::Import,
-            19 => Kind::DeclaredType,
-            20 => Kind::DeclaredType,
-            21 => Kind::DeclaredType,
-            23 => Kind::DeclaredType,
-            28 => Kind::DeclaredType,
-            29 => Kind::DeclaredType,
-            30 => Kind::DeclaredType,
-            32 => Kind::DeclaredType,
-            33 => Kind::DeclaredType,
-            41 => Kind::Constant,
-            42 => Kind::Constant,
-            43 => Kind::Constant,
-            44 => Kind::Constant,
-            46 => Kind::Constant,
-            48 => Kind::Constant,
-            49 => Kind::Constant,
-            50 => Kind::Constant,
-            51 => Kind::Constant,
-            52 => Kind::Constant,
-            54 => Kind::Function,
-            59 => if local {
+            op::STRING => Kind::String,
+            op::EXT_INST_IMPORT => Kind::Import,
+            op::TYPE_VOID
+            | op::TYPE_BOOL
+            | op::TYPE_INT
+            | op::TYPE_VECTOR
+            | op::TYPE_ARRAY
+            | op::TYPE_RUNTIME_ARRAY
+            | op::TYPE_STRUCT
+            | op::TYPE_POINTER
+            | op::TYPE_FUNCTION => Kind::DeclaredType,
+            op::CONSTANT_TRUE
+            | op::CONSTANT_FALSE
+            | op::CONSTANT
+            | op::CONSTANT_COMPOSITE
+            | op::CONSTANT_NULL
+            | op::SPEC_CONSTANT_TRUE
+            | op::SPEC_CONSTANT_FALSE
+            | op::SPEC_CONSTANT
+            | op::SPEC_CONSTANT_COMPOSITE
+            | op::SPEC_CONSTANT_OP => Kind::Constant,
+            op::FUNCTION => Kind::Function,
+            op::VARIABLE => if local {
                 Kind::Computed
             } else {
                 Kind::ModuleVariable
             },
-            248 => Kind::Label,
+            op::LABEL => Kind::Label,
             _ => Kind::Computed,
         }
     }
@@ -122,30 +124,27 @@ impl Uses {
         ensures { result ≡ spec.uses_of op }
     {
         match op {
-            3 => Uses::Each(Wanted::File),
-            5 => Uses::Each(Wanted::Anything),
-            6 => Uses::Each(Wanted::Anything),
-            8 => Uses::Each(Wanted::File),
-            12 => Uses::First(Wanted::Set, Wanted::Value),
-            15 => Uses::First(Wanted::Function, Wanted::Interface),
-            16 => Uses::Each(Wanted::Function),
-            23 => Uses::Each(Wanted::DeclaredType),
-            28 => Uses::First(Wanted::DeclaredType, Wanted::Value),
-            29 => Uses::Each(Wanted::DeclaredType),
-            30 => Uses::Each(Wanted::DeclaredType),
-            32 => Uses::Each(Wanted::DeclaredType),
-            33 => Uses::Each(Wanted::DeclaredType),
-            54 => Uses::Each(Wanted::DeclaredType),
-            57 => Uses::First(Wanted::Function, Wanted::Value),
-            71 => Uses::Each(Wanted::Anything),
-            72 => Uses::Each(Wanted::Anything),
-            245 => Uses::Turns(Wanted::Value, Wanted::Label),
-            246 => Uses::Each(Wanted::Label),
-            247 => Uses::Each(Wanted::Label),
-            249 => Uses::Each(Wanted::Label),
-            250 => Uses::First(Wanted::Value, Wanted::Label),
-            251 => Uses::First(Wanted::Value, Wanted::Label),
-            331 => Uses::First(Wanted::Function, Wanted::Value),
+            op::SOURCE | op::LINE => Uses::Each(Wanted::File),
+            op::NAME | op::MEMBER_NAME | op::DECORATE | op::MEMBER_DECORATE => Uses::Each(
+                Wanted::Anything,
+            ),
+            op::EXT_INST => Uses::First(Wanted::Set, Wanted::Value),
+            op::ENTRY_POINT => Uses::First(Wanted::Function, Wanted::Interface),
+            op::EXECUTION_MODE => Uses::Each(Wanted::Function),
+            op::TYPE_VECTOR
+            | op::TYPE_RUNTIME_ARRAY
+            | op::TYPE_STRUCT
+            | op::TYPE_POINTER
+            | op::TYPE_FUNCTION
+            | op::FUNCTION => Uses::Each(Wanted::DeclaredType),
+            op::TYPE_ARRAY => Uses::First(Wanted::DeclaredType, Wanted::Value),
+            op::FUNCTION_CALL | op::EXECUTION_MODE_ID => Uses::First(
+                Wanted::Function,
+                Wanted::Value,
+            ),
+            op::PHI => Uses::Turns(Wanted::Value, Wanted::Label),
+            op::LOOP_MERGE | op::SELECTION_MERGE | op::BRANCH => Uses::Each(Wanted::Label),
+            op::BRANCH_CONDITIONAL | op::SWITCH => Uses::First(Wanted::Value, Wanted::Label),
             _ => Uses::Each(Wanted::Value),
         }
     }

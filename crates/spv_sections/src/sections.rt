@@ -1,15 +1,14 @@
 //! The order of the sections of a module (SPIR-V 1.6 section 2.4).
-ghost use Rattle.std.specs.Prelude.{◌≡◌};
-ghost use Rattle.spv_base.specs.Answers.{Answers};
-ghost use Rattle.spv_index.specs.Positions.{outside};
+ghost use Rattle.std.specs.Prelude.{◌≡◌, ◌&&◌, []};
 ghost use Rattle.spv_types.specs.Build.{unless_refused};
 ghost use Rattle.spv_sections.specs.Sections as spec;
 
-use spv_base::{Fail, Inst, Refusal};
-use spv_index::Table;
-use spv_index::classes::{Class, class_of, sets_of};
-use spv_index::positions::{Position, Stage};
-use std::alloc::Global;
+use spv_base::Refusal;
+use spv_index::Index;
+use spv_index::classes::Class;
+use spv_index::positions::Stage;
+use spv_index::stands::Stands;
+use spv_ops::op;
 
 /// The code of the order of sections.
 const ORDER_CODE: u8 = 10;
@@ -43,45 +42,42 @@ fn part_by(op: u16) -> Part
     ensures { result ≡ spec.part_by op }
 {
     match op {
-        0 => Part::Nop,
-        1 => Part::Value,
-        2 => Part::Debug,
-        3 => Part::Debug,
-        4 => Part::Debug,
-        5 => Part::Debug,
-        6 => Part::Debug,
-        7 => Part::Debug,
-        10 => Part::Extension,
-        11 => Part::Import,
-        14 => Part::MemoryModel,
-        15 => Part::EntryPoint,
-        16 => Part::ExecutionMode,
-        17 => Part::Capability,
-        19 => Part::Declaration,
-        20 => Part::Declaration,
-        21 => Part::Declaration,
-        23 => Part::Declaration,
-        28 => Part::Declaration,
-        29 => Part::Declaration,
-        30 => Part::Declaration,
-        32 => Part::Declaration,
-        33 => Part::Declaration,
-        41 => Part::Declaration,
-        42 => Part::Declaration,
-        43 => Part::Declaration,
-        44 => Part::Declaration,
-        46 => Part::Declaration,
-        48 => Part::Declaration,
-        49 => Part::Declaration,
-        50 => Part::Declaration,
-        51 => Part::Declaration,
-        52 => Part::Declaration,
-        54 => Part::Function,
-        59 => Part::Value,
-        71 => Part::Decoration,
-        72 => Part::Decoration,
-        330 => Part::Debug,
-        331 => Part::ExecutionMode,
+        op::NOP => Part::Nop,
+        op::UNDEF | op::VARIABLE => Part::Value,
+        op::SOURCE_CONTINUED
+        | op::SOURCE
+        | op::SOURCE_EXTENSION
+        | op::NAME
+        | op::MEMBER_NAME
+        | op::STRING
+        | op::MODULE_PROCESSED => Part::Debug,
+        op::EXTENSION => Part::Extension,
+        op::EXT_INST_IMPORT => Part::Import,
+        op::MEMORY_MODEL => Part::MemoryModel,
+        op::ENTRY_POINT => Part::EntryPoint,
+        op::EXECUTION_MODE | op::EXECUTION_MODE_ID => Part::ExecutionMode,
+        op::CAPABILITY => Part::Capability,
+        op::TYPE_VOID
+        | op::TYPE_BOOL
+        | op::TYPE_INT
+        | op::TYPE_VECTOR
+        | op::TYPE_ARRAY
+        | op::TYPE_RUNTIME_ARRAY
+        | op::TYPE_STRUCT
+        | op::TYPE_POINTER
+        | op::TYPE_FUNCTION
+        | op::CONSTANT_TRUE
+        | op::CONSTANT_FALSE
+        | op::CONSTANT
+        | op::CONSTANT_COMPOSITE
+        | op::CONSTANT_NULL
+        | op::SPEC_CONSTANT_TRUE
+        | op::SPEC_CONSTANT_FALSE
+        | op::SPEC_CONSTANT
+        | op::SPEC_CONSTANT_COMPOSITE
+        | op::SPEC_CONSTANT_OP => Part::Declaration,
+        op::FUNCTION => Part::Function,
+        op::DECORATE | op::MEMBER_DECORATE => Part::Decoration,
         _ => Part::Body,
     }
 }
@@ -123,9 +119,31 @@ impl Part {
         }
     }
 
-    /// Whether it may stand at a place, where the last section that was reached has this number.
-    fn may_stand(self, place: Stage, reached: u8) -> bool
-        ensures { result ≡ spec.may_stand place reached self }
+    /// Whether it may stand at a stage, whatever stands before it.
+    fn fits_stage(self, stage: Stage) -> bool
+        ensures { result ≡ spec.fits_stage stage self }
+    {
+        match self {
+            Part::Nop => stage.in_block(),
+            Part::Body => stage.in_function(),
+            Part::Capability
+            | Part::Extension
+            | Part::Import
+            | Part::MemoryModel
+            | Part::EntryPoint
+            | Part::ExecutionMode
+            | Part::Debug
+            | Part::Decoration
+            | Part::Declaration
+            | Part::Value
+            | Part::Line
+            | Part::Function => true,
+        }
+    }
+
+    /// Whether it may stand at a stage behind what belongs to the section with this number.
+    fn may_follow(self, stage: Stage, earlier: u8) -> bool
+        ensures { result ≡ spec.may_follow stage self earlier }
     {
         match self {
             Part::Capability
@@ -135,33 +153,36 @@ impl Part {
             | Part::ExecutionMode
             | Part::Debug
             | Part::Decoration
-            | Part::Declaration => reached <= self.rank(),
-            Part::MemoryModel => reached < self.rank(),
-            Part::Value => place.in_function() || reached <= self.rank(),
-            Part::Line | Part::Function => true,
-            Part::Nop => place.in_block(),
-            Part::Body => place.in_function(),
+            | Part::Declaration => earlier <= self.rank(),
+            Part::MemoryModel => earlier < self.rank(),
+            Part::Value => stage.in_function() || earlier <= self.rank(),
+            Part::Line | Part::Function | Part::Nop | Part::Body => true,
         }
+    }
+
+    /// Whether it may stand at a stage, where the last section that was reached has this number.
+    fn may_stand(self, stage: Stage, reached: u8) -> bool
+        ensures { result ≡ (spec.fits_stage stage self && spec.may_follow stage self reached) }
+    {
+        self.fits_stage(stage) && self.may_follow(stage, reached)
     }
 }
 
-/// The first instruction that stands behind a later section than its own, or where its kind may not stand.
-fn check_order(sets: &Table<bool>, insts: &[Inst]) -> Result<(), Refusal>
-    ensures { result ≡ unless_refused tt (spec.order_breaches sets.now outside 0 insts.now) }
+/// Refuses the first instruction that stands behind a later section than its own, or where its kind may not stand.
+fn check_order(stands: &Stands) -> Result<(), Refusal>
+    ensures { result ≡ unless_refused tt (spec.order_breaches_behind [] stands.now) }
 {
-    let mut position = Position::outside();
     let mut reached = 0;
-    for inst in insts {
-        let class = class_of(sets, inst);
-        let part = part_of(class, inst.op);
-        if !part.may_stand(position.stage, reached) {
+    for n in 0..stands.len() {
+        let stand = stands.at(n);
+        let part = part_of(stand.class, stand.inst.op);
+        if !part.may_stand(stand.position.stage, reached) {
             return Err(Refusal {
                 code: ORDER_CODE,
-                word: inst.word,
+                word: stand.inst.word,
             });
         }
         reached = reached.max(part.rank());
-        position = position.after(class, inst);
     }
     Ok(())
 }
@@ -171,10 +192,8 @@ fn check_order(sets: &Table<bool>, insts: &[Inst]) -> Result<(), Refusal>
 /// Refuses M10, at the first instruction that stands behind a later section than its own, or where its kind may not
 /// stand; a second OpMemoryModel too.
 #[tactic(auto, unfolding(crate::specs::Sections::sections_of))]
-pub fn check_sections(alloc: Global, insts: &[Inst]) -> Result<(), Fail<Refusal>>
-    ensures { Answers (spec.sections_of insts.now) result }
+pub fn check_sections(index: &Index) -> Result<(), Refusal>
+    ensures { result ≡ spec.sections_of index.now.insts }
 {
-    let sets = sets_of(alloc, insts)?;
-    check_order(&sets, insts)?;
-    Ok(())
+    check_order(&index.stands())
 }

@@ -4,8 +4,9 @@ mod ids;
 mod sections;
 
 use crate::{check_capabilities, check_ids, check_sections};
-use spv_base::{Fail, Inst, NoMemory, RawInst, Refusal, Words};
-use spv_ops::decode;
+use spv_base::{Inst, NoMemory, RawInst, Refusal, Words};
+use spv_index::Index;
+use spv_ops::{DecodedModule, decode};
 use std::alloc::Global;
 use std::test::Fail as TestFail;
 
@@ -90,8 +91,8 @@ fn push_inst(alloc: Global, insts: &mut Vec<Inst>, row: Row) -> Result<(), NoMem
     Ok(())
 }
 
-/// The module with a change.
-fn changed(alloc: Global, change: Change) -> Result<Vec<Inst>, NoMemory> {
+/// The instructions of the module with a change.
+fn instructions(alloc: Global, change: Change) -> Result<Vec<Inst>, NoMemory> {
     let mut insts = Vec::new(alloc);
     for (n, row) in MODULE.iter().enumerate() {
         match change {
@@ -111,21 +112,28 @@ fn changed(alloc: Global, change: Change) -> Result<Vec<Inst>, NoMemory> {
     Ok(insts)
 }
 
+/// The module with a change.
+fn changed(alloc: Global, change: Change) -> Result<Index, NoMemory> {
+    let insts = instructions(alloc, change)?;
+    match DecodedModule::of(insts, BOUND) {
+        Some(module) => Index::of(alloc, module),
+        None => Err(NoMemory),
+    }
+}
+
 /// The refusal of a check, or none.
-fn refusal(answer: Result<(), Fail<Refusal>>) -> Result<Due, NoMemory> {
+fn refusal(answer: Result<(), Refusal>) -> Due {
     match answer {
-        Ok(()) => Ok(None),
-        Err(Fail::Refused(Refusal { code, word })) => Ok(Some((code, word))),
-        Err(Fail::NoMemory) => Err(NoMemory),
+        Ok(()) => None,
+        Err(refusal) => Some((refusal.code, refusal.word)),
     }
 }
 
 #[test]
 fn accepts_a_module(rt: HostRuntime) -> Result<(), TestFail> {
-    let alloc = rt.alloc();
-    let insts = changed(alloc, Change::Put(21, (0, &[])))?;
-    check_sections(alloc, insts.as_slice())?;
-    check_ids(alloc, insts.as_slice(), BOUND)?;
-    check_capabilities(insts.as_slice())?;
+    let index = changed(rt.alloc(), Change::Put(21, (0, &[])))?;
+    assert_eq!(rt; refusal(check_sections(&index)), None);
+    assert_eq!(rt; refusal(check_ids(&index)), None);
+    assert_eq!(rt; refusal(check_capabilities(&index)), None);
     Ok(())
 }

@@ -87,7 +87,7 @@ accepted_depth a h =
 -- ---- pass by pass
 
 passes_seen : (m : Decoded) (name : Option (List ℕ)) (over : List (ℕ × ℤ)) (declared : Types) (known : Types × Constants) (flow : Flow) (entry : Entry)
-    → sections_of m.insts ≡ Ok nothing → ids_of m.bound m.insts ≡ Ok nothing → capabilities_of m.insts ≡ Ok nothing → types_of m.insts ≡ Ok declared
+    → sections_of m.insts ≡ Ok nothing → ids_of m ≡ Ok nothing → capabilities_of m.insts ≡ Ok nothing → types_of m.insts ≡ Ok declared
     → constants_of declared m.insts over ≡ Ok known → layout_of known.0 m.insts ≡ Ok nothing → flow_of m.insts ≡ Ok flow → bodies_of known.0 known.1 m.insts ≡ Ok nothing
     → entry_of known.0 known.1 flow m.insts name ≡ Ok entry → Passes (accepted m known flow entry) name over
 passes_seen m name over declared known flow entry sections ids capabilities types constants layout code bodies start = record {
@@ -111,7 +111,7 @@ pub accepted_passes : (a : Accepted) (name : Option (List ℕ)) (over : List (�
 unfolding acceptance
 accepted_passes a name over is =
     let sections = after_ok (sections_of a.insts) _ a is in
-    let ids = after_ok (ids_of a.bound a.insts) _ a sections.2 in
+    let ids = after_ok (ids_of (decoded_in a)) _ a sections.2 in
     let capabilities = after_ok (capabilities_of a.insts) _ a ids.2 in
     let types = after_ok (types_of a.insts) _ a capabilities.2 in
     let constants = after_ok (constants_of types.0 a.insts over) _ a types.2 in

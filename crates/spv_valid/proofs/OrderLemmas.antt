@@ -1,5 +1,6 @@
 -- Lists of breaches in the order of the module: the first one is the least.
 use Rattle.std.proofs.Common.{◌≡◌, ◌==◌, ◌<◌, ◌≤◌, inl, inr, ℕ, zero, suc, Bool, true, false, cond, List, [], ◌∷◌, ◌++◌, length, drop, append_assoc, max, refl, sym, subst, arith}
+use Rattle.std.specs.List.{flat_map}
 use Rattle.spv_base.specs.declared.causes.Refusal.{Refusal}
 use Rattle.spv_base.specs.declared.instructions.Inst.{Inst}
 use Rattle.spv_types.specs.Types.{Types}
@@ -12,11 +13,11 @@ use Rattle.spv_types.specs.declared.opcodes.TheConstants.{FUNCTION}
 use Rattle.spv_index.specs.declared.positions.Position.{Position}
 use Rattle.spv_index.specs.declared.classes.Class.{Class}
 use Rattle.spv_index.specs.Classes.{class_of}
-use Rattle.spv_index.specs.Positions.{position_after}
-use Rattle.spv_sections.specs.Sections.{may_stand, order_breach, order_breaches, part_of, rank}
+use Rattle.spv_index.specs.Positions.{Stand, position_after, stands}
+use Rattle.spv_sections.specs.Sections.{may_stand, order_breach, order_breaches_behind}
 use Rattle.spv_sections.specs.declared.ids.Scope.{Scope}
-use Rattle.spv_sections.specs.Definitions.{Ids}
-use Rattle.spv_sections.specs.Ids.{breaches_at, has_begun, id_breaches, is_naming, is_numbered, naming_breach, number_breach, scope_of}
+use Rattle.spv_ops.specs.Module.{Decoded}
+use Rattle.spv_sections.specs.Ids.{breaches_at, breaches_of, is_naming, is_numbered, naming_breach, number_breach, scope_of}
 use Rattle.spv_sections.specs.Capabilities.{capability_breaches, capability_code, is_here}
 use Rattle.spv_index.specs.Definitions.{before_functions as front_of}
 use Rattle.spv_bodies.specs.Context.{Known}
@@ -100,13 +101,15 @@ Ascend-before from (i ∷ is) (first, rest) =
 
 -- ---- the passes
 
-pub order_in_order : (sets : List (ℕ × Bool)) (position : Position) (reached from : ℕ) (insts : List Inst) → Ascend from insts → InOrder from (order_breaches sets position reached insts)
-unfolding order_breaches
-order_in_order sets position reached from [] ascend = none_in_order from
-order_in_order sets position reached from (i ∷ is) (first, rest) =
-    one_in_order from (may_stand position.stage reached (part_of (class_of sets i) i.op)) (order_breach i) _ first (order_in_order sets (position_after position (class_of sets i) i) (max reached (rank (part_of (class_of sets i) i.op))) (suc i.word) is rest)
+pub order_in_order : (sets : List (ℕ × Bool)) (before : List Stand) (position : Position) (from : ℕ) (insts : List Inst) → Ascend from insts
+    → InOrder from (order_breaches_behind before (stands sets position insts))
+unfolding order_breaches_behind
+order_in_order sets before position from [] ascend = none_in_order from
+order_in_order sets before position from (i ∷ is) (first, rest) =
+    let s : Stand = record { position = position; class = class_of sets i; inst = i } in
+    one_in_order from (may_stand before s) (order_breach i) _ first (order_in_order sets (before ++ s ∷ []) (position_after position (class_of sets i) i) (suc i.word) is rest)
 
-at_in_order : (ids : Ids) (scope : Scope) (class : Class) (i : Inst) (from : ℕ) (rest : List Refusal) → from ≤ i.word → InOrder (suc i.word) rest
+at_in_order : (ids : Decoded) (scope : Scope) (class : Class) (i : Inst) (from : ℕ) (rest : List Refusal) → from ≤ i.word → InOrder (suc i.word) rest
     → InOrder from (breaches_at ids scope class i ++ rest)
 unfolding breaches_at
 at_in_order ids scope class i from rest le behind = by_tests (is_numbered ids class i) (is_naming ids scope class i)
@@ -117,11 +120,11 @@ at_in_order ids scope class i from rest le behind = by_tests (is_numbered ids cl
     by_tests false true = joined_in_order from i.word (number_breach i ∷ []) rest le (refl, tt) tt behind
     by_tests false false = let codes : 8 ≤ 9 = omega arith in joined_in_order from i.word (number_breach i ∷ naming_breach i ∷ []) rest le (refl, (refl, tt)) (inr (refl, codes), tt) behind
 
-pub ids_in_order : (ids : Ids) (sets : List (ℕ × Bool)) (begun : Bool) (position : Position) (from : ℕ) (insts : List Inst) → Ascend from insts → InOrder from (id_breaches ids sets begun position insts)
-unfolding id_breaches
-ids_in_order ids sets begun position from [] ascend = none_in_order from
-ids_in_order ids sets begun position from (i ∷ is) (first, rest) =
-    at_in_order ids (scope_of (has_begun begun i) position i) (class_of sets i) i from _ first (ids_in_order ids sets (has_begun begun i) (position_after position (class_of sets i) i) (suc i.word) is rest)
+pub ids_in_order : (ids : Decoded) (sets : List (ℕ × Bool)) (position : Position) (from : ℕ) (insts : List Inst) → Ascend from insts
+    → InOrder from (flat_map (breaches_of ids) (stands sets position insts))
+ids_in_order ids sets position from [] ascend = none_in_order from
+ids_in_order ids sets position from (i ∷ is) (first, rest) =
+    at_in_order ids (scope_of position i) (class_of sets i) i from _ first (ids_in_order ids sets (position_after position (class_of sets i) i) (suc i.word) is rest)
 
 pub capabilities_in_order : (from : ℕ) (insts : List Inst) → Ascend from insts → InOrder from (capability_breaches insts)
 capabilities_in_order from [] ascend = none_in_order from

@@ -17,7 +17,7 @@ use Rattle.spv_cfg.specs.Lowest.{lowest, sooner}
 use Rattle.spv_cfg.specs.Flow.{Flow, block_breaches, call_breaches, flow_in, flow_of, refusal, unless_refused as flow_unless}
 use Rattle.spv_cfg.proofs.LowestLemmas.{lowest-append}
 use Rattle.spv_sections.specs.Sections.{order_breaches, sections_of}
-use Rattle.spv_sections.specs.Ids.{id_breaches, ids_in, ids_of}
+use Rattle.spv_sections.specs.Ids.{id_breaches, ids_of}
 use Rattle.spv_sections.specs.Capabilities.{capabilities_of, capability_breaches}
 use Rattle.spv_consts.specs.Table.{Constants}
 use Rattle.spv_consts.specs.Numbers.{limits_code, rules_code}
@@ -39,13 +39,13 @@ use Rattle.spv_valid.specs.Breaches.{IsLeast, at_words, bodies_breaches, breache
 use Rattle.spv_valid.proofs.OrderLemmas.{bodies_in_order, capabilities_in_order, ids_in_order, layout_in_order, order_in_order, types_in_order}
 use Rattle.spv_valid.proofs.LeastLemmas.{IsLeastOf, Tells, earlier, joined_least, lowest_least, tells_after, tells_led, tells_refused}
 
-tells_sections : (insts : List Inst) → Ascend 0 insts → Tells (sections_of insts) (order_breaches (sets_of insts) outside 0 insts)
+tells_sections : (insts : List Inst) → Ascend 0 insts → Tells (sections_of insts) (order_breaches insts)
 unfolding sections_of
-tells_sections insts ascend = tells_led nothing _ (order_in_order (sets_of insts) outside 0 0 insts ascend).led
+tells_sections insts ascend = tells_led nothing _ (order_in_order (sets_of insts) [] outside 0 insts ascend).led
 
-tells_ids : (bound : ℕ) (insts : List Inst) → Ascend 0 insts → Tells (ids_of bound insts) (id_breaches (ids_in bound insts) (sets_of insts) false outside insts)
+tells_ids : (m : Decoded) → Ascend 0 m.insts → Tells (ids_of m) (id_breaches m)
 unfolding ids_of
-tells_ids bound insts ascend = tells_led nothing _ (ids_in_order (ids_in bound insts) (sets_of insts) false outside 0 insts ascend).led
+tells_ids m ascend = tells_led nothing _ (ids_in_order m (sets_of m.insts) outside 0 m.insts ascend).led
 
 tells_capabilities : (insts : List Inst) → Ascend 0 insts → Tells (capabilities_of insts) (capability_breaches insts)
 unfolding capabilities_of
@@ -208,7 +208,7 @@ pub tells_all : (m : Decoded) (name : Option (List ℕ)) (over : List (ℕ × �
 unfolding acceptance breaches
 tells_all m name over ascend =
     tells_after {U = Accepted} (sections_of m.insts) _ _ _ (tells_sections m.insts ascend) (λ _ _.
-    tells_after {U = Accepted} (ids_of m.bound m.insts) _ _ _ (tells_ids m.bound m.insts ascend) (λ _ _.
+    tells_after {U = Accepted} (ids_of m) _ _ _ (tells_ids m ascend) (λ _ _.
     tells_after {U = Accepted} (capabilities_of m.insts) _ _ _ (tells_capabilities m.insts ascend) (λ _ _.
     tells_after {U = Accepted} (types_of m.insts) _ _ _ (tells_types m.insts ascend) (λ types is.
     tells_known m name over types (types_are m.insts types is) ascend))))

@@ -51,7 +51,7 @@ accepted m known flow entry = record {
 unfoldable pub acceptance : Decoded → Option (List ℕ) → List (ℕ × ℤ) → Result Accepted Refusal
 acceptance m name over =
     after (sections_of m.insts) (λ _.
-    after (ids_of m.bound m.insts) (λ _.
+    after (ids_of m) (λ _.
     after (capabilities_of m.insts) (λ _.
     after (types_of m.insts) (λ types.
     after (constants_of types m.insts over) (λ known.
@@ -75,7 +75,7 @@ pub record IsAccepted (a : Accepted) : Type 0 where
 -- no pass over a module has a breach, and what is read off it is what they give
 pub record Passes (a : Accepted) (name : Option (List ℕ)) (over : List (ℕ × ℤ)) : Type 0 where
   pub sections : sections_of a.insts ≡ Ok nothing
-  pub ids : ids_of a.bound a.insts ≡ Ok nothing
+  pub ids : ids_of (decoded_in a) ≡ Ok nothing
   pub capabilities : capabilities_of a.insts ≡ Ok nothing
   pub declared : Types
   pub types : types_of a.insts ≡ Ok declared
@@ -90,7 +90,7 @@ pub record Passes (a : Accepted) (name : Option (List ℕ)) (over : List (ℕ ×
 
 -- the order of the sections, the ids and what a module declares
 abbrev pub front_of : Decoded → Result (Unit {0}) Refusal
-front_of m = after (sections_of m.insts) (λ _. after (ids_of m.bound m.insts) (λ _. capabilities_of m.insts))
+front_of m = after (sections_of m.insts) (λ _. after (ids_of m) (λ _. capabilities_of m.insts))
 
 -- the types with the lengths of their arrays, and the constants, where blocks are laid out
 abbrev pub known_of : List Inst → List (ℕ × ℤ) → Result (Types × Constants) Refusal

@@ -14,7 +14,7 @@ use Rattle.spv_index.specs.Classes.{sets_of}
 use Rattle.spv_index.specs.Positions.{outside}
 use Rattle.spv_cfg.specs.Flow.{block_breaches, call_breaches, flow_in}
 use Rattle.spv_sections.specs.Sections.{order_breaches}
-use Rattle.spv_sections.specs.Ids.{id_breaches, ids_in}
+use Rattle.spv_sections.specs.Ids.{id_breaches}
 use Rattle.spv_sections.specs.Capabilities.{capability_breaches}
 use Rattle.spv_consts.specs.Table.{Constants}
 use Rattle.spv_consts.specs.Numbers.{rules_code}
@@ -61,8 +61,8 @@ bodies_breaches known insts = body_breaches (known_of known.0 known.1 insts) (pl
 -- the passes in their order, by the types that a module has, and by those with the lengths of their arrays and its constants
 abbrev pub breaches_by : Decoded → Option (List ℕ) → List (ℕ × ℤ) → Types → Types × Constants → List (List Refusal)
 breaches_by m name over types known =
-    order_breaches (sets_of m.insts) outside 0 m.insts
-    ∷ id_breaches (ids_in m.bound m.insts) (sets_of m.insts) false outside m.insts
+    order_breaches m.insts
+    ∷ id_breaches m
     ∷ capability_breaches m.insts
     ∷ type_breaches m.insts [] (before_functions m.insts)
     ∷ constant_breaches types m.insts over

@@ -6,16 +6,15 @@ use Rattle.spv_types.specs.Laws.{AreComplete, AreNamed, AreSound}
 use Rattle.spv_index.specs.Classes.{sets_of}
 use Rattle.spv_index.specs.Positions.{outside}
 use Rattle.spv_cfg.specs.Laws.{BlocksAreEntered, FunctionsAreEntered, FunctionsHaveDepths, RunsGoOn, TargetsAreEntered}
-use Rattle.spv_sections.specs.Ids.{ids_in}
 use Rattle.spv_sections.specs.Laws.{AreInOrder}
 use Rattle.spv_consts.specs.Laws.{HaveShapes, HaveValues}
 use Rattle.spv_bodies.specs.Laws.{KeepRules}
 use Rattle.spv_bodies.specs.Context.{known_of}
-use Rattle.spv_valid.specs.Acceptance.{Accepted}
+use Rattle.spv_valid.specs.Acceptance.{Accepted, decoded_in}
 
 pub record IsValid (a : Accepted) : Type 0 where
   -- the ids are below the Bound, and stand for what the operands ask
-  pub ids : AreInOrder (ids_in a.bound a.insts) (sets_of a.insts) false outside a.insts
+  pub ids : AreInOrder (decoded_in a)
   -- no id is defined twice, and constants come after their types
   pub named : AreNamed a.insts
   -- the types keep the rules of their forms and come after their parts, and each array has its length

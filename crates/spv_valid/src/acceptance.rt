@@ -19,12 +19,12 @@ use spv_types::TypeTable;
 use std::alloc::Global;
 
 /// Checks the order of the sections, the ids and what a module declares.
-fn check_front(alloc: Global, index: &Index) -> Result<(), Fail<Refusal>>
-    ensures { Answers (front_of index.now) result }
+fn check_front(index: &Index) -> Result<(), Refusal>
+    ensures { result ≡ front_of index.now }
 {
-    check_sections(alloc, index.insts())?;
-    check_ids(alloc, index.insts(), index.bound())?;
-    check_capabilities(index.insts())?;
+    check_sections(index)?;
+    check_ids(index)?;
+    check_capabilities(index)?;
     Ok(())
 }
 
@@ -51,7 +51,7 @@ fn read_code(
 ) -> Result<Code, Fail<Refusal>>
     ensures { Answers (code_of (types.now, consts.now) index.now.insts) result }
 {
-    let code = Code::build(alloc, index.insts())?;
+    let code = Code::build(alloc, index)?;
     check_bodies(alloc, types, consts, index)?;
     Ok(code)
 }
@@ -74,7 +74,7 @@ pub fn accept(
 {
     accepted_modules_are_valid();
     let index = Index::of(alloc, decoded)?;
-    check_front(alloc, &index)?;
+    check_front(&index)?;
     let (types, consts) = read_types(alloc, index.insts(), over)?;
     let code = read_code(alloc, &types, &consts, &index)?;
     let entry = entry_of(alloc, &types, &consts, &code, index.insts(), name)?;

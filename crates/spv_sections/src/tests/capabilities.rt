@@ -2,7 +2,6 @@
 use super::Change::{Put, Replace};
 use super::{Line, changed, refusal};
 use crate::check_capabilities;
-use spv_base::Fail;
 use std::test::Fail as TestFail;
 
 /// Each change, and what is due.
@@ -103,9 +102,8 @@ const LINES: [Line; 15] = [
 fn accepts_what_is_here(rt: HostRuntime) -> Result<(), TestFail> {
     let alloc = rt.alloc();
     for (name, change, due) in LINES {
-        let insts = changed(alloc, change)?;
-        let shown = refusal(check_capabilities(insts.as_slice()).map_err(Fail::Refused))?;
-        assert_eq!(rt; shown, due, "{name}");
+        let index = changed(alloc, change)?;
+        assert_eq!(rt; refusal(check_capabilities(&index)), due, "{name}");
     }
     Ok(())
 }

@@ -1,6 +1,6 @@
 //! The rules of ids.
 use super::Change::{Put, Replace};
-use super::{BOUND, Line, changed, refusal};
+use super::{Line, changed, refusal};
 use crate::check_ids;
 use std::test::Fail as TestFail;
 
@@ -121,9 +121,9 @@ const LINES: [Line; 44] = [
         Some((9, 7)),
     ),
     (
-        "a size that is in a function",
+        "a size that is a result in a function",
         Put(7, (331, &[7, 38, 5, 5, 11])),
-        Some((9, 7)),
+        None,
     ),
     (
         "a label as a value",
@@ -216,9 +216,8 @@ const LINES: [Line; 44] = [
 fn holds_the_rules_of_ids(rt: HostRuntime) -> Result<(), TestFail> {
     let alloc = rt.alloc();
     for (name, change, due) in LINES {
-        let insts = changed(alloc, change)?;
-        let shown = refusal(check_ids(alloc, insts.as_slice(), BOUND))?;
-        assert_eq!(rt; shown, due, "{name}");
+        let index = changed(alloc, change)?;
+        assert_eq!(rt; refusal(check_ids(&index)), due, "{name}");
     }
     Ok(())
 }

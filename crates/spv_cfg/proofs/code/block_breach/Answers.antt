@@ -1,14 +1,16 @@
 use Rattle.std.proofs.Common.{refl}
 use Rattle.spv_index.specs.Classes.{sets_of}
-use Rattle.spv_cfg.specs.Branches.{names_of, branch_breaches}
+use Rattle.spv_index.specs.Positions.{outside}
+use Rattle.spv_cfg.specs.Branches.{branch_breaches}
 use Rattle.spv_cfg.specs.Phis.{phi_breaches}
 use Rattle.spv_cfg.specs.Layout.{layout_breaches}
 use Rattle.spv_cfg.proofs.LowestLemmas.{lowest-append}
+use Rattle.spv_cfg.proofs.Walks.{behind_stands}
 use Rattle.spv_cfg.proofs.code.block_breach.Goals as goal
 
 pub returns : goal.returns
 returns c =
-    let insts = c.args.insts.now in
+    let insts = c.args.index.now.insts in
     rw (
       c.sooner-2.ensures,
       c.sooner.ensures,
@@ -16,7 +18,8 @@ returns c =
       c.in_ok-branches.ensures,
       c.in_ok-phis.ensures,
       c.in_ok-edges.ensures,
-      c.requires,
-      lowest-append (layout_breaches (sets_of insts) insts) _,
-      lowest-append (branch_breaches (names_of insts) insts) (phi_breaches (names_of insts) insts),
+      c.stands-stands.ensures,
+      behind_stands (sets_of insts) outside insts,
+      lowest-append (layout_breaches insts) _,
+      lowest-append (branch_breaches insts) (phi_breaches insts),
     ) refl

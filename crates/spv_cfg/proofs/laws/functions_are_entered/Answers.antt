@@ -1,7 +1,7 @@
 use Rattle.std.proofs.Common.{[], refl, sym, ap}
 use Rattle.spv_index.specs.Classes.{sets_of}
 use Rattle.spv_index.specs.Positions.{outside}
-use Rattle.spv_cfg.specs.Branches.{names_of}
+use Rattle.spv_cfg.specs.Branches.{labels_of}
 use Rattle.spv_cfg.specs.Calls.{calls_of, functions_of}
 use Rattle.spv_cfg.specs.Flow.{Flow}
 use Rattle.spv_cfg.proofs.FlowLemmas.{flow_accepted}
@@ -16,4 +16,4 @@ returns-clause-depth c = λ insts f is.
 pub returns-clause-first_block : goal.returns-clause-first_block
 returns-clause-first_block c = λ insts f is.
     let accepted = flow_accepted insts f is in
-    functions_begin f (names_of insts) (sets_of insts) outside insts [] [] accepted.whole refl (sym (ap (λ (g : Flow). g.blocks) accepted.flow))
+    functions_begin f (labels_of insts) (sets_of insts) outside insts [] [] accepted.whole refl (sym (ap (λ (g : Flow). g.blocks) accepted.flow))

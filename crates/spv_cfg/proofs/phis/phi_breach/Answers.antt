@@ -1,13 +1,13 @@
-use Rattle.spv_cfg.specs.Phis as spec
+use Rattle.std.proofs.Common.{arith}
+use Rattle.spv_index.specs.Positions.{Stand}
+use Rattle.spv_cfg.specs.Phis.{phi_breach}
 use Rattle.spv_cfg.proofs.Walks.{lowest_more, lowest_all}
 use Rattle.spv_cfg.proofs.phis.phi_breach.Goals as goal
 
-pub loop-inst-preserved : goal.loop-inst-preserved
-loop-inst-preserved c =
-    lowest_more (spec.phi_breach c.args.edges.now) c.loop-inst.least c.in_ok-next.next _ _ c.args.names.now.sets c.loop-inst.position _ c.args.insts.now c.loop-inst.inst-index c.inst-item.result c.class_of-class.result
-    c.loop-inst-test.true c.inst-item.is c.class_of-class.ensures c.in_ok-next.ensures c.sooner-least.ensures c.after-position.ensures c.loop-inst.invariant
+pub loop-n-preserved : goal.loop-n-preserved
+loop-n-preserved c =
+    let s : Stand = record { position = c.at-stand.result.position; class = c.at-stand.result.class; inst = c.at-stand.result.inst.now } in
+    lowest_more (phi_breach c.args.edges.now) c.loop-n.least c.in_ok-next.next _ _ c.args.stands.now c.loop-n.n s c.at-stand.ensures c.in_ok-next.ensures c.sooner-least.ensures c.loop-n.invariant
 
 pub returns : goal.returns
-returns c =
-    lowest_all (spec.phi_breach c.args.edges.now) c.loop-inst.least _ c.args.names.now.sets c.loop-inst.position c.args.insts.now c.loop-inst.inst-index
-    c.loop-inst-test.false c.loop-inst.invariant
+returns c = lowest_all (phi_breach c.args.edges.now) c.loop-n.least _ c.args.stands.now c.loop-n.n (omega arith) c.loop-n.invariant

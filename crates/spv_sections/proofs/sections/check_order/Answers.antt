@@ -1,17 +1,18 @@
-use Rattle.std.proofs.Common.{◌∙◌, ap, max}
+use Rattle.std.proofs.Common.{◌∙◌, ap, max, arith}
+use Rattle.spv_index.specs.Positions.{Stand}
 use Rattle.spv_sections.proofs.OrderLemmas.{order_done, order_kept, order_refused}
 use Rattle.spv_sections.proofs.sections.check_order.Goals as goal
 
 pub returns-then-not-may_stand : goal.returns-then-not-may_stand
 returns-then-not-may_stand c =
-    order_refused c.args.sets.now c.loop-inst.position c.loop-inst.reached c.args.insts.now c.loop-inst.inst-index c.inst-item.result c.class_of-class.result c.part_of-part.result
-    c.loop-inst-test.true c.inst-item.is c.class_of-class.ensures c.part_of-part.ensures c.if-not-may_stand.ensures c.loop-inst.invariant
+    let s : Stand = record { position = c.at-stand.result.position; class = c.at-stand.result.class; inst = c.at-stand.result.inst.now } in
+    order_refused c.args.stands.now c.loop-n.n c.loop-n.reached s c.part_of-part.result c.at-stand.ensures c.part_of-part.ensures c.if-not-may_stand.ensures c.loop-n.invariant
 
-pub loop-inst-preserved : goal.loop-inst-preserved
-loop-inst-preserved c =
-    order_kept c.args.sets.now c.loop-inst.position c.after-position.result c.loop-inst.reached c.max-reached.result c.args.insts.now c.loop-inst.inst-index c.inst-item.result c.class_of-class.result c.part_of-part.result
-    c.loop-inst-test.true c.inst-item.is c.class_of-class.ensures c.part_of-part.ensures c.if-not-may_stand.ensures
-    c.after-position.ensures (c.max-reached.ensures ∙ ap (λ rank. max c.loop-inst.reached rank) c.rank.ensures) c.loop-inst.invariant
+pub loop-n-preserved : goal.loop-n-preserved
+loop-n-preserved c =
+    let s : Stand = record { position = c.at-stand.result.position; class = c.at-stand.result.class; inst = c.at-stand.result.inst.now } in
+    order_kept c.args.stands.now c.loop-n.n c.loop-n.reached c.max-reached.result s c.part_of-part.result c.at-stand.ensures c.part_of-part.ensures c.if-not-may_stand.ensures
+    (c.max-reached.ensures ∙ ap (λ rank. max c.loop-n.reached rank) c.rank.ensures) c.loop-n.invariant
 
 pub returns : goal.returns
-returns c = order_done c.args.sets.now c.loop-inst.position c.loop-inst.reached c.args.insts.now c.loop-inst.inst-index c.loop-inst-test.false c.loop-inst.invariant
+returns c = order_done c.args.stands.now c.loop-n.n c.loop-n.reached (omega arith) c.loop-n.invariant

@@ -2,5 +2,5 @@ use Rattle.spv_sections.proofs.OrderLemmas.{IsOrdered}
 use Rattle.spv_sections.proofs.sections.check_order.Given as goal
 
 -- no instruction so far is refused
-abbrev pub invariant-loop-inst : goal.invariant-loop-inst
-invariant-loop-inst l = IsOrdered l.sets l.insts l.position l.reached l.inst-index
+abbrev pub invariant-loop-n : goal.invariant-loop-n
+invariant-loop-n l = IsOrdered l.stands l.n l.reached

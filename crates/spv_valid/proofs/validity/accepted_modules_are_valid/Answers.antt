@@ -1,6 +1,5 @@
-use Rattle.std.proofs.Common.{Ok}
 use Rattle.spv_base.specs.Order.{Ascend}
-use Rattle.spv_valid.specs.Acceptance.{Passes}
+use Rattle.spv_valid.specs.Acceptance.{Passes, decoded_in}
 use Rattle.spv_valid.proofs.AcceptedLemmas.{accepted_passes}
 use Rattle.spv_valid.proofs.validity.accepted_modules_are_valid.Goals as goal
 
@@ -10,9 +9,9 @@ returns c a is =
     let over = is.over in
     let passes : Passes a is.name over = accepted_passes a is.name over is.is in
     let known = c.constants_have_the_shapes_of_their_types.ensures in
-    let named = c.results_are_defined_once.ensures.named a.bound a.insts words passes.ids in
+    let named = c.results_are_defined_once.ensures.named (decoded_in a) is.decoded passes.ids in
     record {
-      ids = (c.ids_stand_for_what_is_asked.ensures a.bound a.insts).0 passes.ids;
+      ids = (c.ids_stand_for_what_is_asked.ensures (decoded_in a)).0 passes.ids;
       named = named;
       types = (known.types a.insts passes.declared over (a.types, a.constants) words named passes.types passes.constants).0;
       lengths = (known.types a.insts passes.declared over (a.types, a.constants) words named passes.types passes.constants).1;

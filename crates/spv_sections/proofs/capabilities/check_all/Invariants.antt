@@ -1,5 +1,5 @@
 use Rattle.spv_sections.proofs.CapabilityLemmas.{AreHere}
-use Rattle.spv_sections.proofs.capabilities.check_capabilities.Given as goal
+use Rattle.spv_sections.proofs.capabilities.check_all.Given as goal
 
 -- no instruction so far is refused
 abbrev pub invariant-loop-inst : goal.invariant-loop-inst

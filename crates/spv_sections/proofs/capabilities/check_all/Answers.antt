@@ -1,5 +1,5 @@
 use Rattle.spv_sections.proofs.CapabilityLemmas.{capability_done, capability_kept, capability_refused}
-use Rattle.spv_sections.proofs.capabilities.check_capabilities.Goals as goal
+use Rattle.spv_sections.proofs.capabilities.check_all.Goals as goal
 
 pub returns-then-not-is_here : goal.returns-then-not-is_here
 returns-then-not-is_here c = capability_refused c.args.insts.now c.loop-inst.inst-index c.inst-item.result c.loop-inst-test.true c.inst-item.is c.if-not-is_here.ensures c.loop-inst.invariant
