@@ -4,6 +4,7 @@ use Rattle.std.specs.Prelude.{if◌then◌else◌}
 use Rattle.std.proofs.lemmas.List.{take_more}
 use Rattle.spv_base.specs.declared.instructions.Inst.{Inst}
 use Rattle.spv_base.specs.declared.causes.Refusal.{Refusal}
+use Rattle.spv_index.specs.Definitions as indexed
 use Rattle.spv_types.specs.declared.forms.Form.{Form}
 use Rattle.spv_types.specs.Types.{Types}
 use Rattle.spv_types.specs.Typing.{before_functions, defined_form, types_in, with_form}
@@ -32,6 +33,15 @@ before_more insts n i l e s h =
 pub before_all : (insts : List Inst) (n : ℕ) → n ≤ length insts → length insts ≤ n → before_functions insts ≡ take n insts ++ before_functions (drop n insts) → take (length insts) insts ≡ before_functions insts
 unfolding before_functions
 before_all insts n b l h = let e : length insts ≡ n = omega arith in let d = drop_of_length-le insts l in rw (e, h, d) (sym (append-nil (take n insts)))
+
+-- the same, as the index has them
+before_same : (insts : List Inst) → indexed.before_functions insts ≡ before_functions insts
+unfolding before_functions indexed.before_functions
+before_same [] = refl
+before_same (i ∷ is) = rw (before_same is) refl
+
+pub before_is : (insts read : List Inst) (start : ℕ) → read ≡ insts → take start insts ≡ indexed.before_functions insts → take start read ≡ before_functions insts
+before_is insts read start e h = ap (take start) e ∙ h ∙ before_same insts
 
 -- ---- the types
 
@@ -80,8 +90,8 @@ types_built insts is k ts e b l h n =
     let t = sym (append-nil (take k is)) ∙ ap (λ (xs : List Inst). take k is ++ xs) (sym d) ∙ take-append-drop k is in
     rw (← e, n, d, h, t) refl
 
-pub kept_by : (all others : List Inst) (ts us : Types) (i : Inst) (f : Option Form) (b : Bool) → others ≡ all → us ≡ ts → f ≡ defined_form others i → b ≡ keeps_other others us i f → b ≡ keeps_other all ts i (defined_form all i)
-kept_by all others ts us i f b a t e h = rw (← a, ← t, ← e) h
+pub kept_by : (all : List Inst) (ts us : Types) (i : Inst) (f : Option Form) (b : Bool) → us ≡ ts → f ≡ defined_form all i → b ≡ keeps_other all us i f → b ≡ keeps_other all ts i (defined_form all i)
+kept_by all ts us i f b t e h = rw (← t, ← e) h
 
-pub types_step : (all others is : List Inst) (k : ℕ) (i : Inst) (ts : Types) (f : Option Form) → others ≡ all → ts ≡ types_in all (take k is) → f ≡ defined_form others i → k < length is → i ≡ get_or is k i → with_form ts i.id f ≡ types_in all (take (k + 1) is)
-types_step all others is k i ts f a t e l g = rw (e, a, t) (sym (types_next all is k i l g))
+pub types_step : (all is : List Inst) (k : ℕ) (i : Inst) (ts : Types) (f : Option Form) → ts ≡ types_in all (take k is) → f ≡ defined_form all i → k < length is → i ≡ get_or is k i → with_form ts i.id f ≡ types_in all (take (k + 1) is)
+types_step all is k i ts f t e l g = rw (e, t) (sym (types_next all is k i l g))

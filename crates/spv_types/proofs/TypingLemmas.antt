@@ -4,11 +4,11 @@ use Rattle.spv_base.specs.declared.instructions.Inst.{Inst}
 use Rattle.spv_base.specs.declared.instructions.Operand.{Operand}
 use Rattle.spv_types.specs.declared.forms.Member.{Member}
 use Rattle.spv_types.specs.Operands.{id_of}
-use Rattle.spv_types.specs.Facts.{member_offset}
+use Rattle.spv_index.specs.Definitions.{member_decoration}
 use Rattle.spv_types.specs.Typing.{members_from}
 
 abbrev pub member_at : List Inst → ℕ → ℕ → Operand → Member
-member_at all id n o = record { ty = id_of o; offset = member_offset all id n }
+member_at all id n o = record { ty = id_of o; offset = member_decoration all id n 35 }
 
 pub members_none : (all : List Inst) (id n : ℕ) → [] ≡ members_from all id n []
 unfolding members_from

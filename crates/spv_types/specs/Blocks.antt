@@ -1,6 +1,6 @@
 -- The rules of decorations and of the blocks that variables point to (SPIR-V 1.6 sections 2.16.2 and 3.20, and this
 -- project's profile).
-use Rattle.std.specs.Prelude.{◌≡◌, ℕ, ◌==◌, ◌&&◌, ◌||◌, not, if◌then◌else◌, Bool, true, false, List, [], ◌∷◌, ◌++◌, length, drop, Option, Some, None, Result}
+use Rattle.std.specs.Prelude.{◌≡◌, ℕ, ◌==◌, ◌&&◌, ◌||◌, not, if◌then◌else◌, Bool, true, false, List, [], ◌∷◌, ◌++◌, Option, Some, None, Result}
 use Rattle.std.specs.List.{list_any}
 use Rattle.std.specs.Option.{is_some}
 use Rattle.spv_base.specs.declared.instructions.Inst.{Inst}
@@ -9,8 +9,7 @@ use Rattle.spv_types.specs.declared.forms.Form.{Form}
 use Rattle.spv_types.specs.declared.forms.Form.TheVariants.{Pointer}
 use Rattle.spv_types.specs.Types.{Types, form_of}
 use Rattle.spv_types.specs.Operands.{id_at, lit_at}
-use Rattle.spv_types.specs.Facts.{decoration, definition}
-use Rattle.spv_types.specs.Typing.{before_functions}
+use Rattle.spv_index.specs.Definitions.{decoration, defining}
 use Rattle.spv_types.specs.Build.{unless_refused}
 use Rattle.spv_types.specs.Layout.{is_laid}
 
@@ -63,7 +62,7 @@ keeps_block all ts before i = is_laid ts (target_of (form_of ts i.ty)) && (lit_a
 
 -- the decoration BufferBlock stands on no id that is defined
 abbrev pub keeps_decoration : List Inst → Inst → ℕ → Bool
-keeps_decoration all i kind = not (kind == 3 && is_some (definition all (id_at i.operands 0)))
+keeps_decoration all i kind = not (kind == 3 && is_some (defining all (id_at i.operands 0)))
 
 -- an instruction keeps the rules of layout, after those before it: OpDecorate, OpMemberDecorate and OpVariable have some
 unfoldable pub keeps_layout : List Inst → Types → List Inst → Inst → Bool
@@ -76,19 +75,14 @@ keeps_layout all ts before i =
 abbrev pub breach : Inst → Refusal
 breach i = record { code = layout_code; word = i.word }
 
--- the refusals before the functions, each after the instructions before it
-unfoldable pub module_breaches : List Inst → Types → List Inst → List Inst → List Refusal
-module_breaches all ts before [] = []
-module_breaches all ts before (i ∷ is) = (if keeps_layout all ts before i then [] else breach i ∷ []) ++ module_breaches all ts (before ++ i ∷ []) is
-
--- the refusals in the functions, where no variable is of a block class
-unfoldable pub function_breaches : List Inst → List Refusal
-function_breaches [] = []
-function_breaches (i ∷ is) = (if is_block_variable i then breach i ∷ [] else []) ++ function_breaches is
+-- the refusals of some instructions, each after those before it
+unfoldable pub layout_breaches : List Inst → Types → List Inst → List Inst → List Refusal
+layout_breaches all ts before [] = []
+layout_breaches all ts before (i ∷ is) = (if keeps_layout all ts before i then [] else breach i ∷ []) ++ layout_breaches all ts (before ++ i ∷ []) is
 
 abbrev pub nothing : Unit {0}
 nothing = tt
 
 -- nothing, where all blocks of a module are laid out, or the first breach
 unfoldable pub layout_of : Types → List Inst → Result (Unit {0}) Refusal
-layout_of ts insts = unless_refused nothing (module_breaches insts ts [] (before_functions insts) ++ function_breaches (drop (length (before_functions insts)) insts))
+layout_of ts insts = unless_refused nothing (layout_breaches insts ts [] insts)

@@ -3,13 +3,14 @@
 use Rattle.std.specs.Prelude.{ℕ, ◌==◌, ◌&&◌, ◌||◌, not, nat_le, if◌then◌else◌, Bool, true, false, List, [], ◌∷◌, length, Option, Some, None}
 use Rattle.std.specs.Option.{option_map_or}
 use Rattle.spv_base.specs.declared.instructions.Inst.{Inst}
-use Rattle.spv_base.specs.declared.instructions.Operand.{Operand}
 use Rattle.spv_types.specs.declared.forms.Form.{Form}
 use Rattle.spv_types.specs.declared.forms.Form.TheVariants.{Void, Bool as Boolean, Int, Vector, Array, Runtime, Struct, Pointer, Function}
 use Rattle.spv_types.specs.declared.forms.Member.{Member}
 use Rattle.spv_types.specs.Types.{Types, form_of}
-use Rattle.spv_types.specs.Operands.{id_at, lit_at}
-use Rattle.spv_types.specs.Facts.{decoration, constant_type}
+use Rattle.spv_types.specs.Operands.{lit_at}
+use Rattle.spv_types.specs.Facts.{is_constant}
+use Rattle.spv_index.specs.Definitions.{decoration, defining}
+use Rattle.spv_index.specs.Operands.{id_operand}
 use Rattle.spv_types.specs.Typing.{defined_form}
 
 -- a Boolean or integer type
@@ -101,9 +102,17 @@ is_input ts (Some b) target =
     (((b == 24 || b == 26) || (b == 27 || b == 28)) && is_three_words ts (form_of ts target))
     || (b == 29 && is_word (form_of ts target))
 
--- an initializer is a constant of the target type, of a Private variable
-abbrev pub keeps_initializer : List Inst → ℕ → ℕ → List Operand → Bool
-keeps_initializer all class target os = nat_le (length os) 1 || (class == 6 && option_map_or (λ t. t == target) (constant_type all (id_at os 1)) false)
+-- a constant of a type
+abbrev pub is_constant_of : ℕ → Inst → Bool
+is_constant_of ty i = is_constant i.op && i.ty == ty
+
+-- an id is that of a constant of a type
+abbrev pub names_constant : List Inst → ℕ → ℕ → Bool
+names_constant all ty id = option_map_or (is_constant_of ty) (defining all id) false
+
+-- an initializer, behind the storage class, is a constant of the target type, of a Private variable
+abbrev pub keeps_initializer : List Inst → ℕ → ℕ → Inst → Bool
+keeps_initializer all class target i = nat_le (length i.operands) 1 || (class == 6 && option_map_or (names_constant all target) (id_operand i 1) false)
 
 -- The rules of a variable of a class before the functions, by its target: the class is not Function; a runtime array is in a
 -- StorageBuffer alone; a StorageBuffer, Uniform or PushConstant is a Block; and an Input has a BuiltIn.
@@ -113,7 +122,7 @@ keeps_target all ts i class target =
     && ((not (has_runtime ts target) || class == 12)
     && ((not ((class == 12 || class == 2) || class == 9) || is_block (form_of ts target))
     && ((not (class == 1) || is_input ts (decoration all i.id 11) target)
-    && keeps_initializer all class target i.operands)))
+    && keeps_initializer all class target i)))
 
 -- a variable has a pointer type of its own class
 abbrev pub keeps_pointer : List Inst → Types → Inst → Option Form → Bool

@@ -8,12 +8,12 @@ use Rattle.spv_types.specs.declared.forms.Form.TheVariants.{Void, Bool as Boolea
 use Rattle.spv_types.specs.declared.forms.Member.{Member}
 use Rattle.spv_types.specs.Types.{Types}
 use Rattle.spv_types.specs.Operands.{id_of, id_at, lit_at}
-use Rattle.spv_types.specs.Facts.{decoration, member_offset}
+use Rattle.spv_index.specs.Definitions.{decorating, decoration, member_decoration}
 
--- the members of a struct from number n on, each with its Offset
+-- the members of a struct from number n on, each with the Offset that an OpMemberDecorate gives it
 unfoldable pub members_from : List Inst → ℕ → ℕ → List Operand → List Member
 members_from all id n [] = []
-members_from all id n (o ∷ os) = record { ty = id_of o; offset = member_offset all id n } ∷ members_from all id (suc n) os
+members_from all id n (o ∷ os) = record { ty = id_of o; offset = member_decoration all id n 35 } ∷ members_from all id (suc n) os
 
 -- The form that an instruction of a module defines, where it is OpTypeVoid, OpTypeBool, OpTypeInt, OpTypeVector, OpTypeArray,
 -- OpTypeRuntimeArray, OpTypeStruct, OpTypePointer or OpTypeFunction. An array has its ArrayStride, and a struct may be a Block.
@@ -25,7 +25,7 @@ defined_form all i =
     else (if i.op == 23 then Some (Vector (id_at i.operands 0) (lit_at i.operands 1))
     else (if i.op == 28 then Some (Array (id_at i.operands 0) None (decoration all i.id 6))
     else (if i.op == 29 then Some (Runtime (id_at i.operands 0) (decoration all i.id 6))
-    else (if i.op == 30 then Some (Struct (members_from all i.id 0 i.operands) (is_some (decoration all i.id 2)))
+    else (if i.op == 30 then Some (Struct (members_from all i.id 0 i.operands) (is_some (decorating all i.id 2)))
     else (if i.op == 32 then Some (Pointer (lit_at i.operands 0) (id_at i.operands 1))
     else (if i.op == 33 then Some (Function (id_at i.operands 0) (map id_of (drop 1 i.operands)))
     else None))))))))

@@ -4,10 +4,10 @@ ghost use Rattle.spv_base.specs.Answers.{Answers};
 ghost use Rattle.spv_types.specs.Typing.{before_functions};
 ghost use Rattle.spv_types.specs.Build.{types_of};
 
-use crate::facts::Facts;
 use crate::table::TypeTable;
 use crate::typing::defined_form;
 use spv_base::{Fail, Inst, Refusal};
+use spv_index::Index;
 use spv_ops::op;
 use std::alloc::Global;
 
@@ -31,15 +31,15 @@ impl TypeTable {
     /// The types of a module, by the instructions before its functions.
     ///
     /// Refuses M12, at the first instruction that breaks a rule of types, module variables or undefined values.
-    pub fn build(alloc: Global, insts: &[Inst]) -> Result<TypeTable, Fail<Refusal>>
-        ensures { Answers (types_of insts.now) result }
+    pub fn build(alloc: Global, index: &Index) -> Result<TypeTable, Fail<Refusal>>
+        ensures { Answers (types_of index.now.insts) result }
     {
-        let facts = Facts::of(alloc, insts)?;
-        let module = &insts[..functions_start(insts)];
+        let insts = index.insts();
+        let module = &insts[..index.functions_start()];
         let mut table = TypeTable::new(alloc);
         for inst in module {
-            let form = defined_form(alloc, &facts, inst)?;
-            if !table.keeps_rules(&facts, inst, &form) {
+            let form = defined_form(alloc, index, inst)?;
+            if !table.keeps_rules(index, inst, &form) {
                 return Err(Fail::Refused(Refusal {
                     code: TYPE_CODE,
                     word: inst.word,

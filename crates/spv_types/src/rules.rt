@@ -1,5 +1,6 @@
 //! The rules of types, module variables and undefined values.
-ghost use Rattle.std.specs.Prelude.{◌≡◌, ◌==◌};
+ghost use Rattle.std.specs.Prelude.{◌≡◌, ◌==◌, false};
+ghost use Rattle.std.specs.Option.{option_map_or};
 ghost use Rattle.spv_types.specs.Types.{form_of};
 ghost use Rattle.spv_types.specs.Rules.{
   form_has_runtime,
@@ -23,13 +24,15 @@ ghost use Rattle.spv_types.specs.Rules.{
   keeps_rules,
   keeps_target,
   last_type,
+  names_constant,
 };
 
-use crate::facts::Facts;
+use crate::facts::is_constant;
 use crate::forms::{Form, Member};
-use crate::operands::{id_at, lit_at};
+use crate::operands::lit_at;
 use crate::table::TypeTable;
 use spv_base::Inst;
+use spv_index::{Index, id_operand};
 use spv_ops::{built_in, decoration, op, storage_class};
 
 fn is_width(n: u32) -> bool
@@ -184,8 +187,8 @@ impl TypeTable {
     }
 
     /// Whether a variable before the functions keeps the rules of its class.
-    fn keeps_target(&self, facts: &Facts, inst: &Inst, class: u32, target: u32) -> bool
-        ensures { result ≡ keeps_target facts.now self.now inst.now class target }
+    fn keeps_target(&self, index: &Index, inst: &Inst, class: u32, target: u32) -> bool
+        ensures { result ≡ keeps_target index.now.insts self.now inst.now class target }
     {
         if class == storage_class::FUNCTION
             || self.has_runtime(target) && class != storage_class::STORAGE_BUFFER
@@ -200,33 +203,33 @@ impl TypeTable {
             return false;
         }
         if class == storage_class::INPUT
-            && !self.is_input(facts.decoration(inst.id, decoration::BUILT_IN), target)
+            && !self.is_input(index.decoration(inst.id, decoration::BUILT_IN), target)
         {
             return false;
         }
-        keeps_initializer(facts, class, target, inst)
+        keeps_initializer(index, class, target, inst)
     }
 
     /// Whether a variable before the functions keeps the rules.
-    fn keeps_variable(&self, facts: &Facts, inst: &Inst) -> bool
-        ensures { result ≡ keeps_pointer facts.now self.now inst.now (form_of self.now inst.now.ty) }
+    fn keeps_variable(&self, index: &Index, inst: &Inst) -> bool
+        ensures { result ≡ keeps_pointer index.now.insts self.now inst.now (form_of self.now inst.now.ty) }
     {
         match self.form(inst.ty) {
             Some(Form::Pointer { class, target }) => {
-                lit_at(inst, 0) == *class && self.keeps_target(facts, inst, *class, *target)
+                lit_at(inst, 0) == *class && self.keeps_target(index, inst, *class, *target)
             }
             _ => false,
         }
     }
 
     /// Whether an instruction before the functions keeps the rules, where it defines a form or none.
-    pub(crate) fn keeps_rules(&self, facts: &Facts, inst: &Inst, form: &Option<Form>) -> bool
-        ensures { result ≡ keeps_other facts.now self.now inst.now form.now }
+    pub(crate) fn keeps_rules(&self, index: &Index, inst: &Inst, form: &Option<Form>) -> bool
+        ensures { result ≡ keeps_other index.now.insts self.now inst.now form.now }
     {
         match form {
             Some(form) => self.keeps_form(form),
             None => match inst.op {
-                op::VARIABLE => self.keeps_variable(facts, inst),
+                op::VARIABLE => self.keeps_variable(index, inst),
                 op::UNDEF => self.is_sized_data(inst.ty),
                 _ => true,
             },
@@ -235,11 +238,24 @@ impl TypeTable {
 }
 
 /// Whether an initializer is a constant of the target type of a Private variable.
-fn keeps_initializer(facts: &Facts, class: u32, target: u32, inst: &Inst) -> bool
-    ensures { result ≡ keeps_initializer facts.now class target inst.now.operands }
+fn keeps_initializer(index: &Index, class: u32, target: u32, inst: &Inst) -> bool
+    ensures { result ≡ keeps_initializer index.now.insts class target inst.now }
 {
     if inst.operands.len() <= 1 {
         return true;
     }
-    class == storage_class::PRIVATE && facts.constant_type(id_at(inst, 1)) == Some(target)
+    class == storage_class::PRIVATE && names_constant(index, target, id_operand(inst, 1))
+}
+
+/// Whether an id is there, and is that of a constant of a type.
+fn names_constant(index: &Index, ty: u32, id: Option<u32>) -> bool
+    ensures { result ≡ option_map_or (names_constant index.now.insts ty) id false }
+{
+    let Some(id) = id else {
+        return false;
+    };
+    match index.defining(id) {
+        Some(inst) => is_constant(inst.op) && inst.ty == ty,
+        None => false,
+    }
 }

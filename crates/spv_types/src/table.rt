@@ -81,6 +81,7 @@ impl TypeTable {
         for entry in &self.entries {
             table.add(entry.0, entry.1.copy(alloc)?)?;
         }
+        table.count(alloc)?;
         Ok(table)
     }
 

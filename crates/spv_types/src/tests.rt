@@ -2,7 +2,8 @@
 use crate::limits::Limit;
 use crate::table::TypeTable;
 use spv_base::{Fail as Failure, Inst, Items, NoMemory, Operand, Refusal};
-use spv_ops::{decoration, op};
+use spv_index::Index;
+use spv_ops::{DecodedModule, decoration, op};
 use std::alloc::Global;
 use std::test::Fail;
 
@@ -40,6 +41,14 @@ fn add(
         operands,
     })?;
     Ok(())
+}
+
+/// The index of a test's module.
+fn index_of(alloc: Global, insts: Vec<Inst>) -> Result<Index, Fail> {
+    let Some(decoded) = DecodedModule::of(insts, 100) else {
+        return Err(Fail::new("words out of order"));
+    };
+    Ok(Index::of(alloc, decoded)?)
 }
 
 /// A block: a uint at offset 0, and at offset 16 an array of two-component uint vectors with stride 16.
@@ -87,8 +96,8 @@ fn block(alloc: Global) -> Result<Vec<Inst>, NoMemory> {
 #[test]
 fn leaves_and_places_of_a_block(rt: HostRuntime) -> Result<(), Fail> {
     let alloc = rt.alloc();
-    let insts = block(alloc)?;
-    let Ok(mut table) = TypeTable::build(alloc, insts.as_slice()) else {
+    let index = index_of(alloc, block(alloc)?)?;
+    let Ok(mut table) = TypeTable::build(alloc, &index) else {
         return Err(Fail::new("refused"));
     };
     assert!(rt; table.cells(4).is_none());
@@ -96,6 +105,7 @@ fn leaves_and_places_of_a_block(rt: HostRuntime) -> Result<(), Fail> {
     if table.is_unset(3) {
         table.set_length(3, 3);
     }
+    table.count(alloc)?;
     let limits = table.limits(alloc)?;
     assert!(rt;
         table.limit(limits.as_slice(), 4)
@@ -165,8 +175,8 @@ fn each_rule_of_types_broken_once(rt: HostRuntime) -> Result<(), Fail> {
         (op::TYPE_BOOL, 0, &[]),
     ];
     for (op, ty, words) in kept {
-        let insts = with_one(alloc, op, ty, words)?;
-        assert!(rt; TypeTable::build(alloc, insts.as_slice()).is_ok());
+        let index = index_of(alloc, with_one(alloc, op, ty, words)?)?;
+        assert!(rt; TypeTable::build(alloc, &index).is_ok());
     }
     let broken: [(u16, u32, &[Word]); 26] = [
         (op::TYPE_INT, 0, &[Lit(24), Lit(0)]),
@@ -197,8 +207,8 @@ fn each_rule_of_types_broken_once(rt: HostRuntime) -> Result<(), Fail> {
         (op::VARIABLE, 9, &[Lit(6), Id(1)]),
     ];
     for (op, ty, words) in broken {
-        let insts = with_one(alloc, op, ty, words)?;
-        assert!(rt; TypeTable::build(alloc, insts.as_slice()).err() == Some(refusal));
+        let index = index_of(alloc, with_one(alloc, op, ty, words)?)?;
+        assert!(rt; TypeTable::build(alloc, &index).err() == Some(refusal));
     }
     Ok(())
 }
@@ -345,14 +355,14 @@ fn each_rule_of_layout_broken_once(rt: HostRuntime) -> Result<(), Fail> {
         ),
     ];
     for (array, changed, words, refused) in rows {
-        let insts = with_blocks(alloc, array, changed, words)?;
-        let Ok(mut table) = TypeTable::build(alloc, insts.as_slice()) else {
+        let index = index_of(alloc, with_blocks(alloc, array, changed, words)?)?;
+        let Ok(mut table) = TypeTable::build(alloc, &index) else {
             return Err(Fail::new("refused"));
         };
         if table.is_unset(3) {
             table.set_length(3, 3);
         }
-        let answer = table.check_layout(alloc, insts.as_slice());
+        let answer = table.check_layout(alloc, &index);
         match refused {
             Some(word) => assert!(rt; answer == Err(Failure::Refused(Refusal { code: 13, word }))),
             None => assert!(rt; answer == Ok(())),

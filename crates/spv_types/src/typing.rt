@@ -3,17 +3,17 @@ ghost use Rattle.std.specs.Prelude.{◌≡◌, IfOk, map, drop};
 ghost use Rattle.spv_types.specs.Operands.{id_of};
 ghost use Rattle.spv_types.specs.Typing.{defined_form, members_from};
 
-use crate::facts::Facts;
 use crate::forms::{Form, Member};
 use crate::operands::{id_at, id_of, lit_at};
 use spv_base::{Inst, Items, NoMemory, Operand};
+use spv_index::Index;
 use spv_ops::{decoration, op};
 use std::alloc::Global;
 
 /// The form that an instruction defines, where it is a type instruction.
 #[tactic(auto, unfolding(crate::specs::Typing::defined_form))]
-pub fn defined_form(alloc: Global, facts: &Facts, inst: &Inst) -> Result<Option<Form>, NoMemory>
-    ensures { IfOk result (λ form. form ≡ defined_form facts.now inst.now) }
+pub fn defined_form(alloc: Global, index: &Index, inst: &Inst) -> Result<Option<Form>, NoMemory>
+    ensures { IfOk result (λ form. form ≡ defined_form index.now.insts inst.now) }
 {
     let form = match inst.op {
         op::TYPE_VOID => Form::Void,
@@ -29,15 +29,15 @@ pub fn defined_form(alloc: Global, facts: &Facts, inst: &Inst) -> Result<Option<
         op::TYPE_ARRAY => Form::Array {
             element: id_at(inst, 0),
             length: None,
-            stride: facts.decoration(inst.id, decoration::ARRAY_STRIDE),
+            stride: index.decoration(inst.id, decoration::ARRAY_STRIDE),
         },
         op::TYPE_RUNTIME_ARRAY => Form::Runtime {
             element: id_at(inst, 0),
-            stride: facts.decoration(inst.id, decoration::ARRAY_STRIDE),
+            stride: index.decoration(inst.id, decoration::ARRAY_STRIDE),
         },
         op::TYPE_STRUCT => Form::Struct {
-            members: members(alloc, facts, inst.id, inst.operands.as_slice())?,
-            block: facts.decoration(inst.id, decoration::BLOCK).is_some(),
+            members: members(alloc, index, inst.id, inst.operands.as_slice())?,
+            block: index.is_decorated(inst.id, decoration::BLOCK),
         },
         op::TYPE_POINTER => Form::Pointer {
             class: lit_at(inst, 0),
@@ -55,15 +55,18 @@ pub fn defined_form(alloc: Global, facts: &Facts, inst: &Inst) -> Result<Option<
 /// The members of a struct, each with its Offset.
 fn members(
     alloc: Global,
-    facts: &Facts,
+    index: &Index,
     id: u32,
     operands: &[Operand],
 ) -> Result<Items<Member>, NoMemory>
-    ensures { IfOk result (λ members. members ≡ members_from facts.now id 0 operands.now) }
+    ensures { IfOk result (λ members. members ≡ members_from index.now.insts id 0 operands.now) }
 {
     let mut members = Items::new(alloc);
     for (n, operand) in operands.iter().enumerate() {
-        let offset = facts.member_offset(id, n);
+        let Ok(member) = u32::try_from(n) else {
+            return Err(NoMemory);
+        };
+        let offset = index.member_decoration(id, member, decoration::OFFSET);
         members.push(Member {
             ty: id_of(operand),
             offset,
