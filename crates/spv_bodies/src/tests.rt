@@ -53,7 +53,10 @@ fn module_with(alloc: Global, lines: &[Line]) -> Result<Vec<Inst>, NoMemory> {
 /// The types and constants of the module.
 fn tables(alloc: Global) -> Result<(TypeTable, ConstTable), Fail> {
     let insts = module_with(alloc, &[])?;
-    let Ok(types) = TypeTable::build(alloc, insts.as_slice()) else {
+    let Some(decoded) = DecodedModule::of(module_with(alloc, &[])?, 1000) else {
+        return Err(Fail::new("words"));
+    };
+    let Ok(types) = TypeTable::build(alloc, &Index::of(alloc, decoded)?) else {
         return Err(Fail::new("types"));
     };
     let over = Items::new(alloc);

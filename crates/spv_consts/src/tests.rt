@@ -2,6 +2,8 @@
 //! those of Python's integers.
 use crate::table::ConstTable;
 use spv_base::{Fail as Failure, Inst, Items, NoMemory, Operand, Refusal, Value};
+use spv_index::Index;
+use spv_ops::DecodedModule;
 use spv_types::TypeTable;
 use spv_types::opcodes::{
     CONSTANT, CONSTANT_COMPOSITE, CONSTANT_FALSE, CONSTANT_NULL, CONSTANT_TRUE, DECORATE, FUNCTION,
@@ -90,6 +92,14 @@ fn with_rows(alloc: Global, rows: &[Row]) -> Result<Vec<Inst>, NoMemory> {
     Ok(insts)
 }
 
+/// The index of a test's module, whose words are its places.
+fn indexed(alloc: Global, insts: Vec<Inst>) -> Result<Index, NoMemory> {
+    match DecodedModule::of(insts, 200) {
+        Some(decoded) => Index::of(alloc, decoded),
+        None => Err(NoMemory),
+    }
+}
+
 /// The constants of the base with more instructions.
 fn build(
     alloc: Global,
@@ -97,7 +107,7 @@ fn build(
     over: &[(u32, i128)],
 ) -> Result<(TypeTable, ConstTable), Failure<Refusal>> {
     let insts = with_rows(alloc, rows)?;
-    let types = TypeTable::build(alloc, insts.as_slice())?;
+    let types = TypeTable::build(alloc, &indexed(alloc, with_rows(alloc, rows)?)?)?;
     ConstTable::build(
         alloc,
         types,

@@ -1,5 +1,6 @@
 //! Layouts of blocks as a compiler writes them: std140, std430 and scalar.
-use spv_ops::decode_all;
+use spv_index::Index;
+use spv_ops::{DecodedModule, decode_all};
 use spv_types::TypeTable;
 use spv_words::{raw, words};
 use std::test::Fail;
@@ -463,12 +464,14 @@ fn compiled_blocks_are_laid_out(rt: HostRuntime) -> Result<(), Fail> {
     let list = words(alloc, bytes.as_slice())?;
     let raws = raw(alloc, &list)?;
     let insts = decode_all(alloc, raws.as_slice())?;
-    let mut table = TypeTable::build(alloc, insts.as_slice())?;
+    let decoded = DecodedModule::of(insts, 1000).expect(&rt, "words ascend");
+    let index = Index::of(alloc, decoded)?;
+    let mut table = TypeTable::build(alloc, &index)?;
     for (id, length) in LENGTHS {
         assert!(rt; table.is_unset(id), "{id}");
         table.set_length(id, length.max(1));
     }
-    table.check_layout(alloc, insts.as_slice())?;
+    table.check_layout(alloc, &index)?;
     for (block, path, offset) in PLACES {
         let leaf = table.leaf(block, path).unwrap_or(u64::MAX);
         assert!(rt; leaf < 1000, "{path:?}");

@@ -7,28 +7,28 @@ use Rattle.spv_base.specs.declared.causes.Refusal.{Refusal}
 use Rattle.spv_base.specs.declared.instructions.Inst.{Inst}
 use Rattle.spv_types.specs.Types.{Types}
 use Rattle.spv_types.specs.Build.{unless_refused}
-use Rattle.spv_types.specs.Blocks.{breach, is_at, is_taken, keeps_layout, layout_breaches, nothing}
+use Rattle.spv_types.specs.Blocks.{breach, is_at, is_taken, keeps_layout, module_breaches, nothing}
 
 -- ---- the refusals
 
 breaches_at : (all : List Inst) (ts : Types) (is : List Inst) (n : ℕ) (i : Inst) → n < length is → i ≡ get_or is n i
-    → layout_breaches all ts (take n is) (drop n is) ≡ (if keeps_layout all ts (take n is) i then [] else breach i ∷ []) ++ layout_breaches all ts (take (n + 1) is) (drop (n + 1) is)
-unfolding layout_breaches
+    → module_breaches all ts (take n is) (drop n is) ≡ (if keeps_layout all ts (take n is) i then [] else breach i ∷ []) ++ module_breaches all ts (take (n + 1) is) (drop (n + 1) is)
+unfolding module_breaches
 breaches_at all ts is n i l e = rw (drop-cons is n i l, ← e, take_more is n i l, ← e, add-one) refl
 
-pub layout_refused : (all : List Inst) (ts : Types) (is : List Inst) (n : ℕ) (i : Inst) → n < length is → i ≡ get_or is n i → false ≡ keeps_layout all ts (take n is) i → layout_breaches all ts [] is ≡ layout_breaches all ts (take n is) (drop n is) → unless_refused nothing (layout_breaches all ts [] is) ≡ Err (breach i)
+pub layout_refused : (all : List Inst) (ts : Types) (is : List Inst) (n : ℕ) (i : Inst) → n < length is → i ≡ get_or is n i → false ≡ keeps_layout all ts (take n is) i → module_breaches all ts [] is ≡ module_breaches all ts (take n is) (drop n is) → unless_refused nothing (module_breaches all ts [] is) ≡ Err (breach i)
 layout_refused all ts is n i l e t h = rw (h, breaches_at all ts is n i l e, ← t) refl
 
-pub layout_kept : (all : List Inst) (ts : Types) (is : List Inst) (n : ℕ) (i : Inst) → n < length is → i ≡ get_or is n i → true ≡ keeps_layout all ts (take n is) i → layout_breaches all ts [] is ≡ layout_breaches all ts (take n is) (drop n is) → layout_breaches all ts [] is ≡ layout_breaches all ts (take (n + 1) is) (drop (n + 1) is)
+pub layout_kept : (all : List Inst) (ts : Types) (is : List Inst) (n : ℕ) (i : Inst) → n < length is → i ≡ get_or is n i → true ≡ keeps_layout all ts (take n is) i → module_breaches all ts [] is ≡ module_breaches all ts (take n is) (drop n is) → module_breaches all ts [] is ≡ module_breaches all ts (take (n + 1) is) (drop (n + 1) is)
 layout_kept all ts is n i l e t h = h ∙ breaches_at all ts is n i l e ∙ rw (← t) refl
 
-pub layout_done : (all : List Inst) (ts : Types) (is : List Inst) (n : ℕ) → length is ≤ n → layout_breaches all ts [] is ≡ layout_breaches all ts (take n is) (drop n is) → unless_refused nothing (layout_breaches all ts [] is) ≡ Ok nothing
-unfolding layout_breaches
+pub layout_done : (all : List Inst) (ts : Types) (is : List Inst) (n : ℕ) → length is ≤ n → module_breaches all ts [] is ≡ module_breaches all ts (take n is) (drop n is) → unless_refused nothing (module_breaches all ts [] is) ≡ Ok nothing
+unfolding module_breaches
 layout_done all ts is n l h = rw (h, drop_of_length-le is l) refl
 
 -- the refusals of the whole list
-pub layout_whole : (all is : List Inst) (ts : Types) (r : Result (Unit {0}) Refusal) → is ≡ all → unless_refused nothing (layout_breaches all ts [] is) ≡ r → unless_refused nothing (layout_breaches all ts [] all) ≡ r
-layout_whole all is ts r e h = subst (λ (xs : List Inst). unless_refused nothing (layout_breaches all ts [] xs) ≡ r) e h
+pub layout_whole : (all is : List Inst) (ts : Types) (r : Result (Unit {0}) Refusal) → is ≡ all → unless_refused nothing (module_breaches all ts [] is) ≡ r → unless_refused nothing (module_breaches all ts [] all) ≡ r
+layout_whole all is ts r e h = subst (λ (xs : List Inst). unless_refused nothing (module_breaches all ts [] xs) ≡ r) e h
 
 -- ---- the places of buffers
 

@@ -76,13 +76,13 @@ abbrev pub breach : Inst → Refusal
 breach i = record { code = layout_code; word = i.word }
 
 -- the refusals of some instructions, each after those before it
-unfoldable pub layout_breaches : List Inst → Types → List Inst → List Inst → List Refusal
-layout_breaches all ts before [] = []
-layout_breaches all ts before (i ∷ is) = (if keeps_layout all ts before i then [] else breach i ∷ []) ++ layout_breaches all ts (before ++ i ∷ []) is
+unfoldable pub module_breaches : List Inst → Types → List Inst → List Inst → List Refusal
+module_breaches all ts before [] = []
+module_breaches all ts before (i ∷ is) = (if keeps_layout all ts before i then [] else breach i ∷ []) ++ module_breaches all ts (before ++ i ∷ []) is
 
 abbrev pub nothing : Unit {0}
 nothing = tt
 
 -- nothing, where all blocks of a module are laid out, or the first breach
 unfoldable pub layout_of : Types → List Inst → Result (Unit {0}) Refusal
-layout_of ts insts = unless_refused nothing (layout_breaches insts ts [] insts)
+layout_of ts insts = unless_refused nothing (module_breaches insts ts [] insts)

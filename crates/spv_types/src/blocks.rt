@@ -20,7 +20,7 @@ ghost use Rattle.spv_types.specs.Blocks.{
   keeps_decoration,
   keeps_layout,
   keeps_pair,
-  layout_breaches,
+  module_breaches,
   layout_of,
   target_of,
 };
@@ -157,7 +157,7 @@ impl TypeTable {
     fn check_blocks(&self, alloc: Global, index: &Index, laid: &[bool]) -> Result<(), Fail<Refusal>>
         requires laid { AreLaid self.now laid.now }
         requires all { length laid.now ≡ length self.now }
-        ensures { Answers (unless_refused tt (layout_breaches index.now.insts self.now [] index.now.insts)) result }
+        ensures { Answers (unless_refused tt (module_breaches index.now.insts self.now [] index.now.insts)) result }
     {
         let insts = index.insts();
         let mut places = BTreeMap::new(alloc);

@@ -2,7 +2,7 @@
 use crate::{fits, fits_glsl};
 use spv_base::{Inst, Items, NoMemory, Operand};
 use spv_index::Definitions as Index;
-use spv_ops::{glsl, op};
+use spv_ops::{DecodedModule, glsl, op};
 use spv_types::TypeTable;
 use std::alloc::Global;
 use std::test::Fail;
@@ -122,6 +122,22 @@ fn module(alloc: Global) -> Result<Vec<Inst>, NoMemory> {
     Ok(insts)
 }
 
+/// The types of the module.
+fn types_of(alloc: Global) -> Result<TypeTable, Fail> {
+    let mut insts = module(alloc)?;
+    for (n, inst) in insts.iter_mut().enumerate() {
+        inst.word = u32::try_from(n).unwrap_or(u32::MAX);
+    }
+    let Some(decoded) = DecodedModule::of(insts, 200) else {
+        return Err(Fail::new("words out of order"));
+    };
+    let index = spv_index::Index::of(alloc, decoded)?;
+    match TypeTable::build(alloc, &index) {
+        Ok(types) => Ok(types),
+        Err(_) => Err(Fail::new("refused")),
+    }
+}
+
 /// Some words, and then values of some types.
 fn words_of(alloc: Global, first: &[Word], types: &[u32]) -> Result<Vec<Word>, NoMemory> {
     let mut words = Vec::new(alloc);
@@ -185,10 +201,8 @@ const ROWS: [Row; 36] = [
 #[test]
 fn operands_of_each_rule(rt: HostRuntime) -> Result<(), Fail> {
     let alloc = rt.alloc();
+    let types = types_of(alloc)?;
     let insts = module(alloc)?;
-    let Ok(types) = TypeTable::build(alloc, insts.as_slice()) else {
-        return Err(Fail::new("refused"));
-    };
     let index = Index::of(alloc, insts.as_slice())?;
     for (op, ty, operands, fit) in ROWS {
         let words = words_of(alloc, &[], operands)?;
@@ -208,10 +222,8 @@ fn operands_of_each_rule(rt: HostRuntime) -> Result<(), Fail> {
 #[test]
 fn instructions_of_glsl(rt: HostRuntime) -> Result<(), Fail> {
     let alloc = rt.alloc();
+    let types = types_of(alloc)?;
     let insts = module(alloc)?;
-    let Ok(types) = TypeTable::build(alloc, insts.as_slice()) else {
-        return Err(Fail::new("refused"));
-    };
     let index = Index::of(alloc, insts.as_slice())?;
     // by number: the type of the result, the types of the operands, and whether they fit
     let rows: [(u32, u32, &[u32], bool); 8] = [

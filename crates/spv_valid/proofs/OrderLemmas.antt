@@ -8,7 +8,7 @@ use Rattle.spv_types.specs.Typing.{before_functions}
 use Rattle.spv_types.specs.Rules.{keeps_rules}
 use Rattle.spv_types.specs.Typing.{types_in}
 use Rattle.spv_types.specs.Build.{type_breaches, type_code}
-use Rattle.spv_types.specs.Blocks.{breach as layout_breach, function_breaches, is_block_variable, keeps_layout, module_breaches}
+use Rattle.spv_types.specs.Blocks.{breach as layout_breach, keeps_layout, module_breaches}
 use Rattle.spv_types.specs.declared.opcodes.TheConstants.{FUNCTION}
 use Rattle.spv_index.specs.declared.positions.Position.{Position}
 use Rattle.spv_index.specs.declared.classes.Class.{Class}
@@ -139,25 +139,11 @@ types_in_order_from all before from (i ∷ is) (first, rest) =
 pub types_in_order : (from : ℕ) (insts : List Inst) → Ascend from insts → InOrder from (type_breaches insts [] (before_functions insts))
 types_in_order from insts ascend = types_in_order_from insts [] from (before_functions insts) (Ascend-before from insts ascend)
 
-functions_in_order : (from : ℕ) (insts : List Inst) → Ascend from insts → InOrder from (function_breaches insts)
-unfolding function_breaches
-functions_in_order from [] ascend = none_in_order from
-functions_in_order from (i ∷ is) (first, rest) =
-    let behind = functions_in_order (suc i.word) is rest in
-    elim (is_block_variable i) as (λ b. InOrder from (cond b (layout_breach i ∷ []) [] ++ function_breaches is)) [
-      | true ↦ one_in_order from false (layout_breach i) (function_breaches is) first behind
-      | false ↦ one_in_order from true (layout_breach i) (function_breaches is) first behind
-    ]
-
-layout_in_order_from : (all : List Inst) (ts : Types) (before : List Inst) (from : ℕ) (insts : List Inst) → Ascend from insts
-    → InOrder from (module_breaches all ts before (before_functions insts) ++ function_breaches (drop (length (before_functions insts)) insts))
-unfolding before_functions module_breaches
-layout_in_order_from all ts before from [] ascend = functions_in_order from [] ascend
+layout_in_order_from : (all : List Inst) (ts : Types) (before : List Inst) (from : ℕ) (insts : List Inst) → Ascend from insts → InOrder from (module_breaches all ts before insts)
+unfolding module_breaches
+layout_in_order_from all ts before from [] ascend = none_in_order from
 layout_in_order_from all ts before from (i ∷ is) (first, rest) =
-    elim (i.op == FUNCTION) as (λ b. InOrder from (module_breaches all ts before (cond b [] (i ∷ before_functions is)) ++ function_breaches (drop (length (cond b [] (i ∷ before_functions is))) (i ∷ is)))) [
-      | true ↦ functions_in_order from (i ∷ is) (first, rest)
-      | false ↦ rw append_assoc (one_in_order from (keeps_layout all ts before i) (layout_breach i) _ first (layout_in_order_from all ts (before ++ i ∷ []) (suc i.word) is rest))
-    ]
+    one_in_order from (keeps_layout all ts before i) (layout_breach i) _ first (layout_in_order_from all ts (before ++ i ∷ []) (suc i.word) is rest)
 
 pub layout_in_order : (ts : Types) (from : ℕ) (insts : List Inst) → Ascend from insts → InOrder from (layout_breaches ts insts)
 layout_in_order ts from insts ascend = layout_in_order_from insts ts [] from insts ascend

@@ -9,7 +9,7 @@ use Rattle.spv_ops.specs.Module.{Decoded}
 use Rattle.spv_types.specs.Types.{Types}
 use Rattle.spv_types.specs.Typing.{before_functions, types_in}
 use Rattle.spv_types.specs.Build.{type_breaches}
-use Rattle.spv_types.specs.Blocks.{function_breaches, module_breaches}
+use Rattle.spv_types.specs.Blocks.{module_breaches}
 use Rattle.spv_index.specs.Classes.{sets_of}
 use Rattle.spv_index.specs.Positions.{outside}
 use Rattle.spv_cfg.specs.Flow.{block_breaches, call_breaches, flow_in}
@@ -50,7 +50,7 @@ constant_breaches ts insts over =
     at_words rules_code (flat_map (λ i. option_to_list (wrong_spec_id insts i)) insts) ++ refused_in (walked (context_of ts insts over) (start_of ts) (before_functions insts))
 
 abbrev pub layout_breaches : Types → List Inst → List Refusal
-layout_breaches ts insts = module_breaches insts ts [] (before_functions insts) ++ function_breaches (drop (length (before_functions insts)) insts)
+layout_breaches ts insts = module_breaches insts ts [] insts
 
 abbrev pub flow_breaches : List Inst → List Refusal
 flow_breaches insts = at_words 15 (block_breaches insts) ++ at_words 16 (call_breaches insts)

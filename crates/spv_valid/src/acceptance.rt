@@ -31,14 +31,14 @@ fn check_front(index: &Index) -> Result<(), Refusal>
 /// The types, with the lengths of their arrays, and the constants, where the blocks are laid out.
 fn read_types(
     alloc: Global,
-    insts: &[Inst],
+    index: &Index,
     over: &Overrides,
 ) -> Result<(TypeTable, ConstTable), Fail<Refusal>>
-    ensures { Answers (known_of insts.now over.now) result }
+    ensures { Answers (known_of index.now.insts over.now) result }
 {
-    let types = TypeTable::build(alloc, insts)?;
-    let (types, consts) = ConstTable::build(alloc, types, insts, over)?;
-    types.check_layout(alloc, insts)?;
+    let types = TypeTable::build(alloc, index)?;
+    let (types, consts) = ConstTable::build(alloc, types, index.insts(), over)?;
+    types.check_layout(alloc, index)?;
     Ok((types, consts))
 }
 
@@ -75,7 +75,7 @@ pub fn accept(
     accepted_modules_are_valid();
     let index = Index::of(alloc, decoded)?;
     check_front(&index)?;
-    let (types, consts) = read_types(alloc, index.insts(), over)?;
+    let (types, consts) = read_types(alloc, &index, over)?;
     let code = read_code(alloc, &types, &consts, &index)?;
     let entry = entry_of(alloc, &types, &consts, &code, index.insts(), name)?;
     let stack_cells = stack_cells(alloc, &types, index.insts(), entry.function)?;

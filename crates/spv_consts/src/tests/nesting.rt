@@ -1,5 +1,5 @@
 //! Types at and over the limit of nesting.
-use super::add;
+use super::{add, indexed};
 use crate::table::ConstTable;
 use spv_base::{Fail as Failure, Inst, Items, NoMemory, Operand, Refusal};
 use spv_types::TypeTable;
@@ -30,7 +30,8 @@ fn types_nested_32_deep(rt: HostRuntime) -> Result<(), Fail> {
     let alloc = rt.alloc();
     for (depth, refused) in [(32, false), (33, true)] {
         let insts = nested(alloc, depth)?;
-        let Ok(types) = TypeTable::build(alloc, insts.as_slice()) else {
+        let index = indexed(alloc, nested(alloc, depth)?)?;
+        let Ok(types) = TypeTable::build(alloc, &index) else {
             return Err(Fail::new("refused"));
         };
         let answer = ConstTable::build(alloc, types, insts.as_slice(), &Items::new(alloc));

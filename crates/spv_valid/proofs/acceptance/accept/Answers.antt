@@ -14,8 +14,8 @@ accepted_so c = record {
   name = option_copied c.args.name;
   over = c.args.over.now;
   is = none_refused c.in_ok-index.index (option_copied c.args.name) c.args.over.now (c.in_ok-types.types, c.in_ok-types.consts) c.in_ok-code.code c.in_ok-entry.entry c.in_ok-stack_cells.stack_cells
-      (sym c.in_ok-check_front.ensures) (rw c.insts.ensures.insts at c.in_ok-types.ensures) c.in_ok-code.ensures
-      (rw c.insts-2.ensures.insts at c.in_ok-entry.ensures) (rw c.insts-3.ensures.insts at c.in_ok-stack_cells.ensures);
+      (sym c.in_ok-check_front.ensures) c.in_ok-types.ensures c.in_ok-code.ensures
+      (rw c.insts.ensures.insts at c.in_ok-entry.ensures) (rw c.insts-2.ensures.insts at c.in_ok-stack_cells.ensures);
 }
 
 pub invariant_of-result : goal.invariant_of-result
