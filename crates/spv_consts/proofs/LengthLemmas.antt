@@ -8,6 +8,8 @@ use Rattle.spv_base.specs.Entries.{writes}
 use Rattle.spv_types.specs.declared.forms.Form.{Form}
 use Rattle.spv_types.specs.declared.limits.Limit.{Limit}
 use Rattle.spv_types.specs.Types.{Types, form_at, form_of, in_first, is_number, lengthened, number_of, with_length}
+use Rattle.spv_types.specs.Laws.{IsAmong}
+use Rattle.spv_types.proofs.TypeLemmas.{in_first-found, number_lt}
 use Rattle.spv_types.specs.Limits.{AreLimits, limit_among, limit_step, no_limit}
 use Rattle.spv_alu.specs.Integers.{signed}
 use Rattle.spv_consts.specs.Lengths.{number_in}
@@ -52,6 +54,10 @@ at_written (t ∷ ts) id n m f h l = step (t.0 == id) (number_of ts id) m n h l 
 
 -- ---- what the types before it give
 
+-- any two numbers of types above a type's own give it one thing
+in_first-reached : {A : Type 0} (none : A) (step : (ℕ → A) → Form → A) (ts : Types) (n m k id : ℕ) → number_of ts id ≡ Some k → k < n → k < m → in_first none step ts n id ≡ in_first none step ts m id
+in_first-reached none step ts n m k id h l r = in_first-found none step ts n k id h l ∙ sym (in_first-found none step ts m k id h r)
+
 module _ {A : Type 0} (none : A) (step : (ℕ → A) → Form → A) where
   first_written : (ts : Types) (id n m q : ℕ) (f : Form) → number_of ts id ≡ Some n → m ≤ n → in_first none step (writes id f ts) m q ≡ in_first none step ts m q
   unfolding in_first
@@ -69,6 +75,23 @@ module _ {A : Type 0} (none : A) (step : (ℕ → A) → Form → A) where
           let same : (λ (p : ℕ). in_first none step (writes id f ts) m p) ≡ (λ (p : ℕ). in_first none step ts m p) = fun_ext below in
           rw (form_written ts id q f (other (number_of ts q) refl e)) (ap (λ (g : ℕ → A). option_map_or (step g) (form_of ts q) none) same)
       go below false e = below q
+
+-- what a type before an array gives stays
+pub in_first_kept : {A : Type 0} (none : A) (step : (ℕ → A) → Form → A) (ts : Types) (id k n q : ℕ) → number_of ts id ≡ Some k → IsAmong ts k q
+    → in_first none step (with_length ts id n) (length (with_length ts id n)) q ≡ in_first none step ts (length ts) q
+unfolding with_length
+in_first_kept none step ts id k n q h among = by_form (form_of ts id)
+  where
+    kept : (f : Form) → in_first none step (writes id f ts) (length (writes id f ts)) q ≡ in_first none step ts (length ts) q
+    kept f =
+        let own : number_of (writes id f ts) q ≡ Some among.number = number_written ts id q f ∙ among.is in
+        in_first-reached none step (writes id f ts) (length (writes id f ts)) k among.number q own (number_lt (writes id f ts) q among.number own) among.below
+        ∙ first_written none step ts id k k q f h (omega arith)
+        ∙ sym (in_first-reached none step ts (length ts) k among.number q among.is (number_lt ts q among.number among.is) among.below)
+
+    by_form : (o : Option Form) → in_first none step (option_map_or (λ f. writes id (lengthened n f) ts) o ts) (length (option_map_or (λ f. writes id (lengthened n f) ts) o ts)) q ≡ in_first none step ts (length ts) q
+    by_form None = refl
+    by_form (Some f) = kept (lengthened n f)
 
 -- what the types before an array count as stays
 pub limits_kept : (ts : Types) (limits : List Limit) (id n : ℕ) → AreLimits ts limits → number_of ts id ≡ Some (length limits) → AreLimits (with_length ts id n) limits

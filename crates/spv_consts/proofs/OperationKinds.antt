@@ -14,11 +14,10 @@ use Rattle.spv_typing.specs.declared.rules.Rule.TheVariants.{Convert, Bitcast, I
 use Rattle.spv_typing.specs.Rules.{rule_of, rules}
 use Rattle.spv_typing.proofs.LawLemmas.{both, equal, parts, same}
 use Rattle.spv_consts.specs.Context.{Context}
-use Rattle.spv_consts.specs.Evaluation.{binary_value, computed_value, select_value, unary_value}
+use Rattle.spv_consts.specs.Evaluation.{binary_cells, computed_cells, select_cells, unary_cells}
 use Rattle.spv_consts.specs.Lanes.{is_lane_width, row_takes, takes_one}
-use Rattle.spv_consts.specs.Numbers.{select}
 use Rattle.spv_consts.specs.State.{State}
-use Rattle.spv_consts.proofs.LaneShapes.{impossible, takes_pair, takes_pair_of}
+use Rattle.spv_consts.proofs.LaneFills.{impossible, takes_pair, takes_pair_of}
 
 -- ---- kinds of rows
 
@@ -80,11 +79,11 @@ shifts (binary.shift f) = true
 
 -- an opcode with a unary row of a kind, which isn't that of Select
 abbrev pub computes_one : (UnaryRow → Bool) → ℕ → Bool
-computes_one test op = not (op == select) && option_map_or (λ o. test (unary_row o)) (unary_op op) false
+computes_one test op = not (op == 169) && option_map_or (λ o. test (unary_row o)) (unary_op op) false
 
 -- an opcode with a binary row of a kind, which isn't that of Select nor unary
 abbrev pub computes_two : (BinaryRow → Bool) → ℕ → Bool
-computes_two test op = not (op == select) && (not (is_some (unary_op op)) && option_map_or (λ o. test (binary_row o)) (binary_op op) false)
+computes_two test op = not (op == 169) && (not (is_some (unary_op op)) && option_map_or (λ o. test (binary_row o)) (binary_op op) false)
 
 -- the rows that opcodes of a rule have; nothing is said of rules that constants aren't computed by
 abbrev pub suits : Rule → ℕ → Bool
@@ -99,7 +98,7 @@ suits Booleans op = computes_two joins_booleans op
 suits Reduce op = true
 suits Compare op = computes_two compares op
 suits Extended op = true
-suits Select op = op == select
+suits Select op = op == 169
 suits InsertField op = true
 suits ExtractField op = true
 
@@ -140,24 +139,24 @@ computes_some test None h = impossible h
 computes_some test (Some x) h = refl
 
 module _ (m : Context) (s : State) (i : Inst) (op : ℕ) where
-  pub one_computed : (test : UnaryRow → Bool) → computes_one test op ≡ true → computed_value m s i op ≡ unary_value m s i op
+  pub one_computed : (test : UnaryRow → Bool) → computes_one test op ≡ true → computed_cells m s i op ≡ unary_cells m s i op
   one_computed test h =
-      let p = parts (not (op == select)) (option_map_or (λ o. test (unary_row o)) (unary_op op) false) h in
-      rw (is_false (op == select) p.0, computes_some (λ o. test (unary_row o)) (unary_op op) p.1) refl
+      let p = parts (not (op == 169)) (option_map_or (λ o. test (unary_row o)) (unary_op op) false) h in
+      rw (is_false (op == 169) p.0, computes_some (λ o. test (unary_row o)) (unary_op op) p.1) refl
 
-  pub two_computed : (test : BinaryRow → Bool) → computes_two test op ≡ true → computed_value m s i op ≡ binary_value m s i op
+  pub two_computed : (test : BinaryRow → Bool) → computes_two test op ≡ true → computed_cells m s i op ≡ binary_cells m s i op
   two_computed test h =
-      let p = parts (not (op == select)) (not (is_some (unary_op op)) && option_map_or (λ o. test (binary_row o)) (binary_op op) false) h in
+      let p = parts (not (op == 169)) (not (is_some (unary_op op)) && option_map_or (λ o. test (binary_row o)) (binary_op op) false) h in
       let q = parts (not (is_some (unary_op op))) (option_map_or (λ o. test (binary_row o)) (binary_op op) false) p.1 in
-      rw (is_false (op == select) p.0, is_false (is_some (unary_op op)) q.0) refl
+      rw (is_false (op == 169) p.0, is_false (is_some (unary_op op)) q.0) refl
 
-  pub select_computed : (op == select) ≡ true → computed_value m s i op ≡ select_value m s i
+  pub select_computed : (op == 169) ≡ true → computed_cells m s i op ≡ select_cells m s i
   select_computed h = rw h refl
 
 -- ---- the widths that an opcode takes
 
 one_takes : (test : UnaryRow → Bool) (op v w : ℕ) → computes_one test op ≡ true → ((row : UnaryRow) → test row ≡ true → row_takes row v w ≡ true) → takes_one op v w ≡ true
-one_takes test op v w h takes = by_operation (unary_op op) (parts (not (op == select)) (option_map_or (λ o. test (unary_row o)) (unary_op op) false) h).1
+one_takes test op v w h takes = by_operation (unary_op op) (parts (not (op == 169)) (option_map_or (λ o. test (unary_row o)) (unary_op op) false) h).1
   where
     by_operation : (o : Option UnaryOp) → option_map_or (λ o. test (unary_row o)) o false ≡ true → option_map_or (λ o. row_takes (unary_row o) v w) o false ≡ true
     by_operation None h = impossible h
@@ -166,7 +165,7 @@ one_takes test op v w h takes = by_operation (unary_op op) (parts (not (op == se
 two_take : (test : BinaryRow → Bool) (op v w u : ℕ) → computes_two test op ≡ true → ((row : BinaryRow) → test row ≡ true → takes_pair row v w u ≡ true) → takes_pair_of op v w u ≡ true
 two_take test op v w u h take =
     by_operation (binary_op op) (parts (not (is_some (unary_op op))) (option_map_or (λ o. test (binary_row o)) (binary_op op) false)
-    (parts (not (op == select)) (not (is_some (unary_op op)) && option_map_or (λ o. test (binary_row o)) (binary_op op) false) h).1).1
+    (parts (not (op == 169)) (not (is_some (unary_op op)) && option_map_or (λ o. test (binary_row o)) (binary_op op) false) h).1).1
   where
     by_operation : (o : Option BinaryOp) → option_map_or (λ o. test (binary_row o)) o false ≡ true → option_map_or (λ o. takes_pair (binary_row o) v w u) o false ≡ true
     by_operation None h = impossible h

@@ -31,7 +31,7 @@ pub width_narrow : (width : ℕ) → is_width width ≡ true → width ≤ 64
 width_narrow width h = grind arith
 
 -- a lane of zeros
-blank_is_lane : (defined : Bool) (width : ℕ) → IsLane (blank_lane defined width)
+pub blank_is_lane : (defined : Bool) (width : ℕ) → IsLane (blank_lane defined width)
 blank_is_lane defined width = record {
   narrow = omega arith;
   fits = pow_pos (min width 64);

@@ -1,37 +1,33 @@
--- The shape of a scalar or a vector: one scalar, or as many as components, of its lanes' width.
-use Rattle.std.proofs.Common.{◌≡◌, ◌∙◌, inl, inr, ℕ, ◌≤◌, true, length, Option, Some, None, refl, sym, ap, subst, arith}
-use Rattle.std.specs.Prelude.{◌&&◌, ◌↔◌, min, nat_le, nat_lt}
-use Rattle.std.specs.Option.{IsSomeAnd, option_map}
-use Rattle.std.specs.List.{All}
-use Rattle.spv_base.specs.Parts.{parts_in}
-use Rattle.spv_base.specs.declared.values.Root.{Root}
-use Rattle.spv_base.specs.declared.values.Value.{Value, out-Value}
-use Rattle.spv_base.specs.declared.values.Value.TheOpen.{Value-F}
+-- The leaves of a scalar or a vector: one, or as many as components, of its lanes' width.
+use Rattle.std.proofs.Common.{◌≡◌, ◌∙◌, ℕ, zero, suc, ◌≤◌, true, List, [], ◌∷◌, replicate, Option, Some, None, refl, sym, ap, subst, arith}
+use Rattle.std.specs.Prelude.{◌&&◌, min, nat_le, nat_lt}
+use Rattle.std.specs.Option.{option_map}
+use Rattle.std.specs.List.{flat_map}
 use Rattle.spv_types.specs.declared.forms.Form.{Form}
 use Rattle.spv_types.specs.declared.forms.Form.TheVariants.{Void, Bool as FormBool, Int as FormInt, Vector, Array, Runtime, Struct, Pointer, Function}
 use Rattle.spv_types.specs.Types.{Types, form_of}
-use Rattle.spv_types.specs.Rules.{is_scalar, is_width}
-use Rattle.spv_types.specs.Shapes.{HasShape, IsScalar}
-use Rattle.spv_types.specs.Laws.{AreByForms, AreSound}
+use Rattle.spv_types.specs.Rules.{is_width}
+use Rattle.spv_types.specs.Laws.{AreSound}
 use Rattle.spv_typing.specs.declared.lanes.Element.{Element}
 use Rattle.spv_typing.specs.declared.lanes.Element.TheVariants.{Bool as Boolean, Int}
 use Rattle.spv_typing.specs.declared.lanes.Lanes.{Lanes}
 use Rattle.spv_typing.specs.Lanes.{element_of, form_lanes, lanes_of, repeated}
+use Rattle.spv_typing.proofs.LawLemmas.{parts}
 use Rattle.spv_consts.specs.Lanes.{is_lane_width}
 use Rattle.spv_consts.specs.Operations.{lane_width, scalar_width}
-use Rattle.spv_typing.proofs.LawLemmas.{parts}
-use Rattle.spv_consts.proofs.JoinedShapes.{AreScalars}
+use Rattle.spv_consts.specs.Values.{leaf_widths}
+use Rattle.spv_consts.proofs.WidthLemmas.{widths_by_form}
 
 -- the width of a lane
 abbrev pub width_of : Element → ℕ
 width_of Boolean = 1
 width_of (Int width) = width
 
--- a type of so many lanes: their width is one of a lane, it is what the type is asked for, and values have so many scalars
-pub record AreLanes (ts : Types) (roots : Root → Option ℕ) (id n : ℕ) (e : Element) : Type 0 where
+-- a type of so many lanes: their width is one of a lane, it is what the type is asked for, and the leaves have it
+pub record AreLanes (ts : Types) (id n : ℕ) (e : Element) : Type 0 where
   pub wide : is_lane_width (width_of e) ≡ true
   pub width : lane_width ts (form_of ts id) ≡ width_of e
-  pub shapes : (v : Value) → HasShape ts roots id v ↔ AreScalars (width_of e) n v
+  pub leaves : leaf_widths ts id ≡ replicate n (width_of e)
 
 some_same : {A : Type 0} (x y : A) → Some x ≡ Some y → x ≡ y
 some_same x y e = cc
@@ -93,86 +89,66 @@ module _ (ts : Types) (sound : AreSound ts) where
       by_form (Some (Pointer class target)) is h = cc
       by_form (Some (Function returns parameters)) is h = cc
 
-  module _ (roots : Root → Option ℕ) (forms : AreByForms ts roots) where
-    scalar_shape : (id : ℕ) (e : Element) → element_of (form_of ts id) ≡ Some e → (v : Value) → HasShape ts roots id v ↔ IsScalar (width_of e) v
-    scalar_shape id e h v = by_form (form_of ts id) refl h
-      where
-        by_form : (o : Option Form) → form_of ts id ≡ o → element_of o ≡ Some e → HasShape ts roots id v ↔ IsScalar (width_of e) v
-        by_form None is h = absurd (cc)
-        by_form (Some Void) is h = absurd (cc)
-        by_form (Some FormBool) is h = subst (λ k. HasShape ts roots id v ↔ IsScalar (width_of k) v) (some_same Boolean e h) (forms id FormBool v is)
-        by_form (Some (FormInt width sign)) is h = subst (λ k. HasShape ts roots id v ↔ IsScalar (width_of k) v) (some_same (Int width) e h) (forms id (FormInt width sign) v is)
-        by_form (Some (Vector component count)) is h = absurd (cc)
-        by_form (Some (Array element n stride)) is h = absurd (cc)
-        by_form (Some (Runtime element stride)) is h = absurd (cc)
-        by_form (Some (Struct members block)) is h = absurd (cc)
-        by_form (Some (Pointer class target)) is h = absurd (cc)
-        by_form (Some (Function returns parameters)) is h = absurd (cc)
+  scalar_leaves : (id : ℕ) (e : Element) → element_of (form_of ts id) ≡ Some e → leaf_widths ts id ≡ width_of e ∷ []
+  scalar_leaves id e h = by_form (form_of ts id) refl h
+    where
+      by_form : (o : Option Form) → form_of ts id ≡ o → element_of o ≡ Some e → leaf_widths ts id ≡ width_of e ∷ []
+      by_form None is h = absurd (cc)
+      by_form (Some Void) is h = absurd (cc)
+      by_form (Some FormBool) is h = widths_by_form ts sound id FormBool is ∙ ap (λ k. width_of k ∷ []) (some_same Boolean e h)
+      by_form (Some (FormInt width sign)) is h = widths_by_form ts sound id (FormInt width sign) is ∙ ap (λ k. width_of k ∷ []) (some_same (Int width) e h)
+      by_form (Some (Vector component count)) is h = absurd (cc)
+      by_form (Some (Array element n stride)) is h = absurd (cc)
+      by_form (Some (Runtime element stride)) is h = absurd (cc)
+      by_form (Some (Struct members block)) is h = absurd (cc)
+      by_form (Some (Pointer class target)) is h = absurd (cc)
+      by_form (Some (Function returns parameters)) is h = absurd (cc)
 
-    -- ---- vectors
+  -- ---- vectors
 
-    parts_same : (P Q : Value → Type 0) (n : ℕ) (l : Value-F Value) → ((v : Value) → P v → Q v) → IsSomeAnd (parts_in l) (λ vs. (length vs ≡ n) × All P vs) → IsSomeAnd (parts_in l) (λ vs. (length vs ≡ n) × All Q vs)
-    parts_same P Q n (Value-F.Scalar c) each h = h
-    parts_same P Q n (Value-F.List vs) each h = (h.0, λ k d l. each _ (h.1 k d l))
-    parts_same P Q n (Value-F.Ptr p) each h = h
+  repeated_leaves : (g : ℕ → List ℕ) (n t w : ℕ) → g t ≡ w ∷ [] → flat_map g (replicate n t) ≡ replicate n w
+  repeated_leaves g zero t w h = refl
+  repeated_leaves g (suc n) t w h = rw (h, repeated_leaves g n t w h) refl
 
-    vector_shape : (id component count : ℕ) (e : Element) → form_of ts id ≡ Some (Vector component count) → element_of (form_of ts component) ≡ Some e
-        → (v : Value) → HasShape ts roots id v ↔ AreScalars (width_of e) count v
-    vector_shape id component count e is h v = (to, from)
-      where
-        several : 2 ≤ count
-        several =
-            let p = parts (is_scalar (form_of ts component)) (nat_le 2 count && nat_le count 4) (sound.kept id (Vector component count) is) in
-            at_least 2 count (parts (nat_le 2 count) (nat_le count 4) p.1).0
+  vector_leaves : (id component count : ℕ) (e : Element) → form_of ts id ≡ Some (Vector component count) → element_of (form_of ts component) ≡ Some e
+      → leaf_widths ts id ≡ replicate count (width_of e)
+  vector_leaves id component count e is h =
+      widths_by_form ts sound id (Vector component count) is ∙ repeated_leaves (leaf_widths ts) count component (width_of e) (scalar_leaves component e h)
 
-        to : HasShape ts roots id v → AreScalars (width_of e) count v
-        to g = inr (several, parts_same (HasShape ts roots component) (IsScalar (width_of e)) count (out-Value v) (λ u. (scalar_shape component e h u).0) ((forms id (Vector component count) v is).0 g))
+  -- ---- types with lanes
 
-        from : AreScalars (width_of e) count v → HasShape ts roots id v
-        from (inl g) = absurd (omega (arith, several, g.0))
-        from (inr g) = (forms id (Vector component count) v is).1 (parts_same (IsScalar (width_of e)) (HasShape ts roots component) count (out-Value v) (λ u. (scalar_shape component e h u).1) g.1)
+  pub are_lanes : (id n : ℕ) (e : Element) → lanes_of ts id ≡ Some (repeated n e) → AreLanes ts id n e
+  unfolding lanes_of
+  are_lanes id n e h = by_form (form_of ts id) refl h
+    where
+      scalar : (one : Element) (f : Form) → form_of ts id ≡ Some f → element_of (Some f) ≡ Some one → lane_width ts (Some f) ≡ scalar_width (Some f) → Some (repeated 1 one) ≡ Some (repeated n e) → AreLanes ts id n e
+      scalar one f is h w l =
+          let p = same_lanes 1 n one e l in
+          let g : element_of (form_of ts id) ≡ Some one = rw is h in
+          subst (λ k. AreLanes ts id k e) p.0 (subst (AreLanes ts id 1) p.1 (record {
+            wide = element_width id one g;
+            width = rw is (w ∙ sym (ap scalar_width is) ∙ scalar_width_is id one g);
+            leaves = scalar_leaves id one g;
+          }))
 
-    one_shape : (id : ℕ) (e : Element) → element_of (form_of ts id) ≡ Some e → (v : Value) → HasShape ts roots id v ↔ AreScalars (width_of e) 1 v
-    one_shape id e h v = (λ g. inl (refl, (scalar_shape id e h v).0 g), from)
-      where
-        from : AreScalars (width_of e) 1 v → HasShape ts roots id v
-        from (inl g) = (scalar_shape id e h v).1 g.1
-        from (inr g) = absurd (omega (arith, g.0))
+      vector : (component count : ℕ) → form_of ts id ≡ Some (Vector component count) → (o : Option Element) → element_of (form_of ts component) ≡ o → option_map (repeated count) o ≡ Some (repeated n e) → AreLanes ts id n e
+      vector component count is None g l = absurd (cc)
+      vector component count is (Some one) g l =
+          let p = same_lanes count n one e l in
+          subst (λ k. AreLanes ts id k e) p.0 (subst (AreLanes ts id count) p.1 (record {
+            wide = element_width component one g;
+            width = rw is (scalar_width_is component one g);
+            leaves = vector_leaves id component count one is g;
+          }))
 
-    -- ---- types with lanes
-
-    pub are_lanes : (id n : ℕ) (e : Element) → lanes_of ts id ≡ Some (repeated n e) → AreLanes ts roots id n e
-    unfolding lanes_of
-    are_lanes id n e h = by_form (form_of ts id) refl h
-      where
-        scalar : (one : Element) (f : Form) → form_of ts id ≡ Some f → element_of (Some f) ≡ Some one → lane_width ts (Some f) ≡ scalar_width (Some f) → Some (repeated 1 one) ≡ Some (repeated n e) → AreLanes ts roots id n e
-        scalar one f is h w l =
-            let p = same_lanes 1 n one e l in
-            let g : element_of (form_of ts id) ≡ Some one = rw is h in
-            subst (λ k. AreLanes ts roots id k e) p.0 (subst (AreLanes ts roots id 1) p.1 (record {
-              wide = element_width id one g;
-              width = rw is (w ∙ sym (ap scalar_width is) ∙ scalar_width_is id one g);
-              shapes = one_shape id one g;
-            }))
-
-        vector : (component count : ℕ) → form_of ts id ≡ Some (Vector component count) → (o : Option Element) → element_of (form_of ts component) ≡ o → option_map (repeated count) o ≡ Some (repeated n e) → AreLanes ts roots id n e
-        vector component count is None g l = absurd (cc)
-        vector component count is (Some one) g l =
-            let p = same_lanes count n one e l in
-            subst (λ k. AreLanes ts roots id k e) p.0 (subst (AreLanes ts roots id count) p.1 (record {
-              wide = element_width component one g;
-              width = rw is (scalar_width_is component one g);
-              shapes = vector_shape id component count one is g;
-            }))
-
-        by_form : (o : Option Form) → form_of ts id ≡ o → form_lanes ts o ≡ Some (repeated n e) → AreLanes ts roots id n e
-        by_form None is l = absurd (cc)
-        by_form (Some Void) is l = absurd (cc)
-        by_form (Some FormBool) is l = scalar Boolean FormBool is refl refl l
-        by_form (Some (FormInt width sign)) is l = scalar (Int width) (FormInt width sign) is refl refl l
-        by_form (Some (Vector component count)) is l = vector component count is (element_of (form_of ts component)) refl l
-        by_form (Some (Array element n stride)) is l = absurd (cc)
-        by_form (Some (Runtime element stride)) is l = absurd (cc)
-        by_form (Some (Struct members block)) is l = absurd (cc)
-        by_form (Some (Pointer class target)) is l = absurd (cc)
-        by_form (Some (Function returns parameters)) is l = absurd (cc)
+      by_form : (o : Option Form) → form_of ts id ≡ o → form_lanes ts o ≡ Some (repeated n e) → AreLanes ts id n e
+      by_form None is l = absurd (cc)
+      by_form (Some Void) is l = absurd (cc)
+      by_form (Some FormBool) is l = scalar Boolean FormBool is refl refl l
+      by_form (Some (FormInt width sign)) is l = scalar (Int width) (FormInt width sign) is refl refl l
+      by_form (Some (Vector component count)) is l = vector component count is (element_of (form_of ts component)) refl l
+      by_form (Some (Array element n stride)) is l = absurd (cc)
+      by_form (Some (Runtime element stride)) is l = absurd (cc)
+      by_form (Some (Struct members block)) is l = absurd (cc)
+      by_form (Some (Pointer class target)) is l = absurd (cc)
+      by_form (Some (Function returns parameters)) is l = absurd (cc)

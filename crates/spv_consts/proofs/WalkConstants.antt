@@ -4,55 +4,52 @@ use Rattle.std.proofs.lemmas.Bool.{and_parts, cases_Bool, eqb-true, eq-eqb, ltb-
 use Rattle.std.specs.Prelude.{nat_le, nat_lt, ◌&&◌, ◌||◌, if◌then◌else◌, unwrap_or, option_map}
 use Rattle.std.specs.List.{AllByRecursion}
 use Rattle.std.specs.Option.{is_some, option_map_or}
-use Rattle.spv_base.specs.Answers.{after}
 use Rattle.spv_base.specs.Entries.{reads}
 use Rattle.spv_base.specs.Order.{Ascend}
 use Rattle.spv_base.specs.declared.causes.Refusal.{Refusal}
 use Rattle.spv_base.specs.declared.instructions.Inst.{Inst}
 use Rattle.spv_base.specs.declared.values.Root.{Root}
-use Rattle.spv_base.specs.declared.values.Value.{Value}
 use Rattle.spv_types.specs.declared.forms.Form.{Form}
-use Rattle.spv_types.specs.declared.opcodes.TheConstants.{TYPE_ARRAY, UNDEF}
-use Rattle.spv_types.specs.Build.{type_breaches, types_of}
+use Rattle.spv_types.specs.Build.{type_breaches, types_of, unless_refused}
 use Rattle.spv_types.specs.Facts.{is_constant}
 use Rattle.spv_types.specs.Laws.{AreByForms, AreComplete, AreNamed, AreSound, HasResult, IsAmong}
 use Rattle.spv_types.specs.Rules.{is_data, is_sized_data}
-use Rattle.spv_types.specs.Shapes.{HasShape}
 use Rattle.spv_types.specs.Types.{IsUnset, Types, form_of, lengthened as with_size, number_of, with_length}
 use Rattle.spv_types.specs.Typing.{before_functions, defined_form, types_in}
-use Rattle.spv_index.specs.Definitions.{defining, type_of}
-use Rattle.spv_consts.specs.Table.{Constants}
-use Rattle.spv_consts.specs.Context.{Context, has_undef_before, is_undef_before}
+use Rattle.spv_index.specs.Definitions.{type_of}
+use Rattle.spv_consts.specs.Table.{Constants, Row}
+use Rattle.spv_consts.specs.Context.{Context}
 use Rattle.spv_consts.specs.State.{State, is_next}
-use Rattle.spv_consts.specs.Values.{blank_of, undefined_of}
-use Rattle.spv_consts.specs.Evaluation.{value_of}
-use Rattle.spv_consts.specs.Laws.{HaveShapes, HaveValues, OperandsHaveShapes}
-use Rattle.spv_consts.specs.Numbers.{rules_code}
+use Rattle.spv_consts.specs.Values.{undefined_of}
+use Rattle.spv_consts.specs.Evaluation.{cells_of}
+use Rattle.spv_consts.specs.Laws.{FillType, HaveShapes, HaveValues, IsConstantOf, OperandsFillTypes}
 use Rattle.spv_consts.specs.Overrides.{Numbers}
 use Rattle.spv_consts.specs.SpecIds.{lowest_wrong}
-use Rattle.spv_consts.specs.Build.{built_of, constants_of, context_of, start_of, unless_earlier}
+use Rattle.spv_consts.specs.Build.{constants_of, context_of, front_breaches, known_of, start_of, state_of, unless_earlier}
 use Rattle.spv_consts.specs.Lengths.{lengthened}
 use Rattle.spv_consts.specs.Rules.{keeps_kind, keeps_rules}
-use Rattle.spv_consts.specs.Steps.{entered, stepped, walked, with_constant, with_type}
+use Rattle.spv_consts.specs.Steps.{breaches_at, breaches_from, entered, stepped, walked, with_constant, with_type}
 use Rattle.spv_types.proofs.TypeLemmas.{number_lt}
+use Rattle.spv_consts.proofs.TreeLemmas.{row_is}
+use Rattle.spv_consts.proofs.ValueFills.{blanks_fill, constants_fill}
 use Rattle.spv_consts.proofs.WalkIds.{before_is_front, each_weaker}
 use Rattle.spv_consts.proofs.WalkTypes.{no_breach, number_of_form}
 use Rattle.spv_consts.proofs.WalkStates.{array_form, array_length, constant_no_array, constant_no_type, no_length, only_arrays_unset, passed}
 use Rattle.spv_consts.proofs.WalkPlaces.{IsPlaced, declared, placed}
-use Rattle.spv_consts.proofs.WalkSteps.{Follows, IsShaped, constant_follows, follows_start, length_follows, length_sets, other_follows, type_follows}
+use Rattle.spv_consts.proofs.WalkSteps.{Follows, IsFilled, constant_follows, follows_start, length_follows, length_sets, other_follows, type_follows}
 
 -- ---- the type of a constant
 
-read_shaped : (insts : List Inst) (ts : Types) (known : ℕ) (cs : Constants) (id : ℕ) (v : Value) → AllByRecursion (IsShaped insts ts known) cs → reads id cs ≡ Some v → IsShaped insts ts known (id, v)
-read_shaped insts ts known [] id v h e = cc
-read_shaped insts ts known (c ∷ cs) id v (first, rest) e = by_test (c.0 == id) refl e (read_shaped insts ts known cs id v rest)
+read_filled : (insts : List Inst) (ts : Types) (known : ℕ) (cs : Constants) (id : ℕ) (v : Row) → AllByRecursion (IsFilled insts ts known) cs → reads id cs ≡ Some v → IsFilled insts ts known (id, v)
+read_filled insts ts known [] id v h e = cc
+read_filled insts ts known (c ∷ cs) id v (first, rest) e = by_test (c.0 == id) refl e (read_filled insts ts known cs id v rest)
   where
-    by_test : (b : Bool) → (c.0 == id) ≡ b → (if b then Some c.1 else reads id cs) ≡ Some v → (reads id cs ≡ Some v → IsShaped insts ts known (id, v)) → IsShaped insts ts known (id, v)
+    by_test : (b : Bool) → (c.0 == id) ≡ b → (if b then Some c.1 else reads id cs) ≡ Some v → (reads id cs ≡ Some v → IsFilled insts ts known (id, v)) → IsFilled insts ts known (id, v)
     by_test true t h behind =
         let same_id : c.0 ≡ id = eqb-true c.0 id t in
         let same : c.1 ≡ v = cc in
-        let one : IsShaped insts ts known (id, c.1) = subst (λ (q : ℕ). IsShaped insts ts known (q, c.1)) same_id first in
-        subst (λ (w : Value). IsShaped insts ts known (id, w)) same one
+        let one : IsFilled insts ts known (id, c.1) = subst (λ (q : ℕ). IsFilled insts ts known (q, c.1)) same_id first in
+        subst (λ (w : Row). IsFilled insts ts known (id, w)) same one
     by_test false t h behind = behind h
 
 -- a type of data has a number
@@ -77,31 +74,14 @@ constant_among m front i s follows place constant rules =
 
 -- ---- its operands
 
-module _ (blank_shapes : (ts : Types) (n id : ℕ) (roots : Root → Option ℕ) (defined : Bool) → AreSound ts → AreComplete ts n → IsAmong ts n id → is_data (form_of ts id) ≡ true → HasShape ts roots id (blank_of defined ts id)) where
-  undefined_shape : (m : Context) (front : List Inst) (i : Inst) (s : State) (roots : Root → Option ℕ) (id : ℕ) → Follows m.all front s → IsPlaced m.all front i → has_undef_before m i.word id ≡ true
-      → HasShape s.types roots (type_of m.all id) (undefined_of s.types (type_of m.all id))
-  undefined_shape m front i s roots id follows place h = by_definition (defining m.all id) refl h
-    where
-      shape : (d : Inst) → defining m.all id ≡ Some d → IsAmong (declared m.all) (length (types_in m.all front)) d.ty × (is_data (form_of (declared m.all) d.ty) ≡ true) → HasShape s.types roots d.ty (undefined_of s.types d.ty)
-      shape d e (among, data_is) =
-          let below : among.number < s.known = subst (λ (n : ℕ). among.number < n) (sym follows.known) among.below in
-          let here : IsAmong s.types s.known d.ty = record { number = among.number; is = follows.numbers d.ty ∙ among.is; below = below } in
-          blank_shapes s.types s.known d.ty roots false follows.sound follows.complete here (follows.kinds d.ty ∙ data_is)
-
-      by_definition : (o : Option Inst) → defining m.all id ≡ o → option_map_or (is_undef_before i.word) o false ≡ true → HasShape s.types roots (type_of m.all id) (undefined_of s.types (type_of m.all id))
-      by_definition None e before = cc
-      by_definition (Some d) e before =
-          let tests = and_parts (d.op == UNDEF) (nat_lt d.word i.word) before in
-          let facts = place.undefined id d e (eqb-true d.op UNDEF tests.0) (ltb-true d.word i.word tests.1) in
-          let ty : type_of m.all id ≡ d.ty = ap (λ (o : Option Inst). unwrap_or (option_map (λ (j : Inst). j.ty) o) 0) e in
-          subst (λ (t : ℕ). HasShape s.types roots t (undefined_of s.types t)) (sym ty) (shape d e facts)
-
-  pub operands_shape : (m : Context) (front : List Inst) (i : Inst) (s : State) (roots : Root → Option ℕ) → Follows m.all front s → IsPlaced m.all front i → OperandsHaveShapes m s roots i.word
-  operands_shape m front i s roots follows place = λ id h. by_value id (reads id s.values) refl h
-    where
-      by_value : (id : ℕ) (o : Option Value) → reads id s.values ≡ o → (is_some o || has_undef_before m i.word id) ≡ true → HasShape s.types roots (type_of m.all id) (unwrap_or (reads id s.values) (undefined_of s.types (type_of m.all id)))
-      by_value id None e h = rw e (undefined_shape m front i s roots id follows place h)
-      by_value id (Some v) e h = rw e ((read_shaped m.all s.types s.known s.values id v follows.shaped e).1 roots)
+operands_fill : (m : Context) (front : List Inst) (i : Inst) (s : State) → Follows m.all front s → OperandsFillTypes m s i.word
+operands_fill m front i s follows = λ id h. by_value id (reads id s.values) refl
+  where
+    by_value : (id : ℕ) (o : Option Row) → reads id s.values ≡ o → FillType s.types (type_of m.all id) (option_map_or (λ (r : Row). r.cells) (reads id s.values) (undefined_of s.types (type_of m.all id)))
+    by_value id None e = rw e (blanks_fill s.types false (type_of m.all id) follows.sound)
+    by_value id (Some v) e =
+        let filled = read_filled m.all s.types s.known s.values id v follows.shaped e in
+        rw e (subst (λ (t : ℕ). FillType s.types t v.cells) filled.1 filled.3)
 
 -- ---- one instruction
 
@@ -123,20 +103,25 @@ other_entered m s i other no_constant = rw (other, no_constant) refl
 
 -- ---- the state at the end
 
-state_of : (insts : List Inst) (ts : Types) (over : Numbers) (known : Types × Constants) → constants_of ts insts over ≡ Ok known
-    → (s : State) × (walked (context_of ts insts over) (start_of ts) (before_functions insts) ≡ Ok s) × (known ≡ (s.types, s.values))
+ends : (insts : List Inst) (ts : Types) (over : Numbers) (known : Types × Constants) → constants_of ts insts over ≡ Ok known
+    → (front_breaches ts insts over ≡ []) × (known ≡ known_of (state_of ts insts over))
 unfolding constants_of
-state_of insts ts over known is = by_walk (walked (context_of ts insts over) (start_of ts) (before_functions insts)) (lowest_wrong insts insts) is
+ends insts ts over known is = by_breaches (front_breaches ts insts over) (lowest_wrong insts insts) is
   where
-    by_walk : (r : Result State Refusal) (o : Option ℕ) → unless_earlier o (built_of r) ≡ Ok known → (s : State) × (r ≡ Ok s) × (known ≡ (s.types, s.values))
-    by_walk (Ok s) None e = (s, refl, cc)
-    by_walk (Ok s) (Some word) e = cc
-    by_walk (Err r) None e = cc
-    by_walk (Err r) (Some word) e = by_word (nat_le word r.word) e
+    by_breaches : (rs : List Refusal) (o : Option ℕ) → unless_earlier o (unless_refused (known_of (state_of ts insts over)) rs) ≡ Ok known → (rs ≡ []) × (known ≡ known_of (state_of ts insts over))
+    by_breaches [] None e = (refl, cc)
+    by_breaches [] (Some word) e = cc
+    by_breaches (r ∷ rs) None e = cc
+    by_breaches (r ∷ rs) (Some word) e = by_word (nat_le word r.word) e
       where
-        by_word : (b : Bool) → (if b then Err (record { code = rules_code; word = word }) else Err r) ≡ Ok known → (s : State) × (Err r ≡ Ok s) × (known ≡ (s.types, s.values))
+        by_word : (b : Bool) → (if b then Err (record { code = 14; word = word }) else Err r) ≡ Ok known → (r ∷ rs ≡ []) × (known ≡ known_of (state_of ts insts over))
         by_word true h = cc
         by_word false h = cc
+
+-- no breach of two lists is none of either
+none_of : (rs ss : List Refusal) → rs ++ ss ≡ [] → (rs ≡ []) × (ss ≡ [])
+none_of [] ss h = (refl, h)
+none_of (r ∷ rs) ss h = absurd (cc)
 
 -- ---- by what the laws of types and of values say
 
@@ -146,16 +131,12 @@ module _
     (number_kept : (ts : Types) (id n q : ℕ) → number_of (with_length ts id n) q ≡ number_of ts q)
     (other_kept : (ts : Types) (id n q : ℕ) → id ≢ q → form_of (with_length ts id n) q ≡ form_of ts q)
     (own_set : (ts : Types) (id n : ℕ) (f : Form) → form_of ts id ≡ Some f → form_of (with_length ts id n) id ≡ Some (with_size n f))
-    (shapes_kept : (ts : Types) (roots : Root → Option ℕ) (array k n id : ℕ) (v : Value) → number_of ts array ≡ Some k → IsAmong ts k id → HasShape ts roots id v → HasShape (with_length ts array n) roots id v)
     (by_forms : (ts : Types) (roots : Root → Option ℕ) → AreSound ts → AreByForms ts roots)
-    (blank_shapes : (ts : Types) (n id : ℕ) (roots : Root → Option ℕ) (defined : Bool) → AreSound ts → AreComplete ts n → IsAmong ts n id → is_data (form_of ts id) ≡ true → HasShape ts roots id (blank_of defined ts id))
-    (entered_shapes : (m : Context) (s : State) (roots : Root → Option ℕ) (i : Inst) → AreSound s.types → AreByForms s.types roots → AreComplete s.types s.known → IsAmong s.types s.known i.ty → OperandsHaveShapes m s roots i.word
-    → is_constant i.op ≡ true → keeps_rules m s i ≡ true → HasShape s.types roots i.ty (value_of m s i))
   where
     -- a type instruction
     type_passes : (m : Context) (front : List Inst) (i : Inst) (s u : State) (f : Form) → Follows m.all front s → IsPlaced m.all front i → defined_form m.all i ≡ Some f → keeps_rules m s i ≡ true → lengthened m s i ≡ Some u
         → Follows m.all (front ++ i ∷ []) (entered m u i)
-    type_passes m front i s u f follows place form rules lengthens = by_array (cases_Bool (i.op == TYPE_ARRAY))
+    type_passes m front i s u f follows place form rules lengthens = by_array (cases_Bool (i.op == 28))
       where
         at : (number_of (declared m.all) i.id ≡ Some (length (types_in m.all front))) × (form_of (declared m.all) i.id ≡ Some f)
         at = place.type_at f form
@@ -178,9 +159,9 @@ module _
         long : (n : ℕ) → u ≡ record s { types = with_length s.types i.id n } → Follows m.all (front ++ i ∷ []) (entered m u i)
         long n same =
             let v : State = record s { types = with_length s.types i.id n } in
-            let follows_v : Follows m.all front v = length_follows sound_kept number_kept other_kept own_set shapes_kept m.all front s i.id n follows number in
+            let follows_v : Follows m.all front v = length_follows sound_kept number_kept other_kept own_set m.all front s i.id n follows number in
             let number_v : number_of v.types i.id ≡ Some v.known = number_kept s.types i.id n i.id ∙ number in
-            let is_set : IsUnset (form_of v.types i.id) → ⊥ = length_sets sound_kept number_kept other_kept own_set shapes_kept s.types i.id n s.known number in
+            let is_set : IsUnset (form_of v.types i.id) → ⊥ = length_sets sound_kept number_kept other_kept own_set s.types i.id n s.known number in
             subst (λ (t : State). Follows m.all (front ++ i ∷ []) (entered m t i)) (sym same) (enters v follows_v number_v is_set)
 
         unchanged : u ≡ s → (IsUnset (form_of s.types i.id) → ⊥) → Follows m.all (front ++ i ∷ []) (entered m u i)
@@ -190,18 +171,10 @@ module _
         by_length (inl (n, same)) = long n same
         by_length (inr (same, is_set)) = unchanged same is_set
 
-        by_array : ((i.op == TYPE_ARRAY) ≡ true) ⊎ ((i.op == TYPE_ARRAY) ≡ false) → Follows m.all (front ++ i ∷ []) (entered m u i)
+        by_array : ((i.op == 28) ≡ true) ⊎ ((i.op == 28) ≡ false) → Follows m.all (front ++ i ∷ []) (entered m u i)
         by_array (inl array) = by_length (array_length m s u i array rules (next_is s i.id s.known number refl) lengthens)
         by_array (inr no_array) = unchanged (no_length m s u i no_array lengthens)
             (λ unset. only_arrays_unset m.all i no_array (subst IsUnset (sym form) (subst IsUnset at.1 (follows.unset i.id unset))))
-
-    -- a constant
-    value_shape : (m : Context) (front : List Inst) (i : Inst) (s : State) (roots : Root → Option ℕ) → Follows m.all front s → IsPlaced m.all front i → is_constant i.op ≡ true → keeps_rules m s i ≡ true → IsAmong s.types s.known i.ty
-        → HasShape s.types roots i.ty (value_of m s i)
-    value_shape m front i s roots follows place constant rules among =
-        let forms : AreByForms s.types roots = by_forms s.types roots follows.sound in
-        let operands : OperandsHaveShapes m s roots i.word = operands_shape blank_shapes m front i s roots follows place in
-        entered_shapes m s roots i follows.sound forms follows.complete among operands constant rules
 
     -- any other instruction
     other_passes : (m : Context) (front : List Inst) (i : Inst) (s u : State) → Follows m.all front s → IsPlaced m.all front i → defined_form m.all i ≡ None → keeps_rules m s i ≡ true → lengthened m s i ≡ Some u
@@ -215,37 +188,33 @@ module _
         by_kind : (is_constant i.op ≡ true) ⊎ (is_constant i.op ≡ false) → Follows m.all (front ++ i ∷ []) (entered m s i)
         by_kind (inl constant) =
             let among : IsAmong s.types s.known i.ty = constant_among m front i s follows place constant rules in
-            let follows_t = constant_follows m front i s follows form (place.own_type constant) among (λ roots. value_shape m front i s roots follows place constant rules among) in
+            let fills : FillType s.types i.ty (cells_of m s i) = constants_fill m s i follows.sound (operands_fill m front i s follows) constant rules in
+            let follows_t = constant_follows m front i s follows form (place.own_type constant) among (constant_rules m s i constant rules) fills in
             subst (λ (t : State). Follows m.all (front ++ i ∷ []) t) (sym (constant_entered m s i aside constant)) follows_t
         by_kind (inr no_constant) = subst (λ (t : State). Follows m.all (front ++ i ∷ []) t) (sym (other_entered m s i aside no_constant)) (other_follows m.all front i s follows form no_constant)
 
-    step_follows : (m : Context) (front : List Inst) (i : Inst) (s t : State) → Follows m.all front s → IsPlaced m.all front i → stepped m s i ≡ Ok t → Follows m.all (front ++ i ∷ []) t
-    step_follows m front i s t follows place steps = by_form (defined_form m.all i) refl
+    step_follows : (m : Context) (front : List Inst) (i : Inst) (s : State) → Follows m.all front s → IsPlaced m.all front i → breaches_at m s i ≡ [] → Follows m.all (front ++ i ∷ []) (stepped m s i)
+    step_follows m front i s follows place none = by_form (defined_form m.all i) refl
       where
-        passes : (keeps_rules m s i ≡ true) × ((u : State) × (lengthened m s i ≡ Some u) × (t ≡ entered m u i))
-        passes = passed m s t i steps
+        passes : (keeps_rules m s i ≡ true) × ((u : State) × (lengthened m s i ≡ Some u) × (stepped m s i ≡ entered m u i))
+        passes = passed m s i none
 
-        by_form : (o : Option Form) → defined_form m.all i ≡ o → Follows m.all (front ++ i ∷ []) t
+        by_form : (o : Option Form) → defined_form m.all i ≡ o → Follows m.all (front ++ i ∷ []) (stepped m s i)
         by_form None e = subst (λ (v : State). Follows m.all (front ++ i ∷ []) v) (sym passes.1.2) (other_passes m front i s passes.1.0 follows place e passes.0 passes.1.1)
         by_form (Some f) e = subst (λ (v : State). Follows m.all (front ++ i ∷ []) v) (sym passes.1.2) (type_passes m front i s passes.1.0 f follows place e passes.0 passes.1.1)
 
     -- ---- all of them
 
-    pub walk_follows : (m : Context) (front rest tail : List Inst) (s t : State) → Ascend 0 m.all → AreNamed m.all → type_breaches m.all [] (before_functions m.all) ≡ [] → before_functions m.all ≡ front ++ rest → m.all ≡ front ++ (rest ++ tail)
-        → Follows m.all front s → walked m s rest ≡ Ok t → Follows m.all (before_functions m.all) t
-    unfolding walked
-    walk_follows m front [] tail s t ascend named none place whole follows walks =
-        let same : s ≡ t = cc in
+    pub walk_follows : (m : Context) (front rest tail : List Inst) (s : State) → Ascend 0 m.all → AreNamed m.all → type_breaches m.all [] (before_functions m.all) ≡ [] → before_functions m.all ≡ front ++ rest → m.all ≡ front ++ (rest ++ tail)
+        → Follows m.all front s → breaches_from m s rest ≡ [] → Follows m.all (before_functions m.all) (walked m s rest)
+    unfolding walked breaches_from
+    walk_follows m front [] tail s ascend named none place whole follows no_breaches =
         let all_of : front ≡ before_functions m.all = sym (place ∙ append-nil front) in
-        subst (λ (v : State). Follows m.all (before_functions m.all) v) same (subst (λ (is : List Inst). Follows m.all is s) all_of follows)
-    walk_follows m front (i ∷ rest) tail s t ascend named none place whole follows walks =
-        by_step (stepped m s i) refl walks
-        (λ u steps behind. walk_follows m (front ++ i ∷ []) rest tail u t ascend named none (place ∙ sym (append_assoc front (i ∷ []) rest)) (whole ∙ sym (append_assoc front (i ∷ []) (rest ++ tail)))
-        (step_follows m front i s u follows (placed m.all front rest tail i place whole ascend named none) steps) behind)
-      where
-        by_step : (r : Result State Refusal) → stepped m s i ≡ r → after r (λ u. walked m u rest) ≡ Ok t → ((u : State) → stepped m s i ≡ Ok u → walked m u rest ≡ Ok t → Follows m.all (before_functions m.all) t) → Follows m.all (before_functions m.all) t
-        by_step (Ok u) e walks_on go = go u e walks_on
-        by_step (Err r) e walks_on go = cc
+        subst (λ (is : List Inst). Follows m.all is s) all_of follows
+    walk_follows m front (i ∷ rest) tail s ascend named none place whole follows no_breaches =
+        let both = none_of (breaches_at m s i) (breaches_from m (stepped m s i) rest) no_breaches in
+        walk_follows m (front ++ i ∷ []) rest tail (stepped m s i) ascend named none (place ∙ sym (append_assoc front (i ∷ []) rest)) (whole ∙ sym (append_assoc front (i ∷ []) (rest ++ tail)))
+        (step_follows m front i s follows (placed m.all front rest tail i place whole ascend named none) both.0) both.1
 
     -- ---- the answer
 
@@ -254,12 +223,12 @@ module _
 
     walked_by : (insts : List Inst) (ts : Types) (over : Numbers) (known : Types × Constants) → Ascend 0 insts → AreNamed insts → types_of insts ≡ Ok ts → constants_of ts insts over ≡ Ok known → Walked insts known
     walked_by insts ts over known ascend named typed is =
-        let ends = state_of insts ts over known is in
+        let ended = ends insts ts over known is in
         let rules = no_breach insts ts typed in
         let front = before_is_front insts in
         let sound_start : AreSound (declared insts) = subst AreSound (sym rules.1) (sound insts ts named.results typed) in
         let start : Follows insts [] (start_of ts) = follows_start insts (start_of ts) refl (sym rules.1) refl sound_start in
-        (ends.0, walk_follows (context_of ts insts over) [] (before_functions insts) front.0 (start_of ts) ends.0 ascend named rules.0 refl front.1 start ends.1, ends.2)
+        (state_of ts insts over, walk_follows (context_of ts insts over) [] (before_functions insts) front.0 (start_of ts) ascend named rules.0 refl front.1 start ended.0, ended.1)
 
     -- the types are sound, and each array has its length
     pub types_are_whole : (insts : List Inst) (ts : Types) (over : Numbers) (known : Types × Constants) → Ascend 0 insts → AreNamed insts → types_of insts ≡ Ok ts → constants_of ts insts over ≡ Ok known
@@ -273,13 +242,16 @@ module _
             let below : among.number < length (declared insts) = number_lt (declared insts) id among.number (sym (follows.numbers id) ∙ among.is) in
             follows.complete id (record { number = among.number; is = among.is; below = subst (λ (n : ℕ). among.number < n) (sym follows.known) below })
 
-    -- each value has the shape of its type
+    -- each constant has a value of the shape of its type
     pub values_have_shapes : (insts : List Inst) (ts : Types) (over : Numbers) (known : Types × Constants) → Ascend 0 insts → AreNamed insts → types_of insts ≡ Ok ts → constants_of ts insts over ≡ Ok known
         → (roots : Root → Option ℕ) → HaveShapes known.0 insts roots known.1
     values_have_shapes insts ts over known ascend named typed is = λ roots.
         let w = walked_by insts ts over known ascend named typed is in
         subst (λ (k : Types × Constants). HaveShapes k.0 insts roots k.1) (sym w.2)
-        (each_weaker (IsShaped insts w.0.types w.0.known) (λ (c : ℕ × Value). HasShape w.0.types roots (type_of insts c.0) c.1) (λ c shaped. shaped.1 roots) w.0.values w.1.shaped)
+        (each_weaker (IsFilled insts w.0.types w.0.known) (IsConstantOf w.0.types insts roots) (λ c filled. record {
+          ty = filled.1;
+          row = row_is w.0.types roots w.0.known w.1.sound (by_forms w.0.types roots w.1.sound) w.1.complete c.1.ty filled.0 filled.2 c.1.cells filled.3;
+        }) w.0.values w.1.shaped)
 
     -- each constant has a value
     pub constants_have_values : (insts : List Inst) (ts : Types) (over : Numbers) (known : Types × Constants) → Ascend 0 insts → AreNamed insts → types_of insts ≡ Ok ts → constants_of ts insts over ≡ Ok known → HaveValues insts known.1

@@ -1,8 +1,9 @@
 -- What one instruction makes of a state, and what is so in each state of the walk over a module's constants.
-use Rattle.std.proofs.Common.{◌≡◌, ◌⊎◌, ◌∙◌, ℕ, ◌==◌, Bool, true, false, List, Option, Some, None, Ok, Err, inl, inr, refl, sym, ap}
+use Rattle.std.proofs.Common.{◌≡◌, ◌⊎◌, ◌∙◌, ℕ, ◌==◌, Bool, true, false, List, [], ◌∷◌, ◌++◌, Option, Some, None, inl, inr, refl, sym, ap}
 use Rattle.std.proofs.lemmas.Bool.{eqb-true, ne_eqb}
-use Rattle.std.specs.Prelude.{nat_lt, if◌then◌else◌}
-use Rattle.std.specs.Option.{is_some}
+use Rattle.std.specs.Prelude.{nat_lt, not, ◌&&◌, if◌then◌else◌, unwrap_or}
+use Rattle.std.specs.Option.{is_some, option_map_or}
+use Rattle.spv_base.specs.declared.causes.Refusal.{Refusal}
 use Rattle.spv_base.specs.declared.instructions.Inst.{Inst}
 use Rattle.spv_types.specs.declared.forms.Form.{Form}
 use Rattle.spv_types.specs.declared.forms.Form.TheVariants.{Void, Bool as Boolean, Int, Vector, Array, Runtime, Struct, Pointer, Function}
@@ -11,12 +12,11 @@ use Rattle.spv_types.specs.Facts.{is_constant}
 use Rattle.spv_types.specs.Rules.{is_data}
 use Rattle.spv_types.specs.Types.{IsUnset, form_of, lengthened as with_size, with_length}
 use Rattle.spv_types.specs.Typing.{defined_form}
-use Rattle.spv_consts.specs.Numbers.{rules_code, limits_code, most_cells}
 use Rattle.spv_consts.specs.Context.{Context}
 use Rattle.spv_consts.specs.State.{State, is_next}
 use Rattle.spv_consts.specs.Lengths.{constant_length, is_unset, lengthened, with_array, with_length_if}
 use Rattle.spv_consts.specs.Rules.{keeps_rules}
-use Rattle.spv_consts.specs.Steps.{breach, entered, limited, passes_limit, stepped}
+use Rattle.spv_consts.specs.Steps.{breaches_at, entered, left_out, passes_limit, stepped}
 
 -- ---- forms
 
@@ -118,19 +118,22 @@ constant_no_type all i h =
 
 -- ---- one instruction
 
--- an instruction that is passed keeps the rules, and enters the state with the length that it sets
-pub passed : (m : Context) (s t : State) (i : Inst) → stepped m s i ≡ Ok t → (keeps_rules m s i ≡ true) × ((u : State) × (lengthened m s i ≡ Some u) × (t ≡ entered m u i))
-unfolding stepped
-passed m s t i h = by_rules (keeps_rules m s i) (lengthened m s i) h
+-- an instruction without a breach keeps the rules, and enters the state with the length that it sets
+pub passed : (m : Context) (s : State) (i : Inst) → breaches_at m s i ≡ [] → (keeps_rules m s i ≡ true) × ((u : State) × (lengthened m s i ≡ Some u) × (stepped m s i ≡ entered m u i))
+unfolding stepped breaches_at
+passed m s i h = by_tests (keeps_rules m s i) (lengthened m s i) h
   where
-    by_limit : (u : State) (b : Bool) → (if b then Err (breach limits_code i) else Ok (entered m u i)) ≡ Ok t → t ≡ entered m u i
-    by_limit u true e = cc
-    by_limit u false e = cc
-
-    by_rules : (b : Bool) (o : Option State) → (if b then limited m i o else Err (breach rules_code i)) ≡ Ok t → (b ≡ true) × ((u : State) × (o ≡ Some u) × (t ≡ entered m u i))
-    by_rules true None e = cc
-    by_rules true (Some u) e = (refl, (u, refl, by_limit u (passes_limit u i) e))
-    by_rules false o e = cc
+    by_tests : (b : Bool) (o : Option State)
+        → ◌++◌ {A = Refusal} (if b then [] else record { code = 14; word = i.word } ∷ []) (if option_map_or (λ t. passes_limit t i) o true then record { code = 18; word = i.word } ∷ [] else []) ≡ []
+        → (b ≡ true) × ((u : State) × (o ≡ Some u) × ((if b && not (option_map_or (λ t. passes_limit t i) o true) then entered m (unwrap_or o s) i else left_out s i) ≡ entered m u i))
+    by_tests false o e = absurd (cc)
+    by_tests true None e = absurd (cc)
+    by_tests true (Some u) e = by_limit (passes_limit u i) e
+      where
+        by_limit : (c : Bool) → ◌++◌ {A = Refusal} [] (if c then record { code = 18; word = i.word } ∷ [] else []) ≡ []
+            → (true ≡ true) × ((v : State) × (Some u ≡ Some v) × ((if true && not c then entered m u i else left_out s i) ≡ entered m v i))
+        by_limit true e = absurd (cc)
+        by_limit false e = (refl, (u, refl, refl))
 
 -- what declares no array sets no length
 pub no_length : (m : Context) (s u : State) (i : Inst) → (i.op == TYPE_ARRAY) ≡ false → lengthened m s i ≡ Some u → u ≡ s
@@ -152,4 +155,4 @@ array_length m s u i array rules comes_next e = by_length (constant_length m s _
 
     by_length : (o : Option ℕ) → is_some o ≡ true → with_length_if s i.id o ≡ Some u → ((k : ℕ) × (u ≡ record s { types = with_length s.types i.id k })) ⊎ ((u ≡ s) × (IsUnset (form_of s.types i.id) → ⊥))
     by_length None none h = cc
-    by_length (Some n) some h = by_limit n (nat_lt most_cells n) h
+    by_length (Some n) some h = by_limit n (nat_lt 4194304 n) h

@@ -1,5 +1,5 @@
--- What is so in each state of the walk over a module's constants: the types up to there are complete, and each value has the
--- shape of its type.
+-- What is so in each state of the walk over a module's constants: the types up to there are complete, and each constant fills its
+-- type.
 use Rattle.std.proofs.Common.{◌≡◌, ◌≢◌, ◌⊎◌, ◌∙◌, ℕ, ◌+◌, ◌<◌, ◌≤◌, ◌==◌, Bool, true, false, eqb, List, [], ◌∷◌, ◌++◌, length, length-append, append-nil, Option, Some, None, inl, inr, refl, sym, ap, subst, arith}
 use Rattle.std.proofs.lemmas.Bool.{cases_eq, cases_lt, eq-eqb}
 use Rattle.std.specs.Prelude.{if◌then◌else◌}
@@ -7,31 +7,33 @@ use Rattle.std.specs.List.{AllByRecursion}
 use Rattle.std.specs.Option.{IsSome}
 use Rattle.spv_base.specs.Entries.{reads}
 use Rattle.spv_base.specs.declared.instructions.Inst.{Inst}
-use Rattle.spv_base.specs.declared.values.Root.{Root}
-use Rattle.spv_base.specs.declared.values.Value.{Value}
 use Rattle.spv_types.specs.declared.forms.Form.{Form}
 use Rattle.spv_types.specs.declared.forms.Form.TheVariants.{Void}
 use Rattle.spv_types.specs.Facts.{is_constant}
 use Rattle.spv_types.specs.Laws.{AreComplete, AreSound, IsAmong}
 use Rattle.spv_types.specs.Rules.{is_data}
-use Rattle.spv_types.specs.Shapes.{HasShape}
 use Rattle.spv_types.specs.Types.{IsUnset, Types, form_of, lengthened as with_size, number_of, with_length}
 use Rattle.spv_types.specs.Typing.{defined_form, types_in}
 use Rattle.spv_types.proofs.TypeLemmas.{number_form}
 use Rattle.spv_index.specs.Definitions.{type_of}
-use Rattle.spv_consts.specs.Table.{Constants}
+use Rattle.spv_consts.specs.Table.{Constants, Row}
+use Rattle.spv_consts.specs.Values.{leaf_widths}
+use Rattle.spv_consts.specs.Laws.{FillType}
 use Rattle.spv_consts.specs.Context.{Context}
 use Rattle.spv_consts.specs.State.{State}
-use Rattle.spv_consts.specs.Evaluation.{value_of}
+use Rattle.spv_consts.specs.Evaluation.{cells_of, value_of}
 use Rattle.spv_consts.specs.Steps.{with_constant, with_type}
+use Rattle.spv_consts.specs.Values.{widths_among, widths_step}
+use Rattle.spv_consts.proofs.FillLemmas.{Fill}
+use Rattle.spv_consts.proofs.LengthLemmas.{in_first_kept}
 use Rattle.spv_consts.proofs.WalkIds.{each_push, each_weaker}
 use Rattle.spv_consts.proofs.WalkTypes.{same_number, types_joined}
 use Rattle.spv_consts.proofs.WalkStates.{sized_data, sized_is_set}
 use Rattle.spv_consts.proofs.WalkPlaces.{declared, wider}
 
--- a value has the shape of its id's type, which is among the first types
-abbrev pub IsShaped : List Inst → Types → ℕ → ℕ × Value → Type 0
-IsShaped insts ts known c = IsAmong ts known (type_of insts c.0) × ((roots : Root → Option ℕ) → HasShape ts roots (type_of insts c.0) c.1)
+-- a constant has the type of its id, which is data and among the first types, and its cells fill it
+abbrev pub IsFilled : List Inst → Types → ℕ → ℕ × Row → Type 0
+IsFilled insts ts known c = IsAmong ts known c.1.ty × (c.1.ty ≡ type_of insts c.0) × (is_data (form_of ts c.1.ty) ≡ true) × FillType ts c.1.ty c.1.cells
 
 -- a constant has a value
 abbrev pub HasValue : Constants → Inst → Type 0
@@ -46,7 +48,7 @@ pub record Follows (insts front : List Inst) (s : State) : Type 0 where
   pub kinds : (q : ℕ) → is_data (form_of s.types q) ≡ is_data (form_of (declared insts) q)
   pub sound : AreSound s.types
   pub complete : AreComplete s.types s.known
-  pub shaped : AllByRecursion (IsShaped insts s.types s.known) s.values
+  pub shaped : AllByRecursion (IsFilled insts s.types s.known) s.values
   pub valued : AllByRecursion (HasValue s.values) front
 
 -- ---- no instruction is passed yet
@@ -60,7 +62,7 @@ follows_start insts s known types values sound = record {
   kinds = λ q. ap (λ (ts : Types). is_data (form_of ts q)) types;
   sound = subst AreSound (sym types) sound;
   complete = λ id among u. let below : among.number < s.known = among.below in absurd (omega arith);
-  shaped = subst (λ (cs : Constants). AllByRecursion (IsShaped insts s.types s.known) cs) (sym values) tt;
+  shaped = subst (λ (cs : Constants). AllByRecursion (IsFilled insts s.types s.known) cs) (sym values) tt;
   valued = tt;
 }
 
@@ -87,7 +89,7 @@ type_follows insts front i s f follows e other number is_set = record {
   kinds = follows.kinds;
   sound = follows.sound;
   complete = λ id among. by_number id among (cases_lt among.number s.known);
-  shaped = each_weaker (IsShaped insts s.types s.known) (IsShaped insts s.types (s.known + 1)) (λ c shaped. (wider s.types s.known (s.known + 1) (type_of insts c.0) (omega arith) shaped.0, shaped.1)) s.values follows.shaped;
+  shaped = each_weaker (IsFilled insts s.types s.known) (IsFilled insts s.types (s.known + 1)) (λ c shaped. (wider s.types s.known (s.known + 1) c.1.ty (omega arith) shaped.0, shaped.1, shaped.2, shaped.3)) s.values follows.shaped;
   valued = each_push (HasValue s.values) front i follows.valued (λ constant. let clash : true ≡ false = sym constant ∙ other in absurd (cc));
 }
   where
@@ -101,7 +103,7 @@ type_follows insts front i s f follows e other number is_set = record {
 
 -- ---- one more constant, or any other instruction
 
-read_more : (cs : Constants) (c : ℕ × Value) (id : ℕ) → IsSome (reads id cs) → IsSome (reads id (cs ++ c ∷ []))
+read_more : (cs : Constants) (c : ℕ × Row) (id : ℕ) → IsSome (reads id cs) → IsSome (reads id (cs ++ c ∷ []))
 read_more [] c id h = cc
 read_more (d ∷ cs) c id h = by_test (d.0 == id) h (read_more cs c id)
   where
@@ -109,7 +111,7 @@ read_more (d ∷ cs) c id h = by_test (d.0 == id) h (read_more cs c id)
     by_test true e rest = refl
     by_test false e rest = rest e
 
-read_new : (cs : Constants) (id : ℕ) (v : Value) → IsSome (reads id (cs ++ (id, v) ∷ []))
+read_new : (cs : Constants) (id : ℕ) (v : Row) → IsSome (reads id (cs ++ (id, v) ∷ []))
 read_new [] id v = let own : eqb id id ≡ true = eq-eqb id id refl in rw own refl
 read_new (d ∷ cs) id v = by_test (d.0 == id) (read_new cs id v)
   where
@@ -118,16 +120,16 @@ read_new (d ∷ cs) id v = by_test (d.0 == id) (read_new cs id v)
     by_test false rest = rest
 
 pub constant_follows : (m : Context) (front : List Inst) (i : Inst) (s : State) → Follows m.all front s → defined_form m.all i ≡ None → type_of m.all i.id ≡ i.ty → IsAmong s.types s.known i.ty
-    → ((roots : Root → Option ℕ) → HasShape s.types roots i.ty (value_of m s i)) → Follows m.all (front ++ i ∷ []) (with_constant m s i)
-constant_follows m front i s follows e own among shape = record {
+    → is_data (form_of s.types i.ty) ≡ true → FillType s.types i.ty (cells_of m s i) → Follows m.all (front ++ i ∷ []) (with_constant m s i)
+constant_follows m front i s follows e own among data_is fills = record {
   known = follows.known ∙ sym (types_same m.all front i e);
   numbers = follows.numbers;
   unset = follows.unset;
   kinds = follows.kinds;
   sound = follows.sound;
   complete = follows.complete;
-  shaped = each_push (IsShaped m.all s.types s.known) s.values (i.id, value_of m s i) follows.shaped
-      (subst (λ (ty : ℕ). IsAmong s.types s.known ty) (sym own) among, λ roots. subst (λ (ty : ℕ). HasShape s.types roots ty (value_of m s i)) (sym own) (shape roots));
+  shaped = each_push (IsFilled m.all s.types s.known) s.values (i.id, value_of m s i) follows.shaped
+      (among, sym own, data_is, fills);
   valued = each_push (HasValue (s.values ++ (i.id, value_of m s i) ∷ [])) front i
       (each_weaker (HasValue s.values) (HasValue (s.values ++ (i.id, value_of m s i) ∷ [])) (λ j valued constant. read_more s.values (i.id, value_of m s i) j.id (valued constant)) front follows.valued)
       (λ constant. read_new s.values i.id (value_of m s i));
@@ -147,12 +149,17 @@ other_follows insts front i s follows e other = record {
 
 -- ---- the length of an array
 
+-- the leaves of a type before an array stay what they are
+widths_kept : (ts : Types) (id k n q : ℕ) → number_of ts id ≡ Some k → IsAmong ts k q → leaf_widths (with_length ts id n) q ≡ leaf_widths ts q
+unfolding leaf_widths widths_among
+widths_kept ts id k n q number among = in_first_kept [] widths_step ts id k n q number among
+
+
 module _
     (sound_kept : (ts : Types) (id n : ℕ) → AreSound ts → AreSound (with_length ts id n))
     (number_kept : (ts : Types) (id n q : ℕ) → number_of (with_length ts id n) q ≡ number_of ts q)
     (other_kept : (ts : Types) (id n q : ℕ) → id ≢ q → form_of (with_length ts id n) q ≡ form_of ts q)
     (own_set : (ts : Types) (id n : ℕ) (f : Form) → form_of ts id ≡ Some f → form_of (with_length ts id n) id ≡ Some (with_size n f))
-    (shapes_kept : (ts : Types) (roots : Root → Option ℕ) (array k n id : ℕ) (v : Value) → number_of ts array ≡ Some k → IsAmong ts k id → HasShape ts roots id v → HasShape (with_length ts array n) roots id v)
   where
     pub length_sets : (ts : Types) (id n k : ℕ) → number_of ts id ≡ Some k → IsUnset (form_of (with_length ts id n) id) → ⊥
     length_sets ts id n k number u =
@@ -177,10 +184,10 @@ module _
       kinds = λ q. kinds_by q (cases_eq id q);
       sound = sound_kept s.types id n follows.sound;
       complete = λ q among. complete_by q among (cases_eq id q);
-      shaped = each_weaker (IsShaped insts s.types s.known) (IsShaped insts (with_length s.types id n) s.known)
+      shaped = each_weaker (IsFilled insts s.types s.known) (IsFilled insts (with_length s.types id n) s.known)
           (λ c shaped. (
-            earlier_among s.types id n s.known (type_of insts c.0) shaped.0,
-            λ roots. shapes_kept s.types roots id s.known n (type_of insts c.0) c.1 number shaped.0 (shaped.1 roots),
+            earlier_among s.types id n s.known c.1.ty shaped.0, shaped.1, kinds_by c.1.ty (cases_eq id c.1.ty) ∙ sym (follows.kinds c.1.ty) ∙ shaped.2,
+            subst (λ (ws : List ℕ). Fill ws c.1.cells) (sym (widths_kept s.types id s.known n c.1.ty number shaped.0)) shaped.3,
           )) s.values follows.shaped;
       valued = follows.valued;
     }

@@ -1,26 +1,47 @@
--- What the constants of an accepted module give: values of the shapes of their types.
+-- What the constants of an accepted module give: rows of their types, each the row of one value of the type's shape.
 use Rattle.std.specs.Prelude.{◌≡◌, ℕ, true, List, Option, IsSome}
-use Rattle.std.specs.List.{AllByRecursion}
+use Rattle.std.specs.List.{AllByRecursion, AllZip}
 use Rattle.spv_base.specs.Entries.{reads}
+use Rattle.spv_base.specs.Lane.{IsLane, Lane}
 use Rattle.spv_base.specs.declared.instructions.Inst.{Inst}
 use Rattle.spv_base.specs.declared.values.Root.{Root}
-use Rattle.spv_base.specs.declared.values.Value.{Value}
 use Rattle.spv_types.specs.Facts.{is_constant}
+use Rattle.spv_types.specs.Rows.{leaves}
 use Rattle.spv_types.specs.Shapes.{HasShape}
 use Rattle.spv_types.specs.Types.{Types}
 use Rattle.spv_types.specs.Typing.{before_functions}
 use Rattle.spv_index.specs.Definitions.{type_of}
-use Rattle.spv_consts.specs.Table.{Constants}
+use Rattle.spv_consts.specs.Table.{Constants, Row}
+use Rattle.spv_consts.specs.Trees.{tree_of, value_at}
+use Rattle.spv_consts.specs.Values.{leaf_widths}
 use Rattle.spv_consts.specs.Context.{Context}
-use Rattle.spv_consts.specs.State.{State, is_operand, operand_value}
+use Rattle.spv_consts.specs.State.{State, is_operand, operand_cells}
 
--- each operand of a constant at a word has the shape of its type
-abbrev pub OperandsHaveShapes : Context → State → (Root → Option ℕ) → ℕ → Type 0
-OperandsHaveShapes m s roots word = (id : ℕ) → is_operand m s word id ≡ true → HasShape s.types roots (type_of m.all id) (operand_value m s id)
+-- a lane of a width, whose number fits it, and is 0 where it is undefined
+abbrev pub HasWidth : ℕ → Lane → Type 0
+HasWidth width c = (c.width ≡ width) × IsLane c
 
--- each value has the shape of its id's type
+-- leaves fill a type: there is one for each of its leaves, of that width
+abbrev pub FillType : Types → ℕ → List Lane → Type 0
+FillType ts id cells = AllZip HasWidth (leaf_widths ts id) cells
+
+-- each operand of a constant at a word fills its type
+abbrev pub OperandsFillTypes : Context → State → ℕ → Type 0
+OperandsFillTypes m s word = (id : ℕ) → is_operand m s word id ≡ true → FillType s.types (type_of m.all id) (operand_cells m s id)
+
+-- leaves are those of a value of the shape of a type
+pub record IsRowAt (ts : Types) (roots : Root → Option ℕ) (id : ℕ) (cells : List Lane) : Type 0 where
+  pub shape : HasShape ts roots id (value_at ts id cells)
+  pub leaves_are : leaves (value_at ts id cells) ≡ cells
+
+-- a constant has the type of its id, and its cells are the leaves of a value of the shape of that type
+pub record IsConstantOf (ts : Types) (insts : List Inst) (roots : Root → Option ℕ) (c : ℕ × Row) : Type 0 where
+  pub ty : c.1.ty ≡ type_of insts c.0
+  pub row : IsRowAt ts roots c.1.ty c.1.cells
+
+-- each constant does
 abbrev pub HaveShapes : Types → List Inst → (Root → Option ℕ) → Constants → Type 0
-HaveShapes ts insts roots constants = AllByRecursion (λ (c : ℕ × Value). HasShape ts roots (type_of insts c.0) c.1) constants
+HaveShapes ts insts roots constants = AllByRecursion (IsConstantOf ts insts roots) constants
 
 -- each constant before the functions has a value
 abbrev pub HaveValues : List Inst → Constants → Type 0

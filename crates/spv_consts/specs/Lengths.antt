@@ -3,18 +3,14 @@
 use Rattle.std.specs.Prelude.{ℕ, ℤ, pos, int_le, nat_le, nat_lt, ◌==◌, ◌&&◌, if◌then◌else◌, Bool, true, false, Option, Some, None}
 use Rattle.std.specs.Option.{option_and_then}
 use Rattle.spv_base.specs.Lane.{Lane}
-use Rattle.spv_base.specs.Entries.{reads}
 use Rattle.spv_base.specs.declared.instructions.Inst.{Inst}
-use Rattle.spv_base.specs.declared.values.Value.{Value, out-Value}
-use Rattle.spv_base.specs.declared.values.Value.TheOpen.{Value-F}
 use Rattle.spv_types.specs.declared.forms.Form.{Form}
 use Rattle.spv_types.specs.declared.forms.Form.TheVariants.{Void, Bool as Boolean, Int, Vector, Array, Runtime, Struct, Pointer, Function}
-use Rattle.spv_types.specs.declared.opcodes.TheConstants.{TYPE_ARRAY}
 use Rattle.spv_types.specs.Operands.{id_at}
 use Rattle.spv_types.specs.Types.{form_of, with_length}
 use Rattle.spv_alu.specs.Integers.{signed}
 use Rattle.spv_index.specs.Definitions.{type_of}
-use Rattle.spv_consts.specs.Numbers.{most_cells}
+use Rattle.spv_consts.specs.Table.{scalar_of}
 use Rattle.spv_consts.specs.Context.{Context}
 use Rattle.spv_consts.specs.State.{State, is_next}
 
@@ -39,18 +35,13 @@ number_in sign c = if sign == 1 && nat_le 1 c.width then signed c.width c.bits e
 abbrev pub lane_length : ℕ → Lane → Option ℕ
 lane_length sign c = if c.defined && int_le (pos 1) (number_in sign c) then Some c.bits else None
 
-abbrev pub value_length : ℕ → Value-F Value → Option ℕ
-value_length sign (Value-F.Scalar c) = lane_length sign c
-value_length sign (Value-F.List vs) = None
-value_length sign (Value-F.Ptr p) = None
-
 -- the length that the constant with an id gives
 abbrev pub constant_length : Context → State → ℕ → Option ℕ
-constant_length m s id = option_and_then (λ sign. option_and_then (λ v. value_length sign (out-Value v)) (reads id s.values)) (sign_of (form_of s.types (type_of m.all id)))
+constant_length m s id = option_and_then (λ sign. option_and_then (lane_length sign) (scalar_of s.values id)) (sign_of (form_of s.types (type_of m.all id)))
 
--- the length of an array type, and none of another instruction
+-- the length of an array type, OpTypeArray 28, and none of another instruction
 abbrev pub length_at : Context → State → Inst → Option ℕ
-length_at m s i = if i.op == TYPE_ARRAY then constant_length m s (id_at i.operands 1) else None
+length_at m s i = if i.op == 28 then constant_length m s (id_at i.operands 1) else None
 
 abbrev pub is_unset : Option Form → Bool
 is_unset None = false
@@ -71,7 +62,7 @@ with_array s id n = if is_next s id && is_unset (form_of s.types id) then record
 
 abbrev pub with_length_if : State → ℕ → Option ℕ → Option State
 with_length_if s id None = Some s
-with_length_if s id (Some n) = if nat_lt most_cells n then None else Some (with_array s id n)
+with_length_if s id (Some n) = if nat_lt 4194304 n then None else Some (with_array s id n)
 
 -- The state with the length that an instruction sets. There is none where the array is longer than a type may have cells,
 -- since each element has a cell at least.

@@ -1,6 +1,7 @@
-pub mod Numbers
 pub mod Table
+pub mod Copies
 pub mod Values
+pub mod Trees
 pub mod Literals
 pub mod Overrides
 pub mod Lanes

@@ -8,24 +8,22 @@ use Rattle.spv_base.specs.Entries.{reads}
 use Rattle.spv_base.specs.declared.instructions.Inst.{Inst}
 use Rattle.spv_types.specs.declared.forms.Form.{Form}
 use Rattle.spv_types.specs.declared.forms.Form.TheVariants.{Void, Bool as Boolean, Int, Vector, Array, Runtime, Struct, Pointer, Function}
-use Rattle.spv_types.specs.declared.opcodes.TheConstants.{SPEC_CONSTANT_TRUE, SPEC_CONSTANT_FALSE, SPEC_CONSTANT}
 use Rattle.spv_types.specs.Types.{Types, form_of}
 use Rattle.spv_types.specs.Facts.{decoration}
 use Rattle.spv_types.specs.Rules.{is_width}
 use Rattle.spv_alu.specs.Results.{integer}
-use Rattle.spv_consts.specs.Numbers.{spec_id}
 
 -- pairs of a SpecId and the number for it; the first of a SpecId counts
 abbrev pub Numbers : Type 0
 Numbers = List (ℕ × ℤ)
 
--- OpSpecConstantTrue, OpSpecConstantFalse and OpSpecConstant, which alone have a SpecId
+-- OpSpecConstantTrue 48, OpSpecConstantFalse 49 and OpSpecConstant 50, which alone have a SpecId
 abbrev pub is_specializable : ℕ → Bool
-is_specializable op = op == SPEC_CONSTANT_TRUE || (op == SPEC_CONSTANT_FALSE || op == SPEC_CONSTANT)
+is_specializable op = op == 48 || (op == 49 || op == 50)
 
--- the SpecId of a constant: its first decoration SpecId
+-- the SpecId of a constant: its first decoration SpecId, 1
 abbrev pub spec_id_of : List Inst → Inst → Option ℕ
-spec_id_of all i = if is_specializable i.op then decoration all i.id spec_id else None
+spec_id_of all i = if is_specializable i.op then decoration all i.id 1 else None
 
 abbrev pub is_between : ℤ → ℤ → ℤ → Bool
 is_between least greatest n = int_le least n && int_le n greatest

@@ -6,7 +6,6 @@ use Rattle.spv_base.specs.declared.instructions.Inst.{Inst}
 use Rattle.spv_base.specs.declared.instructions.Operand.{Operand}
 use Rattle.spv_types.specs.declared.forms.Form.{Form}
 use Rattle.spv_types.specs.declared.forms.Form.TheVariants.{Void, Bool as Boolean, Int, Vector, Array, Runtime, Struct, Pointer, Function}
-use Rattle.spv_types.specs.declared.opcodes.TheConstants.{TYPE_ARRAY, CONSTANT, SPEC_CONSTANT, CONSTANT_COMPOSITE, SPEC_CONSTANT_COMPOSITE, CONSTANT_NULL, SPEC_CONSTANT_OP}
 use Rattle.spv_types.specs.Operands.{id_at, id_of, lit_at}
 use Rattle.spv_types.specs.Types.{form_of}
 use Rattle.spv_types.specs.Facts.{is_constant}
@@ -73,24 +72,26 @@ keeps_opcode m s i op = is_constant_operation op && (keeps_count i op && (are_op
 abbrev pub keeps_operation : Context → State → Inst → Bool
 keeps_operation m s i = option_map_or (keeps_opcode m s i) (opcode_of i) false
 
+-- OpConstantComposite and OpSpecConstantComposite
 abbrev pub is_composite : ℕ → Bool
-is_composite op = op == CONSTANT_COMPOSITE || op == SPEC_CONSTANT_COMPOSITE
+is_composite op = op == 44 || op == 51
 
+-- OpConstant and OpSpecConstant
 abbrev pub is_number : ℕ → Bool
-is_number op = op == CONSTANT || op == SPEC_CONSTANT
+is_number op = op == 43 || op == 50
 
--- the rule of each kind of constant: composite, null, operation and integer; the others are Booleans
+-- the rule of each kind of constant: composite, OpConstantNull 46, OpSpecConstantOp 52 and integer; the others are Booleans
 abbrev pub keeps_kind : Context → State → Inst → Bool
 keeps_kind m s i =
     if is_composite i.op then keeps_composite m s i (form_of s.types i.ty)
-    else (if i.op == CONSTANT_NULL then true
-    else (if i.op == SPEC_CONSTANT_OP then keeps_operation m s i
+    else (if i.op == 46 then true
+    else (if i.op == 52 then keeps_operation m s i
     else (if is_number i.op then keeps_literal (integer_width (form_of s.types i.ty)) i.operands
     else is_boolean (form_of s.types i.ty))))
 
--- a constant is of data without a runtime array, and an array type has a length
+-- a constant is of data without a runtime array, and an array type, OpTypeArray 28, has a length
 abbrev pub keeps_rules : Context → State → Inst → Bool
 keeps_rules m s i =
-    if i.op == TYPE_ARRAY then is_some (length_at m s i)
+    if i.op == 28 then is_some (length_at m s i)
     else (if is_constant i.op then is_sized_data s.types i.ty && keeps_kind m s i
     else true)

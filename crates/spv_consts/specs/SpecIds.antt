@@ -4,19 +4,17 @@
 use Rattle.std.specs.Prelude.{ℕ, ◌==◌, ◌&&◌, ◌||◌, max, min, if◌then◌else◌, Bool, List, [], ◌∷◌, Option, Some, None}
 use Rattle.std.specs.Option.{option_and_then}
 use Rattle.spv_base.specs.declared.instructions.Inst.{Inst}
-use Rattle.spv_types.specs.declared.opcodes.TheConstants.{DECORATE, MEMBER_DECORATE}
 use Rattle.spv_types.specs.Operands.{id_at, lit_at}
 use Rattle.spv_index.specs.Definitions.{defining}
-use Rattle.spv_consts.specs.Numbers.{spec_id}
 use Rattle.spv_consts.specs.Overrides.{is_specializable}
 
--- a decoration SpecId, of an id or of a member
+-- a decoration SpecId, 1, of an id by OpDecorate 71 or of a member by OpMemberDecorate 72
 abbrev pub is_spec_id : Inst → Bool
-is_spec_id d = (d.op == DECORATE && lit_at d.operands 1 == spec_id) || (d.op == MEMBER_DECORATE && lit_at d.operands 2 == spec_id)
+is_spec_id d = (d.op == 71 && lit_at d.operands 1 == 1) || (d.op == 72 && lit_at d.operands 2 == 1)
 
 -- it stands on an instruction that takes one
 abbrev pub takes_spec_id : Inst → Inst → Bool
-takes_spec_id d i = d.op == DECORATE && is_specializable i.op
+takes_spec_id d i = d.op == 71 && is_specializable i.op
 
 abbrev pub wrong_on : Inst → Inst → Option ℕ
 wrong_on d i = if takes_spec_id d i then None else Some (max d.word i.word)

@@ -1,12 +1,12 @@
 -- What is known of a module's constants up to an instruction: the types with the lengths set so far, the values so far, how
 -- many types were passed, and the cells of all constants so far.
-use Rattle.std.specs.Prelude.{ℕ, ◌||◌, Bool, unwrap_or}
-use Rattle.std.specs.Option.{is_some}
+use Rattle.std.specs.Prelude.{ℕ, ◌||◌, Bool, List}
+use Rattle.std.specs.Option.{is_some, option_map_or}
 use Rattle.spv_base.specs.Entries.{reads}
-use Rattle.spv_base.specs.declared.values.Value.{Value}
+use Rattle.spv_base.specs.Lane.{Lane}
 use Rattle.spv_types.specs.Types.{Types, is_number, number_of}
 use Rattle.spv_index.specs.Definitions.{type_of}
-use Rattle.spv_consts.specs.Table.{Constants}
+use Rattle.spv_consts.specs.Table.{Constants, Row}
 use Rattle.spv_consts.specs.Values.{undefined_of}
 use Rattle.spv_consts.specs.Context.{Context, has_undef_before}
 
@@ -24,6 +24,6 @@ is_next s id = is_number s.known (number_of s.types id)
 abbrev pub is_operand : Context → State → ℕ → ℕ → Bool
 is_operand m s word id = is_some (reads id s.values) || has_undef_before m word id
 
--- its value, which for an OpUndef is the undefined one of its type
-abbrev pub operand_value : Context → State → ℕ → Value
-operand_value m s id = unwrap_or (reads id s.values) (undefined_of s.types (type_of m.all id))
+-- the leaves of its value, which for an OpUndef is the undefined one of its type
+abbrev pub operand_cells : Context → State → ℕ → List Lane
+operand_cells m s id = option_map_or (λ (r : Row). r.cells) (reads id s.values) (undefined_of s.types (type_of m.all id))

@@ -1,19 +1,44 @@
--- The constants of a module in its order, each id with its value (SPIR-V 1.6 section 3.42.7).
-use Rattle.std.specs.Prelude.{ℕ, suc, List, [], ◌∷◌, Option, Some, None, if◌then◌else◌, ◌==◌}
+-- The constants of a module in its order, each id with its row: its type, and the leaves of its value in order (SPIR-V 1.6
+-- section 3.42.7).
+use Rattle.std.specs.Prelude.{◌≡◌, ℕ, suc, ◌+◌, ◌≤◌, List, [], ◌∷◌, length, map, take, drop, slice_index_or, Option, Some, None, if◌then◌else◌, ◌==◌}
+use Rattle.std.specs.List.{AllByRecursion}
 use Rattle.std.specs.Option.{option_and_then, option_map}
 use Rattle.spv_base.specs.Entries.{reads}
 use Rattle.spv_base.specs.Lane.{Lane}
-use Rattle.spv_base.specs.declared.values.Value.{Value, out-Value}
-use Rattle.spv_types.specs.Shapes.{scalar_in}
+use Rattle.spv_consts.specs.declared.table.Entry.{Entry}
+
+pub record Row : Type 0 where
+  pub ty : ℕ
+  pub cells : List Lane
 
 abbrev pub Constants : Type 0
-Constants = List (ℕ × Value)
+Constants = List (ℕ × Row)
 
 -- the place of the first entry under an id, counted from 0
 abbrev pub place_of : Constants → ℕ → Option ℕ
 place_of [] id = None
 place_of (c ∷ cs) id = if c.0 == id then Some 0 else option_map suc (place_of cs id)
 
+-- the one leaf of a row that has one
+abbrev pub only : List Lane → Option Lane
+only [] = None
+only (c ∷ []) = Some c
+only (c ∷ d ∷ ds) = None
+
 -- the lane of a constant that is a scalar
 abbrev pub scalar_of : Constants → ℕ → Option Lane
-scalar_of cs id = option_and_then (λ v. scalar_in (out-Value v)) (reads id cs)
+scalar_of cs id = option_and_then (λ (r : Row). only r.cells) (reads id cs)
+
+-- ---- rows in one list of cells
+
+-- the row of an entry
+abbrev pub entry_row : List Lane → Entry → ℕ × Row
+entry_row cells e = (e.id, record { ty = e.ty; cells = take e.len (drop e.start cells) })
+
+abbrev pub rows_of : List Lane → List Entry → Constants
+rows_of cells entries = map (entry_row cells) entries
+
+-- each entry lies within the cells, and a list has by ids the places of their first entries
+pub record AreRows (cells : List Lane) (entries : List Entry) (places : List (Option ℕ)) : Type 0 where
+  pub within : AllByRecursion (λ (e : Entry). e.start + e.len ≤ length cells) entries
+  pub places_are : (id : ℕ) → slice_index_or places id None ≡ place_of (rows_of cells entries) id

@@ -1,11 +1,12 @@
 //! The constants of a module, and its types with the lengths of arrays.
 ghost use Rattle.std.specs.Prelude.{◌≡◌, IfOk, Result};
 ghost use Rattle.spv_base.specs.declared.causes.Refusal.{Refusal as Breach};
+ghost use Rattle.spv_types.specs.Build.{unless_refused};
 ghost use Rattle.spv_types.specs.Types.{Types};
 ghost use Rattle.spv_base.specs.Answers.{Answers};
 ghost use Rattle.spv_consts.specs.Table.{Constants};
-ghost use Rattle.spv_consts.specs.Build.{built_of, constants_of, context_of, unless_earlier};
-ghost use Rattle.spv_consts.specs.Steps.{walked};
+ghost use Rattle.spv_consts.specs.Build.{constants_of, context_of, known_of, unless_earlier};
+ghost use Rattle.spv_consts.specs.Steps.{breaches_from, walked};
 
 use crate::context::Context;
 use crate::numbers::RULES_CODE;
@@ -90,7 +91,7 @@ impl Walk {
         context: &Context,
         insts: &[Inst],
     ) -> Result<(TypeTable, ConstTable), Fail<Refusal>>
-        ensures { Answers (built_of (walked context.now self insts.now)) result }
+        ensures { Answers (unless_refused (known_of (walked context.now self insts.now)) (breaches_from context.now self insts.now)) result }
     {
         let Walk { types, values, .. } = self.walked(alloc, context, insts)?;
         Ok((types, values))

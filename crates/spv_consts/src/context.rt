@@ -7,8 +7,8 @@ ghost use Rattle.spv_consts.specs.Overrides.{override_of};
 use crate::overrides::spec_id_of;
 use spv_base::Inst;
 use spv_index::{Definitions as Index, Table};
+use spv_ops::op;
 use spv_types::Facts;
-use spv_types::opcodes::UNDEF;
 use std::marker::Model;
 
 /// The instructions of a module, with look-ups, and the overrides that hold.
@@ -33,7 +33,7 @@ impl<'a> Model for Context<'a> {
 fn is_undef_before(word: u32, inst: &Inst) -> bool
     ensures { result ≡ is_undef_before word inst.now }
 {
-    inst.op == UNDEF && inst.word < word
+    inst.op == op::UNDEF && inst.word < word
 }
 
 impl<'a> Context<'a> {

@@ -1,24 +1,22 @@
 //! The values of constants.
-ghost use Rattle.std.specs.Prelude.{◌≡◌, IfOk, map};
+ghost use Rattle.std.specs.Prelude.{◌≡◌, ◌++◌, IfOk, OnOk};
+ghost use Rattle.std.specs.List.{flat_map};
 ghost use Rattle.spv_base.specs.declared.instructions.Operand.{Operand as Given};
 ghost use Rattle.spv_types.specs.Operands.{id_of};
-ghost use Rattle.spv_consts.specs.State.{operand_value};
+ghost use Rattle.spv_consts.specs.State.{operand_cells};
+ghost use Rattle.spv_consts.specs.Values.{null_of};
 ghost use Rattle.spv_consts.specs.Evaluation as spec;
 
 use crate::context::Context;
 use crate::literals::literal_lane;
-use crate::numbers::SELECT;
-use crate::operations::{LaneOp, joined, lane_width, selected};
+use crate::operations::{PairOp, by_one, by_two, lane_width, selected};
 use crate::overrides::overridden;
 use crate::rules::opcode_of;
-use crate::values::blank;
+use crate::values::append_blank;
 use crate::walk::Walk;
 use spv_alu::{UnaryOp, results};
-use spv_base::{Cell, Inst, Items, NoMemory, Operand, Value};
-use spv_types::opcodes::{
-    CONSTANT_COMPOSITE, CONSTANT_FALSE, CONSTANT_NULL, CONSTANT_TRUE, SPEC_CONSTANT_COMPOSITE,
-    SPEC_CONSTANT_FALSE, SPEC_CONSTANT_OP, SPEC_CONSTANT_TRUE,
-};
+use spv_base::{Cell, Inst, NoMemory, Operand};
+use spv_ops::op;
 use spv_types::{id_at, id_of};
 use std::alloc::Global;
 
@@ -28,128 +26,137 @@ impl Walk {
         ensures { result ≡ spec.scalar_lane self.now inst.now }
     {
         match inst.op {
-            CONSTANT_TRUE | SPEC_CONSTANT_TRUE => results::truth(true),
-            CONSTANT_FALSE | SPEC_CONSTANT_FALSE => results::truth(false),
+            op::CONSTANT_TRUE | op::SPEC_CONSTANT_TRUE => results::truth(true),
+            op::CONSTANT_FALSE | op::SPEC_CONSTANT_FALSE => results::truth(false),
             _ => literal_lane(&self.types, inst),
         }
     }
 
-    /// The values of constituents.
+    /// The cells of constituents, one after another.
     fn constituents(
         &self,
         alloc: Global,
         context: &Context,
         operands: &[Operand],
-    ) -> Result<Items<Value>, NoMemory>
-        ensures { IfOk result (λ values. values ≡ map (λ (o : Given). operand_value context.now self.now (id_of o)) operands.now) }
+    ) -> Result<Vec<Cell>, NoMemory>
+        ensures { IfOk result (λ cells. cells.items ≡ flat_map (λ (o : Given). operand_cells context.now self.now (id_of o)) operands.now) }
     {
-        let mut values = Vec::new(alloc);
+        let mut cells = Vec::new(alloc);
         for operand in operands {
-            values.push(self.operand_value(alloc, context, id_of(operand))?)?;
+            self.append_operand(&mut cells, context, id_of(operand))?;
         }
-        Ok(Items::from_vec(values))
+        Ok(cells)
     }
 
-    /// The value of an operand of an OpSpecConstantOp.
+    /// The cells of an operand of an OpSpecConstantOp.
     fn operand(
         &self,
         alloc: Global,
         context: &Context,
         inst: &Inst,
         place: usize,
-    ) -> Result<Value, NoMemory>
-        ensures { IfOk result (λ value. value ≡ spec.operand_at context.now self.now inst.now place) }
+    ) -> Result<Vec<Cell>, NoMemory>
+        ensures { IfOk result (λ cells. cells.items ≡ spec.operand_at context.now self.now inst.now place) }
     {
-        self.operand_value(alloc, context, id_at(inst, place))
+        let mut cells = Vec::new(alloc);
+        self.append_operand(&mut cells, context, id_at(inst, place))?;
+        Ok(cells)
     }
 
-    /// The value of OpSelect.
-    fn select(&self, alloc: Global, context: &Context, inst: &Inst) -> Result<Value, NoMemory>
-        ensures { IfOk result (λ value. value ≡ spec.select_value context.now self.now inst.now) }
+    /// The cells of OpSelect.
+    fn select(&self, alloc: Global, context: &Context, inst: &Inst) -> Result<Vec<Cell>, NoMemory>
+        ensures { IfOk result (λ cells. cells.items ≡ spec.select_cells context.now self.now inst.now) }
     {
-        let condition = self.operand(alloc, context, inst, 1)?;
+        let conditions = self.operand(alloc, context, inst, 1)?;
         let a = self.operand(alloc, context, inst, 2)?;
         let b = self.operand(alloc, context, inst, 3)?;
-        selected(alloc, &condition, &a, &b)
+        selected(alloc, conditions.as_slice(), a.as_slice(), b.as_slice())
     }
 
-    /// The value of a unary operation.
+    /// The cells of a unary operation.
     fn unary(
         &self,
         alloc: Global,
         context: &Context,
         inst: &Inst,
         op: u16,
-    ) -> Result<Value, NoMemory>
-        ensures { IfOk result (λ value. value ≡ spec.unary_value context.now self.now inst.now op) }
+    ) -> Result<Vec<Cell>, NoMemory>
+        ensures { IfOk result (λ cells. cells.items ≡ spec.unary_cells context.now self.now inst.now op) }
     {
         let width = lane_width(&self.types, inst.ty);
         let a = self.operand(alloc, context, inst, 1)?;
-        joined(alloc, LaneOp::Unary { op, width }, &a, &a)
+        by_one(alloc, op, width, a.as_slice())
     }
 
-    /// The value of a binary operation.
+    /// The cells of a binary operation.
     fn binary(
         &self,
         alloc: Global,
         context: &Context,
         inst: &Inst,
         op: u16,
-    ) -> Result<Value, NoMemory>
-        ensures { IfOk result (λ value. value ≡ spec.binary_value context.now self.now inst.now op) }
+    ) -> Result<Vec<Cell>, NoMemory>
+        ensures { IfOk result (λ cells. cells.items ≡ spec.binary_cells context.now self.now inst.now op) }
     {
         let a = self.operand(alloc, context, inst, 1)?;
         let b = self.operand(alloc, context, inst, 2)?;
-        joined(alloc, LaneOp::Binary { op }, &a, &b)
+        by_two(alloc, &PairOp::Binary { op }, a.as_slice(), b.as_slice())
     }
 
-    /// The value of an OpSpecConstantOp.
+    /// The cells of an OpSpecConstantOp, by its opcode.
     fn computed(
         &self,
         alloc: Global,
         context: &Context,
         inst: &Inst,
-        op: u16,
-    ) -> Result<Value, NoMemory>
-        ensures { IfOk result (λ value. value ≡ spec.computed_value context.now self.now inst.now op) }
+        opcode: u16,
+    ) -> Result<Vec<Cell>, NoMemory>
+        ensures { IfOk result (λ cells. cells.items ≡ spec.computed_cells context.now self.now inst.now opcode) }
     {
-        if op == SELECT {
+        if opcode == op::SELECT {
             return self.select(alloc, context, inst);
         }
-        if UnaryOp::of(op).is_some() {
-            return self.unary(alloc, context, inst, op);
+        if UnaryOp::of(opcode).is_some() {
+            return self.unary(alloc, context, inst, opcode);
         }
-        self.binary(alloc, context, inst, op)
+        self.binary(alloc, context, inst, opcode)
     }
 
-    /// The value of an OpSpecConstantOp, or one without leaves where its opcode is no opcode.
-    fn operation(&self, alloc: Global, context: &Context, inst: &Inst) -> Result<Value, NoMemory>
-        ensures { IfOk result (λ value. value ≡ spec.operation_value context.now self.now inst.now) }
+    /// The cells of an OpSpecConstantOp, and none where its opcode is no opcode.
+    fn operation(&self, alloc: Global, context: &Context, inst: &Inst) -> Result<Vec<Cell>, NoMemory>
+        ensures { IfOk result (λ cells. cells.items ≡ spec.operation_cells context.now self.now inst.now) }
     {
         match opcode_of(inst) {
-            Some(op) => self.computed(alloc, context, inst, op),
-            None => Ok(Value::List(Items::new(alloc))),
+            Some(opcode) => self.computed(alloc, context, inst, opcode),
+            None => Ok(Vec::new(alloc)),
         }
     }
 
-    /// The value of a constant.
-    pub(crate) fn value_of(
+    /// The cells of a null constant.
+    fn null(&self, alloc: Global, ty: u32) -> Result<Vec<Cell>, NoMemory>
+        ensures { IfOk result (λ cells. cells.items ≡ null_of self.now.types ty) }
+    {
+        let mut cells = Vec::new(alloc);
+        append_blank(&mut cells, &self.types, true, ty)?;
+        Ok(cells)
+    }
+
+    /// The cells of a constant.
+    pub(crate) fn cells_of(
         &self,
         alloc: Global,
         context: &Context,
         inst: &Inst,
-    ) -> Result<Value, NoMemory>
-        ensures { IfOk result (λ value. value ≡ spec.value_of context.now self.now inst.now) }
+    ) -> Result<Vec<Cell>, NoMemory>
+        ensures { IfOk result (λ cells. cells.items ≡ spec.cells_of context.now self.now inst.now) }
     {
         match inst.op {
-            CONSTANT_COMPOSITE | SPEC_CONSTANT_COMPOSITE => Ok(Value::List(self.constituents(
-                alloc,
-                context,
-                inst.operands.as_slice(),
-            )?)),
-            CONSTANT_NULL => blank(alloc, &self.types, true, inst.ty),
-            SPEC_CONSTANT_OP => self.operation(alloc, context, inst),
-            _ => Ok(Value::Scalar(overridden(self.scalar_lane(inst), context.override_of(inst)))),
+            op::CONSTANT_COMPOSITE | op::SPEC_CONSTANT_COMPOSITE => {
+                self.constituents(alloc, context, inst.operands.as_slice())
+            }
+            op::CONSTANT_NULL => self.null(alloc, inst.ty),
+            op::SPEC_CONSTANT_OP => self.operation(alloc, context, inst),
+            _ => Ok(vec![in alloc; overridden(self.scalar_lane(inst), context.override_of(inst))]?),
         }
     }
 }

@@ -1,4 +1,3 @@
 //! What the constants of an accepted module give.
 pub mod constants;
-pub mod operations;
 pub mod values;

@@ -1,6 +1,5 @@
 //! The lengths of array types.
 ghost use Rattle.std.specs.Prelude.{◌≡◌, ◌≤◌, Some, IfSome};
-ghost use Rattle.spv_base.specs.declared.values.Value.{out-Value};
 ghost use Rattle.spv_types.specs.Types.{form_of};
 ghost use Rattle.spv_consts.specs.Lengths as spec;
 
@@ -8,8 +7,8 @@ use crate::context::Context;
 use crate::numbers::MOST_CELLS;
 use crate::walk::Walk;
 use spv_alu::integers::signed;
-use spv_base::{Cell, Inst, Value};
-use spv_types::opcodes::TYPE_ARRAY;
+use spv_base::{Cell, Inst};
+use spv_ops::op;
 use spv_types::{Form, TypeTable, id_at};
 
 /// The sign of an integer type.
@@ -46,17 +45,6 @@ fn lane_length(sign: u32, cell: Cell) -> Option<u64>
     }
 }
 
-fn value_length(sign: u32, value: &Value) -> Option<u64>
-    ensures length { result ≡ spec.value_length sign (out-Value value.now) }
-    ensures positive { IfSome result (λ length. 1 ≤ length) }
-{
-    match value {
-        Value::Scalar(cell) => lane_length(sign, *cell),
-        Value::List(_) => None,
-        Value::Ptr(_) => None,
-    }
-}
-
 /// Whether a type is an array without a length.
 fn is_unset(types: &TypeTable, ty: u32) -> bool
     ensures { result ≡ spec.is_unset (form_of types.now ty) }
@@ -71,8 +59,7 @@ impl Walk {
         ensures positive { IfSome result (λ length. 1 ≤ length) }
     {
         let sign = sign_of(&self.types, context.type_of(id))?;
-        let value = self.values.value(id)?;
-        value_length(sign, value)
+        lane_length(sign, self.values.scalar(id)?)
     }
 
     /// The length of an array type.
@@ -80,7 +67,7 @@ impl Walk {
         ensures length { result ≡ spec.length_at context.now self.now inst.now }
         ensures positive { IfSome result (λ length. 1 ≤ length) }
     {
-        if inst.op == TYPE_ARRAY {
+        if inst.op == op::TYPE_ARRAY {
             self.constant_length(context, id_at(inst, 1))
         } else {
             None

@@ -16,8 +16,6 @@ mod rules;
 mod spec_ids;
 mod steps;
 pub mod table;
-#[cfg(test)]
-mod tests;
 mod values;
 mod walk;
 

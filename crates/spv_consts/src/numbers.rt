@@ -1,14 +1,10 @@
-//! The numbers that the rules of constants name (SPIR-V 1.6 section 3.20, and this project's limits).
-
-pub(crate) const SPEC_ID: u32 = 1;
+//! The limits and the codes of this project that the rules of constants name.
 
 /// How deep a type may be nested.
 pub(crate) const MOST_NESTING: u64 = 32;
 
 /// How many cells a type, and all constants together, may have.
 pub(crate) const MOST_CELLS: u64 = 4_194_304;
-
-pub(crate) const SELECT: u16 = 169;
 
 /// The code of the rules of constants.
 pub(crate) const RULES_CODE: u8 = 14;

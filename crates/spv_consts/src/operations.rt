@@ -1,156 +1,114 @@
-//! The value of an operation of OpSpecConstantOp on values.
-ghost use Rattle.std.specs.Prelude.{◌≡◌, IfOk, map};
-ghost use Rattle.spv_base.specs.declared.values.Value.{out-Value};
+//! The leaves that an operation of OpSpecConstantOp gives.
+ghost use Rattle.std.specs.Prelude.{◌≡◌, IfOk, map, slice_get};
 ghost use Rattle.spv_types.specs.Types.{form_of};
+ghost use Rattle.spv_consts.specs.Lanes.{select_lane, unary_lane};
 ghost use Rattle.spv_consts.specs.Operations as spec;
 
 use crate::lanes::{binary_lane, select_lane, unary_lane};
-use spv_alu::UnaryOp;
-use spv_base::{Cell, Items, NoMemory, Value};
+use spv_base::{Cell, NoMemory};
 use spv_types::{Form, TypeTable};
 use std::alloc::Global;
 
-/// An operation on two lanes. A unary one looks at the first alone, and gives a lane of a width.
+/// An operation on two lanes.
 #[derive(Clone, Copy, Debug, PartialEq)]
-pub(crate) enum LaneOp {
-    Unary { op: u16, width: u8 },
+pub(crate) enum PairOp {
     Binary { op: u16 },
     Select { condition: Cell },
 }
 
-impl LaneOp {
-    fn lane(self, a: Cell, b: Cell) -> Cell
-        ensures { result ≡ spec.lane_of self a b }
+impl PairOp {
+    fn lane(&self, a: Cell, b: Cell) -> Cell
+        ensures { result ≡ spec.lane_of self.now a b }
     {
         match self {
-            LaneOp::Unary { op, width } => unary_lane(op, width, a),
-            LaneOp::Binary { op } => binary_lane(op, a, b),
-            LaneOp::Select { condition } => select_lane(condition, a, b),
+            PairOp::Binary { op } => binary_lane(*op, a, b),
+            PairOp::Select { condition } => select_lane(*condition, a, b),
         }
     }
 }
 
-/// An operation on a lane and a scalar. Any other value is given as it is.
-fn with_scalar(alloc: Global, op: LaneOp, a: Cell, b: &Value) -> Result<Value, NoMemory>
-    ensures { IfOk result (λ value. value ≡ spec.with_scalar op a b.now (out-Value b.now)) }
+fn cell_at(row: &[Cell], n: usize) -> Option<Cell>
+    ensures { result ≡ slice_get row.now n }
 {
-    match b {
-        Value::Scalar(cell) => Ok(Value::Scalar(op.lane(a, *cell))),
-        Value::List(_) => b.copy(alloc),
-        Value::Ptr(_) => b.copy(alloc),
-    }
+    row.get(n).copied()
 }
 
-/// An operation on the leaves of two values of one shape. Values of other shapes give the second.
-#[tactic(auto, using(crate::proofs::OperationLemmas::joined_scalar, crate::proofs::OperationLemmas::joined_pointer))]
-#[cycle(joined)]
-pub(crate) fn joined(alloc: Global, op: LaneOp, a: &Value, b: &Value) -> Result<Value, NoMemory>
-    ensures { IfOk result (λ value. value ≡ spec.joined op a.now b.now) }
-{
-    match a {
-        Value::Scalar(cell) => with_scalar(alloc, op, *cell, b),
-        Value::List(values) => with_parts(alloc, op, values, b),
-        Value::Ptr(_) => b.copy(alloc),
-    }
-}
-
-/// An operation on the leaves of some values and those of a list. Any other value is given as it is.
-#[cycle(joined)]
-fn with_parts(alloc: Global, op: LaneOp, first: &Items<Value>, b: &Value) -> Result<Value, NoMemory>
-    ensures { IfOk result (λ value. value ≡ spec.with_parts (map (spec.joined op) first.now) b.now (out-Value b.now)) }
-{
-    match b {
-        Value::Scalar(_) => b.copy(alloc),
-        Value::List(second) => Ok(Value::List(joined_each(alloc, op, first, second)?)),
-        Value::Ptr(_) => b.copy(alloc),
-    }
-}
-
-/// An operation on the leaves of the values of two lists, one after another.
-#[cycle(joined)]
-fn joined_each(
+/// A unary operation on each lane of a row, with results of a width.
+pub(crate) fn by_one(
     alloc: Global,
-    op: LaneOp,
-    first: &Items<Value>,
-    second: &Items<Value>,
-) -> Result<Items<Value>, NoMemory>
-    ensures { IfOk result (λ values. values ≡ spec.each (map (spec.joined op) first.now) second.now) }
+    op: u16,
+    width: u8,
+    row: &[Cell],
+) -> Result<Vec<Cell>, NoMemory>
+    ensures { IfOk result (λ cells. cells.items ≡ map (unary_lane op width) row.now) }
 {
-    let mut values = Vec::new(alloc);
-    for (n, a) in first.as_slice().iter().enumerate() {
-        let Some(b) = second.get(n) else {
+    let mut cells = Vec::new(alloc);
+    for a in row {
+        cells.push(unary_lane(op, width, *a))?;
+    }
+    Ok(cells)
+}
+
+/// An operation on the lanes of two rows, one after another.
+pub(crate) fn by_two(
+    alloc: Global,
+    op: &PairOp,
+    first: &[Cell],
+    second: &[Cell],
+) -> Result<Vec<Cell>, NoMemory>
+    ensures { IfOk result (λ cells. cells.items ≡ spec.by_two (spec.lane_of op.now) first.now second.now) }
+{
+    let mut cells = Vec::new(alloc);
+    for (n, a) in first.iter().enumerate() {
+        let Some(b) = cell_at(second, n) else {
             continue;
         };
-        values.push(joined(alloc, op, a, b)?)?;
+        cells.push(op.lane(*a, b))?;
     }
-    Ok(Items::from_vec(values))
+    Ok(cells)
 }
 
-/// Select with one condition, of two values.
-fn chosen(alloc: Global, condition: &Value, a: &Value, b: &Value) -> Result<Value, NoMemory>
-    ensures { IfOk result (λ value. value ≡ spec.chosen a.now b.now (out-Value condition.now)) }
-{
-    match condition {
-        Value::Scalar(cell) => joined(alloc, LaneOp::Select { condition: *cell }, a, b),
-        Value::List(_) => b.copy(alloc),
-        Value::Ptr(_) => b.copy(alloc),
-    }
-}
-
-/// Select with a condition for each part.
-fn chosen_each(
+/// Select with a condition for each lane of two rows.
+fn by_three(
     alloc: Global,
-    conditions: &Items<Value>,
-    first: &Items<Value>,
-    second: &Items<Value>,
-) -> Result<Items<Value>, NoMemory>
-    ensures { IfOk result (λ values. values ≡ spec.chosen_each conditions.now first.now second.now) }
+    conditions: &[Cell],
+    first: &[Cell],
+    second: &[Cell],
+) -> Result<Vec<Cell>, NoMemory>
+    ensures { IfOk result (λ cells. cells.items ≡ spec.by_three select_lane conditions.now first.now second.now) }
 {
-    let mut values = Vec::new(alloc);
-    for (n, condition) in conditions.as_slice().iter().enumerate() {
-        let Some(a) = first.get(n) else {
+    let mut cells = Vec::new(alloc);
+    for (n, condition) in conditions.iter().enumerate() {
+        let Some(a) = cell_at(first, n) else {
             continue;
         };
-        let Some(b) = second.get(n) else {
+        let Some(b) = cell_at(second, n) else {
             continue;
         };
-        values.push(chosen(alloc, condition, a, b)?)?;
+        cells.push(select_lane(*condition, a, b))?;
     }
-    Ok(Items::from_vec(values))
+    Ok(cells)
 }
 
-/// Select with a condition for each part, of two lists. Other values give the second.
-fn chosen_parts(
-    alloc: Global,
-    conditions: &Items<Value>,
-    a: &Value,
-    b: &Value,
-) -> Result<Value, NoMemory>
-    ensures { IfOk result (λ value. value ≡ spec.chosen_parts conditions.now b.now (out-Value a.now) (out-Value b.now)) }
-{
-    let Value::List(first) = a else {
-        return b.copy(alloc);
-    };
-    let Value::List(second) = b else {
-        return b.copy(alloc);
-    };
-    Ok(Value::List(chosen_each(alloc, conditions, first, second)?))
-}
-
-/// Select: one condition for all leaves, or one for each component.
-#[tactic(auto, unfolding(crate::specs::Operations::selected))]
+/// Select: one condition for all leaves, or one for each.
 pub(crate) fn selected(
     alloc: Global,
-    condition: &Value,
-    a: &Value,
-    b: &Value,
-) -> Result<Value, NoMemory>
-    ensures { IfOk result (λ value. value ≡ spec.selected condition.now a.now b.now) }
+    conditions: &[Cell],
+    first: &[Cell],
+    second: &[Cell],
+) -> Result<Vec<Cell>, NoMemory>
+    ensures { IfOk result (λ cells. cells.items ≡ spec.selected conditions.now first.now second.now) }
 {
-    match condition {
-        Value::Scalar(cell) => joined(alloc, LaneOp::Select { condition: *cell }, a, b),
-        Value::List(conditions) => chosen_parts(alloc, conditions, a, b),
-        Value::Ptr(_) => b.copy(alloc),
+    match conditions {
+        [condition] => by_two(
+            alloc,
+            &PairOp::Select {
+                condition: *condition,
+            },
+            first,
+            second,
+        ),
+        _ => by_three(alloc, conditions, first, second),
     }
 }
 

@@ -6,19 +6,21 @@ ghost use Rattle.std.specs.Option.{is_some};
 ghost use Rattle.spv_types.specs.Types.{form_of};
 ghost use Rattle.spv_consts.specs.Overrides as spec;
 
-use crate::numbers::SPEC_ID;
 use spv_base::{Cell, Inst, Items, NoMemory};
 use spv_index::Table;
-use spv_types::opcodes::{SPEC_CONSTANT, SPEC_CONSTANT_FALSE, SPEC_CONSTANT_TRUE};
+use spv_ops::{decoration, op};
 use spv_types::{Facts, Form, TypeTable};
 use std::alloc::Global;
 use std::collections::BTreeMap;
 
 /// Whether constants of an opcode have a SpecId.
-pub(crate) fn is_specializable(op: u16) -> bool
-    ensures { result ≡ spec.is_specializable op }
+pub(crate) fn is_specializable(opcode: u16) -> bool
+    ensures { result ≡ spec.is_specializable opcode }
 {
-    matches!(op, SPEC_CONSTANT_TRUE | SPEC_CONSTANT_FALSE | SPEC_CONSTANT)
+    matches!(
+        opcode,
+        op::SPEC_CONSTANT_TRUE | op::SPEC_CONSTANT_FALSE | op::SPEC_CONSTANT
+    )
 }
 
 /// The SpecId of a constant.
@@ -26,7 +28,7 @@ pub(crate) fn spec_id_of(facts: &Facts, inst: &Inst) -> Option<u32>
     ensures { result ≡ spec.spec_id_of facts.now inst.now }
 {
     if is_specializable(inst.op) {
-        facts.decoration(inst.id, SPEC_ID)
+        facts.decoration(inst.id, decoration::SPEC_ID)
     } else {
         None
     }

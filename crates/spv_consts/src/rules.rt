@@ -8,10 +8,7 @@ use crate::literals::{integer_width, keeps_literal};
 use crate::walk::Walk;
 use spv_base::{Inst, Operand};
 use spv_types::facts::is_constant;
-use spv_types::opcodes::{
-    CONSTANT, CONSTANT_COMPOSITE, CONSTANT_NULL, SPEC_CONSTANT, SPEC_CONSTANT_COMPOSITE,
-    SPEC_CONSTANT_OP, TYPE_ARRAY,
-};
+use spv_ops::op;
 use spv_types::views::is_boolean;
 use spv_types::{Form, TypeTable, id_of, lit_at};
 use spv_typing::{fits, is_constant_operation, operand_count};
@@ -141,10 +138,10 @@ impl Walk {
         ensures { result ≡ spec.keeps_kind context.now self.now inst.now }
     {
         match inst.op {
-            CONSTANT_COMPOSITE | SPEC_CONSTANT_COMPOSITE => self.keeps_composite(context, inst),
-            CONSTANT_NULL => true,
-            SPEC_CONSTANT_OP => self.keeps_operation(context, inst),
-            CONSTANT | SPEC_CONSTANT => keeps_literal(integer_width(&self.types, inst.ty), inst),
+            op::CONSTANT_COMPOSITE | op::SPEC_CONSTANT_COMPOSITE => self.keeps_composite(context, inst),
+            op::CONSTANT_NULL => true,
+            op::SPEC_CONSTANT_OP => self.keeps_operation(context, inst),
+            op::CONSTANT | op::SPEC_CONSTANT => keeps_literal(integer_width(&self.types, inst.ty), inst),
             _ => is_boolean(self.types.form(inst.ty)),
         }
     }
@@ -153,7 +150,7 @@ impl Walk {
     pub(crate) fn keeps_rules(&self, context: &Context, inst: &Inst) -> bool
         ensures { result ≡ spec.keeps_rules context.now self.now inst.now }
     {
-        if inst.op == TYPE_ARRAY {
+        if inst.op == op::TYPE_ARRAY {
             return self.length_at(context, inst).is_some();
         }
         if !is_constant(inst.op) {

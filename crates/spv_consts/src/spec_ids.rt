@@ -3,10 +3,9 @@ ghost use Rattle.std.specs.Prelude.{◌≡◌};
 ghost use Rattle.spv_consts.specs.SpecIds as spec;
 
 use crate::context::Context;
-use crate::numbers::SPEC_ID;
 use crate::overrides::is_specializable;
 use spv_base::Inst;
-use spv_types::opcodes::{DECORATE, MEMBER_DECORATE};
+use spv_ops::{decoration, op};
 use spv_types::{id_at, lit_at};
 
 /// Whether an instruction is a decoration SpecId, of an id or of a member.
@@ -14,20 +13,20 @@ fn is_spec_id(inst: &Inst) -> bool
     ensures { result ≡ spec.is_spec_id inst.now }
 {
     match inst.op {
-        DECORATE => lit_at(inst, 1) == SPEC_ID,
-        MEMBER_DECORATE => lit_at(inst, 2) == SPEC_ID,
+        op::DECORATE => lit_at(inst, 1) == decoration::SPEC_ID,
+        op::MEMBER_DECORATE => lit_at(inst, 2) == decoration::SPEC_ID,
         _ => false,
     }
 }
 
 /// The later word of a decoration SpecId and of what it decorates, where that takes none.
-fn wrong_on(decoration: &Inst, inst: &Inst) -> Option<u32>
-    ensures { result ≡ spec.wrong_on decoration.now inst.now }
+fn wrong_on(mark: &Inst, inst: &Inst) -> Option<u32>
+    ensures { result ≡ spec.wrong_on mark.now inst.now }
 {
-    if decoration.op == DECORATE && is_specializable(inst.op) {
+    if mark.op == op::DECORATE && is_specializable(inst.op) {
         None
     } else {
-        Some(decoration.word.max(inst.word))
+        Some(mark.word.max(inst.word))
     }
 }
 
@@ -44,14 +43,14 @@ fn lower(a: Option<u32>, b: Option<u32>) -> Option<u32>
 
 impl<'a> Context<'a> {
     /// The word where a decoration is a SpecId on what takes none.
-    fn wrong_spec_id(&self, decoration: &Inst) -> Option<u32>
-        ensures { result ≡ spec.wrong_spec_id self.now.all decoration.now }
+    fn wrong_spec_id(&self, mark: &Inst) -> Option<u32>
+        ensures { result ≡ spec.wrong_spec_id self.now.all mark.now }
     {
-        if !is_spec_id(decoration) {
+        if !is_spec_id(mark) {
             return None;
         }
-        match self.index.defining(id_at(decoration, 0)) {
-            Some(inst) => wrong_on(decoration, inst),
+        match self.index.defining(id_at(mark, 0)) {
+            Some(inst) => wrong_on(mark, inst),
             None => None,
         }
     }

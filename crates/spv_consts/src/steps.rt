@@ -1,6 +1,7 @@
 //! One instruction after another.
 ghost use Rattle.std.specs.Prelude.{◌≡◌, IfOk, IsTrue};
 ghost use Rattle.spv_base.specs.Answers.{Answers};
+ghost use Rattle.spv_types.specs.Build.{unless_refused};
 ghost use Rattle.spv_consts.specs.State.{is_next};
 ghost use Rattle.spv_consts.specs.Steps as spec;
 
@@ -13,7 +14,7 @@ use spv_types::facts::is_constant;
 use std::alloc::Global;
 
 fn breach(code: u8, inst: &Inst) -> Refusal
-    ensures { result ≡ spec.breach code inst.now }
+    ensures { result ≡ record { code = code; word = inst.now.word } }
 {
     Refusal {
         code,
@@ -80,13 +81,13 @@ impl Walk {
         ensures { IfOk result (λ walk. walk ≡ spec.with_constant context.now self inst.now) }
     {
         let cells = self.cells_with(inst.ty);
-        let value = self.value_of(alloc, context, inst)?;
-        self.values.add(inst.id, value)?;
+        let row = self.cells_of(alloc, context, inst)?;
+        self.values.add(inst.id, inst.ty, row.as_slice())?;
         self.cells = cells;
         Ok(self)
     }
 
-    /// Passes an instruction that passes no limit.
+    /// Passes an instruction that breaks nothing.
     fn entered(self, alloc: Global, context: &Context, inst: &Inst) -> Result<Walk, NoMemory>
         ensures { IfOk result (λ walk. walk ≡ spec.entered context.now self inst.now) }
     {
@@ -100,9 +101,9 @@ impl Walk {
     }
 
     /// Passes an instruction, unless it breaks a rule or a limit.
-    #[tactic(auto, unfolding(crate::specs::Steps::stepped))]
+    #[tactic(auto, unfolding(crate::specs::Steps::stepped, crate::specs::Steps::breaches_at))]
     fn stepped(self, alloc: Global, context: &Context, inst: &Inst) -> Result<Walk, Fail<Refusal>>
-        ensures { Answers (spec.stepped context.now self inst.now) result }
+        ensures { Answers (unless_refused (spec.stepped context.now self inst.now) (spec.breaches_at context.now self inst.now)) result }
     {
         if !self.keeps_rules(context, inst) {
             return Err(Fail::Refused(breach(RULES_CODE, inst)));
@@ -123,7 +124,7 @@ impl Walk {
         context: &Context,
         insts: &[Inst],
     ) -> Result<Walk, Fail<Refusal>>
-        ensures { Answers (spec.walked context.now self insts.now) result }
+        ensures { Answers (unless_refused (spec.walked context.now self insts.now) (spec.breaches_from context.now self insts.now)) result }
     {
         let mut walk = self;
         for inst in insts {

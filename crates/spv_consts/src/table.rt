@@ -1,47 +1,77 @@
 //! The table of the constants of a module.
-ghost use Rattle.std.specs.Prelude.{◌≡◌, [], ◌∷◌, ◌++◌, OnOk, OnErr, option_copied};
+ghost use Rattle.std.specs.Prelude.{◌≡◌, ℕ, ◌≤◌, ◌+◌, [], ◌∷◌, ◌++◌, length, take, drop, None, OnOk, slice_index_or, option_map};
 ghost use Rattle.spv_base.specs.Entries.{reads};
-ghost use Rattle.spv_base.specs.declared.values.Value.{out-Value};
-ghost use Rattle.spv_types.specs.Shapes.{scalar_in};
-ghost use Rattle.spv_consts.specs.Table.{place_of, scalar_of};
+ghost use Rattle.spv_consts.specs.Table.{only, place_of, scalar_of};
 
-use spv_base::{Cell, NoMemory, Value};
+use spv_base::{Cell, NoMemory};
 use std::alloc::Global;
-use std::collections::BTreeMap;
 use std::marker::Model;
 
-/// The constants of a module, in its order. Contracts see a list of ids, each with its value.
+/// A constant: its id, its type, and where its cells lie.
+#[derive(Clone, Copy, Debug, PartialEq)]
+pub(crate) struct Entry {
+    pub(crate) id: u32,
+    pub(crate) ty: u32,
+    pub(crate) start: usize,
+    pub(crate) len: usize,
+}
+
+/// The type of a constant, and the leaves of its value in order.
+#[derive(Clone, Copy, Debug)]
+pub struct Row<'a> {
+    pub ty: u32,
+    pub cells: &'a [Cell],
+}
+
+/// The constants of a module, in its order. Contracts see a list of ids, each with its row.
 #[derive(Drop)]
 pub struct ConstTable {
-    entries: Vec<(u32, Value)>,
+    /// The cells of all constants, one after another.
+    cells: Vec<Cell>,
+    entries: Vec<Entry>,
     /// By id, the place of its first entry.
-    places: BTreeMap<u32, usize>,
+    places: Vec<Option<usize>>,
 }
 
 impl Model for ConstTable {
-    ghost use Rattle.std.specs.Prelude.{◌≡◌, ℕ};
-    ghost use Rattle.std.specs.Ordering.{nat_cmp};
-    ghost use Rattle.std.specs.BTreeMap as tree;
     ghost use Rattle.std.specs.Coded.{codes};
-    ghost use Rattle.spv_base.specs.contracts.values.Value as tree_of_values;
-    ghost use Rattle.spv_consts.specs.Table.{Constants, place_of};
+    ghost use Rattle.spv_consts.specs.Table.{AreRows, Constants, rows_of};
 
     ghost Value = { Constants };
 
-    ghost view = { λ t. t.entries.items };
+    ghost view = { λ t. rows_of t.cells.items t.entries.items };
 
-    ghost coded = { Prim.hlevel (codes, tree_of_values.the_row.coded) };
+    ghost coded = { Prim.hlevel (codes) };
 
-    ghost invariant = { λ t. (id : ℕ) → tree.get nat_cmp t.places id ≡ place_of t.entries.items id };
+    ghost invariant = { λ t. AreRows t.cells.items t.entries.items t.places.items };
 }
 
-/// The cell that a value is.
-fn scalar_in(value: &Value) -> Option<Cell>
-    ensures { result ≡ scalar_in (out-Value value.now) }
+/// Makes a list long enough to have an item for each number below `len`.
+fn lengthen(places: &mut Vec<Option<usize>>, len: usize) -> Result<(), NoMemory>
+    ensures same { (id : ℕ) → slice_index_or places.new.items id None ≡ slice_index_or places.old.items id None }
+    ensures long { OnOk result (len ≤ length places.new.items) }
 {
-    match value {
-        Value::Scalar(cell) => Some(*cell),
-        Value::List(_) | Value::Ptr(_) => None,
+    while places.len() < len {
+        places.push(None)?;
+    }
+    Ok(())
+}
+
+/// So many cells behind the first `start`.
+fn part(cells: &[Cell], start: usize, len: usize) -> &[Cell]
+    requires { start + len ≤ length cells.now }
+    ensures { result.now ≡ take len (drop start cells.now) }
+{
+    &cells[start..start + len]
+}
+
+/// The one cell of a row that has one.
+fn only(cells: &[Cell]) -> Option<Cell>
+    ensures { result ≡ only cells.now }
+{
+    match cells {
+        [cell] => Some(*cell),
+        _ => None,
     }
 }
 
@@ -51,21 +81,28 @@ impl ConstTable {
         ensures { result ≡ [] }
     {
         ConstTable {
+            cells: Vec::new(alloc),
             entries: Vec::new(alloc),
-            places: BTreeMap::new(alloc),
+            places: Vec::new(alloc),
         }
     }
 
     /// Adds a constant at the end. Where its id has a value already, that one stays the id's.
-    pub(crate) fn add(&mut self, id: u32, value: Value) -> Result<(), NoMemory>
-        ensures ok { OnOk result (self.new ≡ self.old ++ (id, value) ∷ []) }
-        ensures err { OnErr result (self.new ≡ self.old) }
+    pub(crate) fn add(&mut self, id: u32, ty: u32, cells: &[Cell]) -> Result<(), NoMemory>
+        ensures { OnOk result (self.new ≡ self.old ++ (id, record { ty = ty; cells = cells.now }) ∷ []) }
     {
-        let place = self.entries.len();
-        self.entries.push((id, value))?;
-        if !self.places.contains_key(&id) && self.places.insert(id, place).is_err() {
-            self.entries.pop();
-            return Err(NoMemory);
+        lengthen(&mut self.places, id as usize + 1)?;
+        let number = self.entries.len();
+        let start = self.cells.len();
+        self.cells.extend_from_slice(cells)?;
+        self.entries.push(Entry {
+            id,
+            ty,
+            start,
+            len: cells.len(),
+        })?;
+        if self.places[id as usize].is_none() {
+            self.places[id as usize] = Some(number);
         }
         Ok(())
     }
@@ -74,21 +111,25 @@ impl ConstTable {
     fn place(&self, id: u32) -> Option<usize>
         ensures { result ≡ place_of self.now id }
     {
-        self.places.get(&id).copied()
+        *self.places.get(id as usize)?
     }
 
-    /// The value of the constant with an id.
-    pub fn value(&self, id: u32) -> Option<&Value>
-        ensures { option_copied result ≡ reads id self.now }
+    /// The row of the constant with an id, in constant time.
+    pub fn value(&self, id: u32) -> Option<Row<'_>>
+        ensures { option_map (λ r. record { ty = r.ty; cells = r.cells.now }) result ≡ reads id self.now }
     {
         let place = self.place(id)?;
-        Some(&self.entries[place].1)
+        let entry = self.entries[place];
+        Some(Row {
+            ty: entry.ty,
+            cells: part(self.cells.as_slice(), entry.start, entry.len),
+        })
     }
 
     /// The cell of the constant with an id, where it is a scalar.
     pub fn scalar(&self, id: u32) -> Option<Cell>
         ensures { result ≡ scalar_of self.now id }
     {
-        scalar_in(self.value(id)?)
+        only(self.value(id)?.cells)
     }
 }

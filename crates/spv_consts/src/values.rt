@@ -1,9 +1,11 @@
 //! The null value and the undefined value of a type.
-ghost use Rattle.std.specs.Prelude.{◌≡◌, [], IfOk, map, replicate};
+ghost use Rattle.std.specs.Prelude.{◌≡◌, ◌++◌, ◌≤◌, ◌-◌, IfOk, OnOk, length, map, take, drop};
+ghost use Rattle.std.specs.List.{flat_map};
 ghost use Rattle.spv_types.specs.declared.forms.Member.{Member as Part};
-ghost use Rattle.spv_consts.specs.Values.{blank_among, blank_lane, blank_of, blank_step};
+ghost use Rattle.spv_consts.specs.Copies.{copies};
+ghost use Rattle.spv_consts.specs.Values.{blank_lane, blank_of, widths_among, widths_step};
 
-use spv_base::{Cell, Items, NoMemory, Value};
+use spv_base::{Cell, NoMemory};
 use spv_types::{Form, Member, TypeTable};
 use std::alloc::Global;
 
@@ -18,24 +20,22 @@ fn blank_lane(defined: bool, width: u32) -> Cell
     }
 }
 
-fn no_leaves(alloc: Global) -> Value
-    ensures { result ≡ Value.List [] }
+/// Appends the cells behind the first `start` so many times more.
+fn repeat(cells: &mut Vec<Cell>, start: usize, times: u32) -> Result<(), NoMemory>
+    requires { start ≤ length cells.old.items }
+    ensures { OnOk result (cells.new.items ≡ cells.old.items ++ copies times (drop start cells.old.items)) }
 {
-    Value::List(Items::new(alloc))
-}
-
-/// So many equal values.
-fn repeated(alloc: Global, value: &Value, count: u32) -> Result<Value, NoMemory>
-    ensures { IfOk result (λ list. list ≡ Value.List (replicate count value.now)) }
-{
-    let mut values = Vec::new(alloc);
-    for _n in 0..count {
-        values.push(value.copy(alloc)?)?;
+    let end = cells.len();
+    if start == end {
+        return Ok(());
     }
-    Ok(Value::List(Items::from_vec(values)))
+    for _n in 0..times {
+        cells.extend_from_within(start..end)?;
+    }
+    Ok(())
 }
 
-/// The values of a type among the first, whose leaves are all 0, defined or not.
+/// The rows of types among the first, whose leaves are all 0, defined or not.
 #[derive(Clone, Copy)]
 struct Blanks<'a> {
     types: &'a TypeTable,
@@ -43,69 +43,68 @@ struct Blanks<'a> {
 }
 
 impl<'a> Blanks<'a> {
-    /// The value of the type with an id, where it is among the first `limit` types.
-    #[tactic(auto, using(crate::proofs::ValueLemmas::blank_among_is))]
+    /// Appends the row of the type with an id, where it is among the first `limit` types.
+    #[tactic(auto, using(crate::proofs::ValueLemmas::widths_among_is))]
     #[cycle(blanks)]
-    fn among(&self, alloc: Global, limit: usize, ty: u32) -> Result<Value, NoMemory>
-        ensures { IfOk result (λ value. value ≡ blank_among self.now.defined self.now.types.now limit ty) }
+    fn among(&self, cells: &mut Vec<Cell>, limit: usize, ty: u32) -> Result<(), NoMemory>
+        ensures { OnOk result (cells.new.items ≡ cells.old.items ++ map (blank_lane self.now.defined) (widths_among self.now.types.now limit ty)) }
     {
         match self.types.found(limit, ty) {
-            Some((n, form)) => self.of_form(alloc, n, form),
-            None => Ok(no_leaves(alloc)),
+            Some((n, form)) => self.of_form(cells, n, form),
+            None => Ok(()),
         }
     }
 
-    /// The value of a form whose parts are among the first types.
+    /// Appends the row of a form whose parts are among the first types.
     #[cycle(blanks)]
-    fn of_form(&self, alloc: Global, limit: usize, form: &Form) -> Result<Value, NoMemory>
-        ensures { IfOk result (λ value. value ≡ blank_step self.now.defined (blank_among self.now.defined self.now.types.now limit) form.now) }
+    fn of_form(&self, cells: &mut Vec<Cell>, limit: usize, form: &Form) -> Result<(), NoMemory>
+        ensures { OnOk result (cells.new.items ≡ cells.old.items ++ map (blank_lane self.now.defined) (widths_step (widths_among self.now.types.now limit) form.now)) }
     {
         match form {
-            Form::Bool => Ok(Value::Scalar(blank_lane(self.defined, 1))),
-            Form::Int { width, .. } => Ok(Value::Scalar(blank_lane(self.defined, *width))),
-            Form::Vector { component, count } => repeated(
-                alloc,
-                &self.among(alloc, limit, *component)?,
-                *count,
-            ),
+            Form::Bool => Ok(cells.push(blank_lane(self.defined, 1))?),
+            Form::Int { width, .. } => Ok(cells.push(blank_lane(self.defined, *width))?),
+            Form::Vector { component, count } => self.repeated(cells, limit, *component, *count),
             Form::Array {
                 element,
                 length,
                 ..
-            } => repeated(
-                alloc,
-                &self.among(alloc, limit, *element)?,
-                length.unwrap_or(0),
-            ),
-            Form::Struct { members, .. } => self.of_members(alloc, limit, members.as_slice()),
+            } => self.repeated(cells, limit, *element, length.unwrap_or(0)),
+            Form::Struct { members, .. } => self.of_members(cells, limit, members.as_slice()),
             Form::Void | Form::Runtime { .. } | Form::Pointer { .. } | Form::Function { .. } => {
-                Ok(no_leaves(alloc))
+                Ok(())
             }
         }
     }
 
-    /// The values of members whose types are among the first.
+    /// Appends the row of a type among the first so many times.
     #[cycle(blanks)]
-    fn of_members(&self, alloc: Global, limit: usize, members: &[Member]) -> Result<Value, NoMemory>
-        ensures { IfOk result (λ value. value ≡ Value.List (map (λ (m : Part). blank_among self.now.defined self.now.types.now limit m.ty) members.now)) }
+    fn repeated(&self, cells: &mut Vec<Cell>, limit: usize, ty: u32, count: u32) -> Result<(), NoMemory>
+        ensures { OnOk result (cells.new.items ≡ cells.old.items ++ copies count (map (blank_lane self.now.defined) (widths_among self.now.types.now limit ty))) }
     {
-        let mut values = Vec::new(alloc);
-        for member in members {
-            values.push(self.among(alloc, limit, member.ty)?)?;
+        if count == 0 {
+            return Ok(());
         }
-        Ok(Value::List(Items::from_vec(values)))
+        let start = cells.len();
+        self.among(cells, limit, ty)?;
+        repeat(cells, start, count - 1)
+    }
+
+    /// Appends the rows of members whose types are among the first.
+    #[cycle(blanks)]
+    fn of_members(&self, cells: &mut Vec<Cell>, limit: usize, members: &[Member]) -> Result<(), NoMemory>
+        ensures { OnOk result (cells.new.items ≡ cells.old.items ++ flat_map (λ (m : Part). map (blank_lane self.now.defined) (widths_among self.now.types.now limit m.ty)) members.now) }
+    {
+        for member in members {
+            self.among(cells, limit, member.ty)?;
+        }
+        Ok(())
     }
 }
 
-/// The value of a type whose leaves are all 0, defined or not.
-#[tactic(auto, unfolding(crate::specs::Values::blank_of))]
-pub(crate) fn blank(
-    alloc: Global,
-    types: &TypeTable,
-    defined: bool,
-    ty: u32,
-) -> Result<Value, NoMemory>
-    ensures { IfOk result (λ value. value ≡ blank_of defined types.now ty) }
+/// Appends the row of a type whose leaves are all 0, defined or not.
+#[tactic(auto, unfolding(crate::specs::Values::leaf_widths))]
+pub(crate) fn append_blank(cells: &mut Vec<Cell>, types: &TypeTable, defined: bool, ty: u32) -> Result<(), NoMemory>
+    ensures { OnOk result (cells.new.items ≡ cells.old.items ++ blank_of defined types.now ty) }
 {
-    Blanks { types, defined }.among(alloc, types.len(), ty)
+    Blanks { types, defined }.among(cells, types.len(), ty)
 }

@@ -1,11 +1,11 @@
 //! What is known of a module's constants up to an instruction.
-ghost use Rattle.std.specs.Prelude.{◌≡◌, [], IfOk};
+ghost use Rattle.std.specs.Prelude.{◌≡◌, [], ◌++◌, OnOk};
 ghost use Rattle.spv_consts.specs.State as spec;
 
 use crate::context::Context;
 use crate::table::ConstTable;
-use crate::values::blank;
-use spv_base::{NoMemory, Value};
+use crate::values::append_blank;
+use spv_base::{Cell, NoMemory};
 use spv_types::{Limit, TypeTable};
 use std::alloc::Global;
 use std::marker::Model;
@@ -23,13 +23,12 @@ pub(crate) struct Walk {
 impl Model for Walk {
     ghost use Rattle.std.specs.Prelude.{length};
     ghost use Rattle.std.specs.Coded.{codes};
-    ghost use Rattle.spv_base.specs.contracts.values.Value as tree;
     ghost use Rattle.spv_types.specs.Limits.{AreLimits};
     ghost use Rattle.spv_consts.specs.State as spec;
 
     ghost Value = { spec.State };
 
-    ghost coded = { Prim.hlevel (codes, tree.the_row.coded) };
+    ghost coded = { Prim.hlevel (codes) };
 
     ghost view = { λ w. record { types = w.types; values = w.values; known = length w.limits.items; cells = w.cells } };
 
@@ -66,18 +65,18 @@ impl Walk {
         self.values.value(id).is_some() || context.has_undef_before(word, id)
     }
 
-    /// The value of a constant or an OpUndef.
-    pub(crate) fn operand_value(
+    /// Appends the cells of a constant or an OpUndef.
+    pub(crate) fn append_operand(
         &self,
-        alloc: Global,
+        cells: &mut Vec<Cell>,
         context: &Context,
         id: u32,
-    ) -> Result<Value, NoMemory>
-        ensures { IfOk result (λ value. value ≡ spec.operand_value context.now self.now id) }
+    ) -> Result<(), NoMemory>
+        ensures { OnOk result (cells.new.items ≡ cells.old.items ++ spec.operand_cells context.now self.now id) }
     {
         match self.values.value(id) {
-            Some(value) => value.copy(alloc),
-            None => blank(alloc, &self.types, false, context.type_of(id)),
+            Some(row) => Ok(cells.extend_from_slice(row.cells)?),
+            None => append_blank(cells, &self.types, false, context.type_of(id)),
         }
     }
 }

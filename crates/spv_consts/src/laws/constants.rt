@@ -11,14 +11,13 @@ ghost use Rattle.spv_consts.specs.Laws.{HaveShapes, HaveValues};
 ghost use Rattle.spv_consts.specs.Overrides.{Numbers};
 ghost use Rattle.spv_consts.specs.Table.{Constants};
 
-use crate::laws::values::{blank_values_have_shapes, entered_values_have_shapes};
 use spv_types::laws::{
-    accepted_types_are_sound, lengths_leave_earlier_shapes, lengths_leave_types_sound,
-    shapes_are_by_forms,
+    accepted_types_are_sound, lengths_leave_types_sound, shapes_are_by_forms,
 };
 
 /// The types with the lengths that constants give are sound, and each of their arrays has its length; each constant before the
-/// functions has a value, and each value has the shape of its id's type, whatever the types are that pointers lead into.
+/// functions has a value, and each is the row of a value of the shape of its id's type, whatever the types are that pointers
+/// lead into.
 pub fn constants_have_the_shapes_of_their_types()
     ensures types { (insts : List Inst) (ts : Types) (over : Numbers) (known : Types × Constants) → Ascend 0 insts → AreNamed insts
         → types_of insts ≡ Ok ts → constants_of ts insts over ≡ Ok known → AreSound known.0 × AreComplete known.0 (length known.0) }
@@ -29,8 +28,5 @@ pub fn constants_have_the_shapes_of_their_types()
 {
     accepted_types_are_sound();
     lengths_leave_types_sound();
-    lengths_leave_earlier_shapes();
     shapes_are_by_forms();
-    blank_values_have_shapes();
-    entered_values_have_shapes();
 }

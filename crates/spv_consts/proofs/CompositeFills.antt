@@ -1,0 +1,96 @@
+-- Constituents of the types of a form's parts fill the form, one after another.
+use Rattle.std.proofs.Common.{◌≡◌, ◌∙◌, ℕ, zero, suc, ◌+◌, true, List, [], ◌∷◌, length, map, replicate, Option, Some, None, slice_get, option_map, refl, sym, ap, subst, arith}
+use Rattle.std.specs.List.{flat_map}
+use Rattle.spv_base.specs.Lane.{Lane}
+use Rattle.spv_base.specs.declared.instructions.Inst.{Inst}
+use Rattle.spv_base.specs.declared.instructions.Operand.{Operand}
+use Rattle.spv_types.specs.declared.forms.Form.{Form}
+use Rattle.spv_types.specs.declared.forms.Form.TheVariants.{Void, Bool as Boolean, Int, Vector, Array, Runtime, Struct, Pointer, Function}
+use Rattle.spv_types.specs.declared.forms.Member.{Member}
+use Rattle.spv_types.specs.Operands.{id_of}
+use Rattle.spv_index.specs.Definitions.{type_of}
+use Rattle.spv_typing.proofs.LawLemmas.{equal, parts}
+use Rattle.spv_consts.specs.Context.{Context}
+use Rattle.spv_consts.specs.State.{State, is_operand, operand_cells}
+use Rattle.spv_consts.specs.Overrides.{is_same}
+use Rattle.spv_consts.specs.Rules.{keeps_composite, keeps_part, keeps_parts, part_count, part_type_of}
+use Rattle.spv_consts.specs.Laws.{FillType, OperandsFillTypes}
+use Rattle.spv_consts.specs.Values.{leaf_widths, part_types, widths_step}
+use Rattle.spv_consts.proofs.FillLemmas.{Fill, fill_append}
+use Rattle.spv_consts.proofs.ScalarShapes.{impossible, some_same}
+
+same_number : (n : ℕ) (o : Option ℕ) → is_same n o ≡ true → Some n ≡ o
+same_number n None h = impossible h
+same_number n (Some k) h = ap Some (sym (equal k n h))
+
+-- the parts of a form from number k on, listed
+abbrev Lists : Option Form → ℕ → List ℕ → Type 0
+Lists form k types = (index part : ℕ) → slice_get types index ≡ Some part → part_type_of form (index + k) ≡ Some part
+
+alike : (n t index part : ℕ) → slice_get (replicate n t) index ≡ Some part → Some t ≡ Some part
+alike zero t index part h = cc
+alike (suc n) t zero part h = h
+alike (suc n) t (suc index) part h = alike n t index part h
+
+member_at : (ms : List Member) (index part : ℕ) → slice_get (map (λ (p : Member). p.ty) ms) index ≡ Some part → option_map (λ (p : Member). p.ty) (slice_get ms index) ≡ Some part
+member_at [] index part h = cc
+member_at (p ∷ ps) zero part h = h
+member_at (p ∷ ps) (suc index) part h = member_at ps index part h
+
+long : (n t : ℕ) → length (replicate n t) ≡ n
+long zero t = refl
+long (suc n) t = ap suc (long n t)
+
+many : (ms : List Member) → length (map (λ (p : Member). p.ty) ms) ≡ length ms
+many [] = refl
+many (p ∷ ps) = ap suc (many ps)
+
+module _ (m : Context) (s : State) (word : ℕ) (operands : OperandsFillTypes m s word) where
+  abbrev cells_in : Operand → List Lane
+  cells_in o = operand_cells m s (id_of o)
+
+  part_fills : (part : Option ℕ) (ty id : ℕ) → part ≡ Some ty → keeps_part m s word part id ≡ true → FillType s.types ty (operand_cells m s id)
+  part_fills part ty id same h =
+      let p = parts (is_operand m s word id) (is_same (type_of m.all id) part) h in
+      let at : type_of m.all id ≡ ty = some_same (type_of m.all id) ty (same_number (type_of m.all id) part p.1 ∙ same) in
+      subst (λ (t : ℕ). FillType s.types t (operand_cells m s id)) at (operands id p.0)
+
+  parts_fill : (form : Option Form) (k : ℕ) (types : List ℕ) (os : List Operand) → length os ≡ length types → Lists form k types
+      → keeps_parts m s word form k os ≡ true → Fill (flat_map (leaf_widths s.types) types) (flat_map cells_in os)
+  unfolding keeps_parts
+  parts_fill form k [] [] e each h = tt
+  parts_fill form k [] (o ∷ os) e each h = absurd (omega arith)
+  parts_fill form k (t ∷ types) [] e each h = absurd (omega arith)
+  parts_fill form k (t ∷ types) (o ∷ os) e each h =
+      let q = parts (keeps_part m s word (part_type_of form k) (id_of o)) (keeps_parts m s word form (suc k) os) h in
+      let at : 0 + k ≡ k = omega arith in
+      let first : part_type_of form k ≡ Some t = subst (λ (n : ℕ). part_type_of form n ≡ Some t) at (each 0 t refl) in
+      fill_append (leaf_widths s.types t) (flat_map (leaf_widths s.types) types) (cells_in o) (flat_map cells_in os)
+      (part_fills (part_type_of form k) t (id_of o) first q.0) (parts_fill form (suc k) types os (omega arith) next q.1)
+    where
+      next : Lists form (suc k) types
+      next index part got = let moved : suc index + k ≡ index + suc k = omega arith in subst (λ (n : ℕ). part_type_of form n ≡ Some part) moved (each (suc index) part got)
+
+  pub form_fills : (f : Form) (os : List Operand) → is_same (length os) (part_count (Some f)) ≡ true → keeps_parts m s word (Some f) 0 os ≡ true
+      → Fill (widths_step (leaf_widths s.types) f) (flat_map cells_in os)
+  form_fills Void os h g = impossible h
+  form_fills Boolean os h g = impossible h
+  form_fills (Int width sign) os h g = impossible h
+  form_fills (Vector component count) os h g =
+      parts_fill (Some (Vector component count)) 0 (replicate count component) os (sym (equal count (length os) h) ∙ sym (long count component)) (λ index part got. alike count component index part got) g
+  form_fills (Array element None stride) os h g = impossible h
+  form_fills (Array element (Some n) stride) os h g =
+      parts_fill (Some (Array element (Some n) stride)) 0 (replicate n element) os (sym (equal n (length os) h) ∙ sym (long n element)) (λ index part got. alike n element index part got) g
+  form_fills (Runtime element stride) os h g = impossible h
+  form_fills (Struct members block) os h g =
+      parts_fill (Some (Struct members block)) 0 (map (λ (p : Member). p.ty) members) os (sym (equal (length members) (length os) h) ∙ sym (many members)) at g
+    where
+      at : Lists (Some (Struct members block)) 0 (map (λ (p : Member). p.ty) members)
+      at index part got = let same : index ≡ index + 0 = omega arith in subst (λ (n : ℕ). part_type_of (Some (Struct members block)) n ≡ Some part) same (member_at members index part got)
+  form_fills (Pointer class target) os h g = impossible h
+  form_fills (Function returns parameters) os h g = impossible h
+
+  pub composite_fills : (f : Form) (i : Inst) → word ≡ i.word → keeps_composite m s i (Some f) ≡ true → Fill (widths_step (leaf_widths s.types) f) (flat_map cells_in i.operands)
+  composite_fills f i same h =
+      let p = parts (is_same (length i.operands) (part_count (Some f))) (keeps_parts m s i.word (Some f) 0 i.operands) h in
+      form_fills f i.operands p.0 (subst (λ (w : ℕ). keeps_parts m s w (Some f) 0 i.operands ≡ true) (sym same) p.1)
