@@ -154,7 +154,6 @@ widths_kept : (ts : Types) (id k n q : ℕ) → number_of ts id ≡ Some k → I
 unfolding leaf_widths widths_among
 widths_kept ts id k n q number among = in_first_kept [] widths_step ts id k n q number among
 
-
 module _
     (sound_kept : (ts : Types) (id n : ℕ) → AreSound ts → AreSound (with_length ts id n))
     (number_kept : (ts : Types) (id n q : ℕ) → number_of (with_length ts id n) q ≡ number_of ts q)
@@ -186,7 +185,9 @@ module _
       complete = λ q among. complete_by q among (cases_eq id q);
       shaped = each_weaker (IsFilled insts s.types s.known) (IsFilled insts (with_length s.types id n) s.known)
           (λ c shaped. (
-            earlier_among s.types id n s.known c.1.ty shaped.0, shaped.1, kinds_by c.1.ty (cases_eq id c.1.ty) ∙ sym (follows.kinds c.1.ty) ∙ shaped.2,
+            earlier_among s.types id n s.known c.1.ty shaped.0,
+            shaped.1,
+            kinds_by c.1.ty (cases_eq id c.1.ty) ∙ sym (follows.kinds c.1.ty) ∙ shaped.2,
             subst (λ (ws : List ℕ). Fill ws c.1.cells) (sym (widths_kept s.types id s.known n c.1.ty number shaped.0)) shaped.3,
           )) s.values follows.shaped;
       valued = follows.valued;

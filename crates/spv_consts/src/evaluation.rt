@@ -123,7 +123,12 @@ impl Walk {
     }
 
     /// The cells of an OpSpecConstantOp, and none where its opcode is no opcode.
-    fn operation(&self, alloc: Global, context: &Context, inst: &Inst) -> Result<Vec<Cell>, NoMemory>
+    fn operation(
+        &self,
+        alloc: Global,
+        context: &Context,
+        inst: &Inst,
+    ) -> Result<Vec<Cell>, NoMemory>
         ensures { IfOk result (λ cells. cells.items ≡ spec.operation_cells context.now self.now inst.now) }
     {
         match opcode_of(inst) {

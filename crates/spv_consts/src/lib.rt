@@ -16,6 +16,8 @@ mod rules;
 mod spec_ids;
 mod steps;
 pub mod table;
+#[cfg(test)]
+mod tests;
 mod values;
 mod walk;
 

@@ -34,12 +34,7 @@ fn cell_at(row: &[Cell], n: usize) -> Option<Cell>
 }
 
 /// A unary operation on each lane of a row, with results of a width.
-pub(crate) fn by_one(
-    alloc: Global,
-    op: u16,
-    width: u8,
-    row: &[Cell],
-) -> Result<Vec<Cell>, NoMemory>
+pub(crate) fn by_one(alloc: Global, op: u16, width: u8, row: &[Cell]) -> Result<Vec<Cell>, NoMemory>
     ensures { IfOk result (λ cells. cells.items ≡ map (unary_lane op width) row.now) }
 {
     let mut cells = Vec::new(alloc);

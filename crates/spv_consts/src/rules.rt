@@ -7,8 +7,8 @@ use crate::context::Context;
 use crate::literals::{integer_width, keeps_literal};
 use crate::walk::Walk;
 use spv_base::{Inst, Operand};
-use spv_types::facts::is_constant;
 use spv_ops::op;
+use spv_types::facts::is_constant;
 use spv_types::views::is_boolean;
 use spv_types::{Form, TypeTable, id_of, lit_at};
 use spv_typing::{fits, is_constant_operation, operand_count};
@@ -138,10 +138,15 @@ impl Walk {
         ensures { result ≡ spec.keeps_kind context.now self.now inst.now }
     {
         match inst.op {
-            op::CONSTANT_COMPOSITE | op::SPEC_CONSTANT_COMPOSITE => self.keeps_composite(context, inst),
+            op::CONSTANT_COMPOSITE | op::SPEC_CONSTANT_COMPOSITE => self.keeps_composite(
+                context, inst,
+            ),
             op::CONSTANT_NULL => true,
             op::SPEC_CONSTANT_OP => self.keeps_operation(context, inst),
-            op::CONSTANT | op::SPEC_CONSTANT => keeps_literal(integer_width(&self.types, inst.ty), inst),
+            op::CONSTANT | op::SPEC_CONSTANT => keeps_literal(
+                integer_width(&self.types, inst.ty),
+                inst,
+            ),
             _ => is_boolean(self.types.form(inst.ty)),
         }
     }

@@ -78,7 +78,13 @@ impl<'a> Blanks<'a> {
 
     /// Appends the row of a type among the first so many times.
     #[cycle(blanks)]
-    fn repeated(&self, cells: &mut Vec<Cell>, limit: usize, ty: u32, count: u32) -> Result<(), NoMemory>
+    fn repeated(
+        &self,
+        cells: &mut Vec<Cell>,
+        limit: usize,
+        ty: u32,
+        count: u32,
+    ) -> Result<(), NoMemory>
         ensures { OnOk result (cells.new.items ≡ cells.old.items ++ copies count (map (blank_lane self.now.defined) (widths_among self.now.types.now limit ty))) }
     {
         if count == 0 {
@@ -91,7 +97,12 @@ impl<'a> Blanks<'a> {
 
     /// Appends the rows of members whose types are among the first.
     #[cycle(blanks)]
-    fn of_members(&self, cells: &mut Vec<Cell>, limit: usize, members: &[Member]) -> Result<(), NoMemory>
+    fn of_members(
+        &self,
+        cells: &mut Vec<Cell>,
+        limit: usize,
+        members: &[Member],
+    ) -> Result<(), NoMemory>
         ensures { OnOk result (cells.new.items ≡ cells.old.items ++ flat_map (λ (m : Part). map (blank_lane self.now.defined) (widths_among self.now.types.now limit m.ty)) members.now) }
     {
         for member in members {
@@ -103,7 +114,12 @@ impl<'a> Blanks<'a> {
 
 /// Appends the row of a type whose leaves are all 0, defined or not.
 #[tactic(auto, unfolding(crate::specs::Values::leaf_widths))]
-pub(crate) fn append_blank(cells: &mut Vec<Cell>, types: &TypeTable, defined: bool, ty: u32) -> Result<(), NoMemory>
+pub(crate) fn append_blank(
+    cells: &mut Vec<Cell>,
+    types: &TypeTable,
+    defined: bool,
+    ty: u32,
+) -> Result<(), NoMemory>
     ensures { OnOk result (cells.new.items ≡ cells.old.items ++ blank_of defined types.now ty) }
 {
     Blanks { types, defined }.among(cells, types.len(), ty)

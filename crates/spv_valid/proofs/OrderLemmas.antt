@@ -24,6 +24,10 @@ use Rattle.spv_bodies.specs.Context.{Known}
 use Rattle.spv_bodies.specs.declared.within.Within.{Within}
 use Rattle.spv_bodies.specs.Bodies.{body_breaches, breach as body_breach, keeps_body}
 use Rattle.spv_bodies.specs.Places.{nowhere, place, placed, placed_from, within_after}
+use Rattle.spv_consts.specs.Context.{Context}
+use Rattle.spv_consts.specs.State.{State}
+use Rattle.spv_consts.specs.Rules.{keeps_rules as keeps_constant}
+use Rattle.spv_consts.specs.Steps.{breaches_at as constant_breaches_at, breaches_from, breaks_limit, stepped}
 use Rattle.spv_base.specs.Order.{Ascend}
 use Rattle.spv_valid.specs.Breaches.{IsBefore, layout_breaches}
 
@@ -138,6 +142,27 @@ types_in_order_from all before from (i ∷ is) (first, rest) =
 
 pub types_in_order : (from : ℕ) (insts : List Inst) → Ascend from insts → InOrder from (type_breaches insts [] (before_functions insts))
 types_in_order from insts ascend = types_in_order_from insts [] from (before_functions insts) (Ascend-before from insts ascend)
+
+constants_in_order_from : (m : Context) (s : State) (from : ℕ) (insts : List Inst) → Ascend from insts → InOrder from (breaches_from m s insts)
+unfolding breaches_from constant_breaches_at
+constants_in_order_from m s from [] ascend = none_in_order from
+constants_in_order_from m s from (i ∷ is) (first, rest) = here (keeps_constant m s i) (breaks_limit m s i) (constants_in_order_from m (stepped m s i) (suc i.word) is rest)
+  where
+    rule : Refusal
+    rule = record { code = 14; word = i.word }
+
+    limit : Refusal
+    limit = record { code = 18; word = i.word }
+
+    here : (b c : Bool) → InOrder (suc i.word) (breaches_from m (stepped m s i) is)
+        → InOrder from ((cond b [] (rule ∷ []) ++ cond c (limit ∷ []) []) ++ breaches_from m (stepped m s i) is)
+    here true true behind = joined_in_order from i.word (limit ∷ []) _ first (refl, tt) tt behind
+    here true false behind = joined_in_order from i.word [] _ first tt tt behind
+    here false true behind = let codes : 14 ≤ 18 = omega arith in joined_in_order from i.word (rule ∷ limit ∷ []) _ first (refl, (refl, tt)) (inr (refl, codes), tt) behind
+    here false false behind = joined_in_order from i.word (rule ∷ []) _ first (refl, tt) tt behind
+
+pub constants_in_order : (m : Context) (s : State) (from : ℕ) (insts : List Inst) → Ascend from insts → InOrder from (breaches_from m s (before_functions insts))
+constants_in_order m s from insts ascend = constants_in_order_from m s from (before_functions insts) (Ascend-before from insts ascend)
 
 layout_in_order_from : (all : List Inst) (ts : Types) (before : List Inst) (from : ℕ) (insts : List Inst) → Ascend from insts → InOrder from (module_breaches all ts before insts)
 unfolding module_breaches

@@ -1,8 +1,8 @@
 -- What each pass tells of its breaches, and all of them together.
-use Rattle.std.proofs.Common.{◌≡◌, ◌≤◌, ℕ, ℤ, Bool, true, false, cond, List, [], ◌∷◌, length, Option, Some, None, Result, Ok, Err, refl, sym, ap, arith}
+use Rattle.std.proofs.Common.{◌≡◌, ◌≤◌, ℕ, ℤ, Bool, true, false, cond, List, [], ◌∷◌, length, Option, Some, None, Result, Ok, Err, refl, sym, ap, arith, subst, ◌++◌}
 use Rattle.std.proofs.lemmas.Bool.Decides.{nat_tests}
 use Rattle.std.specs.Prelude.{nat_le, nat_lt}
-use Rattle.std.specs.List.{flat_map}
+use Rattle.std.specs.List.{AllByRecursion, flat_map}
 use Rattle.std.specs.Option.{option_map, option_to_list}
 use Rattle.std.specs.Result.{result_err, result_unwrap_or}
 use Rattle.spv_base.specs.declared.causes.Refusal.{Refusal}
@@ -20,14 +20,12 @@ use Rattle.spv_sections.specs.Sections.{order_breaches, sections_of}
 use Rattle.spv_sections.specs.Ids.{id_breaches, ids_of}
 use Rattle.spv_sections.specs.Capabilities.{capabilities_of, capability_breaches}
 use Rattle.spv_consts.specs.Table.{Constants}
-use Rattle.spv_consts.specs.Numbers.{limits_code, rules_code}
 use Rattle.spv_consts.specs.Context.{Context}
 use Rattle.spv_consts.specs.State.{State}
-use Rattle.spv_consts.specs.Lengths.{lengthened}
 use Rattle.spv_consts.specs.Rules.{keeps_rules}
 use Rattle.spv_consts.specs.SpecIds.{lower, lowest_wrong, wrong_spec_id}
-use Rattle.spv_consts.specs.Steps.{breach, entered, limited, passes_limit, stepped, walked}
-use Rattle.spv_consts.specs.Build.{built_of, constants_of, context_of, start_of, unless_earlier}
+use Rattle.spv_consts.specs.Steps.{breaches_at, breaches_from, breaks_limit, stepped}
+use Rattle.spv_consts.specs.Build.{constant_breaches, constants_of, context_of, front_breaches, known_of, start_of, state_of, unless_earlier}
 use Rattle.spv_bodies.specs.Context.{known_of}
 use Rattle.spv_bodies.specs.Bodies.{bodies_of}
 use Rattle.spv_valid.specs.Entry.{entry_of}
@@ -35,8 +33,8 @@ use Rattle.spv_base.specs.Answers.{after}
 use Rattle.spv_valid.specs.Acceptance.{Accepted, acceptance, accepted}
 use Rattle.spv_base.specs.Order.{Ascend}
 use Rattle.spv_ops.specs.Module.{Decoded}
-use Rattle.spv_valid.specs.Breaches.{IsLeast, at_words, bodies_breaches, breaches, constant_breaches, first_with, flow_breaches, known_read, layout_breaches, refused_in, types_read}
-use Rattle.spv_valid.proofs.OrderLemmas.{bodies_in_order, capabilities_in_order, ids_in_order, layout_in_order, order_in_order, types_in_order}
+use Rattle.spv_valid.specs.Breaches.{IsLeast, at_words, bodies_breaches, breaches, first_with, flow_breaches, known_read, layout_breaches, refused_in, types_read}
+use Rattle.spv_valid.proofs.OrderLemmas.{Led, bodies_in_order, constants_in_order, capabilities_in_order, ids_in_order, layout_in_order, order_in_order, types_in_order}
 use Rattle.spv_valid.proofs.LeastLemmas.{IsLeastOf, Tells, earlier, joined_least, lowest_least, tells_after, tells_led, tells_refused}
 
 tells_sections : (insts : List Inst) → Ascend 0 insts → Tells (sections_of insts) (order_breaches insts)
@@ -99,45 +97,41 @@ lowest_wrong_is all (i ∷ is) =
     rw (lowest_wrong_is all is, lower-sooner (wrong_spec_id all i) (lowest words), lowest-append (option_to_list (wrong_spec_id all i)) words) refl
 
 -- the codes of constants
-stepped_code : (m : Context) (s : State) (i : Inst) (r : Refusal) → stepped m s i ≡ Err r → 14 ≤ r.code
-unfolding stepped
-stepped_code m s i r is = by_rules (keeps_rules m s i) is
+abbrev AreCoded : List Refusal → Type 0
+AreCoded = AllByRecursion (λ (r : Refusal). 14 ≤ r.code)
+
+joined_coded : (rs ss : List Refusal) → AreCoded rs → AreCoded ss → AreCoded (rs ++ ss)
+joined_coded [] ss one other = other
+joined_coded (r ∷ rs) ss one other = (one.0, joined_coded rs ss one.1 other)
+
+one_coded : (m : Context) (s : State) (i : Inst) → AreCoded (breaches_at m s i)
+unfolding breaches_at
+one_coded m s i = by_tests (keeps_rules m s i) (breaks_limit m s i)
   where
-    by_limit : (b : Bool) (t : State) → cond b (Err (breach limits_code i)) (Ok t) ≡ Err r → 14 ≤ r.code
-    by_limit true t e = let same : breach limits_code i ≡ r = cc in let code : 18 ≡ r.code = ap (λ (x : Refusal). x.code) same in omega arith
-    by_limit false t e = absurd (cc)
+    by_tests : (b c : Bool) → AreCoded (cond b [] (record { code = 14; word = i.word } ∷ []) ++ cond c (record { code = 18; word = i.word } ∷ []) [])
+    by_tests true true = (omega arith, tt)
+    by_tests true false = tt
+    by_tests false true = (omega arith, (omega arith, tt))
+    by_tests false false = (omega arith, tt)
 
-    by_length : (o : Option State) → limited m i o ≡ Err r → 14 ≤ r.code
-    by_length None e = let same : breach limits_code i ≡ r = cc in let code : 18 ≡ r.code = ap (λ (x : Refusal). x.code) same in omega arith
-    by_length (Some t) e = by_limit (passes_limit t i) (entered m t i) e
+all_coded : (m : Context) (s : State) (insts : List Inst) → AreCoded (breaches_from m s insts)
+unfolding breaches_from
+all_coded m s [] = tt
+all_coded m s (i ∷ is) = joined_coded (breaches_at m s i) (breaches_from m (stepped m s i) is) (one_coded m s i) (all_coded m (stepped m s i) is)
 
-    by_rules : (b : Bool) → cond b (limited m i (lengthened m s i)) (Err (breach rules_code i)) ≡ Err r → 14 ≤ r.code
-    by_rules true e = by_length (lengthened m s i) e
-    by_rules false e = let same : breach rules_code i ≡ r = cc in let code : 14 ≡ r.code = ap (λ (x : Refusal). x.code) same in omega arith
+first_coded : {T : Type 0} (x : T) (rs : List Refusal) (r : Refusal) → AreCoded rs → result_err (unless_refused x rs) ≡ Some r → 14 ≤ r.code
+first_coded x [] r coded is = absurd (cc)
+first_coded x (s ∷ ss) r coded is = let same : s ≡ r = cc in subst (λ (q : Refusal). 14 ≤ q.code) same coded.0
 
-walked_on : (m : Context) (is : List Inst) (r : Refusal) (due : Result State Refusal) → ((e : Refusal) → due ≡ Err e → 14 ≤ e.code)
-    → ((t : State) → walked m t is ≡ Err r → 14 ≤ r.code) → after due (λ t. walked m t is) ≡ Err r → 14 ≤ r.code
-walked_on m is r (Ok t) here behind e = behind t e
-walked_on m is r (Err x) here behind e = here r (cc)
-
-walked_code : (m : Context) (s : State) (insts : List Inst) (r : Refusal) → walked m s insts ≡ Err r → 14 ≤ r.code
-unfolding walked
-walked_code m s [] r is = absurd (cc)
-walked_code m s (i ∷ is) r e = walked_on m is r (stepped m s i) (stepped_code m s i) (λ t. walked_code m t is r) e
-
-walk_least : (due : Result State Refusal) → IsLeastOf (result_err due) (refused_in due)
-walk_least (Ok s) = refl
-walk_least (Err r) = tells_refused {T = State} (Err r)
+led_least : {T : Type 0} (x : T) (rs : List Refusal) → Led rs → IsLeastOf (result_err (unless_refused x rs)) rs
+led_least x [] led = refl
+led_least x (r ∷ rs) led = tells_led x (r ∷ rs) led
 
 choice_turned : (w v : ℕ) (x y : Refusal) → cond (nat_le w v) x y ≡ cond (nat_lt v w) y x
 choice_turned w v x y = grind (arith, nat_tests)
 
-refused_by : (due : Result State Refusal) (r : Refusal) → result_err due ≡ Some r → due ≡ Err r
-refused_by (Ok s) r is = absurd (cc)
-refused_by (Err e) r is = cc
-
-earlier_tells : (o : Option ℕ) (due : Result State Refusal) (rs : List Refusal) → IsLeastOf (earlier (option_map (λ (w : ℕ). record { code = 14; word = w }) o) (result_err due)) rs
-    → Tells (unless_earlier o (built_of due)) rs
+earlier_tells : (o : Option ℕ) (due : Result (Types × Constants) Refusal) (rs : List Refusal) → IsLeastOf (earlier (option_map (λ (w : ℕ). record { code = 14; word = w }) o) (result_err due)) rs
+    → Tells (unless_earlier o due) rs
 earlier_tells None (Ok s) rs least = least
 earlier_tells None (Err r) rs least = least
 earlier_tells (Some w) (Ok s) rs least = least
@@ -146,18 +140,20 @@ earlier_tells (Some w) (Err r) rs least =
     let chosen : IsLeast rs (cond (nat_le w r.word) at r) = rw (choice_turned w r.word at r) least in
     elim (nat_le w r.word) as (λ b. IsLeast rs (cond b at r) → Tells {T = Types × Constants} (cond b (Err at) (Err r)) rs) [ true ↦ λ x. x | false ↦ λ x. x ] chosen
 
-tells_constants : (ts : Types) (insts : List Inst) (over : List (ℕ × ℤ)) → Tells (constants_of ts insts over) (constant_breaches ts insts over)
+tells_constants : (ts : Types) (insts : List Inst) (over : List (ℕ × ℤ)) → Ascend 0 insts → Tells (constants_of ts insts over) (constant_breaches ts insts over)
 unfolding constants_of
-tells_constants ts insts over =
+tells_constants ts insts over ascend =
     let words : List ℕ = flat_map (λ (i : Inst). option_to_list (wrong_spec_id insts i)) insts in
-    let due : Result State Refusal = walked (context_of ts insts over) (start_of ts) (before_functions insts) in
-    let codes : (r s : Refusal) → option_map (λ (w : ℕ). record { code = 14; word = w }) (lowest words) ≡ Some r → result_err due ≡ Some s → r.code ≤ s.code
+    let known : Types × Constants = known_of (state_of ts insts over) in
+    let rs : List Refusal = front_breaches ts insts over in
+    let led : Led rs = (constants_in_order (context_of ts insts over) (start_of ts) 0 insts ascend).led in
+    let codes : (r s : Refusal) → option_map (λ (w : ℕ). record { code = 14; word = w }) (lowest words) ≡ Some r → result_err (unless_refused known rs) ≡ Some s → r.code ≤ s.code
     = λ r s one other.
     let a : r.code ≡ 14 = code_of_some 14 (lowest words) r one in
-    let b : 14 ≤ s.code = walked_code (context_of ts insts over) (start_of ts) (before_functions insts) s (refused_by due s other) in
+    let b : 14 ≤ s.code = first_coded known rs s (all_coded (context_of ts insts over) (start_of ts) (before_functions insts)) other in
     omega arith in
-    rw lowest_wrong_is (earlier_tells (lowest words) due (constant_breaches ts insts over)
-    (joined_least (option_map (λ (w : ℕ). record { code = 14; word = w }) (lowest words)) (result_err due) (at_words 14 words) (refused_in due) (lowest_least 14 words) (walk_least due) codes))
+    rw lowest_wrong_is (earlier_tells (lowest words) (unless_refused known rs) (constant_breaches ts insts over)
+    (joined_least (option_map (λ (w : ℕ). record { code = 14; word = w }) (lowest words)) (result_err (unless_refused known rs)) (at_words 14 words) rs (lowest_least 14 words) (led_least known rs led) codes))
 
 -- ---- all passes
 
@@ -200,7 +196,7 @@ tells_known : (m : Decoded) (name : Option (List ℕ)) (over : List (ℕ × ℤ)
     (first_with (constant_breaches (types_read m.insts) m.insts over ∷ layout_breaches (known_read m.insts over).0 m.insts ∷ flow_breaches m.insts ∷ bodies_breaches (known_read m.insts over) m.insts
     ∷ refused_in (entry_of (known_read m.insts over).0 (known_read m.insts over).1 (flow_in m.insts) m.insts name) ∷ []))
 tells_known m name over types is ascend =
-    rw is (tells_after {U = Accepted} (constants_of (types_read m.insts) m.insts over) _ (constant_breaches (types_read m.insts) m.insts over) _ (tells_constants (types_read m.insts) m.insts over) (λ known same.
+    rw is (tells_after {U = Accepted} (constants_of (types_read m.insts) m.insts over) _ (constant_breaches (types_read m.insts) m.insts over) _ (tells_constants (types_read m.insts) m.insts over ascend) (λ known same.
     rw (known_is m.insts over known same)
     (tells_after {U = Accepted} (layout_of known.0 m.insts) _ (layout_breaches known.0 m.insts) _ (tells_layout known.0 m.insts ascend) (λ _ _. tells_code m name known ascend))))
 

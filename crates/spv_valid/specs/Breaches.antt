@@ -17,10 +17,7 @@ use Rattle.spv_sections.specs.Sections.{order_breaches}
 use Rattle.spv_sections.specs.Ids.{id_breaches}
 use Rattle.spv_sections.specs.Capabilities.{capability_breaches}
 use Rattle.spv_consts.specs.Table.{Constants}
-use Rattle.spv_consts.specs.Numbers.{rules_code}
-use Rattle.spv_consts.specs.SpecIds.{wrong_spec_id}
-use Rattle.spv_consts.specs.Steps.{walked}
-use Rattle.spv_consts.specs.Build.{constants_of, context_of, start_of}
+use Rattle.spv_consts.specs.Build.{constant_breaches, constants_of}
 use Rattle.spv_bodies.specs.Bodies.{body_breaches}
 use Rattle.spv_bodies.specs.Context.{known_of}
 use Rattle.spv_bodies.specs.Places.{placed}
@@ -42,12 +39,6 @@ abbrev pub at_words : ℕ → List ℕ → List Refusal
 at_words code words = map (λ word. record { code = code; word = word }) words
 
 -- ---- pass by pass
-
--- The SpecIds on what takes none, and the first instruction that breaks a rule or passes a limit of constants: what comes
--- behind it is read with what it defines.
-abbrev pub constant_breaches : Types → List Inst → List (ℕ × ℤ) → List Refusal
-constant_breaches ts insts over =
-    at_words rules_code (flat_map (λ i. option_to_list (wrong_spec_id insts i)) insts) ++ refused_in (walked (context_of ts insts over) (start_of ts) (before_functions insts))
 
 abbrev pub layout_breaches : Types → List Inst → List Refusal
 layout_breaches ts insts = module_breaches insts ts [] insts

@@ -5,12 +5,10 @@ use Rattle.std.specs.Option.{option_map_or}
 use Rattle.std.specs.Str.{bytes_eq}
 use Rattle.spv_base.specs.Entries.{reads}
 use Rattle.spv_base.specs.Lane.{Lane}
-use Rattle.spv_base.specs.Parts.{parts_in}
 use Rattle.spv_base.specs.declared.causes.Refusal.{Refusal}
 use Rattle.spv_base.specs.declared.instructions.Inst.{Inst}
 use Rattle.spv_base.specs.declared.instructions.Operand.{Operand}
 use Rattle.spv_base.specs.declared.instructions.Operand.TheVariants.{Id, Lit, Text}
-use Rattle.spv_base.specs.declared.values.Value.{Value, out-Value}
 use Rattle.spv_types.specs.declared.forms.Form.{Form}
 use Rattle.spv_types.specs.declared.forms.Form.TheVariants.{Void, Bool as Boolean, Int, Vector, Array, Runtime, Struct, Pointer, Function}
 use Rattle.spv_types.specs.declared.opcodes.TheConstants.{BUILT_IN, FUNCTION}
@@ -19,10 +17,9 @@ use Rattle.spv_types.specs.Operands.{id_at, lit_at}
 use Rattle.spv_types.specs.Facts.{constant_type, decoration, is_constant}
 use Rattle.spv_types.specs.Rules.{is_three_words, is_word}
 use Rattle.spv_types.specs.Blocks.{is_value}
-use Rattle.spv_types.specs.Shapes.{scalar_in}
 use Rattle.spv_types.specs.Views.{is_void}
 use Rattle.spv_cfg.specs.Flow.{Flow}
-use Rattle.spv_consts.specs.Table.{Constants}
+use Rattle.spv_consts.specs.Table.{Constants, Row, scalar_of}
 use Rattle.spv_valid.specs.declared.entry.Entry.{Entry}
 use Rattle.spv_valid.specs.declared.opcodes.TheConstants.{ENTRY_POINT, EXECUTION_MODE, EXECUTION_MODE_ID, GL_COMPUTE, LOCAL_SIZE, LOCAL_SIZE_ID, WORKGROUP_SIZE}
 
@@ -87,19 +84,16 @@ is_plain_function ts insts id = option_map_or (λ i. is_plain ts (form_of ts (id
 abbrev pub number_of_lane : Lane → Option ℕ
 number_of_lane c = if c.defined then Some c.bits else None
 
-abbrev pub number_in : Value → Option ℕ
-number_in v = option_and_then number_of_lane (scalar_in (out-Value v))
-
 -- three numbers, where all are there
 abbrev pub all_three : Option ℕ → Option ℕ → Option ℕ → Option Size
 all_three x y z = option_and_then (λ a. option_and_then (λ b. option_and_then (λ c. Some (a, b, c)) z) y) x
 
 -- the numbers of three scalars
-abbrev pub numbers_in : List Value → Option Size
+abbrev pub numbers_in : List Lane → Option Size
 numbers_in [] = None
 numbers_in (x ∷ []) = None
 numbers_in (x ∷ y ∷ []) = None
-numbers_in (x ∷ y ∷ z ∷ []) = all_three (number_in x) (number_in y) (number_in z)
+numbers_in (x ∷ y ∷ z ∷ []) = all_three (number_of_lane x) (number_of_lane y) (number_of_lane z)
 numbers_in (x ∷ y ∷ z ∷ w ∷ more) = None
 
 -- a constant decorated with the built-in WorkgroupSize
@@ -110,13 +104,13 @@ is_size_constant insts i = is_constant i.op && is_value WORKGROUP_SIZE (decorati
 abbrev pub constant_size : Types → Constants → Inst → Option Size
 constant_size ts constants i =
     if is_three_words ts (form_of ts i.ty)
-    then option_and_then numbers_in (option_and_then (λ v. parts_in (out-Value v)) (reads i.id constants))
+    then option_and_then (λ (row : Row). numbers_in row.cells) (reads i.id constants)
     else None
 
 -- the number of a constant that is a 32-bit integer
 abbrev pub word_constant : Types → Constants → List Inst → ℕ → Option ℕ
 word_constant ts constants insts id =
-    if option_map_or (λ ty. is_word (form_of ts ty)) (constant_type insts id) false then option_and_then number_in (reads id constants) else None
+    if option_map_or (λ ty. is_word (form_of ts ty)) (constant_type insts id) false then option_and_then number_of_lane (scalar_of constants id) else None
 
 -- the size that LocalSizeId gives
 abbrev pub size_by_ids : Types → Constants → List Inst → Inst → Option Size

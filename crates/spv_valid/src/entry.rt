@@ -8,7 +8,7 @@ use crate::opcodes::{
     ENTRY_POINT, EXECUTION_MODE, EXECUTION_MODE_ID, GL_COMPUTE, LOCAL_SIZE, LOCAL_SIZE_ID,
     WORKGROUP_SIZE,
 };
-use spv_base::{Fail, Inst, Operand, Refusal, Value};
+use spv_base::{Cell, Fail, Inst, Operand, Refusal};
 use spv_cfg::Code;
 use spv_consts::ConstTable;
 use spv_types::facts::is_constant;
@@ -127,13 +127,10 @@ fn is_plain_function(types: &TypeTable, insts: &[Inst], id: u32) -> bool
 }
 
 /// The number of a defined scalar.
-fn number_in(value: &Value) -> Option<u64>
-    ensures { result ≡ spec.number_in value.now }
+fn number_of(cell: Cell) -> Option<u64>
+    ensures { result ≡ spec.number_of_lane cell }
 {
-    match value {
-        Value::Scalar(cell) => if cell.defined { Some(cell.bits) } else { None },
-        _ => None,
-    }
+    if cell.defined { Some(cell.bits) } else { None }
 }
 
 /// Three numbers, where all are there.
@@ -144,11 +141,11 @@ fn all_three(x: Option<u64>, y: Option<u64>, z: Option<u64>) -> Option<(u64, u64
 }
 
 /// The numbers of three scalars.
-fn numbers_in(values: &[Value]) -> Option<(u64, u64, u64)>
-    ensures { result ≡ spec.numbers_in values.now }
+fn numbers_in(cells: &[Cell]) -> Option<(u64, u64, u64)>
+    ensures { result ≡ spec.numbers_in cells.now }
 {
-    match values {
-        [x, y, z] => all_three(number_in(x), number_in(y), number_in(z)),
+    match cells {
+        [x, y, z] => all_three(number_of(*x), number_of(*y), number_of(*z)),
         _ => None,
     }
 }
@@ -184,10 +181,7 @@ fn constant_size(types: &TypeTable, consts: &ConstTable, inst: &Inst) -> Option<
     if !types.is_three_words(inst.ty) {
         return None;
     }
-    match consts.value(inst.id)? {
-        Value::List(values) => numbers_in(values.as_slice()),
-        _ => None,
-    }
+    numbers_in(consts.value(inst.id)?.cells)
 }
 
 /// The number of a constant that is a 32-bit integer.
@@ -197,7 +191,7 @@ fn word_constant(types: &TypeTable, consts: &ConstTable, facts: &Facts, id: u32)
     if !types.is_word(facts.constant_type(id)?) {
         return None;
     }
-    number_in(consts.value(id)?)
+    number_of(consts.scalar(id)?)
 }
 
 /// The size that a LocalSizeId gives.

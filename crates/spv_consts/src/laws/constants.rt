@@ -11,9 +11,7 @@ ghost use Rattle.spv_consts.specs.Laws.{HaveShapes, HaveValues};
 ghost use Rattle.spv_consts.specs.Overrides.{Numbers};
 ghost use Rattle.spv_consts.specs.Table.{Constants};
 
-use spv_types::laws::{
-    accepted_types_are_sound, lengths_leave_types_sound, shapes_are_by_forms,
-};
+use spv_types::laws::{accepted_types_are_sound, lengths_leave_types_sound, shapes_are_by_forms};
 
 /// The types with the lengths that constants give are sound, and each of their arrays has its length; each constant before the
 /// functions has a value, and each is the row of a value of the shape of its id's type, whatever the types are that pointers
