@@ -25,7 +25,7 @@ use Rattle.spv_consts.specs.State.{State}
 use Rattle.spv_consts.specs.Rules.{keeps_rules}
 use Rattle.spv_consts.specs.SpecIds.{lower, lowest_wrong, wrong_spec_id}
 use Rattle.spv_consts.specs.Steps.{breaches_at, breaches_from, breaks_limit, stepped}
-use Rattle.spv_consts.specs.Build.{constant_breaches, constants_of, context_of, front_breaches, known_of, start_of, state_of, unless_earlier}
+use Rattle.spv_consts.specs.Build.{constant_breaches, constants_of, context_of, front_breaches, known_of as known_in, start_of, state_of, unless_earlier}
 use Rattle.spv_bodies.specs.Context.{known_of}
 use Rattle.spv_bodies.specs.Bodies.{bodies_of}
 use Rattle.spv_valid.specs.Entry.{entry_of}
@@ -144,7 +144,7 @@ tells_constants : (ts : Types) (insts : List Inst) (over : List (ℕ × ℤ)) �
 unfolding constants_of
 tells_constants ts insts over ascend =
     let words : List ℕ = flat_map (λ (i : Inst). option_to_list (wrong_spec_id insts i)) insts in
-    let known : Types × Constants = known_of (state_of ts insts over) in
+    let known : Types × Constants = known_in (state_of ts insts over) in
     let rs : List Refusal = front_breaches ts insts over in
     let led : Led rs = (constants_in_order (context_of ts insts over) (start_of ts) 0 insts ascend).led in
     let codes : (r s : Refusal) → option_map (λ (w : ℕ). record { code = 14; word = w }) (lowest words) ≡ Some r → result_err (unless_refused known rs) ≡ Some s → r.code ≤ s.code
