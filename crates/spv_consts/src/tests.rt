@@ -1,7 +1,8 @@
 //! Constants of a small module with one more instruction. The expected numbers are those of Python's integers.
 use crate::table::ConstTable;
 use spv_base::{Fail as Failure, Inst, Items, NoMemory, Operand, Refusal};
-use spv_ops::op;
+use spv_index::Index;
+use spv_ops::{DecodedModule, op};
 use spv_types::TypeTable;
 use std::alloc::Global;
 use std::test::Fail;
@@ -47,6 +48,9 @@ const BASE: [Row; 25] = [
     (op::SPEC_CONSTANT, 2, 31, &[Lit(4)]),
 ];
 
+/// No id of these instructions reaches it.
+const BOUND: u32 = 100;
+
 /// Adds an instruction, whose word is its place.
 fn add(alloc: Global, insts: &mut Vec<Inst>, row: Row) -> Result<(), NoMemory> {
     let mut operands = Items::new(alloc);
@@ -85,14 +89,12 @@ fn build(
     rows: &[Row],
     over: &[(u32, i128)],
 ) -> Result<(TypeTable, ConstTable), Failure<Refusal>> {
-    let insts = with_rows(alloc, rows)?;
-    let types = TypeTable::build(alloc, insts.as_slice())?;
-    ConstTable::build(
-        alloc,
-        types,
-        insts.as_slice(),
-        &Items::from_slice(alloc, over)?,
-    )
+    let Some(decoded) = DecodedModule::of(with_rows(alloc, rows)?, BOUND) else {
+        return Err(Failure::NoMemory);
+    };
+    let index = Index::of(alloc, decoded)?;
+    let types = TypeTable::build(alloc, &index)?;
+    ConstTable::build(alloc, types, index.insts(), &Items::from_slice(alloc, over)?)
 }
 
 /// The number, the width and the mark of a leaf.
