@@ -112,7 +112,7 @@ members_same f g [] (suc i) h = refl
 members_same f g (m ∷ ms) zero h = refl
 members_same f g (m ∷ ms) (suc i) h = rw (h 0 m.ty refl, members_same f g ms i (λ k part is. h (suc k) part is)) refl
 
-cells_whole : (ts : Types) (n part : ℕ) → IsAmong ts n part → cells_among ts n part ≡ cells_of ts part
+pub cells_whole : (ts : Types) (n part : ℕ) → IsAmong ts n part → cells_among ts n part ≡ cells_of ts part
 unfolding cells_of
 cells_whole ts n part among = cells_at ts n part among.number among.is among.below ∙ sym (cells_at ts (length ts) part among.number among.is (number_lt ts part among.number among.is))
 

@@ -24,3 +24,5 @@ pub mod RowShapes
 pub mod RowValues
 pub mod CountedLemmas
 pub mod SpanLemmas
+pub mod OffsetLemmas
+pub mod WholeLemmas

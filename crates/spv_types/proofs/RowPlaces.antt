@@ -41,7 +41,7 @@ pub record MemberIs (cells : ℕ → Option ℕ) (ms : List Member) (i before pa
   pub sum : members_cells cells (take i ms) ≡ Some before
   pub ty : member.ty ≡ part
 
-member_is : (cells : ℕ → Option ℕ) (ms : List Member) (i before part : ℕ) → member_part cells ms i ≡ Some (before, part) → MemberIs cells ms i before part
+pub member_is : (cells : ℕ → Option ℕ) (ms : List Member) (i before part : ℕ) → member_part cells ms i ≡ Some (before, part) → MemberIs cells ms i before part
 member_is cells ms i before part h = go (slice_get ms i) (members_cells cells (take i ms)) refl refl h
   where
     go : (o : Option Member) (s : Option ℕ) → slice_get ms i ≡ o → members_cells cells (take i ms) ≡ s
@@ -72,7 +72,7 @@ members_before shape cells (k ∷ ms) (v ∷ vs) (suc i) n m u count all g s h =
 
 -- ---- one level
 
-element_is : (a : Option ℕ) (element i before part : ℕ) → option_map {U = ℕ × ℕ} (λ c. (c * i, element)) a ≡ Some (before, part)
+pub element_is : (a : Option ℕ) (element i before part : ℕ) → option_map {U = ℕ × ℕ} (λ c. (c * i, element)) a ≡ Some (before, part)
     → (c : ℕ) × (a ≡ Some c) × (c * i ≡ before) × (element ≡ part)
 element_is None element i before part h = cc
 element_is (Some c) element i before part h =
@@ -149,7 +149,7 @@ pub record LeafIs (ts : Types) (id i : ℕ) (path : List ℕ) (n : ℕ) : Type 0
   pub rest : leaf_of ts part path ≡ Some within
   pub sum : n ≡ before + within
 
-leaf_is : (ts : Types) (id i : ℕ) (path : List ℕ) (n : ℕ) → leaf_of ts id (i ∷ path) ≡ Some n → LeafIs ts id i path n
+pub leaf_is : (ts : Types) (id i : ℕ) (path : List ℕ) (n : ℕ) → leaf_of ts id (i ∷ path) ≡ Some n → LeafIs ts id i path n
 unfolding leaf_of
 leaf_is ts id i path n h = formed (form_of ts id) refl h
   where

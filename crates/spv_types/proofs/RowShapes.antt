@@ -79,7 +79,7 @@ pub record ReachedBy (ts : Types) (id i : ℕ) (path : List ℕ) (target : ℕ) 
   pub at : part_type form i ≡ Some part
   pub rest : reached ts part path ≡ Some target
 
-reached_by : (ts : Types) (id i : ℕ) (path : List ℕ) (target : ℕ) → reached ts id (i ∷ path) ≡ Some target → ReachedBy ts id i path target
+pub reached_by : (ts : Types) (id i : ℕ) (path : List ℕ) (target : ℕ) → reached ts id (i ∷ path) ≡ Some target → ReachedBy ts id i path target
 unfolding reached
 reached_by ts id i path target h = formed (form_of ts id) refl h
   where

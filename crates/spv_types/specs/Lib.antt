@@ -17,3 +17,4 @@ pub mod Views
 pub mod Laws
 pub mod Rows
 pub mod Counted
+pub mod Offsets

@@ -1,10 +1,15 @@
 //! Laws of rows.
-ghost use Rattle.std.specs.Prelude.{◌≡◌, ℕ, ◌+◌, List, [], ◌∷◌, ◌++◌, slice_get, Option, Some, length, take, drop};
+ghost use Rattle.std.specs.Prelude.{◌≡◌, ℕ, ◌<◌, ◌≤◌, ◌+◌, List, [], ◌∷◌, ◌++◌, slice_get, Option, Some, length, option_map, take, drop, true};
 ghost use Rattle.std.specs.List.{flat_map};
 ghost use Rattle.spv_base.specs.Parts.{part_at, with_part};
 ghost use Rattle.spv_base.specs.declared.values.Root.{Root};
 ghost use Rattle.spv_base.specs.declared.values.Value.{Value, List as Many};
-ghost use Rattle.spv_types.specs.Types.{Types};
+ghost use Rattle.spv_types.specs.Leaves.{leaf_of};
+ghost use Rattle.spv_types.specs.Limits.{limit_of};
+ghost use Rattle.spv_types.specs.Offsets.{IsOneOf, IsPart};
+ghost use Rattle.spv_types.specs.Places.{place_of};
+ghost use Rattle.spv_types.specs.Rules.{is_scalar};
+ghost use Rattle.spv_types.specs.Types.{Types, form_of};
 ghost use Rattle.spv_types.specs.Cells.{cells_of};
 ghost use Rattle.spv_types.specs.Laws.{AreSound};
 ghost use Rattle.spv_types.specs.Shapes.{HasShape, reached};
@@ -52,4 +57,22 @@ pub fn slots_have_rows()
 pub fn rows_tell_values()
     ensures { (ts : Types) (id : ℕ) (v u : Value) (n : ℕ) → HasShape ts no_roots id v → HasShape ts no_roots id u
         → cells_of ts id ≡ Some n → leaves v ≡ leaves u → v ≡ u }
+{}
+
+/// The place of a leaf of a part of a block is the sum of the Offsets, the strides times the indices and the bytes of vector
+/// components that the part's path steps over, and of its place in the part.
+pub fn places_are_offsets()
+    ensures parts { (ts : Types) (id leaf offset part k : ℕ) (path : List ℕ) → AreSound ts → IsPart ts id path leaf offset part
+        → IsOneOf (cells_of ts part) k → place_of ts id (leaf + k) ≡ option_map (λ b. offset + b) (place_of ts part k) }
+    ensures scalars { (ts : Types) (id leaf offset part : ℕ) (path : List ℕ) → AreSound ts → IsPart ts id path leaf offset part
+        → is_scalar (form_of ts part) ≡ true → place_of ts id leaf ≡ Some offset }
+{}
+
+/// A type has at most as many leaves as its limit counts cells, so within the limits of acceptance no number of leaves is
+/// cut; and a leaf of a part is a leaf of the whole.
+pub fn limits_leave_leaves_whole()
+    ensures cells { (ts : Types) (id n : ℕ) → cells_of ts id ≡ Some n → (limit_of ts id).cells < 18446744073709551615
+        → n ≤ (limit_of ts id).cells }
+    ensures within { (ts : Types) (id leaf part k : ℕ) (path : List ℕ) → AreSound ts → leaf_of ts id path ≡ Some leaf
+        → reached ts id path ≡ Some part → IsOneOf (cells_of ts part) k → IsOneOf (cells_of ts id) (leaf + k) }
 {}
