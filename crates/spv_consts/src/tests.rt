@@ -94,7 +94,12 @@ fn build(
     };
     let index = Index::of(alloc, decoded)?;
     let types = TypeTable::build(alloc, &index)?;
-    ConstTable::build(alloc, types, index.insts(), &Items::from_slice(alloc, over)?)
+    ConstTable::build(
+        alloc,
+        types,
+        index.insts(),
+        &Items::from_slice(alloc, over)?,
+    )
 }
 
 /// The number, the width and the mark of a leaf.
