@@ -1,5 +1,6 @@
 pub mod CallLemmas
-pub mod AlikeLemmas
 pub mod BodyLemmas
 pub mod TestLemmas
+pub mod TermLemmas
+pub mod ClassLemmas
 pub mod RuleLaws

@@ -34,7 +34,6 @@ use Rattle.spv_bodies.specs.declared.rules.CompositeRule.{CompositeRule}
 use Rattle.spv_bodies.specs.declared.rules.CompositeRule.TheVariants.{ExtractDynamic, InsertDynamic, Shuffle, Construct, Extract, Insert, CopyObject, CopyLogical}
 use Rattle.spv_bodies.specs.declared.rules.ControlRule.{ControlRule}
 use Rattle.spv_bodies.specs.declared.rules.ControlRule.TheVariants.{Phi, Branch, Switch, Return, ReturnValue, Function, Parameter, Call}
-use Rattle.spv_bodies.specs.Alike.{are_alike}
 use Rattle.spv_bodies.specs.Atomics.{IsOrdered, IsShared, KeepsAtomicCompare, is_ordered, is_shared, number_at, on_shared}
 use Rattle.spv_bodies.specs.Bodies.{KeepsAtomic, KeepsBody, KeepsComposite, KeepsControl, KeepsMemory, KeepsRule, bodies_of, body_breach, body_breaches, breach, keeps, keeps_atomic, keeps_body, keeps_composite, keeps_control, keeps_memory}
 use Rattle.spv_bodies.specs.Calls.{are_of, called_form, function_form, parameter_type, parameters_ahead}
@@ -44,10 +43,12 @@ use Rattle.spv_bodies.specs.Context.{HasType, IsConstantAt, Known, constant_at, 
 use Rattle.spv_bodies.specs.Control.{are_values, firsts}
 use Rattle.spv_bodies.specs.Lanes.{count_of, types_after}
 use Rattle.spv_bodies.specs.Laws.{KeepRules}
+use Rattle.spv_bodies.specs.Matching.{Match, do_match, same_terms, term_of}
 use Rattle.spv_bodies.specs.Memory.{IsWritable, MayBeStored, Starts, is_writable, may_be_stored, member_at, starts}
 use Rattle.spv_index.specs.Operands.{literal_in, literal_operand}
 use Rattle.spv_bodies.specs.Places.{Placed, placed}
 use Rattle.spv_bodies.specs.Rules.{rule_of}
+use Rattle.spv_bodies.proofs.TermLemmas.{both_written}
 use Rattle.spv_bodies.proofs.TestLemmas.{all_are, at_most, boolean, composed, declaring, equal, has_is, impossible, integer, itself, leading, less, one_more, opposite, present, runtime, some, void, word}
 
 -- ---- memory
@@ -144,6 +145,9 @@ parts k os _ = no_parts
 part_of : (k : Known) (whole : ℕ) (os : List Operand) (ty : ℕ) → Decides (is_part k whole os ty) (IsPart k whole os ty)
 part_of k whole os ty = Decides-and (is_selectable (form_of k.types ty)) (has ty (named k whole os)) (itself _) (has_is ty (named k whole os))
 
+matching : (ts : Types) (a b : ℕ) → Decides (do_match ts a b) (Match ts a b)
+matching ts a b = Decides-or (a == b) (same_terms (term_of ts a) (term_of ts b)) (equal a b) (both_written (term_of ts a) (term_of ts b))
+
 composite : (k : Known) (i : Inst) (rule : CompositeRule) → Decides (keeps_composite k i rule) (KeepsComposite k i rule)
 composite k i ExtractDynamic = Decides-and (is_integer_at k i 1) _ (integer (form_at k i 1)) (composed _ _ (form_at k i 0) (λ v. equal v.ty i.ty))
 composite k i InsertDynamic =
@@ -157,7 +161,7 @@ composite k i Insert =
     Decides-and (has i.ty (type_at k i 1)) _ (has_is i.ty (type_at k i 1)) (some _ _ (type_at k i 0) (λ ty. part_of k i.ty (drop 2 i.operands) ty))
 composite k i CopyObject = has_is i.ty (type_at k i 0)
 composite k i CopyLogical =
-    Decides-and (is_selectable (form_of k.types i.ty)) _ (itself _) (some _ _ (type_at k i 0) (λ ty. itself (are_alike k.types ty i.ty)))
+    Decides-and (is_selectable (form_of k.types i.ty)) _ (itself _) (some _ _ (type_at k i 0) (λ ty. matching k.types ty i.ty))
 
 -- ---- control and calls
 

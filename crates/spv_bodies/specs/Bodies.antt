@@ -20,7 +20,7 @@ use Rattle.spv_bodies.specs.declared.rules.CompositeRule.TheVariants.{ExtractDyn
 use Rattle.spv_bodies.specs.declared.rules.ControlRule.{ControlRule}
 use Rattle.spv_bodies.specs.declared.rules.ControlRule.TheVariants.{Phi, Branch, Switch, Return, ReturnValue, Function, Parameter, Call}
 use Rattle.spv_bodies.specs.Context.{Known, known_of}
-use Rattle.spv_bodies.specs.Alike.{KeepsCopyLogical, keeps_copy_logical}
+use Rattle.spv_bodies.specs.Matching.{KeepsCopyLogical, keeps_copy_logical}
 use Rattle.spv_bodies.specs.Atomics.{KeepsAtomicCompare, KeepsAtomicRead, KeepsAtomicStore, KeepsAtomicUpdate, KeepsControlBarrier, KeepsMemoryBarrier, keeps_atomic_compare, keeps_atomic_read, keeps_atomic_store, keeps_atomic_update, keeps_control_barrier, keeps_memory_barrier}
 use Rattle.spv_bodies.specs.Calls.{KeepsCall, KeepsFunction, KeepsParameter, keeps_call, keeps_function, keeps_parameter}
 use Rattle.spv_bodies.specs.Chains.{KeepsChain, keeps_chain}

@@ -6,8 +6,10 @@ pub mod Control
 pub mod Calls
 pub mod Lanes
 pub mod Composites
-pub mod Alike
 pub mod Rules
 pub mod Places
+pub mod Matching
+pub mod Terms
+pub mod Classes
 pub mod Bodies
 pub mod Laws

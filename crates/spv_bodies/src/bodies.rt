@@ -6,7 +6,6 @@ ghost use Rattle.spv_types.specs.Blocks.{nothing};
 ghost use Rattle.spv_bodies.specs.Bodies as spec;
 ghost use Rattle.spv_bodies.specs.Places.{nowhere, place, placed_from};
 
-use crate::alike::{Likeness, keeps_copy_logical};
 use crate::atomics::{
     keeps_atomic_compare, keeps_atomic_read, keeps_atomic_store, keeps_atomic_update,
     keeps_control_barrier, keeps_memory_barrier,
@@ -20,6 +19,7 @@ use crate::composites::{
 use crate::context::Context;
 use crate::control::{keeps_branch, keeps_phi, keeps_return, keeps_return_value, keeps_switch};
 use crate::lanes::{keeps_extended, keeps_lanes};
+use crate::matching::{Matching, keeps_copy_logical};
 use crate::memory::{
     keeps_array_length, keeps_copy_memory, keeps_load, keeps_store, keeps_undef, keeps_variable,
 };
@@ -63,12 +63,12 @@ fn keeps_atomic(context: &Context, inst: &Inst, rule: AtomicRule) -> bool
 
 fn keeps_composite(
     context: &Context,
-    likeness: &mut Likeness,
+    matching: &mut Matching,
     inst: &Inst,
     rule: CompositeRule,
 ) -> Result<bool, NoMemory>
-    requires { likeness.old ≡ context.now.types }
-    ensures same { likeness.new ≡ likeness.old }
+    requires { matching.old ≡ context.now.types }
+    ensures same { matching.new ≡ matching.old }
     ensures kept { IfOk result (λ kept. kept ≡ spec.keeps_composite context.now inst.now rule) }
 {
     match rule {
@@ -79,7 +79,7 @@ fn keeps_composite(
         CompositeRule::Extract => Ok(keeps_extract(context, inst)),
         CompositeRule::Insert => Ok(keeps_insert(context, inst)),
         CompositeRule::CopyObject => Ok(keeps_copy_object(context, inst)),
-        CompositeRule::CopyLogical => keeps_copy_logical(context, likeness, inst),
+        CompositeRule::CopyLogical => keeps_copy_logical(context, matching, inst),
     }
 }
 
@@ -108,14 +108,14 @@ fn keeps_control(
 /// Whether an instruction keeps a rule, in the function at hand and before the rest of the instructions.
 fn keeps(
     context: &Context,
-    likeness: &mut Likeness,
+    matching: &mut Matching,
     within: Within,
     inst: &Inst,
     rest: &[Inst],
     rule: Rule,
 ) -> Result<bool, NoMemory>
-    requires { likeness.old ≡ context.now.types }
-    ensures same { likeness.new ≡ likeness.old }
+    requires { matching.old ≡ context.now.types }
+    ensures same { matching.new ≡ matching.old }
     ensures kept { IfOk result (λ kept. kept ≡ spec.keeps context.now (place inst.now within rest.now) rule) }
 {
     match rule {
@@ -124,7 +124,7 @@ fn keeps(
         Rule::Extended => Ok(keeps_extended(context, inst)),
         Rule::Memory(rule) => Ok(keeps_memory(context, inst, rule)),
         Rule::Atomic(rule) => Ok(keeps_atomic(context, inst, rule)),
-        Rule::Composite(rule) => keeps_composite(context, likeness, inst, rule),
+        Rule::Composite(rule) => keeps_composite(context, matching, inst, rule),
         Rule::Control(rule) => Ok(keeps_control(context, within, inst, rest, rule)),
     }
 }
@@ -133,29 +133,29 @@ fn keeps(
 #[tactic(auto, unfolding(crate::specs::Bodies::keeps_body))]
 fn keeps_body(
     context: &Context,
-    likeness: &mut Likeness,
+    matching: &mut Matching,
     within: Within,
     inst: &Inst,
     rest: &[Inst],
 ) -> Result<bool, NoMemory>
-    requires { likeness.old ≡ context.now.types }
-    ensures same { likeness.new ≡ likeness.old }
+    requires { matching.old ≡ context.now.types }
+    ensures same { matching.new ≡ matching.old }
     ensures kept { IfOk result (λ kept. kept ≡ spec.keeps_body context.now (place inst.now within rest.now)) }
 {
     if context.types().has_runtime(inst.ty) {
         return Ok(false);
     }
-    keeps(context, likeness, within, inst, rest, rule_of(inst.op))
+    keeps(context, matching, within, inst, rest, rule_of(inst.op))
 }
 
 /// Refuses the first instruction that breaks a rule.
 fn check_all(alloc: Global, context: &Context, insts: &[Inst]) -> Result<(), Fail<Refusal>>
     ensures { Answers (unless_refused nothing (spec.body_breaches context.now (placed_from nowhere insts.now))) result }
 {
-    let mut likeness = Likeness::of(alloc, context.types());
+    let mut matching = Matching::of(alloc, context.types());
     let mut within = Within::nowhere();
     for (n, inst) in insts.iter().enumerate() {
-        if !keeps_body(context, &mut likeness, within, inst, &insts[n + 1..])? {
+        if !keeps_body(context, &mut matching, within, inst, &insts[n + 1..])? {
             return Err(Fail::Refused(Refusal {
                 code: TYPE_CODE,
                 word: inst.word,

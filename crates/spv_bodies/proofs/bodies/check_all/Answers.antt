@@ -11,7 +11,7 @@ pub loop-n-preserved : goal.loop-n-preserved
 loop-n-preserved c = record {
   refusals = rw c.after-within.ensures (body_kept c.args.context.now c.loop-n.within c.args.insts.now c.loop-n.n c.index-insts-n.result c.loop-n-test.true c.index-insts-n.is
       (sym c.if-not-branch.false ∙ c.in_ok-keeps_body.ensures.kept) c.loop-n.invariant.refusals);
-  likeness = c.in_ok-keeps_body.ensures.same ∙ c.loop-n.invariant.likeness;
+  matching = c.in_ok-keeps_body.ensures.same ∙ c.loop-n.invariant.matching;
   few = rw c.after-within.ensures (few_after c.loop-n.within c.index-insts-n.result c.loop-n.n c.loop-n.invariant.few);
 }
 

@@ -7,6 +7,6 @@ use Rattle.spv_bodies.proofs.bodies.check_all.Given as goal
 abbrev pub invariant-loop-n : goal.invariant-loop-n
 invariant-loop-n l = record {
   refusals : breaches_from l.context nowhere l.insts ≡ breaches_from l.context l.within (drop l.n l.insts);
-  likeness : l.likeness ≡ l.context.types;
+  matching : l.matching ≡ l.context.types;
   few : l.within.parameters ≤ l.n;
 }
