@@ -9,7 +9,7 @@ use Rattle.spv_base.specs.declared.instructions.Inst.{Inst}
 use Rattle.spv_types.specs.declared.forms.Form.{Form}
 use Rattle.spv_types.specs.declared.forms.Form.TheVariants.{Void, Bool as Boolean, Int, Vector, Array, Runtime, Struct, Pointer, Function}
 use Rattle.spv_types.specs.Types.{Types, form_of}
-use Rattle.spv_types.specs.Facts.{decoration}
+use Rattle.spv_index.specs.Definitions.{decoration}
 use Rattle.spv_types.specs.Rules.{is_width}
 use Rattle.spv_alu.specs.Results.{integer}
 

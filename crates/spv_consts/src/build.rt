@@ -14,23 +14,21 @@ use crate::overrides::held;
 use crate::table::ConstTable;
 use crate::walk::Walk;
 use spv_base::{Fail, Inst, NoMemory, Overrides, Refusal};
-use spv_index::Definitions as Index;
-use spv_types::{Facts, TypeTable, functions_start};
+use spv_index::Index;
+use spv_types::{TypeTable, functions_start};
 use std::alloc::Global;
 
 /// What the constants of a module are read by.
 fn context_of<'a>(
     alloc: Global,
     types: &TypeTable,
-    insts: &'a [Inst],
+    index: &'a Index,
     over: &Overrides,
 ) -> Result<Context<'a>, NoMemory>
-    ensures { IfOk result (λ context. context ≡ context_of types.now insts.now over.now) }
+    ensures { IfOk result (λ context. context ≡ context_of types.now index.now.insts over.now) }
 {
-    let facts = Facts::of(alloc, insts)?;
-    let index = Index::of(alloc, insts)?;
-    let held = held(alloc, &facts, types, over, insts)?;
-    Ok(Context { facts, index, held })
+    let held = held(alloc, index, types, over)?;
+    Ok(Context { index, held })
 }
 
 /// A result, or a breach of the rules of SpecId at a word, where that is not after a refusal.
@@ -70,12 +68,13 @@ impl ConstTable {
     pub fn build(
         alloc: Global,
         types: TypeTable,
-        insts: &[Inst],
+        index: &Index,
         over: &Overrides,
     ) -> Result<(TypeTable, ConstTable), Fail<Refusal>>
-        ensures { Answers (constants_of types insts.now over.now) result }
+        ensures { Answers (constants_of types index.now.insts over.now) result }
     {
-        let context = context_of(alloc, &types, insts, over)?;
+        let insts = index.insts();
+        let context = context_of(alloc, &types, index, over)?;
         let word = context.lowest_wrong(insts);
         let front = &insts[..functions_start(insts)];
         let outcome = Walk::new(alloc, types).built(alloc, &context, front);
@@ -93,7 +92,12 @@ impl Walk {
     ) -> Result<(TypeTable, ConstTable), Fail<Refusal>>
         ensures { Answers (unless_refused (known_of (walked context.now self insts.now)) (breaches_from context.now self insts.now)) result }
     {
-        let Walk { types, values, .. } = self.walked(alloc, context, insts)?;
+        let Walk {
+            mut types,
+            values,
+            ..
+        } = self.walked(alloc, context, insts)?;
+        types.count(alloc)?;
         Ok((types, values))
     }
 }

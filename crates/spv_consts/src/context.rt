@@ -6,28 +6,23 @@ ghost use Rattle.spv_consts.specs.Overrides.{override_of};
 
 use crate::overrides::spec_id_of;
 use spv_base::Inst;
-use spv_index::{Definitions as Index, Table};
+use spv_index::{Index, Table};
 use spv_ops::op;
-use spv_types::Facts;
 use std::marker::Model;
 
-/// The instructions of a module, with look-ups, and the overrides that hold.
+/// The index of a module, and the overrides that hold.
 #[derive(Drop)]
 pub(crate) struct Context<'a> {
-    pub(crate) facts: Facts<'a>,
-    pub(crate) index: Index<'a>,
+    pub(crate) index: &'a Index,
     pub(crate) held: Table<i128>,
 }
 
 impl<'a> Model for Context<'a> {
-    ghost use Rattle.std.specs.Prelude.{◌≡◌};
     ghost use Rattle.spv_consts.specs.Context as spec;
 
     ghost Value = { spec.Context };
 
-    ghost view = { λ c. record { all = c.facts; held = c.held } };
-
-    ghost invariant = { λ c. c.index ≡ c.facts };
+    ghost view = { λ c. record { all = c.index.now.insts; held = c.held } };
 }
 
 fn is_undef_before(word: u32, inst: &Inst) -> bool
@@ -41,7 +36,10 @@ impl<'a> Context<'a> {
     pub(crate) fn type_of(&self, id: u32) -> u32
         ensures { result ≡ type_of self.now.all id }
     {
-        self.index.type_of(id)
+        match self.index.defining(id) {
+            Some(inst) => inst.ty,
+            None => 0,
+        }
     }
 
     /// Whether an id is an OpUndef before a word.
@@ -58,7 +56,7 @@ impl<'a> Context<'a> {
     pub(crate) fn override_of(&self, inst: &Inst) -> Option<i128>
         ensures { result ≡ override_of self.now.all self.now.held inst.now }
     {
-        let spec = spec_id_of(&self.facts, inst)?;
+        let spec = spec_id_of(self.index, inst)?;
         self.held.get(spec)
     }
 }

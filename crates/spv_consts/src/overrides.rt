@@ -7,9 +7,9 @@ ghost use Rattle.spv_types.specs.Types.{form_of};
 ghost use Rattle.spv_consts.specs.Overrides as spec;
 
 use spv_base::{Cell, Inst, Items, NoMemory};
-use spv_index::Table;
+use spv_index::{Index, Table};
 use spv_ops::{decoration, op};
-use spv_types::{Facts, Form, TypeTable};
+use spv_types::{Form, TypeTable};
 use std::alloc::Global;
 use std::collections::BTreeMap;
 
@@ -24,11 +24,11 @@ pub(crate) fn is_specializable(opcode: u16) -> bool
 }
 
 /// The SpecId of a constant.
-pub(crate) fn spec_id_of(facts: &Facts, inst: &Inst) -> Option<u32>
-    ensures { result ≡ spec.spec_id_of facts.now inst.now }
+pub(crate) fn spec_id_of(index: &Index, inst: &Inst) -> Option<u32>
+    ensures { result ≡ spec.spec_id_of index.now.insts inst.now }
 {
     if is_specializable(inst.op) {
-        facts.decoration(inst.id, decoration::SPEC_ID)
+        index.decoration(inst.id, decoration::SPEC_ID)
     } else {
         None
     }
@@ -59,10 +59,10 @@ fn fits(types: &TypeTable, ty: u32, n: i128) -> bool
 }
 
 /// The SpecId of a constant whose type the number for it does not fit.
-fn misfit(facts: &Facts, types: &TypeTable, over: &Table<i128>, inst: &Inst) -> Option<u32>
-    ensures { (id : ℕ) → spec.is_same id result ≡ spec.is_misfit facts.now types.now over.now id inst.now }
+fn misfit(index: &Index, types: &TypeTable, over: &Table<i128>, inst: &Inst) -> Option<u32>
+    ensures { (id : ℕ) → spec.is_same id result ≡ spec.is_misfit index.now.insts types.now over.now id inst.now }
 {
-    let id = spec_id_of(facts, inst)?;
+    let id = spec_id_of(index, inst)?;
     let number = over.get(id)?;
     if fits(types, inst.ty, number) {
         None
@@ -84,16 +84,16 @@ fn note(set: &mut BTreeMap<u32, ()>, number: Option<u32>) -> Result<(), NoMemory
 /// The SpecIds whose numbers do not fit some constant.
 fn misfits(
     alloc: Global,
-    facts: &Facts,
+    index: &Index,
     types: &TypeTable,
     over: &Table<i128>,
     insts: &[Inst],
 ) -> Result<BTreeMap<u32, ()>, NoMemory>
-    ensures { IfOk result (λ set. (id : ℕ) → is_some (get nat_cmp set id) ≡ spec.has_misfit facts.now types.now over.now insts.now id) }
+    ensures { IfOk result (λ set. (id : ℕ) → is_some (get nat_cmp set id) ≡ spec.has_misfit index.now.insts types.now over.now insts.now id) }
 {
     let mut set = BTreeMap::new(alloc);
     for inst in insts {
-        note(&mut set, misfit(facts, types, over, inst))?;
+        note(&mut set, misfit(index, types, over, inst))?;
     }
     Ok(set)
 }
@@ -101,14 +101,14 @@ fn misfits(
 /// The overrides whose SpecIds are not in a set.
 fn without(
     alloc: Global,
-    facts: &Facts,
+    index: &Index,
     types: &TypeTable,
     over: &Table<i128>,
     set: &BTreeMap<u32, ()>,
     numbers: &[(u32, i128)],
 ) -> Result<Vec<(u32, i128)>, NoMemory>
-    requires { (id : ℕ) → is_some (get nat_cmp set.now id) ≡ spec.has_misfit facts.now types.now over.now facts.now id }
-    ensures { IfOk result (λ held. held.items ≡ spec.held_of facts.now types.now over.now numbers.now) }
+    requires { (id : ℕ) → is_some (get nat_cmp set.now id) ≡ spec.has_misfit index.now.insts types.now over.now index.now.insts id }
+    ensures { IfOk result (λ held. held.items ≡ spec.held_of index.now.insts types.now over.now numbers.now) }
 {
     let mut held = Vec::new(alloc);
     for number in numbers {
@@ -123,17 +123,15 @@ fn without(
 /// The overrides that hold: those that fit all the constants of their SpecId.
 pub(crate) fn held(
     alloc: Global,
-    facts: &Facts,
+    index: &Index,
     types: &TypeTable,
     over: &Items<(u32, i128)>,
-    insts: &[Inst],
 ) -> Result<Table<i128>, NoMemory>
-    requires { facts.now ≡ insts.now }
-    ensures { IfOk result (λ held. held ≡ spec.held_of insts.now types.now over.now over.now) }
+    ensures { IfOk result (λ held. held ≡ spec.held_of index.now.insts types.now over.now over.now) }
 {
     let table = Table::new(alloc, over.copy(alloc)?.into_vec())?;
-    let set = misfits(alloc, facts, types, &table, insts)?;
-    let held = without(alloc, facts, types, &table, &set, over.as_slice())?;
+    let set = misfits(alloc, index, types, &table, index.insts())?;
+    let held = without(alloc, index, types, &table, &set, over.as_slice())?;
     Table::new(alloc, held)
 }
 

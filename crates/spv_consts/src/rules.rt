@@ -1,5 +1,8 @@
 //! The rules of constants and of array lengths.
-ghost use Rattle.std.specs.Prelude.{◌≡◌, drop};
+ghost use Rattle.std.specs.Prelude.{◌≡◌, ◌+◌, drop};
+ghost use Rattle.spv_index.specs.Definitions.{type_of};
+ghost use Rattle.spv_types.specs.Operands.{id_at};
+ghost use Rattle.spv_typing.specs.Operands.{types_by};
 ghost use Rattle.spv_types.specs.Types.{form_of};
 ghost use Rattle.spv_consts.specs.Rules as spec;
 
@@ -10,8 +13,8 @@ use spv_base::{Inst, Operand};
 use spv_ops::op;
 use spv_types::facts::is_constant;
 use spv_types::views::is_boolean;
-use spv_types::{Form, TypeTable, id_of, lit_at};
-use spv_typing::{fits, is_constant_operation, operand_count};
+use spv_types::{Form, TypeTable, id_at, id_of, lit_at};
+use spv_typing::{OperandTypes, fits_types, is_constant_operation, operand_count};
 
 /// The number of parts of a vector, array or struct.
 fn part_count(types: &TypeTable, ty: u32) -> Option<usize>
@@ -60,6 +63,18 @@ fn operands_of(inst: &Inst) -> &[Operand]
         return operands;
     }
     &operands[1..]
+}
+
+/// The types of the operands of an OpSpecConstantOp after its opcode.
+fn operand_types(context: &Context, inst: &Inst) -> OperandTypes
+    ensures { result ≡ types_by (λ k. type_of context.now.all (id_at inst.now.operands (1 + k))) }
+{
+    OperandTypes {
+        first: context.type_of(id_at(inst, 1)),
+        second: context.type_of(id_at(inst, 2)),
+        third: context.type_of(id_at(inst, 3)),
+        fourth: context.type_of(id_at(inst, 4)),
+    }
 }
 
 /// Whether there are as many operands as an operation has, and its opcode.
@@ -114,13 +129,14 @@ impl Walk {
     }
 
     /// Whether an operation has as many operands as it wants, of types that fit the result.
+    #[tactic(auto, using(spv_typing::proofs::LawLemmas::fits_by))]
     fn keeps_opcode(&self, context: &Context, inst: &Inst, op: u16) -> bool
         ensures { result ≡ spec.keeps_opcode context.now self.now inst.now op }
     {
         is_constant_operation(op)
             && keeps_count(inst, op)
             && self.are_operands(context, inst.word, operands_of(inst))
-            && fits(&self.types, &context.index, inst, op, 1)
+            && fits_types(&self.types, op, inst.ty, operand_types(context, inst))
     }
 
     /// Whether an OpSpecConstantOp keeps its rules.

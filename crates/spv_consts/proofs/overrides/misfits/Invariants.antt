@@ -7,4 +7,4 @@ use Rattle.spv_consts.proofs.overrides.misfits.Given as goal
 
 -- the misfits so far are in the set
 abbrev pub invariant-loop-inst : goal.invariant-loop-inst
-invariant-loop-inst l = (id : ℕ) → (is_some (get nat_cmp l.set id) || has_misfit l.facts l.types l.over (drop l.inst-index l.insts) id) ≡ has_misfit l.facts l.types l.over l.insts id
+invariant-loop-inst l = (id : ℕ) → (is_some (get nat_cmp l.set id) || has_misfit l.index.insts l.types l.over (drop l.inst-index l.insts) id) ≡ has_misfit l.index.insts l.types l.over l.insts id
