@@ -52,15 +52,15 @@ fn module_with(alloc: Global, lines: &[Line]) -> Result<Vec<Inst>, NoMemory> {
 
 /// The types and constants of the module.
 fn tables(alloc: Global) -> Result<(TypeTable, ConstTable), Fail> {
-    let insts = module_with(alloc, &[])?;
     let Some(decoded) = DecodedModule::of(module_with(alloc, &[])?, 1000) else {
         return Err(Fail::new("words"));
     };
-    let Ok(types) = TypeTable::build(alloc, &Index::of(alloc, decoded)?) else {
+    let index = Index::of(alloc, decoded)?;
+    let Ok(types) = TypeTable::build(alloc, &index) else {
         return Err(Fail::new("types"));
     };
     let over = Items::new(alloc);
-    let Ok(tables) = ConstTable::build(alloc, types, insts.as_slice(), &over) else {
+    let Ok(tables) = ConstTable::build(alloc, types, &index, &over) else {
         return Err(Fail::new("constants"));
     };
     Ok(tables)

@@ -94,12 +94,7 @@ fn build(
     };
     let index = Index::of(alloc, decoded)?;
     let types = TypeTable::build(alloc, &index)?;
-    ConstTable::build(
-        alloc,
-        types,
-        index.insts(),
-        &Items::from_slice(alloc, over)?,
-    )
+    ConstTable::build(alloc, types, &index, &Items::from_slice(alloc, over)?)
 }
 
 /// The number, the width and the mark of a leaf.

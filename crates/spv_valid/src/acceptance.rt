@@ -37,7 +37,7 @@ fn read_types(
     ensures { Answers (known_of index.now.insts over.now) result }
 {
     let types = TypeTable::build(alloc, index)?;
-    let (types, consts) = ConstTable::build(alloc, types, index.insts(), over)?;
+    let (types, consts) = ConstTable::build(alloc, types, index, over)?;
     types.check_layout(alloc, index)?;
     Ok((types, consts))
 }
