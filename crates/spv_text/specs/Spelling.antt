@@ -1,0 +1,63 @@
+-- The parts of a line of a listing, and their bytes.
+use Rattle.std.specs.Prelude.{◌≡◌, ℕ, ◌+◌, ◌/◌, ◌%◌, ◌^◌, ◌<◌, ◌==◌, nat_lt, nat_le, ◌&&◌, ◌||◌, Bool, IsTrue, List, [], ◌∷◌, ◌++◌, length, codes, decimal, if◌then◌else◌}
+use Rattle.std.specs.List.{flat_map, AllByRecursion}
+use Rattle.spv_base.specs.declared.instructions.Operand.{Operand}
+use Rattle.spv_base.specs.declared.instructions.Operand.TheVariants.{Id, Lit, Text}
+use Rattle.spv_text.specs.declared.lines.Part.{Part}
+use Rattle.spv_text.specs.declared.lines.Part.TheVariants as part
+use Rattle.spv_text.specs.declared.lines.Line.{Line}
+
+-- a digit of base 16, in lower case
+abbrev pub hex_digit : ℕ → ℕ
+hex_digit n = if nat_lt n 10 then 48 + n else 87 + n
+
+-- A byte in a string: the bytes 32 to 126 stand for themselves, but a quote and a backslash have a backslash before them;
+-- any other is a backslash, an x and two digits of base 16.
+abbrev pub byte_text : ℕ → List ℕ
+byte_text byte =
+    if byte == 34 || byte == 92 then 92 ∷ byte ∷ []
+    else if nat_le 32 byte && nat_le byte 126 then byte ∷ []
+    else 92 ∷ 120 ∷ hex_digit (byte / 16) ∷ hex_digit (byte % 16) ∷ []
+
+-- an id, a literal word, a string in quotes
+abbrev pub operand_text : Operand → List ℕ
+operand_text (Id id) = 37 ∷ decimal id
+operand_text (Lit literal) = decimal literal
+operand_text (Text bytes) = 34 ∷ flat_map byte_text bytes ++ 34 ∷ []
+
+-- a result type, a result id, an operand
+abbrev pub part_text : Part → List ℕ
+part_text (part.ResultType id) = codes "type=%" ++ decimal id
+part_text (part.ResultId id) = codes "id=%" ++ decimal id
+part_text (part.Operand operand) = operand_text operand
+
+-- a space before each part
+abbrev pub parts_text : List Part → List ℕ
+parts_text parts = flat_map (λ part. 32 ∷ part_text part) parts
+
+-- the word, a colon, a name and the parts, and the byte LF
+abbrev pub line_text : Line → List ℕ
+line_text line = decimal line.word ++ 58 ∷ 32 ∷ line.name ++ parts_text line.parts ++ 10 ∷ []
+
+-- ---- what may stand in a line
+
+-- a letter or a digit
+abbrev pub is_alphanumeric : ℕ → Bool
+is_alphanumeric byte = (nat_le 48 byte && nat_le byte 57) || (nat_le 65 byte && nat_le byte 90) || (nat_le 97 byte && nat_le byte 122)
+
+-- words are below 2 ^ 32, and a string is of bytes that are not zero
+abbrev pub IsOperand : Operand → Type 0
+IsOperand (Id id) = id < 2 ^ 32
+IsOperand (Lit literal) = literal < 2 ^ 32
+IsOperand (Text bytes) = AllByRecursion (λ byte. (0 < byte) × (byte < 256)) bytes
+
+abbrev pub IsPart : Part → Type 0
+IsPart (part.ResultType id) = id < 2 ^ 32
+IsPart (part.ResultId id) = id < 2 ^ 32
+IsPart (part.Operand operand) = IsOperand operand
+
+pub record IsLine (line : Line) : Type 0 where
+  pub word : line.word < 2 ^ 32
+  pub some_name : 0 < length line.name
+  pub name : AllByRecursion (λ byte. IsTrue (is_alphanumeric byte)) line.name
+  pub parts : AllByRecursion IsPart line.parts

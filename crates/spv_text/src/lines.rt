@@ -1,0 +1,21 @@
+//! The lines of a listing.
+use spv_base::{Items, Operand, Text};
+
+/// A part of a line, after the name of the opcode.
+#[derive(Debug, PartialEq, Drop)]
+pub enum Part {
+    /// The result type: `type=%` and its id.
+    ResultType(u32),
+    /// The result id: `id=%` and the id.
+    ResultId(u32),
+    /// An operand: `%` and an id, a number, or a string in quotes.
+    Operand(Operand),
+}
+
+/// A line: the number of the instruction's first word, the name of its opcode with `Op` before it, and the parts.
+#[derive(Debug, PartialEq, Drop)]
+pub struct Line {
+    pub word: u32,
+    pub name: Text,
+    pub parts: Items<Part>,
+}
