@@ -1,6 +1,6 @@
 -- The parts of a line of a listing, and their bytes.
-use Rattle.std.specs.Prelude.{◌≡◌, ℕ, ◌+◌, ◌/◌, ◌%◌, ◌^◌, ◌<◌, ◌==◌, nat_lt, nat_le, ◌&&◌, ◌||◌, Bool, IsTrue, List, [], ◌∷◌, ◌++◌, length, codes, decimal, if◌then◌else◌}
-use Rattle.std.specs.List.{flat_map, AllByRecursion}
+use Rattle.std.specs.Prelude.{ℕ, ◌+◌, ◌/◌, ◌%◌, ◌==◌, nat_lt, nat_le, ◌&&◌, ◌||◌, List, [], ◌∷◌, ◌++◌, codes, decimal, if◌then◌else◌}
+use Rattle.std.specs.List.{flat_map}
 use Rattle.spv_base.specs.declared.instructions.Operand.{Operand}
 use Rattle.spv_base.specs.declared.instructions.Operand.TheVariants.{Id, Lit, Text}
 use Rattle.spv_text.specs.declared.lines.Part.{Part}
@@ -38,26 +38,3 @@ parts_text parts = flat_map (λ part. 32 ∷ part_text part) parts
 -- the word, a colon, a name and the parts, and the byte LF
 abbrev pub line_text : Line → List ℕ
 line_text line = decimal line.word ++ 58 ∷ 32 ∷ line.name ++ parts_text line.parts ++ 10 ∷ []
-
--- ---- what may stand in a line
-
--- a letter or a digit
-abbrev pub is_alphanumeric : ℕ → Bool
-is_alphanumeric byte = (nat_le 48 byte && nat_le byte 57) || (nat_le 65 byte && nat_le byte 90) || (nat_le 97 byte && nat_le byte 122)
-
--- words are below 2 ^ 32, and a string is of bytes that are not zero
-abbrev pub IsOperand : Operand → Type 0
-IsOperand (Id id) = id < 2 ^ 32
-IsOperand (Lit literal) = literal < 2 ^ 32
-IsOperand (Text bytes) = AllByRecursion (λ byte. (0 < byte) × (byte < 256)) bytes
-
-abbrev pub IsPart : Part → Type 0
-IsPart (part.ResultType id) = id < 2 ^ 32
-IsPart (part.ResultId id) = id < 2 ^ 32
-IsPart (part.Operand operand) = IsOperand operand
-
-pub record IsLine (line : Line) : Type 0 where
-  pub word : line.word < 2 ^ 32
-  pub some_name : 0 < length line.name
-  pub name : AllByRecursion (λ byte. IsTrue (is_alphanumeric byte)) line.name
-  pub parts : AllByRecursion IsPart line.parts

@@ -6,3 +6,6 @@ mod writing;
 
 pub use lines::{Line, Part};
 pub use writing::listing;
+
+#[cfg(test)]
+mod tests;

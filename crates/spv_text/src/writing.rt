@@ -7,7 +7,6 @@ ghost use Rattle.spv_text.specs.declared.lines.Part.TheVariants as part;
 ghost use Rattle.spv_text.specs.Spelling.{byte_text, hex_digit, line_text, operand_text, part_text, parts_text};
 ghost use Rattle.spv_text.specs.Listing.{head_parts, line_of, listing, name_of};
 
-use crate::lines::{Line, Part};
 use spv_base::{Inst, NoMemory, Operand, Text};
 use spv_ops::{Head, opcode_of};
 use std::alloc::Global;
@@ -83,40 +82,6 @@ fn push_id(alloc: Global, text: &mut Vec<u8>, id: u32) -> Result<(), NoMemory>
 {
     text.extend_from_slice(b"id=%")?;
     push_number(alloc, text, id)
-}
-
-/// Appends a part of a line after a space.
-fn push_part(alloc: Global, text: &mut Vec<u8>, part: &Part) -> Result<(), NoMemory>
-    ensures { OnOk result (text.new.items ≡ text.old.items ++ 32 ∷ part_text part.now) }
-{
-    text.push(b' ')?;
-    match part {
-        Part::ResultType(id) => push_type(alloc, text, *id),
-        Part::ResultId(id) => push_id(alloc, text, *id),
-        Part::Operand(operand) => push_operand(alloc, text, operand),
-    }
-}
-
-/// Appends the parts of a line, each after a space.
-fn push_parts(alloc: Global, text: &mut Vec<u8>, parts: &[Part]) -> Result<(), NoMemory>
-    ensures { OnOk result (text.new.items ≡ text.old.items ++ parts_text parts.now) }
-{
-    for part in parts {
-        push_part(alloc, text, part)?;
-    }
-    Ok(())
-}
-
-/// Appends a line.
-pub fn push_line(alloc: Global, text: &mut Vec<u8>, line: &Line) -> Result<(), NoMemory>
-    ensures { OnOk result (text.new.items ≡ text.old.items ++ line_text line.now) }
-{
-    push_number(alloc, text, line.word)?;
-    text.extend_from_slice(b": ")?;
-    text.extend_from_slice(line.name.as_slice())?;
-    push_parts(alloc, text, line.parts.as_slice())?;
-    text.push(b'\n')?;
-    Ok(())
 }
 
 /// Appends the result type and the result id of a form, each after a space.

@@ -1,5 +1,4 @@
 use Rattle.std.proofs.Common.{◌≡◌, ◌++◌, drop, map}
-use Rattle.std.specs.List.{flat_map}
 use Rattle.spv_text.specs.Spelling.{parts_text}
 use Rattle.spv_text.specs.declared.lines.Part.TheVariants as part
 use Rattle.spv_text.proofs.writing.push_operands.Given as goal
