@@ -1,11 +1,11 @@
 -- Modules in which no pass has a breach.
-use Rattle.std.proofs.Common.{◌≡◌, ℕ, ℤ, Bool, true, false, cond, List, Option, Some, None, Result, Ok, Err, refl, subst}
+use Rattle.std.proofs.Common.{◌≡◌, ℕ, ℤ, Bool, true, false, cond, List, Option, Some, None, Result, Ok, Err, option_and_then, refl, subst}
 use Rattle.std.proofs.lemmas.Option.{option_and_then_some}
 use Rattle.spv_base.specs.Entries.{reads}
 use Rattle.spv_base.specs.declared.causes.Refusal.{Refusal}
 use Rattle.spv_base.specs.declared.instructions.Inst.{Inst}
 use Rattle.spv_ops.specs.Module.{Decoded}
-use Rattle.spv_types.specs.Operands.{id_at}
+use Rattle.spv_index.specs.Operands.{id_operand}
 use Rattle.spv_types.specs.Types.{Types}
 use Rattle.spv_types.specs.Build.{types_of}
 use Rattle.spv_types.specs.Blocks.{layout_of, nothing}
@@ -71,7 +71,7 @@ pub entry_depth : (ts : Types) (constants : Constants) (flow : Flow) (insts : Li
     → entry_of ts constants flow insts name ≡ Ok e → reads e.function flow.depths ≡ Some e.depth
 unfolding entry_of
 entry_depth ts constants flow insts name e is =
-    option_and_then_some _ (entry_point insts name) e (required_some _ e is) (λ i found rest. entry_in-depth ts constants flow insts (id_at i.operands 1) e rest)
+    option_and_then_some (entry_in ts constants flow insts) (option_and_then (λ i. id_operand i 1) (entry_point insts name)) e (required_some _ e is) (λ f found rest. entry_in-depth ts constants flow insts f e rest)
 
 depth-carried : (b a : Accepted) → b ≡ a → reads b.entry b.flow.depths ≡ Some b.depth → reads a.entry a.flow.depths ≡ Some a.depth
 depth-carried b a same depth = subst (λ (x : Accepted). reads x.entry x.flow.depths ≡ Some x.depth) same depth

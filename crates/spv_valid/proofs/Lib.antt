@@ -3,3 +3,4 @@ pub mod AcceptedLemmas
 pub mod OrderLemmas
 pub mod LeastLemmas
 pub mod PassLemmas
+mod EntryLemmas

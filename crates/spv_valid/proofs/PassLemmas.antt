@@ -1,5 +1,5 @@
 -- What each pass tells of its breaches, and all of them together.
-use Rattle.std.proofs.Common.{◌≡◌, ◌≤◌, ℕ, ℤ, Bool, true, false, cond, List, [], ◌∷◌, length, Option, Some, None, Result, Ok, Err, refl, sym, ap, arith, subst, ◌++◌}
+use Rattle.std.proofs.Common.{◌≡◌, ◌≤◌, ℕ, ℤ, Bool, true, false, cond, List, [], ◌∷◌, Option, Some, None, Result, Ok, Err, refl, sym, ap, arith, subst, ◌++◌}
 use Rattle.std.proofs.lemmas.Bool.Decides.{nat_tests}
 use Rattle.std.specs.Prelude.{nat_le, nat_lt}
 use Rattle.std.specs.List.{AllByRecursion, flat_map}
@@ -157,7 +157,7 @@ tells_constants ts insts over ascend =
 
 -- ---- all passes
 
-types_are : (insts : List Inst) (types : Types) → types_of insts ≡ Ok types → types ≡ types_read insts
+pub types_are : (insts : List Inst) (types : Types) → types_of insts ≡ Ok types → types ≡ types_read insts
 unfolding types_of
 types_are insts types is = by_list (type_breaches insts [] (before_functions insts)) is
   where
@@ -187,7 +187,7 @@ tells_code m name known ascend =
     tells_after {U = Accepted} (bodies_of known.0 known.1 m.insts) _ (bodies_breaches known m.insts) _ (tells_bodies known m.insts ascend) (λ _ _.
     tells_entry m name known flow (flow_is m.insts flow is)))
 
-known_is : (insts : List Inst) (over : List (ℕ × ℤ)) (known : Types × Constants) → constants_of (types_read insts) insts over ≡ Ok known → known_read insts over ≡ known
+pub known_is : (insts : List Inst) (over : List (ℕ × ℤ)) (known : Types × Constants) → constants_of (types_read insts) insts over ≡ Ok known → known_read insts over ≡ known
 known_is insts over known same = ap (λ (r : Result (Types × Constants) Refusal). result_unwrap_or r ([], [])) same
 
 tells_known : (m : Decoded) (name : Option (List ℕ)) (over : List (ℕ × ℤ)) (types : Types) → types ≡ types_read m.insts → Ascend 0 m.insts

@@ -1,6 +1,6 @@
 -- Which modules are accepted, and what an accepted module is: the rules of each pass over all instructions (SPIR-V 1.6
 -- section 2.16, and this project's profile), where a pass is read only where the passes before it have no breach.
-use Rattle.std.specs.Prelude.{◌≡◌, ℕ, ℤ, List, Option, Result, Ok, Err}
+use Rattle.std.specs.Prelude.{◌≡◌, ℕ, ℤ, List, Option, Result, Ok}
 use Rattle.spv_base.specs.Answers.{after}
 use Rattle.spv_base.specs.declared.causes.Refusal.{Refusal}
 use Rattle.spv_base.specs.declared.instructions.Inst.{Inst}

@@ -1,7 +1,6 @@
 -- The breaches of a module's rules, and which of them is the least: first by pass, then by word, then by code.
-use Rattle.std.specs.Prelude.{◌≡◌, ◌<◌, ◌≤◌, ◌⊎◌, ℕ, ℤ, suc, false, List, [], ◌∷◌, ◌++◌, length, drop, map, Option, Result, Ok, Err}
-use Rattle.std.specs.List.{All, Contains, flat_map}
-use Rattle.std.specs.Option.{option_to_list}
+use Rattle.std.specs.Prelude.{◌≡◌, ◌<◌, ◌≤◌, ◌⊎◌, ℕ, ℤ, List, [], ◌∷◌, ◌++◌, map, Option, Result, Ok, Err}
+use Rattle.std.specs.List.{All, Contains}
 use Rattle.std.specs.Result.{result_unwrap_or}
 use Rattle.spv_base.specs.declared.causes.Refusal.{Refusal}
 use Rattle.spv_base.specs.declared.instructions.Inst.{Inst}
@@ -10,8 +9,6 @@ use Rattle.spv_types.specs.Types.{Types}
 use Rattle.spv_types.specs.Typing.{before_functions, types_in}
 use Rattle.spv_types.specs.Build.{type_breaches}
 use Rattle.spv_types.specs.Blocks.{module_breaches}
-use Rattle.spv_index.specs.Classes.{sets_of}
-use Rattle.spv_index.specs.Positions.{outside}
 use Rattle.spv_cfg.specs.Flow.{block_breaches, call_breaches, flow_in}
 use Rattle.spv_sections.specs.Sections.{order_breaches}
 use Rattle.spv_sections.specs.Ids.{id_breaches}

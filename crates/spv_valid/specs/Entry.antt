@@ -1,27 +1,23 @@
 -- The entry point, its function, and the size of its workgroup (SPIR-V 1.6, OpEntryPoint, OpExecutionMode,
 -- OpExecutionModeId and the built-in WorkgroupSize, and this project's profile).
-use Rattle.std.specs.Prelude.{ℕ, ◌*◌, ◌==◌, ◌&&◌, nat_le, if◌then◌else◌, Bool, true, false, List, [], ◌∷◌, length, Option, Some, None, Result, Ok, Err, find, option_and_then, slice_get}
+use Rattle.std.specs.Prelude.{ℕ, ◌*◌, ◌==◌, ◌&&◌, nat_le, if◌then◌else◌, Bool, false, List, [], ◌∷◌, length, Option, Some, None, Result, Ok, Err, find, option_and_then}
 use Rattle.std.specs.Option.{option_map_or}
 use Rattle.std.specs.Str.{bytes_eq}
 use Rattle.spv_base.specs.Entries.{reads}
 use Rattle.spv_base.specs.Lane.{Lane}
 use Rattle.spv_base.specs.declared.causes.Refusal.{Refusal}
 use Rattle.spv_base.specs.declared.instructions.Inst.{Inst}
-use Rattle.spv_base.specs.declared.instructions.Operand.{Operand}
-use Rattle.spv_base.specs.declared.instructions.Operand.TheVariants.{Id, Lit, Text}
+use Rattle.spv_index.specs.Operands.{id_operand, literal_operand, text_operand}
+use Rattle.spv_index.specs.Definitions.{decoration, defining, holds}
 use Rattle.spv_types.specs.declared.forms.Form.{Form}
 use Rattle.spv_types.specs.declared.forms.Form.TheVariants.{Void, Bool as Boolean, Int, Vector, Array, Runtime, Struct, Pointer, Function}
-use Rattle.spv_types.specs.declared.opcodes.TheConstants.{BUILT_IN, FUNCTION}
 use Rattle.spv_types.specs.Types.{Types, form_of}
-use Rattle.spv_types.specs.Operands.{id_at, lit_at}
-use Rattle.spv_types.specs.Facts.{constant_type, decoration, is_constant}
+use Rattle.spv_types.specs.Facts.{is_constant}
 use Rattle.spv_types.specs.Rules.{is_three_words, is_word}
-use Rattle.spv_types.specs.Blocks.{is_value}
 use Rattle.spv_types.specs.Views.{is_void}
 use Rattle.spv_cfg.specs.Flow.{Flow}
-use Rattle.spv_consts.specs.Table.{Constants, Row, scalar_of}
+use Rattle.spv_consts.specs.Table.{Constants, Row}
 use Rattle.spv_valid.specs.declared.entry.Entry.{Entry}
-use Rattle.spv_valid.specs.declared.opcodes.TheConstants.{ENTRY_POINT, EXECUTION_MODE, EXECUTION_MODE_ID, GL_COMPUTE, LOCAL_SIZE, LOCAL_SIZE_ID, WORKGROUP_SIZE}
 
 -- how many invocations a workgroup has in each of the three directions
 abbrev pub Size : Type 0
@@ -29,23 +25,22 @@ Size = ℕ × ℕ × ℕ
 
 -- ---- the entry point
 
+-- OpEntryPoint (15)
 abbrev pub is_entry_point : Inst → Bool
-is_entry_point i = i.op == ENTRY_POINT
+is_entry_point i = i.op == 15
 
--- an entry point's execution model is GLCompute
+-- an entry point's execution model is GLCompute (5)
 abbrev pub is_compute : Inst → Bool
-is_compute i = lit_at i.operands 0 == GL_COMPUTE
+is_compute i = holds 5 (literal_operand i 0)
 
--- the text of an operand is a name
-abbrev pub is_text : List ℕ → Option Operand → Bool
+-- a text is there, and is this name
+abbrev pub is_text : List ℕ → Option (List ℕ) → Bool
 is_text name None = false
-is_text name (Some (Id id)) = false
-is_text name (Some (Lit word)) = false
-is_text name (Some (Text text)) = bytes_eq text name
+is_text name (Some text) = bytes_eq text name
 
 -- a GLCompute entry point of this name
 abbrev pub is_named : List ℕ → Inst → Bool
-is_named name i = is_entry_point i && (is_compute i && is_text name (slice_get i.operands 2))
+is_named name i = is_entry_point i && (is_compute i && is_text name (text_operand i 2))
 
 abbrev pub if_compute : Option Inst → Option Inst
 if_compute None = None
@@ -71,12 +66,13 @@ is_plain ts (Some (Struct members block)) = false
 is_plain ts (Some (Pointer class target)) = false
 is_plain ts (Some (Function returns parameters)) = is_void (form_of ts returns) && length parameters == 0
 
-abbrev pub is_function : ℕ → Inst → Bool
-is_function id i = i.op == FUNCTION && i.id == id
+-- an OpFunction (54) of such a type
+abbrev pub begins_plain : Types → Inst → Bool
+begins_plain ts i = i.op == 54 && is_plain ts (option_and_then (form_of ts) (id_operand i 1))
 
--- the function with an id has such a type
+-- the id is that of such a function
 abbrev pub is_plain_function : Types → List Inst → ℕ → Bool
-is_plain_function ts insts id = option_map_or (λ i. is_plain ts (form_of ts (id_at i.operands 1))) (find (is_function id) insts) false
+is_plain_function ts insts id = option_map_or (begins_plain ts) (defining insts id) false
 
 -- ---- the size of its workgroup
 
@@ -96,49 +92,54 @@ numbers_in (x ∷ y ∷ []) = None
 numbers_in (x ∷ y ∷ z ∷ []) = all_three (number_of_lane x) (number_of_lane y) (number_of_lane z)
 numbers_in (x ∷ y ∷ z ∷ w ∷ more) = None
 
--- a constant decorated with the built-in WorkgroupSize
+-- a constant whose decoration BuiltIn (11) is WorkgroupSize (25)
 abbrev pub is_size_constant : List Inst → Inst → Bool
-is_size_constant insts i = is_constant i.op && is_value WORKGROUP_SIZE (decoration insts i.id BUILT_IN)
+is_size_constant insts i = is_constant i.op && holds 25 (decoration insts i.id 11)
 
--- the size that such a constant gives, which has to be a vector of three 32-bit integers
+-- the size that a constant of such a row gives, which has to be a vector of three 32-bit integers
+abbrev pub size_in : Types → Row → Option Size
+size_in ts row = if is_three_words ts (form_of ts row.ty) then numbers_in row.cells else None
+
 abbrev pub constant_size : Types → Constants → Inst → Option Size
-constant_size ts constants i =
-    if is_three_words ts (form_of ts i.ty)
-    then option_and_then (λ (row : Row). numbers_in row.cells) (reads i.id constants)
-    else None
+constant_size ts constants i = option_and_then (size_in ts) (reads i.id constants)
 
--- the number of a constant that is a 32-bit integer
-abbrev pub word_constant : Types → Constants → List Inst → ℕ → Option ℕ
-word_constant ts constants insts id =
-    if option_map_or (λ ty. is_word (form_of ts ty)) (constant_type insts id) false then option_and_then number_of_lane (scalar_of constants id) else None
+-- the number of the one cell
+abbrev pub number_in : List Lane → Option ℕ
+number_in [] = None
+number_in (x ∷ []) = number_of_lane x
+number_in (x ∷ y ∷ more) = None
+
+-- the number of a constant of such a row, which has to be a 32-bit integer
+abbrev pub word_in : Types → Row → Option ℕ
+word_in ts row = if is_word (form_of ts row.ty) then number_in row.cells else None
+
+-- the number of the constant that is the operand with a number
+abbrev pub word_constant : Types → Constants → Inst → ℕ → Option ℕ
+word_constant ts constants i n = option_and_then (word_in ts) (option_and_then (λ id. reads id constants) (id_operand i n))
 
 -- the size that LocalSizeId gives
-abbrev pub size_by_ids : Types → Constants → List Inst → Inst → Option Size
-size_by_ids ts constants insts i =
-    all_three (word_constant ts constants insts (id_at i.operands 2)) (word_constant ts constants insts (id_at i.operands 3)) (word_constant ts constants insts (id_at i.operands 4))
+abbrev pub size_by_ids : Types → Constants → Inst → Option Size
+size_by_ids ts constants i = all_three (word_constant ts constants i 2) (word_constant ts constants i 3) (word_constant ts constants i 4)
 
 -- the size that LocalSize gives
 abbrev pub size_by_literals : Inst → Option Size
-size_by_literals i = Some (lit_at i.operands 2, lit_at i.operands 3, lit_at i.operands 4)
+size_by_literals i = all_three (literal_operand i 2) (literal_operand i 3) (literal_operand i 4)
 
 -- an instruction that gives an execution mode to the entry point of a function
 abbrev pub is_mode : ℕ → ℕ → ℕ → Inst → Bool
-is_mode op mode function i = i.op == op && (id_at i.operands 0 == function && lit_at i.operands 1 == mode)
+is_mode op mode function i = i.op == op && (holds function (id_operand i 0) && holds mode (literal_operand i 1))
 
 -- the size by what is there of a constant, LocalSizeId and LocalSize, in this order of precedence
-abbrev pub size_by : Types → Constants → List Inst → Option Inst → Option Inst → Option Inst → Option Size
-size_by ts constants insts (Some constant) by_ids by_literals = constant_size ts constants constant
-size_by ts constants insts None (Some by_ids) by_literals = size_by_ids ts constants insts by_ids
-size_by ts constants insts None None (Some by_literals) = size_by_literals by_literals
-size_by ts constants insts None None None = None
+abbrev pub size_by : Types → Constants → Option Inst → Option Inst → Option Inst → Option Size
+size_by ts constants (Some constant) by_ids by_literals = constant_size ts constants constant
+size_by ts constants None (Some by_ids) by_literals = size_by_ids ts constants by_ids
+size_by ts constants None None (Some by_literals) = size_by_literals by_literals
+size_by ts constants None None None = None
 
--- the first of each counts
+-- the first of each counts: OpExecutionModeId (331) with LocalSizeId (38), OpExecutionMode (16) with LocalSize (17)
 abbrev pub size_of : Types → Constants → List Inst → ℕ → Option Size
 size_of ts constants insts function =
-    size_by ts constants insts
-    (find (is_size_constant insts) insts)
-    (find (is_mode EXECUTION_MODE_ID LOCAL_SIZE_ID function) insts)
-    (find (is_mode EXECUTION_MODE LOCAL_SIZE function) insts)
+    size_by ts constants (find (is_size_constant insts) insts) (find (is_mode 331 38 function) insts) (find (is_mode 16 17 function) insts)
 
 -- at least one invocation in each direction, and at most 1,024 together
 abbrev pub is_size : Size → Bool
@@ -164,5 +165,8 @@ required None = Err entry_breach
 required (Some x) = Ok x
 
 -- the entry of a name, or the first one, where it keeps the rules
+abbrev pub entry_named : Types → Constants → Flow → List Inst → Option (List ℕ) → Option Entry
+entry_named ts constants flow insts name = option_and_then (entry_in ts constants flow insts) (option_and_then (λ i. id_operand i 1) (entry_point insts name))
+
 unfoldable pub entry_of : Types → Constants → Flow → List Inst → Option (List ℕ) → Result Entry Refusal
-entry_of ts constants flow insts name = required (option_and_then (λ i. entry_in ts constants flow insts (id_at i.operands 1)) (entry_point insts name))
+entry_of ts constants flow insts name = required (entry_named ts constants flow insts name)

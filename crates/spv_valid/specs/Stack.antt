@@ -5,7 +5,6 @@ use Rattle.std.specs.Option.{option_map, option_map_or}
 use Rattle.std.specs.List.{flat_map}
 use Rattle.spv_base.specs.Entries.{reads}
 use Rattle.spv_base.specs.declared.instructions.Inst.{Inst}
-use Rattle.spv_types.specs.declared.opcodes.TheConstants.{VARIABLE}
 use Rattle.spv_types.specs.Types.{Types, form_of}
 use Rattle.spv_types.specs.Cells.{cells_of}
 use Rattle.spv_types.specs.Cuts.{cut}
@@ -14,9 +13,9 @@ use Rattle.spv_index.specs.Classes.{sets_of}
 use Rattle.spv_index.specs.Positions.{Stand, stands, outside, in_function}
 use Rattle.spv_cfg.specs.Calls.{IsChain, calls_of, functions_of, limit, most, numbered}
 
--- what a variable keeps has the target of its pointer type; any other result has its own type, and without one there is none
+-- what a variable (OpVariable, 59) keeps has the target of its pointer type; any other result has its own type, and without one there is none
 abbrev pub kept_type : Types → Inst → ℕ
-kept_type ts i = if i.op == VARIABLE then target_of (form_of ts i.ty) else i.ty
+kept_type ts i = if i.op == 59 then target_of (form_of ts i.ty) else i.ty
 
 -- the cells of an instruction's register or variable
 abbrev pub kept_cells : Types → Inst → ℕ

@@ -77,8 +77,8 @@ pub fn accept(
     check_front(&index)?;
     let (types, consts) = read_types(alloc, &index, over)?;
     let code = read_code(alloc, &types, &consts, &index)?;
-    let entry = entry_of(alloc, &types, &consts, &code, index.insts(), name)?;
-    let stack_cells = stack_cells(alloc, &types, index.insts(), entry.function)?;
+    let entry = entry_of(&types, &consts, &code, &index, name)?;
+    let stack_cells = stack_cells(alloc, &types, index.sets(), index.insts(), entry.function)?;
     Ok(Module {
         index,
         types,

@@ -1,21 +1,16 @@
 //! The entry point, its function, and the size of its workgroup.
 ghost use Rattle.std.specs.Prelude.{◌≡◌, Some, None, find, if◌then◌else◌, option_copied};
-ghost use Rattle.spv_base.specs.Answers.{Answers};
 ghost use Rattle.spv_base.specs.Entries.{reads};
 ghost use Rattle.spv_valid.specs.Entry as spec;
 
-use crate::opcodes::{
-    ENTRY_POINT, EXECUTION_MODE, EXECUTION_MODE_ID, GL_COMPUTE, LOCAL_SIZE, LOCAL_SIZE_ID,
-    WORKGROUP_SIZE,
-};
-use spv_base::{Cell, Fail, Inst, Operand, Refusal};
+use spv_base::{Cell, Inst, Refusal};
 use spv_cfg::Code;
 use spv_consts::ConstTable;
+use spv_index::{Index, id_operand, literal_operand, text_operand};
+use spv_ops::{built_in, decoration, execution_mode, execution_model, op};
 use spv_types::facts::is_constant;
-use spv_types::opcodes::{BUILT_IN, FUNCTION};
 use spv_types::views::is_void;
-use spv_types::{Facts, Form, TypeTable, id_at, lit_at};
-use std::alloc::Global;
+use spv_types::{Form, TypeTable};
 
 /// The most invocations of a workgroup.
 const MAX_INVOCATIONS: u64 = 1024;
@@ -36,19 +31,19 @@ pub struct Entry {
 fn is_compute(inst: &Inst) -> bool
     ensures { result ≡ spec.is_compute inst.now }
 {
-    lit_at(inst, 0) == GL_COMPUTE
+    literal_operand(inst, 0) == Some(execution_model::GL_COMPUTE)
 }
 
 /// Whether an instruction is a GLCompute entry point of this name.
 fn is_named(name: &[u8], inst: &Inst) -> bool
     ensures { result ≡ spec.is_named name.now inst.now }
 {
-    if inst.op != ENTRY_POINT || !is_compute(inst) {
+    if inst.op != op::ENTRY_POINT || !is_compute(inst) {
         return false;
     }
-    match inst.operands.get(2) {
-        Some(Operand::Text(text)) => text.as_slice() == name,
-        _ => false,
+    match text_operand(inst, 2) {
+        Some(text) => text == name,
+        None => false,
     }
 }
 
@@ -57,7 +52,7 @@ fn first_entry_point(insts: &[Inst]) -> Option<&Inst>
     ensures { option_copied result ≡ find spec.is_entry_point insts.now }
 {
     for inst in insts {
-        if inst.op == ENTRY_POINT {
+        if inst.op == op::ENTRY_POINT {
             return Some(inst);
         }
     }
@@ -89,18 +84,6 @@ pub fn entry_point<'a>(insts: &'a [Inst], name: Option<&[u8]>) -> Option<&'a Ins
     }
 }
 
-/// The OpFunction with an id.
-fn function_at(insts: &[Inst], id: u32) -> Option<&Inst>
-    ensures { option_copied result ≡ find (spec.is_function id) insts.now }
-{
-    for inst in insts {
-        if inst.op == FUNCTION && inst.id == id {
-            return Some(inst);
-        }
-    }
-    None
-}
-
 /// Whether a type is that of functions without parameters that return void.
 pub fn is_plain(types: &TypeTable, form: Option<&Form>) -> bool
     ensures { result ≡ spec.is_plain types.now (option_copied form.entry) }
@@ -116,12 +99,25 @@ pub fn is_plain(types: &TypeTable, form: Option<&Form>) -> bool
     }
 }
 
-/// Whether the function with an id has no parameters and returns void.
-fn is_plain_function(types: &TypeTable, insts: &[Inst], id: u32) -> bool
-    ensures { result ≡ spec.is_plain_function types.now insts.now id }
+/// Whether an instruction begins a function without parameters that returns void.
+fn begins_plain(types: &TypeTable, inst: &Inst) -> bool
+    ensures { result ≡ spec.begins_plain types.now inst.now }
 {
-    match function_at(insts, id) {
-        Some(inst) => is_plain(types, types.form(id_at(inst, 1))),
+    if inst.op != op::FUNCTION {
+        return false;
+    }
+    match id_operand(inst, 1) {
+        Some(ty) => is_plain(types, types.form(ty)),
+        None => false,
+    }
+}
+
+/// Whether the function with an id has no parameters and returns void.
+fn is_plain_function(types: &TypeTable, index: &Index, id: u32) -> bool
+    ensures { result ≡ spec.is_plain_function types.now index.now.insts id }
+{
+    match index.defining(id) {
+        Some(inst) => begins_plain(types, inst),
         None => false,
     }
 }
@@ -150,12 +146,30 @@ fn numbers_in(cells: &[Cell]) -> Option<(u64, u64, u64)>
     }
 }
 
+/// The number of one scalar.
+fn number_in(cells: &[Cell]) -> Option<u64>
+    ensures { result ≡ spec.number_in cells.now }
+{
+    match cells {
+        [x] => number_of(*x),
+        _ => None,
+    }
+}
+
+/// Whether an instruction is a constant decorated with the built-in WorkgroupSize.
+fn is_size_constant(index: &Index, inst: &Inst) -> bool
+    ensures { result ≡ spec.is_size_constant index.now.insts inst.now }
+{
+    is_constant(inst.op)
+        && index.decoration(inst.id, decoration::BUILT_IN) == Some(built_in::WORKGROUP_SIZE)
+}
+
 /// The first constant decorated with the built-in WorkgroupSize.
-fn size_constant<'a>(facts: &Facts, insts: &'a [Inst]) -> Option<&'a Inst>
-    ensures { option_copied result ≡ find (spec.is_size_constant facts.now) insts.now }
+fn size_constant<'a>(index: &Index, insts: &'a [Inst]) -> Option<&'a Inst>
+    ensures { option_copied result ≡ find (spec.is_size_constant index.now.insts) insts.now }
 {
     for inst in insts {
-        if is_constant(inst.op) && facts.decoration(inst.id, BUILT_IN) == Some(WORKGROUP_SIZE) {
+        if is_size_constant(index, inst) {
             return Some(inst);
         }
     }
@@ -167,46 +181,62 @@ fn mode_of(insts: &[Inst], op: u16, mode: u32, function: u32) -> Option<&Inst>
     ensures { option_copied result ≡ find (spec.is_mode op mode function) insts.now }
 {
     for inst in insts {
-        if inst.op == op && id_at(inst, 0) == function && lit_at(inst, 1) == mode {
+        if inst.op == op
+            && id_operand(inst, 0) == Some(function)
+            && literal_operand(inst, 1) == Some(mode)
+        {
             return Some(inst);
         }
     }
     None
 }
 
-/// The size that a constant gives, which has to be a vector of three 32-bit integers.
+/// The size that a constant with such cells gives, which has to be a vector of three 32-bit integers.
+fn size_in(types: &TypeTable, ty: u32, cells: &[Cell]) -> Option<(u64, u64, u64)>
+    ensures { result ≡ spec.size_in types.now (record { ty = ty; cells = cells.now }) }
+{
+    if types.is_three_words(ty) {
+        numbers_in(cells)
+    } else {
+        None
+    }
+}
+
+/// The size that a constant gives.
 fn constant_size(types: &TypeTable, consts: &ConstTable, inst: &Inst) -> Option<(u64, u64, u64)>
     ensures { result ≡ spec.constant_size types.now consts.now inst.now }
 {
-    if !types.is_three_words(inst.ty) {
-        return None;
-    }
-    numbers_in(consts.value(inst.id)?.cells)
+    let row = consts.value(inst.id)?;
+    size_in(types, row.ty, row.cells)
 }
 
-/// The number of a constant that is a 32-bit integer.
-fn word_constant(types: &TypeTable, consts: &ConstTable, facts: &Facts, id: u32) -> Option<u64>
-    ensures { result ≡ spec.word_constant types.now consts.now facts.now id }
+/// The number of a constant with such cells, which has to be a 32-bit integer.
+fn word_in(types: &TypeTable, ty: u32, cells: &[Cell]) -> Option<u64>
+    ensures { result ≡ spec.word_in types.now (record { ty = ty; cells = cells.now }) }
 {
-    if !types.is_word(facts.constant_type(id)?) {
-        return None;
+    if types.is_word(ty) {
+        number_in(cells)
+    } else {
+        None
     }
-    number_of(consts.scalar(id)?)
+}
+
+/// The number of the constant that is the operand with a number.
+fn word_constant(types: &TypeTable, consts: &ConstTable, inst: &Inst, n: usize) -> Option<u64>
+    ensures { result ≡ spec.word_constant types.now consts.now inst.now n }
+{
+    let row = consts.value(id_operand(inst, n)?)?;
+    word_in(types, row.ty, row.cells)
 }
 
 /// The size that a LocalSizeId gives.
-fn size_by_ids(
-    types: &TypeTable,
-    consts: &ConstTable,
-    facts: &Facts,
-    inst: &Inst,
-) -> Option<(u64, u64, u64)>
-    ensures { result ≡ spec.size_by_ids types.now consts.now facts.now inst.now }
+fn size_by_ids(types: &TypeTable, consts: &ConstTable, inst: &Inst) -> Option<(u64, u64, u64)>
+    ensures { result ≡ spec.size_by_ids types.now consts.now inst.now }
 {
     all_three(
-        word_constant(types, consts, facts, id_at(inst, 2)),
-        word_constant(types, consts, facts, id_at(inst, 3)),
-        word_constant(types, consts, facts, id_at(inst, 4)),
+        word_constant(types, consts, inst, 2),
+        word_constant(types, consts, inst, 3),
+        word_constant(types, consts, inst, 4),
     )
 }
 
@@ -214,34 +244,40 @@ fn size_by_ids(
 fn size_by_literals(inst: &Inst) -> Option<(u64, u64, u64)>
     ensures { result ≡ spec.size_by_literals inst.now }
 {
-    Some((
-        u64::from(lit_at(inst, 2)),
-        u64::from(lit_at(inst, 3)),
-        u64::from(lit_at(inst, 4)),
-    ))
+    all_three(
+        literal_operand(inst, 2).map(u64::from),
+        literal_operand(inst, 3).map(u64::from),
+        literal_operand(inst, 4).map(u64::from),
+    )
 }
 
 /// The size of a workgroup, by a constant decorated WorkgroupSize, else by LocalSizeId, else by LocalSize.
 pub fn size_of(
     types: &TypeTable,
     consts: &ConstTable,
-    facts: &Facts,
-    insts: &[Inst],
+    index: &Index,
     function: u32,
 ) -> Option<(u64, u64, u64)>
-    requires { facts.now ≡ insts.now }
-    ensures { result ≡ spec.size_of types.now consts.now insts.now function }
+    ensures { result ≡ spec.size_of types.now consts.now index.now.insts function }
 {
-    if let Some(inst) = size_constant(facts, insts) {
+    let insts = index.insts();
+    if let Some(inst) = size_constant(index, insts) {
         return constant_size(types, consts, inst);
     }
-    if let Some(inst) = mode_of(insts, EXECUTION_MODE_ID, LOCAL_SIZE_ID, function) {
-        return size_by_ids(types, consts, facts, inst);
+    if let Some(inst) = mode_of(
+        insts,
+        op::EXECUTION_MODE_ID,
+        execution_mode::LOCAL_SIZE_ID,
+        function,
+    ) {
+        return size_by_ids(types, consts, inst);
     }
-    match mode_of(insts, EXECUTION_MODE, LOCAL_SIZE, function) {
-        Some(inst) => size_by_literals(inst),
-        None => None,
-    }
+    size_by_literals(mode_of(
+        insts,
+        op::EXECUTION_MODE,
+        execution_mode::LOCAL_SIZE,
+        function,
+    )?)
 }
 
 /// The size, where there is at least one invocation in each direction, and at most 1,024 together.
@@ -277,16 +313,14 @@ fn entry_in(
     types: &TypeTable,
     consts: &ConstTable,
     code: &Code,
-    facts: &Facts,
-    insts: &[Inst],
+    index: &Index,
     function: u32,
 ) -> Option<Entry>
-    requires { facts.now ≡ insts.now }
-    ensures { result ≡ spec.entry_in types.now consts.now code.now insts.now function }
+    ensures { result ≡ spec.entry_in types.now consts.now code.now index.now.insts function }
 {
     let depth = depth_of(code, function)?;
-    let size = size_of(types, consts, facts, insts, function)?;
-    if !is_plain_function(types, insts, function) {
+    let size = size_of(types, consts, index, function)?;
+    if !is_plain_function(types, index, function) {
         return None;
     }
     let size = allowed_size(size)?;
@@ -297,6 +331,20 @@ fn entry_in(
     })
 }
 
+/// The entry of a name, or the first one, where it keeps the rules.
+fn entry_named(
+    types: &TypeTable,
+    consts: &ConstTable,
+    code: &Code,
+    index: &Index,
+    name: Option<&[u8]>,
+) -> Option<Entry>
+    ensures { result ≡ spec.entry_named types.now consts.now code.now index.now.insts (option_copied name.entry) }
+{
+    let function = id_operand(entry_point(index.insts(), name)?, 1)?;
+    entry_in(types, consts, code, index, function)
+}
+
 /// The entry of a name, or the first one.
 ///
 /// Refuses M17 at the first word: where there is no such entry point with the execution model GLCompute, where its function
@@ -304,22 +352,16 @@ fn entry_in(
 /// more than 1,024 invocations.
 #[tactic(auto, unfolding(crate::specs::Entry::entry_of))]
 pub fn entry_of(
-    alloc: Global,
     types: &TypeTable,
     consts: &ConstTable,
     code: &Code,
-    insts: &[Inst],
+    index: &Index,
     name: Option<&[u8]>,
-) -> Result<Entry, Fail<Refusal>>
-    ensures { Answers (spec.entry_of types.now consts.now code.now insts.now (option_copied name.entry)) result }
+) -> Result<Entry, Refusal>
+    ensures { result ≡ spec.entry_of types.now consts.now code.now index.now.insts (option_copied name.entry) }
 {
-    let facts = Facts::of(alloc, insts)?;
-    let entry = match entry_point(insts, name) {
-        Some(inst) => entry_in(types, consts, code, &facts, insts, id_at(inst, 1)),
-        None => None,
-    };
-    match entry {
+    match entry_named(types, consts, code, index, name) {
         Some(entry) => Ok(entry),
-        None => Err(Fail::Refused(ENTRY_BREACH)),
+        None => Err(ENTRY_BREACH),
     }
 }

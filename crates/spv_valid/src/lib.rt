@@ -5,7 +5,6 @@ mod acceptance;
 mod breaches;
 pub mod entry;
 mod modules;
-pub mod opcodes;
 pub mod stack;
 #[cfg(test)]
 mod tests;

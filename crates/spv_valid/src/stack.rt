@@ -6,14 +6,15 @@ ghost use Rattle.spv_types.specs.Cuts.{cut};
 ghost use Rattle.spv_types.specs.Types.{form_of};
 ghost use Rattle.spv_types.specs.Blocks.{target_of};
 ghost use Rattle.spv_cfg.specs.Calls.{calls_in, limit, longest, most};
+ghost use Rattle.spv_index.specs.Classes.{sets_of};
 ghost use Rattle.spv_valid.specs.Stack as spec;
 
 use spv_base::{Inst, NoMemory};
 use spv_cfg::calls::{calls_of, functions_of, numbers_by_id};
 use spv_index::Table;
-use spv_index::classes::{class_of, sets_of};
+use spv_index::classes::class_of;
 use spv_index::positions::Position;
-use spv_types::opcodes::VARIABLE;
+use spv_ops::op;
 use spv_types::{Form, TypeTable};
 use std::alloc::Global;
 
@@ -31,7 +32,7 @@ fn target_of(types: &TypeTable, ty: u32) -> u32
 pub fn kept_cells(types: &TypeTable, inst: &Inst) -> u64
     ensures { result ≡ spec.kept_cells types.now inst.now }
 {
-    let ty = if inst.op == VARIABLE {
+    let ty = if inst.op == op::VARIABLE {
         target_of(types, inst.ty)
     } else {
         inst.ty
@@ -156,20 +157,22 @@ fn chains_of(
     heaviest_chains(alloc, calls.as_slice(), weights.as_slice())
 }
 
-/// The most cells that the frames of an invocation have together, where its first frame is of the function with this id.
+/// The most cells that the frames of an invocation have together, where its first frame is of the function with this id, and
+/// `sets` has the imported sets.
 #[tactic(auto, unfolding(crate::specs::Stack::stack_cells))]
 pub fn stack_cells(
     alloc: Global,
     types: &TypeTable,
+    sets: &Table<bool>,
     insts: &[Inst],
     function: u32,
 ) -> Result<u64, NoMemory>
+    requires { sets.now ≡ sets_of insts.now }
     ensures { IfOk result (λ cells. cells ≡ spec.stack_cells types.now insts.now function) }
 {
-    let sets = sets_of(alloc, insts)?;
     let functions = functions_of(alloc, insts)?;
     let numbers = numbers_by_id(alloc, functions.as_slice())?;
-    let heaviest = chains_of(alloc, types, &sets, &numbers, insts, functions.len())?;
+    let heaviest = chains_of(alloc, types, sets, &numbers, insts, functions.len())?;
     match numbers.get(function) {
         Some(number) => Ok(heaviest[number]),
         None => Ok(0),

@@ -1,7 +1,6 @@
-use Rattle.std.proofs.Common.{◌≡◌, Ok, subst, sym}
+use Rattle.std.proofs.Common.{sym}
 use Rattle.std.specs.Option.{option_copied}
-use Rattle.spv_ops.specs.Module.{Decoded}
-use Rattle.spv_valid.specs.Acceptance.{IsAccepted, acceptance, decoded_in}
+use Rattle.spv_valid.specs.Acceptance.{IsAccepted}
 use Rattle.spv_valid.specs.Modules.{view_of}
 use Rattle.spv_valid.proofs.AcceptedLemmas.{none_refused}
 use Rattle.spv_valid.proofs.acceptance.accept.Goals as goal
@@ -15,7 +14,7 @@ accepted_so c = record {
   over = c.args.over.now;
   is = none_refused c.in_ok-index.index (option_copied c.args.name) c.args.over.now (c.in_ok-types.types, c.in_ok-types.consts) c.in_ok-code.code c.in_ok-entry.entry c.in_ok-stack_cells.stack_cells
       (sym c.in_ok-check_front.ensures) c.in_ok-types.ensures c.in_ok-code.ensures
-      (rw c.insts.ensures.insts at c.in_ok-entry.ensures) (rw c.insts-2.ensures.insts at c.in_ok-stack_cells.ensures);
+      (sym c.in_ok-entry.ensures) (rw c.insts.ensures.insts at c.in_ok-stack_cells.ensures);
 }
 
 pub invariant_of-result : goal.invariant_of-result

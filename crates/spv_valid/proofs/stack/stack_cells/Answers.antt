@@ -31,5 +31,5 @@ returns-in-Some c =
     let lt : c.in-Some.number < functions.len = read_below _ c.in-Some.number functions.len (sym c.get.ensures ∙ c.in-Some.is) small in
     let numbers_are : c.in_ok-numbers.numbers ≡ numbered 0 (functions_of c.args.insts.now)
     = c.in_ok-numbers.ensures ∙ ap (numbered 0) (c.as_slice.ensures.value ∙ c.in_ok-functions.ensures) in
-    stack_cells-some c.args.types.now c.args.insts.now c.args.function c.in-Some.number c.index.result.now c.in_ok-heaviest.heaviest.items functions.len c.in_ok-sets.sets c.in_ok-numbers.numbers
-    c.in_ok-sets.ensures numbers_are (sym c.get.ensures ∙ c.in-Some.is) lt (c.in_ok-heaviest.ensures.len ∙ c.len.ensures) (rw c.len.ensures at c.in_ok-heaviest.ensures.heaviest) c.index.ensures
+    stack_cells-some c.args.types.now c.args.insts.now c.args.function c.in-Some.number c.index.result.now c.in_ok-heaviest.heaviest.items functions.len c.args.sets.now c.in_ok-numbers.numbers
+    c.requires numbers_are (sym c.get.ensures ∙ c.in-Some.is) lt (c.in_ok-heaviest.ensures.len ∙ c.len.ensures) (rw c.len.ensures at c.in_ok-heaviest.ensures.heaviest) c.index.ensures
