@@ -4,3 +4,4 @@ pub mod OrderLemmas
 pub mod LeastLemmas
 pub mod PassLemmas
 mod EntryLemmas
+mod MeaningLemmas

@@ -4,3 +4,4 @@ pub mod Acceptance
 pub mod Modules
 pub mod Breaches
 pub mod Validity
+pub mod Meanings

@@ -4,6 +4,7 @@
 mod acceptance;
 mod breaches;
 pub mod entry;
+pub mod meanings;
 mod modules;
 pub mod stack;
 #[cfg(test)]
@@ -12,6 +13,7 @@ mod validity;
 
 pub use acceptance::{accept, accepted_modules_pass};
 pub use breaches::refusals_are_least_breaches;
+pub use meanings::Meaning;
 pub use modules::Module;
 pub use stack::counted_chains_are_heaviest;
 pub use validity::accepted_modules_are_valid;

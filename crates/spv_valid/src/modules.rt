@@ -2,9 +2,11 @@
 ghost use Rattle.std.specs.Prelude.{◌≡◌, Some};
 ghost use Rattle.spv_base.specs.Entries.{reads};
 ghost use Rattle.spv_valid.specs.Acceptance.{IsAccepted};
+ghost use Rattle.spv_valid.specs.Meanings.{meaning_of};
 ghost use Rattle.spv_valid.specs.Validity.{IsValid};
 
 use crate::entry::Entry;
+use crate::meanings::{Meaning, meaning_of};
 use crate::validity::accepted_modules_are_valid;
 use spv_base::Inst;
 use spv_cfg::Code;
@@ -66,6 +68,13 @@ impl Module {
         ensures { result ≡ self.now.bound }
     {
         self.index.bound()
+    }
+
+    /// What an id stands for, where an instruction defines it. In constant time.
+    pub fn meaning(&self, id: u32) -> Option<Meaning>
+        ensures { result ≡ meaning_of self.now.insts id }
+    {
+        meaning_of(&self.index, id)
     }
 
     /// The types.
