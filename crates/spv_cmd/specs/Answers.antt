@@ -1,0 +1,42 @@
+-- What is due to a line: its command, or a refusal with its cause.
+use Rattle.std.specs.Prelude.{◌≡◌, ℕ, ◌<◌, ◌≤◌, ◌⊎◌, List, [], ◌∷◌, length, Option, Some, None, Result, Ok, Err, MatchOption}
+use Rattle.spv_base.specs.declared.causes.Fail.{Fail}
+use Rattle.spv_base.specs.declared.causes.Fail.TheVariants.{Refused, NoMemory}
+use Rattle.spv_base.specs.declared.causes.CmdRefusal.{CmdRefusal}
+use Rattle.spv_cmd.specs.declared.command.Command.{Command}
+use Rattle.spv_cmd.specs.Words.{words_in}
+use Rattle.spv_cmd.specs.Grammar.{Arguments, arguments_of, Means, IsLine}
+
+-- what a call gives that reads its text: a value that the text is, or C2 where it is none
+abbrev pub Reads : {T : Type 0} → (T → Type 0) → Result T (Fail CmdRefusal) → Type 0
+Reads P (Ok x) = P x
+Reads {T} P (Err (Refused refusal)) = (refusal.code ≡ 2) × ((x : T) → ¬ P x)
+Reads P (Err NoMemory) = Unit {0}
+
+-- the same, where a first word that no row has is C1
+abbrev pub Gives : Option Arguments → List (List ℕ) → Result Command (Fail CmdRefusal) → Type 0
+Gives None words result = result ≡ Err (Refused (record { code = 1 }))
+Gives (Some arguments) words result = Reads (Means arguments words) result
+
+-- ---- the causes of a refusal
+
+-- why words are refused: no row has the first (C1), or the others aren't its arguments (C2)
+abbrev pub AreRefused : List (List ℕ) → ℕ → Type 0
+AreRefused [] code = ⊥
+AreRefused (word ∷ words) code =
+    MatchOption (arguments_of word) (code ≡ 1) (λ arguments. (code ≡ 2) × ((command : Command) → ¬ Means arguments words command))
+
+-- why a line is refused: it has more than 4,096 bytes (C11), or for its words
+abbrev pub IsRefused : List ℕ → ℕ → Type 0
+IsRefused line code = ((code ≡ 11) × (4096 < length line)) ⊎ ((length line ≤ 4096) × AreRefused (words_in line) code)
+
+-- this is due to the line
+abbrev pub IsDue : List ℕ → Result Command CmdRefusal → Type 0
+IsDue line (Ok command) = IsLine line command
+IsDue line (Err refusal) = IsRefused line refusal.code
+
+-- what was answered is due, or memory ran out
+abbrev pub IsAnswer : List ℕ → Result Command (Fail CmdRefusal) → Type 0
+IsAnswer line (Ok command) = IsLine line command
+IsAnswer line (Err (Refused refusal)) = IsRefused line refusal.code
+IsAnswer line (Err NoMemory) = Unit {0}

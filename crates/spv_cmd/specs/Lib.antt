@@ -1,0 +1,6 @@
+pub mod Words
+pub mod Numbers
+pub mod Paths
+pub mod Places
+pub mod Grammar
+pub mod Answers

@@ -1,0 +1,198 @@
+//! The commands.
+use crate::paths::path;
+use crate::places::place;
+use spv_base::{Bytes, CmdRefusal, Fail, Items};
+use std::alloc::Global;
+use std::marker::Model;
+
+/// A number of at least 1.
+#[derive(Clone, Copy, Debug, PartialEq, Eq)]
+pub struct Count {
+    number: u32,
+}
+
+impl Model for Count {
+    ghost use Rattle.std.specs.Prelude.{ℕ, ◌≤◌};
+
+    ghost Value = { ℕ };
+
+    ghost view = { λ c. c.number };
+
+    ghost invariant = { λ c. 1 ≤ c.number };
+
+    ghost inverse = { λ n. record { number = n } };
+}
+
+impl Count {
+    ghost use Rattle.std.specs.Prelude.{◌≡◌, ◌≤◌};
+
+    /// This number.
+    pub fn new(number: u32) -> Count
+        requires { 1 ≤ number }
+        ensures { result ≡ number }
+    {
+        Count { number }
+    }
+
+    /// The number, at least 1.
+    pub fn get(self) -> u32
+        ensures number { result ≡ self }
+        ensures least { 1 ≤ result }
+    {
+        self.number
+    }
+}
+
+/// A part of a path: `.member` or `[index]`.
+#[derive(Debug, PartialEq, Drop)]
+pub enum PathPart {
+    Member(Bytes),
+    Index(u32),
+}
+
+/// The parts of a path, the outermost first.
+pub type PathParts = Items<PathPart>;
+
+/// What a path names: a variable or a part of it, or the result with this id.
+#[derive(Debug, PartialEq, Drop)]
+pub enum PathText {
+    Name { name: Bytes, parts: PathParts },
+    Id(u32),
+}
+
+/// A path as a command can have it: its names are names, and its text has at most 4,090 bytes, so that a line of 4,096
+/// has room for the word before it.
+#[derive(Debug, Drop)]
+pub struct ValuePath {
+    text: PathText,
+}
+
+impl Model for ValuePath {
+    ghost use Rattle.std.specs.Prelude.{◌≡◌, ◌≤◌, length, true};
+    ghost use Rattle.spv_cmd.specs.declared.command.PathText.{PathText};
+
+    ghost Value = { PathText };
+
+    ghost use Rattle.spv_cmd.specs.Paths.{is_path, path_text};
+
+    ghost view = { λ p. p.text };
+
+    ghost invariant = { λ p. (is_path p.text ≡ true) × (length (path_text p.text) ≤ 4090) };
+}
+
+impl ValuePath {
+    ghost use Rattle.std.specs.Prelude.{◌≡◌, ◌≤◌, true, length};
+    ghost use Rattle.spv_cmd.specs.Paths.{IsPath, is_path, path_text};
+    ghost use Rattle.spv_cmd.specs.Answers.{Reads};
+
+    /// The path that a word is.
+    #[tactic(auto, using(crate::proofs::Path_lemmas::path_form))]
+    pub fn read(alloc: Global, word: &[u8]) -> Result<ValuePath, Fail<CmdRefusal>>
+        requires { length word.now ≤ 4090 }
+        ensures { Reads (λ path. IsPath path word.now) result }
+    {
+        let text = path(alloc, word)?;
+        Ok(ValuePath { text })
+    }
+
+    /// What it names.
+    pub fn text(&self) -> &PathText
+        ensures text { result.now ≡ self.now }
+        ensures form { is_path self.now ≡ true }
+        ensures short { length (path_text self.now) ≤ 4090 }
+    {
+        &self.text
+    }
+}
+
+/// A line of a source file, as a command can have it: a file that is named has a name of at least one byte and no space,
+/// and the text has at most 4,090 bytes.
+#[derive(Debug, Drop)]
+pub struct BreakPlace {
+    file: Option<Bytes>,
+    line: u32,
+}
+
+impl Model for BreakPlace {
+    ghost use Rattle.std.specs.Prelude.{ℕ, List, Option, ◌≡◌, ◌≤◌, length, true};
+
+    ghost Value = { Option (List ℕ) × ℕ };
+
+    ghost use Rattle.spv_cmd.specs.Places.{is_place, place_text};
+
+    ghost view = { λ p. (p.file, p.line) };
+
+    ghost invariant = { λ p. (is_place (p.file, p.line) ≡ true) × (length (place_text (p.file, p.line)) ≤ 4090) };
+}
+
+impl BreakPlace {
+    ghost use Rattle.std.specs.Prelude.{◌≡◌, ◌≤◌, true, length, option_copied};
+    ghost use Rattle.std.specs.List.{list_all};
+    ghost use Rattle.spv_cmd.specs.Words.{is_other};
+    ghost use Rattle.spv_cmd.specs.Places.{IsPlace, is_place, place_text};
+    ghost use Rattle.spv_cmd.specs.Answers.{Reads};
+
+    /// The line that a word is.
+    #[tactic(auto, using(crate::proofs::Place_lemmas::place_form))]
+    pub fn read(alloc: Global, word: &[u8]) -> Result<BreakPlace, Fail<CmdRefusal>>
+        requires short { length word.now ≤ 4090 }
+        requires whole { list_all is_other word.now ≡ true }
+        ensures { Reads (λ place. IsPlace place word.now) result }
+    {
+        let (file, line) = place(alloc, word)?;
+        Ok(BreakPlace { file, line })
+    }
+
+    /// The name of the file, where one is named: at least one byte, and no space.
+    pub fn file(&self) -> Option<&Bytes>
+        ensures file { option_copied result ≡ self.now.0 }
+        ensures form { is_place self.now ≡ true }
+    {
+        self.file.as_ref()
+    }
+
+    /// The number of the line.
+    pub fn line(&self) -> u32
+        ensures line { result ≡ self.now.1 }
+        ensures short { length (place_text self.now) ≤ 4090 }
+    {
+        self.line
+    }
+}
+
+/// A command.
+#[derive(Debug, Drop)]
+pub enum Command {
+    /// A line without words.
+    Empty,
+    Goto(u32),
+    Fwd(Count),
+    Back(Count),
+    Stepi(Count),
+    Rstepi(Count),
+    Step,
+    Next,
+    Finish,
+    Rstep,
+    Rnext,
+    Rfinish,
+    Continue,
+    Rcontinue,
+    /// `where`: where the focus stands.
+    Place,
+    Group,
+    Focus(u32),
+    Bt,
+    Frame(u32),
+    Locals,
+    Globals,
+    Print(ValuePath),
+    Regs,
+    List,
+    Break(BreakPlace),
+    Delete(u32),
+    Watch(ValuePath),
+    Unwatch(u32),
+    Info,
+    Quit,
+}
