@@ -6,3 +6,7 @@ pub mod Part_lemmas
 pub mod Path_lemmas
 pub mod Place_lemmas
 pub mod Grammar_lemmas
+pub mod Row_lemmas
+pub mod Keyword_lemmas
+pub mod Due_lemmas
+pub mod Line_lemmas

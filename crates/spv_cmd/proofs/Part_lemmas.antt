@@ -30,7 +30,7 @@ digit_unmarked : (b : ℕ) → is_digit b ≡ true → unmarked b ≡ true
 digit_unmarked b h = grind (arith, nat_tests)
 
 -- what the test of a name says
-name_parts : (name : List ℕ) → is_name name ≡ true → (not (nat_eq (length name) 0) ≡ true) × (list_all is_name_byte name ≡ true) × (not (nat_eq (slice_index name 0) 37) ≡ true)
+pub name_parts : (name : List ℕ) → is_name name ≡ true → (not (nat_eq (length name) 0) ≡ true) × (list_all is_name_byte name ≡ true) × (not (nat_eq (slice_index name 0) 37) ≡ true)
 name_parts name h =
     let one = both_are _ _ h in
     let two = both_are _ _ one.1 in
@@ -87,7 +87,7 @@ first_part_is part parts text first rest e h hs n k =
     (ap (take n) e ∙ take_at first rest n at, ap (drop n) e ∙ drop_at first rest n at)
 
 -- what a cut at the first mark of a path gives
-name_is : (name rest text : List ℕ) (parts : List PathPart) → text ≡ name ++ rest → is_name name ≡ true → AreParts parts rest → (n : ℕ) → n ≡ position_or_len is_mark text → (take n text ≡ name) × (drop n text ≡ rest)
+pub name_is : (name rest text : List ℕ) (parts : List PathPart) → text ≡ name ++ rest → is_name name ≡ true → AreParts parts rest → (n : ℕ) → n ≡ position_or_len is_mark text → (take n text ≡ name) × (drop n text ≡ rest)
 name_is name rest text parts e h hs n k =
     let bytes = all_also is_name_byte unmarked name_unmarked name (name_parts name h).1 in
     let at : length name ≡ n = sym (k ∙ ap (position_or_len is_mark) e ∙ mark_place name rest bytes (parts_begin parts rest hs)) in
@@ -128,7 +128,7 @@ no_part_other text rest b e p q (Index n) k = q (first_are b 91 rest (k.0 ++ (93
 -- ---- paths
 
 -- a name doesn't begin with `%`
-name_begins : (name rest digits : List ℕ) → is_name name ≡ true → ¬ (37 ∷ digits ≡ name ++ rest)
+pub name_begins : (name rest digits : List ℕ) → is_name name ≡ true → ¬ (37 ∷ digits ≡ name ++ rest)
 name_begins [] rest digits h e = absurd (cc)
 name_begins (b ∷ name) rest digits h e =
     let same : 37 ≡ b = (first_are 37 b digits (name ++ rest) e).0 in
@@ -172,7 +172,7 @@ other_begins text rest b e h others k = h (first_are b 37 rest others (sym e ∙
 -- ---- parts that are read one by one
 
 -- a text is one part at most
-one_part : (a b : PathPart) (text : List ℕ) → IsPart a text → IsPart b text → a ≡ b
+pub one_part : (a b : PathPart) (text : List ℕ) → IsPart a text → IsPart b text → a ≡ b
 one_part (Member name) (Member other) text h k = ap Member (first_are 46 46 name other (sym h.0 ∙ k.0)).1
 one_part (Member name) (Index n) text h k = absurd (omega (arith, (first_are 46 91 name (k.0 ++ (93 ∷ [])) (sym h.0 ∙ k.1)).0))
 one_part (Index n) (Member name) text h k = absurd (omega (arith, (first_are 91 46 (h.0 ++ (93 ∷ [])) name (sym h.1 ∙ k.0)).0))
@@ -205,3 +205,7 @@ part_complete text rest first after done part n some k front back h complete ps 
     let here : IsPart other first = subst (IsPart other) (sym (front ∙ cut.0)) h'.3 in
     let same : other ≡ part = one_part other part first here h in
     (qs, subst (AreParts qs) (sym (back ∙ cut.1)) h'.4, e ∙ ap (λ p. done ++ p ∷ qs) same ∙ sym (append_assoc done (part ∷ []) qs))
+
+-- a part has a byte
+pub part_some : (part : PathPart) (text : List ℕ) → IsPart part text → ¬ (text ≡ [])
+part_some part text h e = no_part_empty text e part h

@@ -13,11 +13,11 @@ use Rattle.spv_cmd.proofs.Number_lemmas.{number_parts, number_decimal, decimal_s
 digit_no_colon : (b : ℕ) → is_digit b ≡ true → is_no_colon b ≡ true
 digit_no_colon b h = grind (arith, nat_tests)
 
-number_no_colon : (digits : List ℕ) (n : ℕ) → number_of digits ≡ Some n → list_all is_no_colon digits ≡ true
+pub number_no_colon : (digits : List ℕ) (n : ℕ) → number_of digits ≡ Some n → list_all is_no_colon digits ≡ true
 number_no_colon digits n h = all_also is_digit is_no_colon digit_no_colon digits (number_parts digits n h).1
 
 -- no colon stands in a text with a colon in it
-no_colon_in : (front back : List ℕ) → ¬ (list_all is_no_colon (front ++ 58 ∷ back) ≡ true)
+pub no_colon_in : (front back : List ℕ) → ¬ (list_all is_no_colon (front ++ 58 ∷ back) ≡ true)
 no_colon_in [] back h = absurd (cc)
 no_colon_in (b ∷ front) back h = no_colon_in front back (both_are _ _ h).1
 

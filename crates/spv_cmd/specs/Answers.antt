@@ -1,11 +1,12 @@
 -- What is due to a line: its command, or a refusal with its cause.
-use Rattle.std.specs.Prelude.{◌≡◌, ℕ, ◌<◌, ◌≤◌, ◌⊎◌, List, [], ◌∷◌, length, Option, Some, None, Result, Ok, Err, MatchOption}
+use Rattle.std.specs.Prelude.{◌≡◌, ◌≢◌, ℕ, ◌<◌, ◌≤◌, ◌⊎◌, List, [], ◌∷◌, length, Result, Ok, Err}
 use Rattle.spv_base.specs.declared.causes.Fail.{Fail}
 use Rattle.spv_base.specs.declared.causes.Fail.TheVariants.{Refused, NoMemory}
 use Rattle.spv_base.specs.declared.causes.CmdRefusal.{CmdRefusal}
+use Rattle.spv_cmd.specs.declared.keywords.Keyword.{Keyword}
 use Rattle.spv_cmd.specs.declared.command.Command.{Command}
 use Rattle.spv_cmd.specs.Words.{words_in}
-use Rattle.spv_cmd.specs.Grammar.{Arguments, arguments_of, Means, IsLine}
+use Rattle.spv_cmd.specs.Grammar.{spelling, row, Means, IsLine}
 
 -- what a call gives that reads its text: a value that the text is, or C2 where it is none
 abbrev pub Reads : {T : Type 0} → (T → Type 0) → Result T (Fail CmdRefusal) → Type 0
@@ -13,18 +14,14 @@ Reads P (Ok x) = P x
 Reads {T} P (Err (Refused refusal)) = (refusal.code ≡ 2) × ((x : T) → ¬ P x)
 Reads P (Err NoMemory) = Unit {0}
 
--- the same, where a first word that no row has is C1
-abbrev pub Gives : Option Arguments → List (List ℕ) → Result Command (Fail CmdRefusal) → Type 0
-Gives None words result = result ≡ Err (Refused (record { code = 1 }))
-Gives (Some arguments) words result = Reads (Means arguments words) result
-
 -- ---- the causes of a refusal
 
--- why words are refused: no row has the first (C1), or the others aren't its arguments (C2)
+-- why words are refused: the first is no keyword (C1), or the others aren't what its row says (C2)
 abbrev pub AreRefused : List (List ℕ) → ℕ → Type 0
 AreRefused [] code = ⊥
 AreRefused (word ∷ words) code =
-    MatchOption (arguments_of word) (code ≡ 1) (λ arguments. (code ≡ 2) × ((command : Command) → ¬ Means arguments words command))
+    ((code ≡ 1) × ((keyword : Keyword) → word ≢ spelling keyword))
+    ⊎ ((code ≡ 2) × (keyword : Keyword) × (word ≡ spelling keyword) × ((command : Command) → ¬ Means (row keyword).1 words command))
 
 -- why a line is refused: it has more than 4,096 bytes (C11), or for its words
 abbrev pub IsRefused : List ℕ → ℕ → Type 0

@@ -1,10 +1,10 @@
 -- The grammar of command lines, by rows: a command's word, what its arguments are, and what it means.
-use Rattle.std.specs.Prelude.{◌≡◌, ℕ, ◌≤◌, ◌⊎◌, List, [], ◌∷◌, length, codes, Option, Some, MatchOption, IsSomeAnd, option_map}
-use Rattle.std.specs.List.{find}
-use Rattle.std.specs.Str.{bytes_eq}
+use Rattle.std.specs.Prelude.{◌≡◌, ◌≢◌, ℕ, ◌≤◌, ◌⊎◌, List, [], ◌∷◌, length, codes, Option, Some}
+use Rattle.spv_cmd.specs.declared.keywords.Keyword.{Keyword}
+use Rattle.spv_cmd.specs.declared.keywords.Keyword.TheVariants as the
 use Rattle.spv_cmd.specs.declared.command.PathText.{PathText}
 use Rattle.spv_cmd.specs.declared.command.Command.{Command}
-use Rattle.spv_cmd.specs.declared.command.Command.TheVariants.{Empty, Goto, Fwd, Back, Stepi, Rstepi, Step, Next, Finish, Rstep, Rnext, Rfinish, Continue, Rcontinue, Place, Group, Focus, Bt, Frame, Locals, Globals, Print, Regs, List as Source, Break, Delete, Watch, Unwatch, Info, Quit}
+use Rattle.spv_cmd.specs.declared.command.Command.TheVariants as command
 use Rattle.spv_cmd.specs.Words.{words_in}
 use Rattle.spv_cmd.specs.Numbers.{number_of}
 use Rattle.spv_cmd.specs.Paths.{IsPath}
@@ -22,42 +22,39 @@ pub data Arguments : Type 0 where
 
 -- ---- the rows
 
-abbrev pub rows : List (List ℕ × Arguments)
-rows =
-    (codes "goto", number Goto)
-    ∷ (codes "fwd", count Fwd)
-    ∷ (codes "back", count Back)
-    ∷ (codes "stepi", count Stepi)
-    ∷ (codes "rstepi", count Rstepi)
-    ∷ (codes "step", none Step)
-    ∷ (codes "next", none Next)
-    ∷ (codes "finish", none Finish)
-    ∷ (codes "rstep", none Rstep)
-    ∷ (codes "rnext", none Rnext)
-    ∷ (codes "rfinish", none Rfinish)
-    ∷ (codes "continue", none Continue)
-    ∷ (codes "rcontinue", none Rcontinue)
-    ∷ (codes "where", none Place)
-    ∷ (codes "group", none Group)
-    ∷ (codes "focus", number Focus)
-    ∷ (codes "bt", none Bt)
-    ∷ (codes "frame", number Frame)
-    ∷ (codes "locals", none Locals)
-    ∷ (codes "globals", none Globals)
-    ∷ (codes "print", path Print)
-    ∷ (codes "regs", none Regs)
-    ∷ (codes "list", none Source)
-    ∷ (codes "break", place Break)
-    ∷ (codes "delete", number Delete)
-    ∷ (codes "watch", path Watch)
-    ∷ (codes "unwatch", number Unwatch)
-    ∷ (codes "info", none Info)
-    ∷ (codes "quit", none Quit)
-    ∷ []
+abbrev pub row : Keyword → List ℕ × Arguments
+row the.Goto = (codes "goto", number command.Goto)
+row the.Fwd = (codes "fwd", count command.Fwd)
+row the.Back = (codes "back", count command.Back)
+row the.Stepi = (codes "stepi", count command.Stepi)
+row the.Rstepi = (codes "rstepi", count command.Rstepi)
+row the.Step = (codes "step", none command.Step)
+row the.Next = (codes "next", none command.Next)
+row the.Finish = (codes "finish", none command.Finish)
+row the.Rstep = (codes "rstep", none command.Rstep)
+row the.Rnext = (codes "rnext", none command.Rnext)
+row the.Rfinish = (codes "rfinish", none command.Rfinish)
+row the.Continue = (codes "continue", none command.Continue)
+row the.Rcontinue = (codes "rcontinue", none command.Rcontinue)
+row the.Where = (codes "where", none command.Place)
+row the.Group = (codes "group", none command.Group)
+row the.Focus = (codes "focus", number command.Focus)
+row the.Bt = (codes "bt", none command.Bt)
+row the.Frame = (codes "frame", number command.Frame)
+row the.Locals = (codes "locals", none command.Locals)
+row the.Globals = (codes "globals", none command.Globals)
+row the.Print = (codes "print", path command.Print)
+row the.Regs = (codes "regs", none command.Regs)
+row the.List = (codes "list", none command.List)
+row the.Break = (codes "break", place command.Break)
+row the.Delete = (codes "delete", number command.Delete)
+row the.Watch = (codes "watch", path command.Watch)
+row the.Unwatch = (codes "unwatch", number command.Unwatch)
+row the.Info = (codes "info", none command.Info)
+row the.Quit = (codes "quit", none command.Quit)
 
--- what the row with this word says of the arguments
-unfoldable pub arguments_of : List ℕ → Option Arguments
-arguments_of word = option_map (λ row. row.1) (find (λ row. bytes_eq word row.0) rows)
+abbrev pub spelling : Keyword → List ℕ
+spelling keyword = (row keyword).0
 
 -- ---- what a line means
 
@@ -73,17 +70,18 @@ IsCount words n = ((words ≡ []) × (n ≡ 1)) ⊎ ((1 ≤ n) × IsNumber words
 
 -- with these arguments, the words after the command's own mean this command
 abbrev pub Means : Arguments → List (List ℕ) → Command → Type 0
-Means (none it) words command = (words ≡ []) × (command ≡ it)
-Means (number make) words command = (n : ℕ) × (command ≡ make n) × IsNumber words n
-Means (count make) words command = (n : ℕ) × (command ≡ make n) × IsCount words n
-Means (path make) words command = (p : PathText) × (command ≡ make p) × IsOne (IsPath p) words
-Means (place make) words command = (p : Option (List ℕ) × ℕ) × (command ≡ make p) × IsOne (IsPlace p) words
+Means (none it) words that = (words ≡ []) × (that ≡ it)
+Means (number make) words that = (n : ℕ) × (that ≡ make n) × IsNumber words n
+Means (count make) words that = (n : ℕ) × (that ≡ make n) × IsCount words n
+Means (path make) words that = (p : PathText) × (that ≡ make p) × IsOne (IsPath p) words
+Means (place make) words that = (p : Option (List ℕ) × ℕ) × (that ≡ make p) × IsOne (IsPlace p) words
 
--- the words of a line mean this command
+-- the words of a line mean this command: none is the empty command, and else the first is a keyword and the others are
+-- what its row says
 abbrev pub AreWords : List (List ℕ) → Command → Type 0
-AreWords [] command = command ≡ Empty
-AreWords (word ∷ words) command = IsSomeAnd (arguments_of word) (λ arguments. Means arguments words command)
+AreWords [] it = it ≡ command.Empty
+AreWords (word ∷ words) it = (keyword : Keyword) × (word ≡ spelling keyword) × Means (row keyword).1 words it
 
 -- a line is this command
 abbrev pub IsLine : List ℕ → Command → Type 0
-IsLine line command = (length line ≤ 4096) × AreWords (words_in line) command
+IsLine line it = (length line ≤ 4096) × AreWords (words_in line) it

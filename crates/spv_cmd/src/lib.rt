@@ -2,12 +2,17 @@
 #![tactic(auto)]
 
 mod arguments;
+mod keywords;
 mod command;
 mod numbers;
 mod parsing;
 mod paths;
 mod places;
+mod printing;
+#[cfg(test)]
+mod tests;
 mod words;
 
 pub use command::{BreakPlace, Command, Count, PathPart, PathParts, PathText, ValuePath};
 pub use parsing::parse;
+pub use printing::{print, read_again};

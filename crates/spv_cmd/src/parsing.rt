@@ -4,11 +4,12 @@ ghost use Rattle.spv_base.specs.Answers.{Answers};
 ghost use Rattle.spv_base.specs.declared.causes.CmdRefusal.{CmdRefusal};
 ghost use Rattle.spv_cmd.specs.declared.command.Command.{Command};
 ghost use Rattle.spv_cmd.specs.Words.{words_in};
-ghost use Rattle.spv_cmd.specs.Grammar.{arguments_of};
-ghost use Rattle.spv_cmd.specs.Answers.{Gives, IsDue, IsAnswer};
+ghost use Rattle.spv_cmd.specs.Grammar.{row, spelling, Means};
+ghost use Rattle.spv_cmd.specs.Answers.{Reads, IsDue, IsAnswer};
 
 use crate::arguments::{count, none, number, path, place};
 use crate::command::Command;
+use crate::keywords::{Keyword, find_keyword};
 use crate::words::next_word;
 use spv_base::{CmdRefusal, Fail};
 use std::alloc::Global;
@@ -30,45 +31,47 @@ pub fn parse(alloc: Global, line: &[u8]) -> Result<Command, Fail<CmdRefusal>>
     }
     match next_word(line) {
         None => Ok(Command::Empty),
-        Some((word, arguments)) => command(alloc, word, arguments),
+        Some((word, arguments)) => match find_keyword(word) {
+            None => Err(UNKNOWN_COMMAND),
+            Some(keyword) => command(alloc, keyword, arguments),
+        },
     }
 }
 
-/// The command with this word and these arguments.
-fn command(alloc: Global, word: &[u8], arguments: &[u8]) -> Result<Command, Fail<CmdRefusal>>
-    requires { 0 < length arguments.now → length word.now + length arguments.now < 4096 }
-    ensures { Gives (arguments_of word.now) (words_in arguments.now) result }
+/// The command with this keyword and these arguments.
+fn command(alloc: Global, keyword: Keyword, arguments: &[u8]) -> Result<Command, Fail<CmdRefusal>>
+    requires { 0 < length arguments.now → length (spelling keyword) + length arguments.now < 4096 }
+    ensures { Reads (Means (row keyword).1 (words_in arguments.now)) result }
 {
-    match word {
-        b"goto" => number(arguments).map(Command::Goto),
-        b"fwd" => count(arguments).map(Command::Fwd),
-        b"back" => count(arguments).map(Command::Back),
-        b"stepi" => count(arguments).map(Command::Stepi),
-        b"rstepi" => count(arguments).map(Command::Rstepi),
-        b"step" => none(arguments, Command::Step),
-        b"next" => none(arguments, Command::Next),
-        b"finish" => none(arguments, Command::Finish),
-        b"rstep" => none(arguments, Command::Rstep),
-        b"rnext" => none(arguments, Command::Rnext),
-        b"rfinish" => none(arguments, Command::Rfinish),
-        b"continue" => none(arguments, Command::Continue),
-        b"rcontinue" => none(arguments, Command::Rcontinue),
-        b"where" => none(arguments, Command::Place),
-        b"group" => none(arguments, Command::Group),
-        b"focus" => number(arguments).map(Command::Focus),
-        b"bt" => none(arguments, Command::Bt),
-        b"frame" => number(arguments).map(Command::Frame),
-        b"locals" => none(arguments, Command::Locals),
-        b"globals" => none(arguments, Command::Globals),
-        b"print" => path(alloc, arguments).map(Command::Print),
-        b"regs" => none(arguments, Command::Regs),
-        b"list" => none(arguments, Command::List),
-        b"break" => place(alloc, arguments).map(Command::Break),
-        b"delete" => number(arguments).map(Command::Delete),
-        b"watch" => path(alloc, arguments).map(Command::Watch),
-        b"unwatch" => number(arguments).map(Command::Unwatch),
-        b"info" => none(arguments, Command::Info),
-        b"quit" => none(arguments, Command::Quit),
-        _ => Err(UNKNOWN_COMMAND),
+    match keyword {
+        Keyword::Goto => Ok(Command::Goto(number(arguments)?)),
+        Keyword::Fwd => Ok(Command::Fwd(count(arguments)?)),
+        Keyword::Back => Ok(Command::Back(count(arguments)?)),
+        Keyword::Stepi => Ok(Command::Stepi(count(arguments)?)),
+        Keyword::Rstepi => Ok(Command::Rstepi(count(arguments)?)),
+        Keyword::Step => none(arguments, Command::Step),
+        Keyword::Next => none(arguments, Command::Next),
+        Keyword::Finish => none(arguments, Command::Finish),
+        Keyword::Rstep => none(arguments, Command::Rstep),
+        Keyword::Rnext => none(arguments, Command::Rnext),
+        Keyword::Rfinish => none(arguments, Command::Rfinish),
+        Keyword::Continue => none(arguments, Command::Continue),
+        Keyword::Rcontinue => none(arguments, Command::Rcontinue),
+        Keyword::Where => none(arguments, Command::Place),
+        Keyword::Group => none(arguments, Command::Group),
+        Keyword::Focus => Ok(Command::Focus(number(arguments)?)),
+        Keyword::Bt => none(arguments, Command::Bt),
+        Keyword::Frame => Ok(Command::Frame(number(arguments)?)),
+        Keyword::Locals => none(arguments, Command::Locals),
+        Keyword::Globals => none(arguments, Command::Globals),
+        Keyword::Print => Ok(Command::Print(path(alloc, arguments)?)),
+        Keyword::Regs => none(arguments, Command::Regs),
+        Keyword::List => none(arguments, Command::List),
+        Keyword::Break => Ok(Command::Break(place(alloc, arguments)?)),
+        Keyword::Delete => Ok(Command::Delete(number(arguments)?)),
+        Keyword::Watch => Ok(Command::Watch(path(alloc, arguments)?)),
+        Keyword::Unwatch => Ok(Command::Unwatch(number(arguments)?)),
+        Keyword::Info => none(arguments, Command::Info),
+        Keyword::Quit => none(arguments, Command::Quit),
     }
 }

@@ -1,6 +1,13 @@
-use Rattle.std.proofs.Common.{rules}
+use Rattle.std.proofs.Common.{◌≡◌, Some, sym, ◌∙◌}
+use Rattle.std.specs.List.{position}
+use Rattle.spv_cmd.specs.Words.{is_space, is_other}
 use Rattle.spv_cmd.proofs.Words_lemmas.{first_at_space}
 use Rattle.spv_cmd.proofs.words.next_word.Goals as goal
 
 pub returns-in-Some : goal.returns-in-Some
-returns-in-Some c = first_at_space c.args.text.now c.split_at.result.1.now c.split_at-2.result.0.now c.split_at-2.result.1.now c.split_at-3.result.1.now c.in_ok-start.start c.in-Some.end (cc) c.split_at.ensures.back (cc) c.split_at-2.ensures.front c.split_at-2.ensures.back c.split_at-3.ensures.back
+returns-in-Some c =
+    let text = c.args.text.now in
+    let left = c.split_at.result.1.now in
+    let start : Some c.in_ok-start.start ≡ position is_other text = sym c.in_ok-start.was ∙ c.first_other.ensures in
+    let end : Some c.in-Some.end ≡ position is_space left = sym c.in-Some.is ∙ c.first_space.ensures in
+    first_at_space text left c.split_at-in-Some.result.0.now c.split_at-in-Some.result.1.now c.split_at-in-Some-2.result.1.now c.in_ok-start.start c.in-Some.end start c.split_at.ensures.back end c.split_at-in-Some.ensures.front c.split_at-in-Some.ensures.back c.split_at-in-Some-2.ensures.back

@@ -1,0 +1,2 @@
+pub mod Stop_lemmas
+pub mod Hit_lemmas

@@ -1,0 +1,116 @@
+//! Breaks at lines of source files.
+ghost use Rattle.std.specs.Prelude.{◌≡◌, map, filter, IfOk};
+ghost use Rattle.spv_stops.specs.Stops.{number_of};
+ghost use Rattle.spv_stops.specs.Breaks.{has_head};
+
+use crate::numbers::{LIST_FULL, NO_SUCH_NUMBER, place_of};
+use spv_base::{Bytes, CmdRefusal, Fail, NoMemory, Places};
+use std::alloc::Global;
+use std::marker::Model;
+
+/// A line of a source file, and the words of its heads: the instructions at which a break there hits.
+#[derive(Debug, PartialEq, Drop)]
+pub struct Breakpoint {
+    pub file: Bytes,
+    pub line: u32,
+    pub heads: Places,
+}
+
+/// At most 64 breaks.
+#[derive(Drop)]
+pub struct Breaks {
+    alloc: Global,
+    breaks: Vec<(u32, Breakpoint)>,
+    given: u32,
+}
+
+impl Model for Breaks {
+    ghost use Rattle.std.specs.Prelude.{ℕ, List};
+    ghost use Rattle.spv_stops.specs.declared.breaks.Breakpoint.{Breakpoint};
+
+    ghost Value = { List (ℕ × Breakpoint) × ℕ };
+
+    ghost use Rattle.spv_stops.specs.Stops.{AreStops};
+
+    ghost view = { λ b. (b.breaks.items, b.given) };
+
+    ghost invariant = { λ b. AreStops 64 (b.breaks.items, b.given) };
+}
+
+impl Breaks {
+    ghost use Rattle.std.specs.Prelude.{◌≡◌, ◌<◌, ◌≤◌, [], ℕ, length, Ok, Err, IfOk, OnOk, OnErr, Result, if◌then◌else◌};
+    ghost use Rattle.spv_base.specs.Answers.{Answers};
+    ghost use Rattle.spv_base.specs.declared.causes.CmdRefusal.{CmdRefusal};
+    ghost use Rattle.spv_stops.specs.Stops.{AreStops, Ascend, is_kept, with_stop, without_stop};
+    ghost use Rattle.spv_stops.specs.Breaks.{break_number, hits_at};
+
+    /// No breaks; the first number is 1. Takes no memory.
+    pub fn new(alloc: Global) -> Breaks
+        ensures { result ≡ ([], 0) }
+    {
+        Breaks {
+            alloc,
+            breaks: Vec::new(alloc),
+            given: 0,
+        }
+    }
+
+    /// Adds a break, and gives its number. It is refused where the line has no head (C8), and then where 64 breaks are kept
+    /// or the number 4,294,967,295 was given (C9).
+    pub fn add(&mut self, file: &[u8], line: u32, heads: Places) -> Result<u32, Fail<CmdRefusal>>
+        ensures answer { Answers (break_number heads self.old) result }
+        ensures ok { OnOk result (self.new ≡ with_stop (record { file = file.now; line = line; heads = heads }) self.old) }
+        ensures err { OnErr result (self.new ≡ self.old) }
+    {
+        if heads.len() == 0 {
+            return Err(NO_CODE);
+        }
+        if self.breaks.len() >= 64 || self.given == u32::MAX {
+            return Err(LIST_FULL);
+        }
+        let file = Bytes::from_slice(self.alloc, file)?;
+        let number = self.given + 1;
+        self.breaks.push((number, Breakpoint { file, line, heads }))?;
+        self.given = number;
+        Ok(number)
+    }
+
+    /// Removes the break with this number, which isn't used again. Where there is none it is refused (C7).
+    pub fn remove(&mut self, number: u32) -> Result<(), CmdRefusal>
+        ensures answer { result ≡ (if is_kept number self.old then Ok tt else Err (record { code = 7 })) }
+        ensures ok { OnOk result (self.new ≡ without_stop number self.old) }
+        ensures err { OnErr result (self.new ≡ self.old) }
+    {
+        match place_of(&self.breaks, number) {
+            None => Err(NO_SUCH_NUMBER),
+            Some(place) => {
+                self.breaks.remove(place);
+                Ok(())
+            }
+        }
+    }
+
+    /// The numbers of the breaks with this head, ascending.
+    pub fn hit(&self, alloc: Global, pc: u32) -> Result<Places, NoMemory>
+        ensures hits { IfOk result (λ numbers. numbers ≡ hits_at pc self.now) }
+        ensures ascending { AreStops 64 self.now }
+    {
+        hits(alloc, &self.breaks, pc)
+    }
+}
+
+/// The line has no head.
+const NO_CODE: Fail<CmdRefusal> = Fail::Refused(CmdRefusal { code: 8 });
+
+/// The numbers of the breaks with this head.
+fn hits(alloc: Global, breaks: &[(u32, Breakpoint)], pc: u32) -> Result<Places, NoMemory>
+    ensures { IfOk result (λ numbers. numbers ≡ map number_of (filter (has_head pc) breaks.now)) }
+{
+    let mut numbers = Places::new(alloc);
+    for stop in breaks {
+        if stop.1.heads.as_slice().contains(&pc) {
+            numbers.push(stop.0)?;
+        }
+    }
+    Ok(numbers)
+}

@@ -1,0 +1,11 @@
+//! The lists of breaks and of watches. Each stop has a number that no other had before it.
+#![tactic(auto)]
+
+mod breaks;
+mod numbers;
+#[cfg(test)]
+mod tests;
+mod watches;
+
+pub use breaks::{Breakpoint, Breaks};
+pub use watches::{WatchKey, Watches};
