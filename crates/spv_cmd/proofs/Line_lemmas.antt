@@ -24,6 +24,7 @@ use Rattle.spv_cmd.specs.Grammar.{Arguments, row, spelling, Means, AreWords, IsL
 use Rattle.spv_cmd.specs.Grammar.Arguments.{none, number, count, path, place}
 use Rattle.spv_cmd.specs.Lines.{written, text_of, HasForm, line_of}
 use Rattle.spv_cmd.proofs.Bool_lemmas.{both_true, both_are, all_also}
+use Rattle.spv_cmd.proofs.Words_lemmas.{some_word}
 use Rattle.spv_cmd.proofs.Number_lemmas.{number_decimal, decimal_digits, le_true}
 use Rattle.spv_cmd.proofs.Part_lemmas.{name_parts}
 use Rattle.spv_cmd.proofs.Path_lemmas.{path_again}
@@ -42,17 +43,13 @@ other_no_space b h = no_by (is_space b) h
 no_space : (text : List ℕ) → list_all is_other text ≡ true → All (λ b. is_space b ≡ false) text
 no_space text h i d l = other_no_space (get_or text i d) (AllPass-from_list_all is_other text h i d l)
 
-holds_word : (word : List ℕ) (words : List (List ℕ)) → 0 < length word → filter (λ w. not (nat_eq (length w) 0)) (word ∷ words) ≡ word ∷ filter (λ w. not (nat_eq (length w) 0)) words
-holds_word (b ∷ word) words h = refl
-holds_word [] words h = absurd (omega (arith, h))
-
 one_word : (word : List ℕ) → list_all is_other word ≡ true → 0 < length word → words_in word ≡ word ∷ []
-one_word word whole some = ap (filter (λ w. not (nat_eq (length w) 0))) (slice_split_none is_space word (no_space word whole)) ∙ holds_word word [] some
+one_word word whole some = ap (filter (λ w. not (nat_eq (length w) 0))) (slice_split_none is_space word (no_space word whole)) ∙ some_word word [] some
 
 two_words : (word next : List ℕ) → list_all is_other word ≡ true → 0 < length word → list_all is_other next ≡ true → 0 < length next → words_in (word ++ 32 ∷ next) ≡ word ∷ next ∷ []
 two_words word next whole some whole' some' =
     ap (filter (λ w. not (nat_eq (length w) 0))) (slice_split_at is_space word 32 next (no_space word whole) refl)
-    ∙ holds_word word (slice_split is_space next) some
+    ∙ some_word word (slice_split is_space next) some
     ∙ ap (λ ws. word ∷ ws) (one_word next whole' some')
 
 -- ---- texts without spaces

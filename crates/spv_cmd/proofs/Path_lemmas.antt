@@ -1,7 +1,7 @@
 -- Paths that are read can be written, in no more bytes, and are read again from what is written.
-use Rattle.std.proofs.Common.{◌≡◌, ℕ, ◌+◌, ◌≤◌, Bool, true, ◌&&◌, nat_le, decimal, List, [], ◌∷◌, ◌++◌, length, Some, refl, ap, ◌∙◌, arith}
+use Rattle.std.proofs.Common.{◌≡◌, ℕ, ◌+◌, ◌<◌, ◌≤◌, drop, get_or, sym, Bool, true, ◌&&◌, nat_le, decimal, List, [], ◌∷◌, ◌++◌, length, Some, refl, ap, ◌∙◌, arith}
 use Rattle.std.specs.List.{list_all}
-use Rattle.std.proofs.lemmas.List.{length-append}
+use Rattle.std.proofs.lemmas.List.{length-append, append_assoc, append-nil, drop_more, drop_all}
 use Rattle.std.proofs.lemmas.Bool.Decides.{nat_tests}
 use Rattle.spv_cmd.specs.declared.command.PathPart.{PathPart}
 use Rattle.spv_cmd.specs.declared.command.PathPart.TheVariants.{Member, Index}
@@ -47,3 +47,15 @@ path_again (Name name parts) h =
     let both = both_are (is_name name) (list_all is_part parts) h in
     (parts_text parts, refl, both.0, parts_again parts both.1)
 path_again (Id n) h = (decimal n, refl, number_decimal n (le_true n 4294967295 h))
+
+-- one part more is written
+pub parts_more : (before text more : List ℕ) (parts : List PathPart) (i : ℕ) (part : PathPart) → i < length parts → part ≡ get_or parts i part → text ++ parts_text (drop i parts) ≡ before → more ≡ text ++ part_text part → more ++ parts_text (drop (i + 1) parts) ≡ before
+parts_more before text more parts i part l is so e =
+    let next : drop i parts ≡ part ∷ drop (i + 1) parts = drop_more parts i part l ∙ ap (λ p. p ∷ drop (i + 1) parts) (sym is) in
+    ap (λ m. m ++ parts_text (drop (i + 1) parts)) e
+    ∙ append_assoc text (part_text part) (parts_text (drop (i + 1) parts))
+    ∙ ap (λ ps. text ++ parts_text ps) (sym next)
+    ∙ so
+
+pub parts_done : (before text : List ℕ) (parts : List PathPart) (i : ℕ) → length parts ≤ i → text ++ parts_text (drop i parts) ≡ before → text ≡ before
+parts_done before text parts i l so = sym (append-nil text) ∙ ap (λ ps. text ++ parts_text ps) (sym (drop_all i parts l)) ∙ so

@@ -48,7 +48,7 @@ place_or_end n m h = grind arith
 pub words_none : (xs : List ℕ) → None ≡ position is_other xs → words_in xs ≡ []
 words_none xs h = sym (words_skip xs) ∙ no_words (position_or_len is_other xs) xs (no_place _ _ h)
 
-some_word : (word : List ℕ) (words : List (List ℕ)) → 0 < length word → filter (λ w. not (nat_eq (length w) 0)) (word ∷ words) ≡ word ∷ filter (λ w. not (nat_eq (length w) 0)) words
+pub some_word : (word : List ℕ) (words : List (List ℕ)) → 0 < length word → filter (λ w. not (nat_eq (length w) 0)) (word ∷ words) ≡ word ∷ filter (λ w. not (nat_eq (length w) 0)) words
 some_word word words h = let e : nat_eq (length word) 0 ≡ false = grind arith in ap (λ b. cond (not b) (word ∷ filter (λ w. not (nat_eq (length w) 0)) words) (filter (λ w. not (nat_eq (length w) 0)) words)) e
 
 

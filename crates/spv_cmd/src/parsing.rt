@@ -17,6 +17,9 @@ use std::alloc::Global;
 /// No command has this word.
 const UNKNOWN_COMMAND: Fail<CmdRefusal> = Fail::Refused(CmdRefusal { code: 1 });
 
+/// How many bytes a line may have.
+const LONGEST_LINE: usize = 4096;
+
 /// The line has more than 4,096 bytes.
 const LINE_TOO_LONG: Fail<CmdRefusal> = Fail::Refused(CmdRefusal { code: 11 });
 
@@ -26,7 +29,7 @@ pub fn parse(alloc: Global, line: &[u8]) -> Result<Command, Fail<CmdRefusal>>
     ensures due { IsAnswer line.now result }
     ensures answered { (due : Result Command CmdRefusal) → IsDue line.now due → Answers due result }
 {
-    if line.len() > 4096 {
+    if line.len() > LONGEST_LINE {
         return Err(LINE_TOO_LONG);
     }
     match next_word(line) {

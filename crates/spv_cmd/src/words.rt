@@ -18,7 +18,7 @@ fn first_space(text: &[u8]) -> Option<usize>
 }
 
 /// The first word of a text, and what follows the space after it.
-#[tactic(auto, using(crate::proofs::Words_lemmas::words_none, crate::proofs::Words_lemmas::first_at_space, crate::proofs::Words_lemmas::first_at_end, crate::proofs::Words_lemmas::place_within))]
+#[tactic(auto, using(crate::proofs::Words_lemmas::words_none, crate::proofs::Words_lemmas::place_within))]
 pub fn next_word(text: &[u8]) -> Option<(&[u8], &[u8])>
     ensures { MatchOption result (words_in text.now ≡ []) (λ parts. HasFirstWord text.now parts.0.now parts.1.now) }
 {

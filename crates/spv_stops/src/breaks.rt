@@ -16,6 +16,12 @@ pub struct Breakpoint {
     pub heads: Places,
 }
 
+/// The line has no head.
+const NO_CODE: Fail<CmdRefusal> = Fail::Refused(CmdRefusal { code: 8 });
+
+/// How many breaks are kept at most.
+const MOST_BREAKS: usize = 64;
+
 /// At most 64 breaks.
 #[derive(Drop)]
 pub struct Breaks {
@@ -65,7 +71,7 @@ impl Breaks {
         if heads.len() == 0 {
             return Err(NO_CODE);
         }
-        if self.breaks.len() >= 64 || self.given == u32::MAX {
+        if self.breaks.len() >= MOST_BREAKS || self.given == u32::MAX {
             return Err(LIST_FULL);
         }
         let file = Bytes::from_slice(self.alloc, file)?;
@@ -98,9 +104,6 @@ impl Breaks {
         hits(alloc, &self.breaks, pc)
     }
 }
-
-/// The line has no head.
-const NO_CODE: Fail<CmdRefusal> = Fail::Refused(CmdRefusal { code: 8 });
 
 /// The numbers of the breaks with this head.
 fn hits(alloc: Global, breaks: &[(u32, Breakpoint)], pc: u32) -> Result<Places, NoMemory>

@@ -20,6 +20,9 @@ pub struct WatchKey {
     pub count: u64,
 }
 
+/// How many watches are kept at most.
+const MOST_WATCHES: usize = 32;
+
 /// At most 32 watches.
 #[derive(Drop)]
 pub struct Watches {
@@ -64,7 +67,7 @@ impl Watches {
         ensures ok { OnOk result (self.new ≡ with_stop key self.old) }
         ensures err { OnErr result (self.new ≡ self.old) }
     {
-        if self.watches.len() >= 32 || self.given == u32::MAX {
+        if self.watches.len() >= MOST_WATCHES || self.given == u32::MAX {
             return Err(LIST_FULL);
         }
         let number = self.given + 1;

@@ -7,6 +7,6 @@ use Rattle.spv_stops.proofs.watches.Watches.add.Goals as goal
 pub invariant_of-self-2 : goal.invariant_of-self-2
 invariant_of-self-2 c =
     let stops : Stops WatchKey = (c.self.inside.watches.items, c.self.inside.given) in
-    let room : length stops.0 < 32 = omega (arith, c.self.inside.watches.ok.0, c.len.ensures, c.if-len-ge32.false) in
-    let left : stops.1 < 4294967295 = omega (arith, c.self.invariant.2, c.if-self.false) in
+    let room : length stops.0 < 32 = omega (arith, c.self.inside.watches.ok.0) in
+    let left : stops.1 < 4294967295 = omega arith in
     subst (λ items. AreStops 32 (items, c.self.inside.given + 1)) (sym c.in_ok-push.ensures.items) (stops_push 32 stops c.args.key c.self.invariant room left)
