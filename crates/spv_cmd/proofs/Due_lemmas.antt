@@ -1,7 +1,6 @@
 -- A line is one command at most, and one answer is due to it.
-use Rattle.std.proofs.Common.{◌≡◌, ◌≢◌, ℕ, ◌+◌, ◌<◌, ◌≤◌, ◌⊎◌, inl, inr, List, [], ◌∷◌, ◌++◌, length, drop, Option, Some, None, Ok, Err, Result, refl, sym, ap, ◌∙◌, subst, arith}
+use Rattle.std.proofs.Common.{◌≡◌, ◌≢◌, ℕ, ◌+◌, ◌≤◌, inl, inr, List, [], ◌∷◌, ◌++◌, length, drop, Option, Some, None, Ok, Err, Result, refl, sym, ap, ◌∙◌, subst, arith}
 use Rattle.std.specs.List.{position_or_len, list_all}
-use Rattle.std.proofs.lemmas.List.{append_assoc}
 use Rattle.spv_base.specs.Answers.{Answers}
 use Rattle.spv_base.specs.declared.causes.Fail.{Fail}
 use Rattle.spv_base.specs.declared.causes.Fail.TheVariants.{Refused, NoMemory}
@@ -14,9 +13,9 @@ use Rattle.spv_cmd.specs.declared.command.Command.{Command}
 use Rattle.spv_cmd.specs.declared.command.Command.TheVariants.{Empty}
 use Rattle.spv_cmd.specs.Words.{words_in}
 use Rattle.spv_cmd.specs.Numbers.{number_of}
-use Rattle.spv_cmd.specs.Paths.{is_mark, is_name, IsPart, AreParts, IsPath}
+use Rattle.spv_cmd.specs.Paths.{is_mark, IsPart, AreParts, IsPath}
 use Rattle.spv_cmd.specs.Places.{IsPlace, is_no_colon}
-use Rattle.spv_cmd.specs.Grammar.{Arguments, row, spelling, IsOne, IsNumber, IsCount, Means, AreWords, IsLine}
+use Rattle.spv_cmd.specs.Grammar.{Arguments, row, spelling, IsOne, IsCount, Means, AreWords, IsLine}
 use Rattle.spv_cmd.specs.Grammar.Arguments.{none, number, count, path, place}
 use Rattle.spv_cmd.specs.Answers.{Reads, AreRefused, IsRefused, IsDue, IsAnswer}
 use Rattle.spv_cmd.proofs.Bool_lemmas.{first_are}

@@ -1,5 +1,5 @@
 -- Every keyword is looked at.
-use Rattle.std.proofs.Common.{◌≡◌, ◌≢◌, ℕ, ◌<◌, ◌≤◌, lit≤, true, Option, Some, List, length, get_or, refl, sym, ap, ◌∙◌, subst, arith, lit<}
+use Rattle.std.proofs.Common.{◌≡◌, ◌≢◌, ℕ, ◌<◌, ◌≤◌, lit≤, true, Option, Some, List, length, get_or, refl, sym, ap, ◌∙◌, lit<}
 use Rattle.spv_cmd.specs.declared.keywords.Keyword.{Keyword}
 use Rattle.spv_cmd.specs.declared.keywords.Keyword.TheVariants as the
 use Rattle.spv_cmd.specs.declared.keywords.TheConstants.{KEYWORDS}

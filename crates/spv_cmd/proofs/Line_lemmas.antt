@@ -1,5 +1,5 @@
 -- The canonical line of a command is a line of the command.
-use Rattle.std.proofs.Common.{◌≡◌, ℕ, suc, ◌+◌, ◌<◌, ◌≤◌, ◌⊎◌, inl, inr, Bool, true, false, not, ◌&&◌, nat_eq, decimal, List, [], ◌∷◌, ◌++◌, length, get_or, Option, Some, None, refl, sym, ap, ◌∙◌, subst, arith, lit≤}
+use Rattle.std.proofs.Common.{◌≡◌, ℕ, ◌+◌, ◌<◌, ◌≤◌, inr, Bool, true, false, not, nat_eq, decimal, List, [], ◌∷◌, ◌++◌, length, get_or, Option, Some, None, refl, sym, ap, ◌∙◌, subst, arith, lit≤}
 use Rattle.std.specs.Prelude.{filter}
 use Rattle.std.specs.List.{slice_split, list_all, All}
 use Rattle.std.proofs.lemmas.List.{length-append}
@@ -17,12 +17,12 @@ use Rattle.spv_cmd.specs.declared.command.PathText.TheVariants.{Name, Id}
 use Rattle.spv_cmd.specs.declared.command.Command.{Command}
 use Rattle.spv_cmd.specs.declared.command.Command.TheVariants as command
 use Rattle.spv_cmd.specs.Words.{is_space, is_other, words_in}
-use Rattle.spv_cmd.specs.Numbers.{number_of, is_digit}
-use Rattle.spv_cmd.specs.Paths.{is_name, is_name_byte, is_part, is_path, part_text, parts_text, path_text, IsPath}
-use Rattle.spv_cmd.specs.Places.{is_place, place_text, IsPlace}
-use Rattle.spv_cmd.specs.Grammar.{Arguments, row, spelling, Means, AreWords, IsLine}
+use Rattle.spv_cmd.specs.Numbers.{is_digit}
+use Rattle.spv_cmd.specs.Paths.{is_name, is_name_byte, is_part, is_path, part_text, parts_text, path_text}
+use Rattle.spv_cmd.specs.Places.{is_place, place_text}
+use Rattle.spv_cmd.specs.Grammar.{row, spelling, Means, AreWords, IsLine}
 use Rattle.spv_cmd.specs.Grammar.Arguments.{none, number, count, path, place}
-use Rattle.spv_cmd.specs.Lines.{written, text_of, HasForm, line_of}
+use Rattle.spv_cmd.specs.Lines.{written, HasForm, line_of}
 use Rattle.spv_cmd.proofs.Bool_lemmas.{both_true, both_are, all_also}
 use Rattle.spv_cmd.proofs.Words_lemmas.{some_word}
 use Rattle.spv_cmd.proofs.Number_lemmas.{number_decimal, decimal_digits, le_true}
@@ -36,9 +36,9 @@ use Rattle.spv_cmd.proofs.Keyword_lemmas.{keyword_whole, keyword_some, keyword_s
 other_no_space : (b : ℕ) → is_other b ≡ true → is_space b ≡ false
 other_no_space b h = no_by (is_space b) h
   where
-  no_by : (c : Bool) → not c ≡ true → c ≡ false
-  no_by true h = absurd (cc)
-  no_by false h = refl
+    no_by : (c : Bool) → not c ≡ true → c ≡ false
+    no_by true h = absurd (cc)
+    no_by false h = refl
 
 no_space : (text : List ℕ) → list_all is_other text ≡ true → All (λ b. is_space b ≡ false) text
 no_space text h i d l = other_no_space (get_or text i d) (AllPass-from_list_all is_other text h i d l)
@@ -75,8 +75,8 @@ name_whole name h = all_also is_name_byte is_other name_other name (name_parts n
 name_some : (name : List ℕ) → is_name name ≡ true → 0 < length name
 name_some name h = let test = (name_parts name h).0 in some_by (length name) test
   where
-  some_by : (n : ℕ) → not (nat_eq n 0) ≡ true → 0 < n
-  some_by n h = grind (arith, nat_tests)
+    some_by : (n : ℕ) → not (nat_eq n 0) ≡ true → 0 < n
+    some_by n h = grind (arith, nat_tests)
 
 part_whole : (part : PathPart) → is_part part ≡ true → list_all is_other (part_text part) ≡ true
 part_whole (Member name) h = name_whole name h
@@ -111,9 +111,10 @@ alone_line k it e =
 
 -- a line of a keyword and one argument
 argument_line : (k : Keyword) (it : Command) (argument : List ℕ) → list_all is_other argument ≡ true → 0 < length argument → length (spelling k) + length argument < 4096 → Means (row k).1 (argument ∷ []) it → IsLine (spelling k ++ 32 ∷ argument) it
-argument_line k it argument whole some short h =
-    (omega (arith, length-append (spelling k) (32 ∷ argument), short),
-     subst (λ ws. AreWords ws it) (sym (two_words (spelling k) argument (keyword_whole k) (keyword_some k) whole some)) (k, refl, h))
+argument_line k it argument whole some short h = (
+  omega (arith, length-append (spelling k) (32 ∷ argument), short),
+  subst (λ ws. AreWords ws it) (sym (two_words (spelling k) argument (keyword_whole k) (keyword_some k) whole some)) (k, refl, h),
+)
 
 short_number : (k : Keyword) (n : ℕ) → n ≤ 4294967295 → length (spelling k) + length (decimal n) < 4096
 short_number k n h = omega (arith, keyword_short k, length-decimal-le 10 n (omega arith) (omega (arith, h)) (omega (arith, h)))

@@ -1,8 +1,8 @@
 -- A number that was read digit by digit, up to 2 ^ 32, is the number that the digits spell.
-use Rattle.std.proofs.Common.{◌≡◌, ℕ, ◌+◌, ◌-◌, ◌*◌, fold, decimal, subst, ◌<◌, ◌≤◌, ◌^◌, min, Bool, true, false, cond, ◌&&◌, nat_lt, nat_le, List, length, Some, None, Option, refl, ap, ◌∙◌, arith}
+use Rattle.std.proofs.Common.{◌≡◌, ℕ, ◌+◌, ◌-◌, ◌*◌, fold, decimal, subst, ◌<◌, ◌≤◌, ◌^◌, min, Bool, true, false, cond, ◌&&◌, nat_lt, nat_le, List, length, Some, None, refl, ap, ◌∙◌, arith}
 use Rattle.std.specs.List.{list_all}
 use Rattle.std.specs.Int.{IsInRange}
-use Rattle.std.proofs.lemmas.Str.Parse.{IsDigitsTest, IsNumeralModel, FoldsDigits, numerals_by_fold, digits_value_short}
+use Rattle.std.proofs.lemmas.Str.Parse.{IsDigitsTest, IsNumeralModel, numerals_by_fold, digits_value_short}
 use Rattle.std.proofs.lemmas.Fmt.{digits_decimal, digits_value-decimal, decimal_nonempty, length-decimal-le}
 use Rattle.spv_cmd.proofs.Bool_lemmas.{both_are, both_true}
 use Rattle.std.proofs.lemmas.Bool.Decides.{nat_tests}
@@ -54,10 +54,11 @@ digits_test = record {
   more = λ c cs r h. both_true (is_digit c) (list_all is_digit cs) (in_digit c r) h;
 }
   where
-  digit_in : (c : ℕ) (cs : List ℕ) → (is_digit c ≡ true) × (list_all is_digit cs ≡ true) → IsInRange 48 57 c × (list_all is_digit cs ≡ true)
-  digit_in c cs h = let both = both_are _ _ h.0 in let low = le_true 48 c both.0 in let high = lt_true c 58 both.1 in ((low, omega (arith, high)), h.1)
-  in_digit : (c : ℕ) → IsInRange 48 57 c → is_digit c ≡ true
-  in_digit c r = both_true _ _ (at_most 48 c r.0) (below c 58 (omega (arith, r.1)))
+    digit_in : (c : ℕ) (cs : List ℕ) → (is_digit c ≡ true) × (list_all is_digit cs ≡ true) → IsInRange 48 57 c × (list_all is_digit cs ≡ true)
+    digit_in c cs h = let both = both_are _ _ h.0 in let low = le_true 48 c both.0 in let high = lt_true c 58 both.1 in ((low, omega (arith, high)), h.1)
+
+    in_digit : (c : ℕ) → IsInRange 48 57 c → is_digit c ≡ true
+    in_digit c r = both_true _ _ (at_most 48 c r.0) (below c 58 (omega (arith, r.1)))
 
 own : IsNumeralModel (λ ds. list_all is_digit ds ≡ true) value_of
 own = numerals_by_fold _ digits_test (λ n ds. fold (λ m b. 10 * m + (b - 48)) n ds) (record {
@@ -65,8 +66,8 @@ own = numerals_by_fold _ digits_test (λ n ds. fold (λ m b. 10 * m + (b - 48)) 
   more = λ n c cs r. ap (λ m. fold (λ m b. 10 * m + (b - 48)) m cs) (step n c);
 })
   where
-  step : (n c : ℕ) → 10 * n + (c - 48) ≡ n * 10 + (c - 48)
-  step n c = omega arith
+    step : (n c : ℕ) → 10 * n + (c - 48) ≡ n * 10 + (c - 48)
+    step n c = omega arith
 
 fits : (n : ℕ) → n ≤ 4294967295 → n < 2 ^ 64
 fits n h = omega arith

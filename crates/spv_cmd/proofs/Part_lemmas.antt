@@ -1,5 +1,5 @@
 -- What is cut from the text of a path is its parts.
-use Rattle.std.proofs.Common.{◌≡◌, ◌≢◌, ℕ, suc, ◌+◌, ◌<◌, ◌≤◌, ◌⊎◌, inl, inr, Bool, true, false, not, cond, ◌&&◌, ◌||◌, nat_eq, nat_le, nat_lt, List, [], ◌∷◌, ◌++◌, length, take, drop, get_or, Some, None, Option, refl, sym, ap, ◌∙◌, subst, arith, append_assoc}
+use Rattle.std.proofs.Common.{◌≡◌, ◌≢◌, ℕ, suc, ◌+◌, ◌<◌, ◌⊎◌, inl, inr, Bool, true, false, not, cond, nat_eq, List, [], ◌∷◌, ◌++◌, length, take, drop, Some, None, refl, sym, ap, ◌∙◌, subst, arith, append_assoc}
 use Rattle.std.specs.Prelude.{slice_index}
 use Rattle.std.specs.List.{list_all, position_or_len}
 use Rattle.std.proofs.lemmas.List.{take_at, drop_at, same_from_push, take-append-drop, length-append}
@@ -45,8 +45,9 @@ BeginsPart text = (text ≡ []) ⊎ ((b : ℕ) × (rest : List ℕ) × (text ≡
 mark_place : (front rest : List ℕ) → list_all unmarked front ≡ true → BeginsPart rest → position_or_len is_mark (front ++ rest) ≡ length front
 unfolding BeginsPart
 mark_place [] rest h begins = elim begins [
-    inl e ↦ ap (position_or_len is_mark) e
-  | inr t ↦ ap (position_or_len is_mark) t.2 ∙ ap (λ b. cond (not b) (1 + position_or_len is_mark t.1) 0) t.3 ]
+  | inl e ↦ ap (position_or_len is_mark) e
+  | inr t ↦ ap (position_or_len is_mark) t.2 ∙ ap (λ b. cond (not b) (1 + position_or_len is_mark t.1) 0) t.3
+]
 mark_place (x ∷ front) rest h begins =
     let both = both_are (unmarked x) (list_all unmarked front) h in
     let n = mark_place front rest both.1 begins in
@@ -198,13 +199,13 @@ part_sound text rest first after done part n front back h sound ps hs =
 pub part_complete : (text rest first after : List ℕ) (done : List PathPart) (part : PathPart) (n : ℕ) → 0 < length rest → n ≡ 1 + position_or_len is_mark (drop 1 rest) → first ≡ take n rest → after ≡ drop n rest → IsPart part first → ((ps : List PathPart) → AreParts ps text → (qs : List PathPart) × AreParts qs rest × (ps ≡ done ++ qs)) → (ps : List PathPart) → AreParts ps text → (qs : List PathPart) × AreParts qs after × (ps ≡ (done ++ part ∷ []) ++ qs)
 part_complete text rest first after done part n some k front back h complete ps hs = complete_by (complete ps hs)
   where
-  complete_by : (qs : List PathPart) × AreParts qs rest × (ps ≡ done ++ qs) → (qs : List PathPart) × AreParts qs after × (ps ≡ (done ++ part ∷ []) ++ qs)
-  complete_by ([], h', e) = absurd (omega (arith, some, ap length h'))
-  complete_by (other ∷ qs, h', e) =
-    let cut = first_part_is other qs rest h'.0 h'.1 h'.2 h'.3 h'.4 n k in
-    let here : IsPart other first = subst (IsPart other) (sym (front ∙ cut.0)) h'.3 in
-    let same : other ≡ part = one_part other part first here h in
-    (qs, subst (AreParts qs) (sym (back ∙ cut.1)) h'.4, e ∙ ap (λ p. done ++ p ∷ qs) same ∙ sym (append_assoc done (part ∷ []) qs))
+    complete_by : (qs : List PathPart) × AreParts qs rest × (ps ≡ done ++ qs) → (qs : List PathPart) × AreParts qs after × (ps ≡ (done ++ part ∷ []) ++ qs)
+    complete_by ([], h', e) = absurd (omega (arith, some, ap length h'))
+    complete_by (other ∷ qs, h', e) =
+        let cut = first_part_is other qs rest h'.0 h'.1 h'.2 h'.3 h'.4 n k in
+        let here : IsPart other first = subst (IsPart other) (sym (front ∙ cut.0)) h'.3 in
+        let same : other ≡ part = one_part other part first here h in
+        (qs, subst (AreParts qs) (sym (back ∙ cut.1)) h'.4, e ∙ ap (λ p. done ++ p ∷ qs) same ∙ sym (append_assoc done (part ∷ []) qs))
 
 -- a part has a byte
 pub part_some : (part : PathPart) (text : List ℕ) → IsPart part text → ¬ (text ≡ [])

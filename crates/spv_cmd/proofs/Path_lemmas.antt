@@ -1,13 +1,11 @@
 -- Paths that are read can be written, in no more bytes, and are read again from what is written.
-use Rattle.std.proofs.Common.{◌≡◌, ℕ, ◌+◌, ◌<◌, ◌≤◌, drop, get_or, sym, Bool, true, ◌&&◌, nat_le, decimal, List, [], ◌∷◌, ◌++◌, length, Some, refl, ap, ◌∙◌, arith}
+use Rattle.std.proofs.Common.{◌≡◌, ℕ, ◌+◌, ◌<◌, ◌≤◌, drop, get_or, sym, true, decimal, List, [], ◌∷◌, ◌++◌, length, refl, ap, ◌∙◌, arith}
 use Rattle.std.specs.List.{list_all}
 use Rattle.std.proofs.lemmas.List.{length-append, append_assoc, append-nil, drop_more, drop_all}
-use Rattle.std.proofs.lemmas.Bool.Decides.{nat_tests}
 use Rattle.spv_cmd.specs.declared.command.PathPart.{PathPart}
 use Rattle.spv_cmd.specs.declared.command.PathPart.TheVariants.{Member, Index}
 use Rattle.spv_cmd.specs.declared.command.PathText.{PathText}
 use Rattle.spv_cmd.specs.declared.command.PathText.TheVariants.{Name, Id}
-use Rattle.spv_cmd.specs.Numbers.{number_of}
 use Rattle.spv_cmd.specs.Paths.{IsPart, AreParts, IsPath, is_name, is_part, is_path, part_text, parts_text, path_text}
 use Rattle.spv_cmd.proofs.Bool_lemmas.{both_true, both_are}
 use Rattle.spv_cmd.proofs.Number_lemmas.{number_parts, number_decimal, decimal_short, at_most, le_true}

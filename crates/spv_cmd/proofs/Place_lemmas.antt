@@ -1,5 +1,5 @@
 -- Lines of source files that are read can be written, in no more bytes; what is cut at the last colon is the file and the line.
-use Rattle.std.proofs.Common.{◌≡◌, ◌≢◌, ℕ, ◌<◌, ◌≤◌, Bool, true, false, not, ◌&&◌, nat_eq, ◌⊎◌, inl, inr, decimal, append_assoc, subst, List, [], ◌∷◌, ◌++◌, length, take, drop, Option, Some, None, refl, sym, ap, ◌∙◌, arith}
+use Rattle.std.proofs.Common.{◌≡◌, ℕ, ◌<◌, ◌≤◌, true, not, ◌&&◌, nat_eq, inl, inr, decimal, append_assoc, subst, List, [], ◌∷◌, ◌++◌, length, take, drop, Option, Some, None, refl, sym, ap, ◌∙◌, arith}
 use Rattle.std.specs.List.{list_all}
 use Rattle.std.proofs.lemmas.List.{take-append-drop, length-append, same_from_push}
 use Rattle.std.proofs.lemmas.List.Folds.{list_all-append}
@@ -37,9 +37,10 @@ place_form (None, line) text h whole = (at_most line 4294967295 (number_parts te
 place_form (Some file, line) text h whole =
     let spaces : (list_all is_other file && list_all is_other (58 ∷ h.0)) ≡ true = sym (list_all-append is_other file (58 ∷ h.0)) ∙ ap (list_all is_other) (sym h.1) ∙ whole in
     let some : not (nat_eq (length file) 0) ≡ true = grind (arith, nat_tests) in
-    let short = decimal_short h.0 line h.3 in
-    (both_true _ _ some (both_true _ _ (both_are _ _ spaces).0 (at_most line 4294967295 (number_parts h.0 line h.3).3)),
-     omega (arith, short, ap length h.1, length-append file (58 ∷ h.0), length-append file (58 ∷ decimal line)))
+    let short = decimal_short h.0 line h.3 in (
+      both_true _ _ some (both_true _ _ (both_are _ _ spaces).0 (at_most line 4294967295 (number_parts h.0 line h.3).3)),
+      omega (arith, short, ap length h.1, length-append file (58 ∷ h.0), length-append file (58 ∷ decimal line)),
+    )
 
 -- what is written is read as the place
 pub place_again : (p : Option (List ℕ) × ℕ) → is_place p ≡ true → IsPlace p (place_text p)
@@ -88,10 +89,11 @@ file_is text front digits file b n line e f colon cut some h =
 pub no_file : (text front digits file : List ℕ) (b n : ℕ) → front ≡ take n text → digits ≡ drop n text → EndsInColon (take n text) → list_all is_no_colon (drop n text) ≡ true → front ≡ file ++ b ∷ [] → file ≡ [] → (p : Option (List ℕ) × ℕ) → ¬ IsPlace p text
 no_file text front digits file b n e f colon last cut empty p h = no_file_by p h
   where
-  begins : text ≡ 58 ∷ digits
-  begins = cut_whole text front digits n e f ∙ ap (λ l. l ++ digits) (colon_before front file b (subst EndsInColon (sym e) colon) cut ∙ ap (λ l. l ++ 58 ∷ []) empty)
-  no_file_by : (p : Option (List ℕ) × ℕ) → IsPlace p text → ⊥
-  no_file_by (None, line) k = no_colon_in [] digits (ap (list_all is_no_colon) (sym begins) ∙ number_no_colon text line k)
-  no_file_by (Some name, line) k =
-    let same = one_cut [] name digits k.0 (sym begins ∙ k.1) (ap (list_all is_no_colon) f ∙ last) (number_no_colon k.0 line k.3) in
-    absurd (omega (arith, k.2, ap length same.0))
+    begins : text ≡ 58 ∷ digits
+    begins = cut_whole text front digits n e f ∙ ap (λ l. l ++ digits) (colon_before front file b (subst EndsInColon (sym e) colon) cut ∙ ap (λ l. l ++ 58 ∷ []) empty)
+
+    no_file_by : (p : Option (List ℕ) × ℕ) → IsPlace p text → ⊥
+    no_file_by (None, line) k = no_colon_in [] digits (ap (list_all is_no_colon) (sym begins) ∙ number_no_colon text line k)
+    no_file_by (Some name, line) k =
+        let same = one_cut [] name digits k.0 (sym begins ∙ k.1) (ap (list_all is_no_colon) f ∙ last) (number_no_colon k.0 line k.3) in
+        absurd (omega (arith, k.2, ap length same.0))

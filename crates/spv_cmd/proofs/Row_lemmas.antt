@@ -1,5 +1,5 @@
 -- Refusals of arguments are refusals of the words of a row.
-use Rattle.std.proofs.Common.{◌≡◌, ℕ, ◌⊎◌, inl, inr, Bool, true, false, not, ap, List, [], ◌∷◌, Option, Some, None, Ok, Err, Result, MatchOption, Bor, sym, ◌∙◌, subst}
+use Rattle.std.proofs.Common.{◌≡◌, ℕ, inl, inr, Bool, true, false, not, ap, List, [], ◌∷◌, Option, Some, None, Err, Result, MatchOption, Bor, sym, ◌∙◌, subst}
 use Rattle.std.specs.Option.{is_some}
 use Rattle.std.specs.Result.{IsErrAnd}
 use Rattle.spv_base.specs.declared.causes.Fail.{Fail}
@@ -10,7 +10,7 @@ use Rattle.spv_cmd.specs.Words.{words_in, HasFirstWord}
 use Rattle.spv_cmd.specs.Paths.{IsPath}
 use Rattle.spv_cmd.specs.Places.{IsPlace}
 use Rattle.spv_cmd.specs.Grammar.{Arguments, IsOne, IsNumber, IsCount, Means}
-use Rattle.spv_cmd.specs.Grammar.Arguments.{none, number, count, path, place}
+use Rattle.spv_cmd.specs.Grammar.Arguments.{number, count, path, place}
 use Rattle.spv_cmd.specs.Answers.{Reads}
 use Rattle.spv_cmd.proofs.Reads_lemmas.{reads_through}
 

@@ -1,9 +1,8 @@
 -- The first word of a line, and the words after it.
-use Rattle.std.proofs.Common.{◌≡◌, ℕ, suc, ◌+◌, ◌-◌, ◌<◌, ◌≤◌, Bool, true, false, not, cond, ◌&&◌, List, [], ◌∷◌, length, take, drop, get_or, nat_eq, refl, sym, ap, ◌∙◌, arith, inl, inr, add-one, drop-cons, drop_of_length-le, subst, length-drop, nat_lt, Some, None, unwrap_or}
+use Rattle.std.proofs.Common.{◌≡◌, ℕ, suc, ◌+◌, ◌-◌, ◌<◌, ◌≤◌, Bool, true, false, not, cond, ◌&&◌, List, [], ◌∷◌, length, take, drop, get_or, nat_eq, refl, sym, ap, ◌∙◌, arith, drop-cons, drop_of_length-le, subst, length-drop, nat_lt, Some, None, unwrap_or}
 use Rattle.std.specs.Prelude.{filter}
 use Rattle.std.proofs.lemmas.List.{length-take-le, take_all, drop-drop}
 use Rattle.std.specs.List.{position, position_or_len, slice_split, list_all}
-use Rattle.std.proofs.lemmas.Bool.{cases_lt}
 use Rattle.std.proofs.lemmas.List.Splits.{slice_split-cons_yes, slice_split_first, slice_split_none}
 use Rattle.std.proofs.lemmas.List.Sums.{passes_at_first, fails_before_first}
 use Rattle.spv_cmd.specs.Words.{is_space, is_other, words_in, HasFirstWord, HasOnlyWord}
@@ -50,7 +49,6 @@ words_none xs h = sym (words_skip xs) ∙ no_words (position_or_len is_other xs)
 
 pub some_word : (word : List ℕ) (words : List (List ℕ)) → 0 < length word → filter (λ w. not (nat_eq (length w) 0)) (word ∷ words) ≡ word ∷ filter (λ w. not (nat_eq (length w) 0)) words
 some_word word words h = let e : nat_eq (length word) 0 ≡ false = grind arith in ap (λ b. cond (not b) (word ∷ filter (λ w. not (nat_eq (length w) 0)) words) (filter (λ w. not (nat_eq (length w) 0)) words)) e
-
 
 -- no space stands before the first
 others_by : (b : Bool) (x n : ℕ) (xs : List ℕ) → is_space x ≡ b → list_all is_other (take n xs) ≡ true → list_all is_other (take (cond (not b) (1 + n) 0) (x ∷ xs)) ≡ true

@@ -1,5 +1,5 @@
 -- The canonical line of a command: one space between its words, numbers without leading zeros, and no number left out.
-use Rattle.std.specs.Prelude.{◌≡◌, ℕ, ◌≤◌, true, List, [], ◌∷◌, ◌++◌, length, codes, decimal, Option}
+use Rattle.std.specs.Prelude.{◌≡◌, ℕ, ◌≤◌, true, List, [], ◌++◌, length, codes, decimal, Option}
 use Rattle.spv_cmd.specs.declared.keywords.Keyword.{Keyword}
 use Rattle.spv_cmd.specs.declared.keywords.Keyword.TheVariants as the
 use Rattle.spv_cmd.specs.declared.command.PathText.{PathText}

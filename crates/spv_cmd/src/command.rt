@@ -46,7 +46,9 @@ impl Count {
 /// A part of a path: `.member` or `[index]`.
 #[derive(Debug, PartialEq, Drop)]
 pub enum PathPart {
+    /// `.member`: the name of a member.
     Member(Bytes),
+    /// `[index]`: the number of an element.
     Index(u32),
 }
 
@@ -56,7 +58,9 @@ pub type PathParts = Items<PathPart>;
 /// What a path names: a variable or a part of it, or the result with this id.
 #[derive(Debug, PartialEq, Drop)]
 pub enum PathText {
+    /// A name, and the parts behind it.
     Name { name: Bytes, parts: PathParts },
+    /// `%id`
     Id(u32),
 }
 
@@ -160,39 +164,67 @@ impl BreakPlace {
     }
 }
 
-/// A command.
+/// A command. Numbers are of 32 bits.
 #[derive(Debug, Drop)]
 pub enum Command {
     /// A line without words.
     Empty,
+    /// `goto n`: to position n.
     Goto(u32),
+    /// `fwd n`: n events forward.
     Fwd(Count),
+    /// `back n`: n events back.
     Back(Count),
+    /// `stepi n`: n events of the focus forward.
     Stepi(Count),
+    /// `rstepi n`: n events of the focus back.
     Rstepi(Count),
+    /// `step`: to the next line of the focus.
     Step,
+    /// `next`: to the next line, over calls.
     Next,
+    /// `finish`: out of the frame.
     Finish,
+    /// `rstep`: back to the line before.
     Rstep,
+    /// `rnext`: back to the line before, over calls.
     Rnext,
+    /// `rfinish`: back out of the frame.
     Rfinish,
+    /// `continue`: to the next break or watch that hits.
     Continue,
+    /// `rcontinue`: back to the last break or watch that hit.
     Rcontinue,
     /// `where`: where the focus stands.
     Place,
+    /// `group`: where each invocation stands.
     Group,
+    /// `focus i`: looks at invocation i.
     Focus(u32),
+    /// `bt`: the frames.
     Bt,
+    /// `frame k`: looks at frame k.
     Frame(u32),
+    /// `locals`: the variables of the frame.
     Locals,
+    /// `globals`: the variables of the module.
     Globals,
+    /// `print path`: the value that a path names.
     Print(ValuePath),
+    /// `regs`: the results that have a value.
     Regs,
+    /// `list`: the lines of the source about the frame's.
     List,
+    /// `break line` or `break file:line`: stops at a line.
     Break(BreakPlace),
+    /// `delete k`: removes break k.
     Delete(u32),
+    /// `watch path`: stops where the bits that a path names change.
     Watch(ValuePath),
+    /// `unwatch k`: removes watch k.
     Unwatch(u32),
+    /// `info`: the size of the module and of the run.
     Info,
+    /// `quit`: ends the session.
     Quit,
 }

@@ -2,8 +2,8 @@
 #![tactic(auto)]
 
 mod arguments;
-mod keywords;
 mod command;
+mod keywords;
 mod numbers;
 mod parsing;
 mod paths;

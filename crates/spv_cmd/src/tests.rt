@@ -162,7 +162,10 @@ fn lines_are_answered(rt: HostRuntime) -> Result<(), test::Fail> {
 fn long_lines_come_first(rt: HostRuntime) -> Result<(), test::Fail> {
     let line = vec![in rt.alloc(); b'x'; 4097]?;
     assert_eq!(rt; answer(rt.alloc(), &line)?.as_slice(), b"C11".as_slice());
-    assert_eq!(rt; answer(rt.alloc(), &line[..4096])?.as_slice(), b"C1".as_slice());
+    assert_eq!(rt;
+        answer(rt.alloc(), &line[..4096])?.as_slice(),
+        b"C1".as_slice()
+    );
     Ok(())
 }
 

@@ -1,11 +1,10 @@
 -- Lists of stops stay such lists, and keep those that they are to keep.
-use Rattle.std.proofs.Common.{◌≡◌, ℕ, suc, ◌+◌, ◌<◌, ◌≤◌, Bool, true, false, not, cond, ◌||◌, nat_eq, nat_le, nat_lt, List, [], ◌∷◌, ◌++◌, length, map, take, drop, Option, Some, None, Ok, Err, Result, refl, sym, ap, ◌∙◌, subst, arith}
+use Rattle.std.proofs.Common.{◌≡◌, ℕ, suc, ◌+◌, ◌<◌, ◌≤◌, Bool, true, false, not, cond, ◌||◌, nat_eq, nat_lt, List, [], ◌∷◌, ◌++◌, length, map, Some, None, Ok, Err, refl, sym, ap, ◌∙◌, subst, arith}
 use Rattle.std.specs.Prelude.{filter, remove}
 use Rattle.std.specs.List.{list_any, position, position_or_len}
 use Rattle.std.proofs.lemmas.List.{map-append, length-append}
 use Rattle.std.proofs.lemmas.Bool.Decides.{nat_tests}
-use Rattle.spv_base.specs.declared.causes.CmdRefusal.{CmdRefusal}
-use Rattle.spv_stops.specs.Stops.{Stops, number_of, has_number, is_kept, is_full, next_number, with_stop, without_stop, Ascend, AreStops}
+use Rattle.spv_stops.specs.Stops.{Stops, number_of, has_number, is_full, next_number, with_stop, without_stop, Ascend, AreStops}
 
 -- ---- one stop more
 
@@ -14,10 +13,11 @@ ascend_push low high [] h = (omega (arith, h), omega arith)
 ascend_push low high (k ∷ ks) h = (h.0, ascend_push k high ks h.1)
 
 pub stops_push : {T : Type 0} (limit : ℕ) (stops : Stops T) (x : T) → AreStops limit stops → length stops.0 < limit → stops.1 < 4294967295 → AreStops limit (with_stop x stops)
-stops_push limit stops x h room left =
-    (omega (arith, length-append stops.0 ((stops.1 + 1, x) ∷ []), room),
-     subst (λ ks. Ascend 0 ks (stops.1 + 1)) (sym (map-append number_of stops.0 ((stops.1 + 1, x) ∷ []))) (ascend_push 0 stops.1 (map number_of stops.0) h.1),
-     omega (arith, left))
+stops_push limit stops x h room left = (
+  omega (arith, length-append stops.0 ((stops.1 + 1, x) ∷ []), room),
+  subst (λ ks. Ascend 0 ks (stops.1 + 1)) (sym (map-append number_of stops.0 ((stops.1 + 1, x) ∷ []))) (ascend_push 0 stops.1 (map number_of stops.0) h.1),
+  omega (arith, left),
+)
 
 full_length : (a b : Bool) → a ≡ true → (a || b) ≡ true
 full_length a b h = ap (λ x. x || b) h
@@ -97,12 +97,12 @@ stops_without k limit stops h =
 any_by : (b c : Bool) (n m : ℕ) → (c ≡ nat_lt n m) → (b || c) ≡ nat_lt (cond (not b) (1 + n) 0) (suc m)
 any_by true c n m h = sym (zero_below m)
   where
-  zero_below : (m : ℕ) → nat_lt 0 (suc m) ≡ true
-  zero_below m = grind (arith, nat_tests)
+    zero_below : (m : ℕ) → nat_lt 0 (suc m) ≡ true
+    zero_below m = grind (arith, nat_tests)
 any_by false c n m h = h ∙ both_more n m
   where
-  both_more : (n m : ℕ) → nat_lt n m ≡ nat_lt (1 + n) (suc m)
-  both_more n m = grind (arith, nat_tests)
+    both_more : (n m : ℕ) → nat_lt n m ≡ nat_lt (1 + n) (suc m)
+    both_more n m = grind (arith, nat_tests)
 
 -- a place is found exactly where a stop is kept
 any_place : {T : Type 0} (p : T → Bool) (ss : List T) → list_any p ss ≡ nat_lt (position_or_len p ss) (length ss)
@@ -112,11 +112,11 @@ any_place p (s ∷ ss) = any_by (p s) (list_any p ss) (position_or_len p ss) (le
 pub kept_where : {T : Type 0} (k i : ℕ) (ss : List (ℕ × T)) → Some i ≡ position (has_number k) ss → list_any (has_number k) ss ≡ true
 kept_where k i ss e = let at = some_place (position_or_len (has_number k) ss) (length ss) i e in any_place (has_number k) ss ∙ lt_true (position_or_len (has_number k) ss) (length ss) at.1
   where
-  lt_true : (n m : ℕ) → n < m → nat_lt n m ≡ true
-  lt_true n m h = grind (arith, nat_tests)
+    lt_true : (n m : ℕ) → n < m → nat_lt n m ≡ true
+    lt_true n m h = grind (arith, nat_tests)
 
 pub kept_nowhere : {T : Type 0} (k : ℕ) (ss : List (ℕ × T)) → None ≡ position (has_number k) ss → list_any (has_number k) ss ≡ false
 kept_nowhere k ss e = let past = no_place (position_or_len (has_number k) ss) (length ss) e in any_place (has_number k) ss ∙ lt_false (position_or_len (has_number k) ss) (length ss) past
   where
-  lt_false : (n m : ℕ) → m ≤ n → nat_lt n m ≡ false
-  lt_false n m h = grind (arith, nat_tests)
+    lt_false : (n m : ℕ) → m ≤ n → nat_lt n m ≡ false
+    lt_false n m h = grind (arith, nat_tests)

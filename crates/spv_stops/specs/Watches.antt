@@ -1,5 +1,5 @@
 -- Watches: ranges of bits of variables.
-use Rattle.std.specs.Prelude.{ℕ, Option, map, List}
+use Rattle.std.specs.Prelude.{ℕ, Option}
 use Rattle.spv_base.specs.Entries.{reads}
 use Rattle.spv_stops.specs.declared.watches.WatchKey.{WatchKey}
 use Rattle.spv_stops.specs.Stops.{Stops}

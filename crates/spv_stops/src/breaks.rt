@@ -76,7 +76,8 @@ impl Breaks {
         }
         let file = Bytes::from_slice(self.alloc, file)?;
         let number = self.given + 1;
-        self.breaks.push((number, Breakpoint { file, line, heads }))?;
+        self.breaks
+            .push((number, Breakpoint { file, line, heads }))?;
         self.given = number;
         Ok(number)
     }

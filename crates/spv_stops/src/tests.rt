@@ -11,13 +11,19 @@ fn numbers_of_breaks_are_given_once(rt: HostRuntime) -> Result<(), test::Fail> {
         assert_eq!(rt; breaks.add(b"a.comp", number, heads)?, number);
     }
     let heads = Places::from_slice(rt.alloc(), &[1])?;
-    assert_eq!(rt; breaks.add(b"a.comp", 1, heads), Err(Fail::Refused(CmdRefusal { code: 9 })));
+    assert_eq!(rt;
+        breaks.add(b"a.comp", 1, heads),
+        Err(Fail::Refused(CmdRefusal { code: 9 }))
+    );
     assert_eq!(rt; breaks.hit(rt.alloc(), 7)?.as_slice(), [7].as_slice());
     assert_eq!(rt; breaks.hit(rt.alloc(), 100)?.len(), 64);
     assert_eq!(rt; breaks.remove(64), Ok(()));
     assert_eq!(rt; breaks.remove(64), Err(CmdRefusal { code: 7 }));
     let none = Places::new(rt.alloc());
-    assert_eq!(rt; breaks.add(b"a.comp", 1, none), Err(Fail::Refused(CmdRefusal { code: 8 })));
+    assert_eq!(rt;
+        breaks.add(b"a.comp", 1, none),
+        Err(Fail::Refused(CmdRefusal { code: 8 }))
+    );
     let heads = Places::from_slice(rt.alloc(), &[1])?;
     assert_eq!(rt; breaks.add(b"a.comp", 1, heads)?, 65);
     assert_eq!(rt; breaks.hit(rt.alloc(), 1)?.as_slice(), [1, 65].as_slice());
@@ -40,7 +46,10 @@ fn watches_have_keys(rt: HostRuntime) -> Result<(), test::Fail> {
     for number in 1..33u32 {
         assert_eq!(rt; watches.add(key)?, number);
     }
-    assert_eq!(rt; watches.add(key), Err(Fail::Refused(CmdRefusal { code: 9 })));
+    assert_eq!(rt;
+        watches.add(key),
+        Err(Fail::Refused(CmdRefusal { code: 9 }))
+    );
     assert_eq!(rt; watches.remove(1), Ok(()));
     assert_eq!(rt; watches.remove(1), Err(CmdRefusal { code: 7 }));
     assert_eq!(rt; watches.add(key)?, 33);

@@ -1,8 +1,6 @@
-use Rattle.std.proofs.Common.{List, sym, subst}
+use Rattle.std.proofs.Common.{List}
 use Rattle.spv_cmd.specs.declared.command.PathPart.{PathPart}
-use Rattle.spv_cmd.specs.declared.command.PathText.{PathText}
 use Rattle.spv_cmd.specs.Paths.{AreParts, IsPath}
-use Rattle.spv_cmd.specs.Answers.{Reads}
 use Rattle.spv_cmd.proofs.Reads_lemmas.{reads_through}
 use Rattle.spv_cmd.proofs.Part_lemmas.{no_parts}
 use Rattle.spv_cmd.proofs.paths.named.Goals as goal

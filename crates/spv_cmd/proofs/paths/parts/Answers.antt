@@ -1,10 +1,7 @@
-use Rattle.std.proofs.Common.{◌≡◌, ◌<◌, [], ◌∷◌, ◌++◌, List, Err, length, Result, sym, ap, ◌∙◌, arith, subst, refl}
+use Rattle.std.proofs.Common.{◌≡◌, ◌<◌, [], ◌∷◌, ◌++◌, List, length, sym, ap, ◌∙◌, subst}
 use Rattle.std.proofs.lemmas.List.{append-nil}
-use Rattle.spv_base.specs.declared.causes.Fail.{Fail}
-use Rattle.spv_base.specs.declared.causes.CmdRefusal.{CmdRefusal}
 use Rattle.spv_cmd.specs.declared.command.PathPart.{PathPart}
 use Rattle.spv_cmd.specs.Paths.{IsPart, AreParts}
-use Rattle.spv_cmd.specs.Answers.{Reads}
 use Rattle.spv_cmd.proofs.Bool_lemmas.{some_when, empty_when}
 use Rattle.spv_cmd.proofs.Reads_lemmas.{reads_through}
 use Rattle.spv_cmd.proofs.Part_lemmas.{no_first, part_sound, part_complete}
@@ -17,8 +14,8 @@ returns-in_err-part c =
     let first = c.split_at.result.0.now in
     let some : 0 < length rest = some_when c.is_empty.result rest c.is_empty.ensures (cc) in
     reads_through (λ part. IsPart part first) (λ (parts : List PathPart). AreParts parts text) c.in_err-part.field-0.0 c.from_residual.result c.from_residual.ensures.1 (λ lacks parts h.
-        let left = c.loop-rest.invariant.complete parts h in
-        no_first rest first c.part_len.result some c.part_len.ensures.part c.split_at.ensures.front lacks left.0 left.1) c.in_err-part.ensures
+    let left = c.loop-rest.invariant.complete parts h in
+    no_first rest first c.part_len.result some c.part_len.ensures.part c.split_at.ensures.front lacks left.0 left.1) c.in_err-part.ensures
 
 pub loop-rest-preserved : goal.loop-rest-preserved
 loop-rest-preserved c =

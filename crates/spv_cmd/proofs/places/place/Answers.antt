@@ -1,4 +1,4 @@
-use Rattle.std.proofs.Common.{refl, ◌≡◌, ◌<◌, ◌∷◌, [], ◌++◌, List, length, sym, subst, ap, ◌∙◌, Some}
+use Rattle.std.proofs.Common.{refl, ◌≡◌, ◌<◌, [], length, sym, subst, Some}
 use Rattle.spv_cmd.specs.Places.{IsPlace}
 use Rattle.spv_cmd.proofs.Bool_lemmas.{some_when, empty_when}
 use Rattle.spv_cmd.proofs.Place_lemmas.{no_line, no_file, file_is}

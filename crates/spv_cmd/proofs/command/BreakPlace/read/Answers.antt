@@ -1,4 +1,4 @@
-use Rattle.std.proofs.Common.{◌≡◌, ◌≤◌, length, true, arith}
+use Rattle.std.proofs.Common.{arith}
 use Rattle.spv_cmd.proofs.Place_lemmas.{place_form}
 use Rattle.spv_cmd.proofs.command.BreakPlace.read.Goals as goal
 

@@ -1,7 +1,5 @@
-use Rattle.std.proofs.Common.{◌≡◌, ℕ, List, true, false, cond, Option, Some, None, Ok, Err, Result, sym, ap, ◌∙◌, subst, rules}
-use Rattle.std.specs.Prelude.{remove, filter}
+use Rattle.std.proofs.Common.{◌≡◌, ℕ, List, true, false, cond, Some, None, Ok, Err, sym, ap, ◌∙◌, subst}
 use Rattle.std.specs.List.{position}
-use Rattle.spv_base.specs.declared.causes.CmdRefusal.{CmdRefusal}
 use Rattle.spv_stops.specs.declared.breaks.Breakpoint.{Breakpoint}
 use Rattle.spv_stops.specs.Stops.{Stops, has_number, is_kept, without_stop, AreStops}
 use Rattle.spv_stops.proofs.Stop_lemmas.{removed_is, stops_without, kept_where, kept_nowhere}

@@ -1,4 +1,4 @@
-use Rattle.std.proofs.Common.{◌≡◌, ℕ, ◌<◌, ◌+◌, List, length, sym, subst, arith}
+use Rattle.std.proofs.Common.{◌<◌, ◌+◌, length, sym, subst, arith}
 use Rattle.spv_stops.specs.declared.watches.WatchKey.{WatchKey}
 use Rattle.spv_stops.specs.Stops.{Stops, AreStops}
 use Rattle.spv_stops.proofs.Stop_lemmas.{stops_push}
