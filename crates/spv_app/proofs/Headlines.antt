@@ -14,7 +14,7 @@ use Rattle.spv_app.specs.Command_line.{Names, debug_names}
 use Rattle.spv_app.specs.Command_loop.{Says, with_rest}
 use Rattle.spv_app.specs.Opening.{opening, refusal_line}
 use Rattle.spv_app.specs.Limits.{binary_limit, setup_limit, input_limit}
-use Rattle.spv_app.specs.Outside.{Library, Streams, Outside}
+use Rattle.spv_app.specs.Outside.{Library, Outside}
 use Rattle.spv_app.specs.Debug.{Debugged, Unopened, Refused, Opened, IsPair, IsTooLong, SaysLine, status_of_refusal, due_text, due_status}
 
 -- none of these is the status

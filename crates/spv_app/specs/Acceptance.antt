@@ -1,5 +1,5 @@
 -- Which modules are accepted.
-use Rattle.std.specs.Prelude.{ℕ, [], None, slice_index, Result, Ok, Err}
+use Rattle.std.specs.Prelude.{ℕ, [], None, slice_index, Result, Ok}
 use Rattle.spv_base.specs.Answers.{after}
 use Rattle.spv_base.specs.declared.causes.Refusal.{Refusal}
 use Rattle.spv_words.specs.Words.{ModuleWords}

@@ -1,5 +1,5 @@
 -- What the command loop may have taken and written when it ends with a status.
-use Rattle.std.specs.Prelude.{◌≡◌, ◌↔◌, ◌⊎◌, ℕ, ◌+◌, ◌≤◌, ◌<◌, Bool, true, false, List, [], ◌++◌, length, unwrap_or, Option}
+use Rattle.std.specs.Prelude.{◌≡◌, ◌↔◌, ◌⊎◌, ℕ, ◌+◌, ◌≤◌, ◌<◌, true, false, List, [], ◌++◌, length, unwrap_or, Option}
 use Rattle.std.specs.Io.KnownBytes.{Appends, Consumes}
 use Rattle.spv_base.specs.Prefix.{IsPrefixOf, IsProperPrefixOf}
 use Rattle.spv_session.specs.View.{View}

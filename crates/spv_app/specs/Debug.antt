@@ -2,7 +2,7 @@
 use Rattle.std.specs.Prelude.{◌≡◌, ◌⊎◌, ℕ, ◌≤◌, ◌<◌, List, [], ◌∷◌, length, Option, Some, None, Result, Ok, Err}
 use Rattle.std.specs.Io.KnownBytes.{Appends, Keeps}
 use Rattle.spv_base.specs.Prefix.{IsProperPrefixOf}
-use Rattle.spv_base.specs.Outside.{Told, Asked, AsksFor, Holds, HoldsMore}
+use Rattle.spv_base.specs.Outside.{Told, AsksFor, Holds, HoldsMore}
 use Rattle.spv_session.specs.View.{View}
 use Rattle.spv_app.specs.declared.status.Status.{Status}
 use Rattle.spv_app.specs.declared.status.Status.TheVariants.{Done, ModuleRefused, SetupRefused, FileFault, WriteFault, NoMemory, FileTooLong}

@@ -9,7 +9,7 @@ use Rattle.spv_session.specs.Settings.{settings_of}
 use Rattle.spv_session.specs.View.{View, first_view}
 use Rattle.spv_app.specs.declared.opening.OpeningRefusal.{OpeningRefusal}
 use Rattle.spv_app.specs.declared.opening.OpeningRefusal.TheVariants.{Module, Setup}
-use Rattle.spv_app.specs.Acceptance.{accepted_of, bound_of}
+use Rattle.spv_app.specs.Acceptance.{accepted_of}
 
 -- the program of a module's bytes: its words, the accepted module of them, and the form that can be run
 abbrev pub program_in : List ℕ → Result Program Refusal

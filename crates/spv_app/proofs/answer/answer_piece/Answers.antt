@@ -1,9 +1,9 @@
-use Rattle.std.proofs.Common.{◌≡◌, ◌∷◌, ◌++◌, drop, get_or, ◌+◌, ◌≤◌, false, ap, sym, ◌∙◌, refl, arith}
+use Rattle.std.proofs.Common.{◌≡◌, ◌∷◌, ◌++◌, drop, get_or, ◌+◌, false, ap, sym, ◌∙◌, refl, arith}
 use Rattle.std.proofs.lemmas.List.{drop_more}
 use Rattle.std.proofs.KnownBytes.{Appends-trans}
 use Rattle.spv_app.specs.Lines.{complete_from, rest_from, ended_by, line_after}
 use Rattle.spv_app.specs.Transcript.{transcript, transcript_cost, view_after, has_quit}
-use Rattle.spv_app.proofs.Transcripts.{cost_goes, cost_front}
+use Rattle.spv_app.proofs.Transcripts.{cost_goes}
 use Rattle.spv_app.proofs.Pieces.{hands_on, goes, due_more, view_more, quit_more, stop_first}
 use Rattle.spv_app.proofs.answer.answer_piece.Goals as goal
 
