@@ -56,7 +56,7 @@ fn word_at(words: &[String], place: usize) -> &str {
 
 /// Why the program gave up with a status; none below 5. The command line's words, the name whose reading failed last and the
 /// number of bytes that the last reading took say which file it was: a module is read no further than a block past its limit.
-pub fn complaint<'a>(
+pub fn complaint_at<'a>(
     status: Status,
     words: &'a [String],
     failed_name: &'a str,
@@ -118,7 +118,7 @@ mod tests {
             ),
         ];
         for (status, taken, text) in rows {
-            let said = match complaint(status, words.as_slice(), "x", taken) {
+            let said = match complaint_at(status, words.as_slice(), "x", taken) {
                 Some(complaint) => format!(in alloc; "{complaint}")?,
                 None => String::new(alloc),
             };

@@ -8,7 +8,7 @@ ghost use Rattle.spv_app.specs.Status_numbers.{status_number};
 
 mod complaints;
 
-use complaints::{Complaint, complaint};
+use complaints::{Complaint, complaint_at};
 use spv_app::{Status, debug_main};
 use spv_base::{FromRead, NoMemory, Probe, RealFiles, Steps, ToWrite};
 use std::marker::Brand;
@@ -59,22 +59,19 @@ fn run<L: Ledger, R: rt::Files + Input + Print + Eprint + Env + AllocGlobal>(
     let status = debug_main(
         alloc, &words, &mut files, &mut input, &mut out, kit, &mut steps,
     );
-    if let Some(complaint) = complaint(status, &words, files.failed_name(), files.taken()) {
+    if let Some(complaint) = complaint_at(status, &words, files.failed_name(), files.taken()) {
         complain(rt, complaint);
     }
     status
 }
 
-/// The code that the process ends with.
+/// The code that the process ends with: the number of a status.
 fn exit_code(status: Status) -> ExitCode
     ensures { exit_status result ≡ status_number status }
 {
     ExitCode::from(status.number())
 }
 
-/// The process ends with the number of a status.
-fn main(rt: HostRuntime) -> ExitCode
-    ensures { (status : Status) × (exit_status result ≡ status_number status) }
-{
+fn main(rt: HostRuntime) -> ExitCode {
     exit_code(run::<Brand, _>(Blank::new(1), &rt))
 }
