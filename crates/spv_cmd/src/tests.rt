@@ -5,7 +5,7 @@ use std::alloc::Global;
 use std::test;
 
 /// Lines with their canonical lines, or the code of their refusal, by hand from the manual's table of commands.
-const LINES: [(&str, &str); 124] = [
+const LINES: &[(&str, &str)] = &[
     ("", ""),
     ("   ", ""),
     (" goto   007", "goto 7"),
@@ -151,7 +151,7 @@ fn answer(alloc: Global, line: &[u8]) -> Result<Text, Fail<CmdRefusal>> {
 
 #[test]
 fn lines_are_answered(rt: HostRuntime) -> Result<(), test::Fail> {
-    for (line, due) in LINES {
+    for (line, due) in LINES.iter() {
         let text = answer(rt.alloc(), line.as_bytes())?;
         assert_eq!(rt; text.as_slice(), due.as_bytes(), "{line}");
     }
