@@ -6,7 +6,7 @@ use Rattle.std.specs.Bool.{Decides}
 use Rattle.std.specs.Option.{option_and_then, option_map}
 use Rattle.std.specs.Ordering.{is_eq}
 use Rattle.std.proofs.lemmas.Option.{slice_get_within}
-use Rattle.spv_types.specs.Facts.{pair_cmp}
+use Rattle.spv_index.specs.Keys.{pair_cmp}
 use Rattle.spv_types.specs.declared.forms.Member.{Member}
 use Rattle.spv_types.proofs.FactLemmas.{same_pair}
 use Rattle.spv_types.proofs.TableLemmas.{same_key}

@@ -8,7 +8,7 @@ use Rattle.spv_types.specs.declared.forms.Form.{Form}
 use Rattle.spv_types.specs.declared.forms.Form.TheVariants.{Void, Bool as Boolean, Int, Vector, Array, Runtime, Struct, Pointer, Function}
 use Rattle.spv_types.specs.Operands.{id_at, id_of, lit_at}
 use Rattle.spv_types.specs.Types.{form_of}
-use Rattle.spv_types.specs.Facts.{is_constant}
+use Rattle.spv_types.specs.Constants.{is_constant}
 use Rattle.spv_types.specs.Rules.{is_sized_data}
 use Rattle.spv_types.specs.Shapes.{part_type}
 use Rattle.spv_types.specs.Views.{is_boolean}

@@ -11,7 +11,7 @@ use crate::literals::{integer_width, keeps_literal};
 use crate::walk::Walk;
 use spv_base::{Inst, Operand};
 use spv_ops::op;
-use spv_types::facts::is_constant;
+use spv_types::constants::is_constant;
 use spv_types::views::is_boolean;
 use spv_types::{Form, TypeTable, id_at, id_of, lit_at};
 use spv_typing::{OperandTypes, fits_types, is_constant_operation, operand_count};

@@ -7,8 +7,9 @@ use Rattle.spv_base.specs.declared.instructions.Inst.{Inst}
 use Rattle.spv_base.specs.declared.causes.Refusal.{Refusal}
 use Rattle.spv_types.specs.declared.forms.Form.{Form}
 use Rattle.spv_types.specs.Types.{Types, form_of}
-use Rattle.spv_types.specs.Typing.{before_functions, defined_form, types_in, with_form}
-use Rattle.spv_types.specs.Facts.{is_constant}
+use Rattle.spv_index.specs.Definitions.{before_functions}
+use Rattle.spv_types.specs.Typing.{defined_form, types_in, with_form}
+use Rattle.spv_types.specs.Constants.{is_constant}
 use Rattle.spv_types.specs.Rules.{keeps_other, keeps_rules}
 use Rattle.spv_types.specs.Build.{type_breaches, types_of, unless_refused}
 use Rattle.spv_types.specs.Laws.{AreSound, HasResult}

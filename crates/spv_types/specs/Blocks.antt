@@ -9,7 +9,7 @@ use Rattle.spv_types.specs.declared.forms.Form.{Form}
 use Rattle.spv_types.specs.declared.forms.Form.TheVariants.{Pointer}
 use Rattle.spv_types.specs.Types.{Types, form_of}
 use Rattle.spv_types.specs.Operands.{id_at, lit_at}
-use Rattle.spv_index.specs.Definitions.{decoration, defining}
+use Rattle.spv_index.specs.Definitions.{decoration, defining, holds}
 use Rattle.spv_types.specs.Build.{unless_refused}
 use Rattle.spv_types.specs.Layout.{is_laid}
 
@@ -34,21 +34,17 @@ abbrev pub target_of : Option Form → ℕ
 target_of (Some (Pointer class target)) = target
 target_of _ = 0
 
-abbrev pub is_value : ℕ → Option ℕ → Bool
-is_value n None = false
-is_value n (Some m) = m == n
-
 -- a buffer variable with a DescriptorSet and a Binding
 abbrev pub is_at : List Inst → ℕ → ℕ → Inst → Bool
-is_at all set binding i = (i.op == 59 && is_buffer_class (lit_at i.operands 0)) && (is_value set (decoration all i.id 34) && is_value binding (decoration all i.id 33))
+is_at all set binding i = (i.op == 59 && is_buffer_class (lit_at i.operands 0)) && (holds set (decoration all i.id 34) && holds binding (decoration all i.id 33))
 
 -- one of some instructions is a buffer variable with that descriptor set and binding
 unfoldable pub is_taken : List Inst → List Inst → ℕ → ℕ → Bool
 is_taken all before set binding = list_any (is_at all set binding) before
 
--- a map has the places of the buffer variables among some instructions
-abbrev pub ArePlaces : List Inst → List Inst → (ℕ × ℕ → Option ℕ) → Type 0
-ArePlaces all before places = (set binding : ℕ) → is_some (places (set, binding)) ≡ is_taken all before set binding
+-- a set has the places of the buffer variables among some instructions
+abbrev pub ArePlaces : List Inst → List Inst → (ℕ → ℕ → Bool) → Type 0
+ArePlaces all before places = (set binding : ℕ) → places set binding ≡ is_taken all before set binding
 
 -- a buffer variable has a descriptor set and a binding, which no variable before it shares
 abbrev pub keeps_pair : List Inst → List Inst → Option ℕ → Option ℕ → Bool

@@ -8,7 +8,7 @@ use Rattle.spv_types.specs.declared.forms.Form.TheVariants.{Void, Bool as Boolea
 use Rattle.spv_types.specs.declared.forms.Member.{Member}
 use Rattle.spv_types.specs.Types.{Types, form_of}
 use Rattle.spv_types.specs.Operands.{lit_at}
-use Rattle.spv_types.specs.Facts.{is_constant}
+use Rattle.spv_types.specs.Constants.{is_constant}
 use Rattle.spv_index.specs.Definitions.{decoration, defining}
 use Rattle.spv_index.specs.Operands.{id_operand}
 use Rattle.spv_types.specs.Typing.{defined_form}

@@ -1,10 +1,9 @@
 //! The rules of decorations and of the blocks that variables point to.
-ghost use Rattle.std.specs.Prelude.{◌≡◌, ◌||◌, ◌&&◌, ◌∷◌, [], ℕ, List, IfOk, OnOk, drop, length};
-ghost use Rattle.std.specs.Option.{is_some};
-ghost use Rattle.std.specs.BTreeMap.{get};
+ghost use Rattle.std.specs.Prelude.{◌≡◌, ◌||◌, ◌&&◌, ◌==◌, ◌∷◌, [], ℕ, List, IfOk, OnOk, drop, length};
+ghost use Rattle.std.specs.BTreeSet.{contains};
 ghost use Rattle.spv_base.specs.Answers.{Answers};
 ghost use Rattle.spv_base.specs.declared.instructions.Inst.{Inst as Instruction};
-ghost use Rattle.spv_types.specs.Facts.{pair_cmp};
+ghost use Rattle.spv_index.specs.Keys.{pair_cmp};
 ghost use Rattle.spv_types.specs.Types.{form_of};
 ghost use Rattle.spv_types.specs.Build.{unless_refused};
 ghost use Rattle.spv_types.specs.Layout.{is_laid};
@@ -25,7 +24,6 @@ ghost use Rattle.spv_types.specs.Blocks.{
   target_of,
 };
 
-use crate::facts::put_first;
 use crate::forms::Form;
 use crate::operands::{id_at, lit_at};
 use crate::table::TypeTable;
@@ -33,13 +31,13 @@ use spv_base::{Fail, Inst, NoMemory, Refusal};
 use spv_index::Index;
 use spv_ops::{decoration, op, storage_class};
 use std::alloc::Global;
-use std::collections::BTreeMap;
+use std::collections::BTreeSet;
 
 /// The code of the rules of layout.
 const LAYOUT_CODE: u8 = 13;
 
-/// The places of buffer variables, by their descriptor sets and bindings.
-type Places = BTreeMap<(u32, usize), u32>;
+/// The places of buffer variables: their descriptor sets and bindings.
+type Places = BTreeSet<(u32, u32)>;
 
 fn breach(inst: &Inst) -> Fail<Refusal>
     ensures { result ≡ Fail.Refused (record { code = 13; word = inst.now.word }) }
@@ -73,17 +71,25 @@ fn keeps_decoration(index: &Index, inst: &Inst, kind: u32) -> bool
 
 /// Whether a descriptor set and a binding are there and not taken.
 fn keeps_pair(places: &Places, set: Option<u32>, binding: Option<u32>) -> bool
-    ensures { (all before : List Instruction) → ArePlaces all before (get pair_cmp places.now) → result ≡ keeps_pair all before set binding }
+    ensures { (all before : List Instruction) → ArePlaces all before (λ a b. contains pair_cmp places.now (a, b)) → result ≡ keeps_pair all before set binding }
 {
     match (set, binding) {
-        (Some(set), Some(binding)) => !places.contains_key(&(set, binding as usize)),
+        (Some(set), Some(binding)) => !places.contains(&(set, binding)),
         _ => false,
     }
 }
 
+/// Adds a descriptor set and a binding.
+fn add_place(places: &mut Places, set: u32, binding: u32) -> Result<(), NoMemory>
+    ensures { OnOk result ((a b : ℕ) → contains pair_cmp places.new (a, b) ≡ (contains pair_cmp places.old (a, b) || (set == a && binding == b))) }
+{
+    places.insert((set, binding))?;
+    Ok(())
+}
+
 /// Adds the place of a buffer variable.
 fn note_place(index: &Index, places: &mut Places, inst: &Inst) -> Result<(), NoMemory>
-    ensures { OnOk result ((a b : ℕ) → is_some (get pair_cmp places.new (a, b)) ≡ (is_some (get pair_cmp places.old (a, b)) || is_at index.now.insts a b inst.now)) }
+    ensures { OnOk result ((a b : ℕ) → contains pair_cmp places.new (a, b) ≡ (contains pair_cmp places.old (a, b) || is_at index.now.insts a b inst.now)) }
 {
     if inst.op != op::VARIABLE {
         return Ok(());
@@ -97,8 +103,7 @@ fn note_place(index: &Index, places: &mut Places, inst: &Inst) -> Result<(), NoM
     let Some(binding) = index.decoration(inst.id, decoration::BINDING) else {
         return Ok(());
     };
-    put_first(places, (set, binding as usize), 0)?;
-    Ok(())
+    add_place(places, set, binding)
 }
 
 impl TypeTable {
@@ -116,7 +121,7 @@ impl TypeTable {
     fn keeps_block(&self, index: &Index, laid: &[bool], places: &Places, inst: &Inst) -> bool
         requires laid { AreLaid self.now laid.now }
         requires all { length laid.now ≡ length self.now }
-        ensures { (before : List Instruction) → ArePlaces index.now.insts before (get pair_cmp places.now) → result ≡ keeps_block index.now.insts self.now before inst.now }
+        ensures { (before : List Instruction) → ArePlaces index.now.insts before (λ a b. contains pair_cmp places.now (a, b)) → result ≡ keeps_block index.now.insts self.now before inst.now }
     {
         if !self.whole_laid(laid, self.target(inst.ty)) {
             return false;
@@ -131,7 +136,7 @@ impl TypeTable {
     fn keeps_layout(&self, index: &Index, laid: &[bool], places: &Places, inst: &Inst) -> bool
         requires laid { AreLaid self.now laid.now }
         requires all { length laid.now ≡ length self.now }
-        ensures { (before : List Instruction) → ArePlaces index.now.insts before (get pair_cmp places.now) → result ≡ keeps_layout index.now.insts self.now before inst.now }
+        ensures { (before : List Instruction) → ArePlaces index.now.insts before (λ a b. contains pair_cmp places.now (a, b)) → result ≡ keeps_layout index.now.insts self.now before inst.now }
     {
         match inst.op {
             op::DECORATE => keeps_decoration(index, inst, lit_at(inst, 1)),
@@ -160,7 +165,7 @@ impl TypeTable {
         ensures { Answers (unless_refused tt (module_breaches index.now.insts self.now [] index.now.insts)) result }
     {
         let insts = index.insts();
-        let mut places = BTreeMap::new(alloc);
+        let mut places = BTreeSet::new(alloc);
         for inst in insts {
             if !self.keeps_layout(index, laid, &places, inst) {
                 return Err(breach(inst));

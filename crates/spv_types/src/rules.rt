@@ -27,7 +27,7 @@ ghost use Rattle.spv_types.specs.Rules.{
   names_constant,
 };
 
-use crate::facts::is_constant;
+use crate::constants::is_constant;
 use crate::forms::{Form, Member};
 use crate::operands::lit_at;
 use crate::table::TypeTable;
