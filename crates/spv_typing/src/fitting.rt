@@ -1,7 +1,5 @@
 //! Whether the types of an operation's operands fit the type of its result.
-ghost use Rattle.std.specs.Prelude.{◌≡◌, ◌+◌};
-ghost use Rattle.spv_index.specs.Definitions.{type_of};
-ghost use Rattle.spv_types.specs.Operands.{id_at};
+ghost use Rattle.std.specs.Prelude.{◌≡◌};
 ghost use Rattle.spv_types.specs.Types.{form_of};
 ghost use Rattle.spv_typing.specs.Fitting as spec;
 ghost use Rattle.spv_typing.specs.Operands.{operand_type};
@@ -10,10 +8,8 @@ use crate::lanes::{
     Lanes, are_booleans, are_integers, are_several, is_single, lanes_of, same_count, same_lanes,
     same_size,
 };
-use crate::operands::{OperandTypes, types_from};
+use crate::operands::OperandTypes;
 use crate::rules::{Rule, rule_of};
-use spv_base::Inst;
-use spv_index::Definitions as Index;
 use spv_types::forms::Member;
 use spv_types::{Form, TypeTable};
 
@@ -217,13 +213,4 @@ pub fn fits_types(types: &TypeTable, op: u16, outcome: u32, tys: OperandTypes) -
         Some(rule) => fits_rule(types, rule, outcome, tys),
         None => false,
     }
-}
-
-/// Whether the types of an operation's operands fit the type of its result. The operation's first operand is the operand
-/// of the instruction after the first `from`.
-#[tactic(auto, using(crate::proofs::LawLemmas::fits_by))]
-pub fn fits(types: &TypeTable, index: &Index, inst: &Inst, op: u16, from: usize) -> bool
-    ensures { result ≡ spec.fits types.now op inst.now.ty (λ k. type_of index.now (id_at inst.now.operands (from + k))) }
-{
-    fits_types(types, op, inst.ty, types_from(index, inst, from))
 }
