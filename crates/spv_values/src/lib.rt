@@ -1,0 +1,9 @@
+//! Values as rows of cells in code, and as trees in contracts.
+#![tactic(auto)]
+
+pub mod parts;
+pub mod rows;
+pub mod trees;
+
+pub use parts::Part;
+pub use rows::Row;

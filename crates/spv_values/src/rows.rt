@@ -1,0 +1,100 @@
+//! Rows that own their cells: variables, and the results of instructions.
+ghost use Rattle.std.specs.Prelude.{◌≡◌, ◌+◌, ◌≤◌, IfOk, Some, length};
+ghost use Rattle.spv_base.specs.Parts.{part_at, with_part};
+ghost use Rattle.spv_base.specs.declared.values.Value.{Value};
+ghost use Rattle.spv_types.specs.Rows.{HasRow, leaves};
+
+use crate::parts::Part;
+use crate::trees::{part_of, replaced, same};
+use spv_base::{Cell, Ghost, NoMemory, Path, Value};
+use std::alloc::Global;
+use std::marker::Model;
+
+/// The cells of a value, in its order. Contracts see the value as a tree.
+#[derive(Drop)]
+pub struct Row {
+    cells: Vec<Cell>,
+    tree: Ghost<Value>,
+}
+
+impl Model for Row {
+    ghost use Rattle.std.specs.Prelude.{◌≡◌};
+    ghost use Rattle.spv_base.specs.declared.values.Value.{Value as Whole};
+    ghost use Rattle.spv_base.specs.contracts.values.Value.{the_row};
+    ghost use Rattle.spv_types.specs.Rows.{leaves};
+
+    ghost Value = { Whole };
+
+    ghost coded = { the_row.coded };
+
+    ghost view = { λ r. r.tree.value };
+
+    ghost invariant = { λ r. leaves r.tree.value ≡ r.cells.items };
+}
+
+impl Row {
+    /// These cells, as the value that the caller picks for them.
+    pub fn new(cells: Vec<Cell>) -> Row
+        ghost value: { Value }
+        requires { leaves value ≡ cells.items }
+        ensures { result ≡ value }
+    {
+        Row {
+            cells,
+            tree: Ghost::of(),
+        }
+    }
+
+    /// A value that lies elsewhere, copied.
+    pub fn of_part(alloc: Global, part: &Part) -> Result<Row, NoMemory>
+        ensures { IfOk result (λ row. row ≡ part.now) }
+    {
+        Ok(Row {
+            cells: Vec::from_slice(alloc, part.cells())?,
+            tree: part.tree(),
+        })
+    }
+
+    /// The cells.
+    pub fn cells(&self) -> &[Cell]
+        ensures { result.now ≡ leaves self.now }
+    {
+        self.cells.as_slice()
+    }
+
+    /// How many cells there are.
+    pub fn len(&self) -> usize
+        ensures { result ≡ length (leaves self.now) }
+    {
+        self.cells.len()
+    }
+
+    /// The value, lent.
+    pub fn as_part(&self) -> Part<'_>
+        ensures { result ≡ self.now }
+    {
+        Part::with_tree(self.cells.as_slice(), same(&self.tree))
+    }
+
+    /// The part that a path names, which lies behind `start` cells and has `len` of them.
+    #[tactic(auto, using(crate::proofs::RowLemmas::row_within, crate::proofs::RowLemmas::row_is))]
+    pub fn part(&self, path: &Path, start: usize, len: usize) -> Part<'_>
+        requires { HasRow self.now path.now start len }
+        ensures { part_at self.now path.now ≡ Some result }
+    {
+        Part::with_tree(&self.cells[start..start + len], part_of(&self.tree, path))
+    }
+
+    /// Exchanges the part that a path names, which lies behind `start` cells, with a value of as many cells.
+    #[tactic(auto, using(crate::proofs::RowLemmas::row_within, crate::proofs::RowLemmas::row_is, crate::proofs::RowLemmas::row_written))]
+    pub fn exchange(&mut self, path: &Path, start: usize, other: &mut Row)
+        requires { HasRow self.old path.now start (length (leaves other.old)) }
+        ensures after { self.new ≡ with_part self.old path.now other.old }
+        ensures handed { part_at self.old path.now ≡ Some other.new }
+    {
+        self.cells[start..start + other.cells.len()].swap_with_slice(other.cells.as_mut_slice());
+        let part = part_of(&self.tree, path);
+        self.tree = replaced(&self.tree, path, &other.tree);
+        other.tree = part;
+    }
+}

@@ -1,0 +1,27 @@
+//! Trees that only proofs read.
+ghost use Rattle.std.specs.Prelude.{◌≡◌, IsSome, Some};
+ghost use Rattle.spv_base.specs.Parts.{part_at, with_part};
+
+use spv_base::{Ghost, Path, Value};
+
+/// The part that a path names.
+pub fn part_of(tree: &Ghost<Value>, path: &Path) -> Ghost<Value>
+    requires { IsSome (part_at tree.now.value path.now) }
+    ensures { part_at tree.now.value path.now ≡ Some result.value }
+{
+    tree.by(path, tree)
+}
+
+/// A tree with another part where a path leads.
+pub fn replaced(tree: &Ghost<Value>, path: &Path, part: &Ghost<Value>) -> Ghost<Value>
+    ensures { result.value ≡ with_part tree.now.value path.now part.now.value }
+{
+    tree.by(path, part)
+}
+
+/// The same tree.
+pub fn same(tree: &Ghost<Value>) -> Ghost<Value>
+    ensures { result.value ≡ tree.now.value }
+{
+    tree.by(tree, tree)
+}
