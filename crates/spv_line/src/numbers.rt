@@ -1,0 +1,41 @@
+//! Numbers that decimal digits spell.
+ghost use Rattle.std.specs.Prelude.{◌≡◌, ◌^◌, ◌≤◌, min, IfSome};
+ghost use Rattle.std.specs.List.{list_all};
+ghost use Rattle.spv_line.specs.Numbers.{number_of, value_of, is_digit};
+
+/// What decimal digits spell, or 2^64 where that is more.
+fn value(digits: &[u8]) -> u128
+    ensures { result ≡ min (value_of digits.now) (2 ^ 64) }
+{
+    let mut value: u128 = 0;
+    for digit in digits {
+        value = (10 * value + digit.saturating_sub(b'0') as u128).min(1 << 64);
+    }
+    value
+}
+
+fn all_digits(digits: &[u8]) -> bool
+    ensures { result ≡ list_all is_digit digits.now }
+{
+    digits.iter().all(|b| b'0' <= *b && *b < b':')
+}
+
+/// The number of one or more decimal digits, where it is at most a limit. Leading zeros are read.
+#[tactic(auto, using(crate::proofs::Number_lemmas::number_is), unfolding(crate::specs::Numbers::number_of))]
+pub fn number(digits: &[u8], limit: u64) -> Option<u64>
+    ensures number { result ≡ number_of limit digits.now }
+    ensures within { IfSome result (λ n. n ≤ limit) }
+{
+    if digits.is_empty() {
+        return None;
+    }
+    if !all_digits(digits) {
+        return None;
+    }
+    let value = value(digits);
+    if value <= limit as u128 {
+        Some(value as u64)
+    } else {
+        None
+    }
+}

@@ -1,0 +1,2 @@
+pub mod Line_lemmas
+pub mod Row_lemmas

@@ -1,0 +1,54 @@
+//! What a line of a setup says.
+use spv_base::Bytes;
+
+/// The bytes of a buffer.
+#[derive(Debug, Drop)]
+pub enum Content {
+    /// These bytes.
+    Hex(Bytes),
+    /// So many bytes that are zero, at most 16,777,216.
+    Zero(u32),
+}
+
+/// What a line of a setup after the first says.
+#[derive(Debug, Drop)]
+pub enum Line {
+    /// `entry NAME`: the name of the entry point.
+    Entry(Bytes),
+    /// `group X Y Z of X Y Z`: which workgroup runs, and of how many.
+    Group {
+        place: (u32, u32, u32),
+        number: (u32, u32, u32),
+    },
+    /// `spec ID VALUE`: a number for the constants of a SpecId, from -2^63 to 2^64 - 1.
+    Spec {
+        id: u32,
+        value: i128,
+    },
+    /// `buffer SET BIND hex DIGITS` or `buffer SET BIND zero N`: the bytes of a buffer.
+    Buffer {
+        set: u32,
+        binding: u32,
+        content: Content,
+    },
+    /// `push hex DIGITS`: the bytes of the push constants.
+    Push(Bytes),
+    /// `move I N`: N entries of an invocation, at most 4,194,304.
+    Move {
+        invocation: u32,
+        count: u32,
+    },
+    /// `rounds N`: N times an entry of each invocation, at most 4,194,304.
+    Rounds(u32),
+}
+
+/// Why a line is refused.
+#[derive(Clone, Copy, Debug, PartialEq, Eq)]
+pub enum LineFault {
+    /// A word is unknown, or the number of words is wrong.
+    Words,
+    /// A number or a hexadecimal word has a wrong form or range.
+    Form,
+    /// There was such a line before, and there may be one alone.
+    Repeated,
+}
