@@ -1,5 +1,5 @@
 -- What is due to a line: its command, or a refusal with its cause.
-use Rattle.std.specs.Prelude.{◌≡◌, ◌≢◌, ℕ, ◌<◌, ◌≤◌, ◌⊎◌, List, [], ◌∷◌, length, Result, Ok, Err}
+use Rattle.std.specs.Prelude.{◌≡◌, ◌≢◌, ℕ, ◌+◌, ◌<◌, ◌≤◌, ◌⊎◌, List, [], ◌∷◌, length, Option, Some, None, Result, Ok, Err}
 use Rattle.spv_base.specs.declared.causes.Fail.{Fail}
 use Rattle.spv_base.specs.declared.causes.Fail.TheVariants.{Refused, NoMemory}
 use Rattle.spv_base.specs.declared.causes.CmdRefusal.{CmdRefusal}
@@ -16,11 +16,15 @@ Reads P (Err NoMemory) = Unit {0}
 
 -- ---- the causes of a refusal
 
+-- no command begins with this word
+abbrev pub IsNoKeyword : List ℕ → Type 0
+IsNoKeyword word = (keyword : Keyword) → word ≢ spelling keyword
+
 -- why words are refused: the first is no keyword (C1), or the others aren't what its row says (C2)
 abbrev pub AreRefused : List (List ℕ) → ℕ → Type 0
 AreRefused [] code = ⊥
 AreRefused (word ∷ words) code =
-    ((code ≡ 1) × ((keyword : Keyword) → word ≢ spelling keyword))
+    ((code ≡ 1) × IsNoKeyword word)
     ⊎ ((code ≡ 2) × (keyword : Keyword) × (word ≡ spelling keyword) × ((command : Command) → ¬ Means (row keyword).1 words command))
 
 -- why a line is refused: it has more than 4,096 bytes (C11), or for its words
@@ -37,3 +41,26 @@ abbrev pub IsAnswer : List ℕ → Result Command (Fail CmdRefusal) → Type 0
 IsAnswer line (Ok command) = IsLine line command
 IsAnswer line (Err (Refused refusal)) = IsRefused line refusal.code
 IsAnswer line (Err NoMemory) = Unit {0}
+
+-- ---- what a line begins with
+
+-- why the first word is refused: the line is too long (C11), or the word is no keyword (C1)
+abbrev pub IsFirstRefused : List ℕ → ℕ → Type 0
+IsFirstRefused line code =
+    ((code ≡ 11) × (4096 < length line))
+    ⊎ ((code ≡ 1) × (length line ≤ 4096) × (word : List ℕ) × (words : List (List ℕ)) × (words_in line ≡ word ∷ words) × IsNoKeyword word)
+
+-- a line begins with a keyword, or has no word
+abbrev pub BeginsWith : List ℕ → Option Keyword → Type 0
+BeginsWith line None = (length line ≤ 4096) × (words_in line ≡ [])
+BeginsWith line (Some keyword) = (length line ≤ 4096) × (words : List (List ℕ)) × (words_in line ≡ spelling keyword ∷ words)
+
+abbrev pub Begins : List ℕ → Result (Option Keyword) CmdRefusal → Type 0
+Begins line (Ok first) = BeginsWith line first
+Begins line (Err refusal) = IsFirstRefused line refusal.code
+
+-- a line is split in its keyword and what stands behind it
+pub record IsSplit (line : List ℕ) (keyword : Keyword) (rest : List ℕ) : Type 0 where
+  pub words : words_in line ≡ spelling keyword ∷ words_in rest
+  pub short : length line ≤ 4096
+  pub apart : 0 < length rest → length (spelling keyword) + length rest < 4096

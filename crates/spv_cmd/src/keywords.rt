@@ -3,37 +3,66 @@ ghost use Rattle.std.specs.Prelude.{◌≡◌, ◌≢◌, MatchOption};
 ghost use Rattle.spv_cmd.specs.declared.keywords.Keyword.{Keyword as AnyKeyword};
 ghost use Rattle.spv_cmd.specs.Grammar.{spelling};
 
-/// The word that a command begins with.
+/// The word that a command begins with: the variant's name in small letters.
 #[derive(Clone, Copy, Debug, PartialEq, Eq)]
 pub enum Keyword {
+    /// `goto`
     Goto,
+    /// `fwd`
     Fwd,
+    /// `back`
     Back,
+    /// `stepi`
     Stepi,
+    /// `rstepi`
     Rstepi,
+    /// `step`
     Step,
+    /// `next`
     Next,
+    /// `finish`
     Finish,
+    /// `rstep`
     Rstep,
+    /// `rnext`
     Rnext,
+    /// `rfinish`
     Rfinish,
+    /// `continue`
     Continue,
+    /// `rcontinue`
     Rcontinue,
+    /// `where`
     Where,
+    /// `group`
     Group,
+    /// `focus`
     Focus,
+    /// `bt`
     Bt,
+    /// `frame`
     Frame,
+    /// `locals`
     Locals,
+    /// `globals`
     Globals,
+    /// `print`
     Print,
+    /// `regs`
     Regs,
+    /// `list`
     List,
+    /// `break`
     Break,
+    /// `delete`
     Delete,
+    /// `watch`
     Watch,
+    /// `unwatch`
     Unwatch,
+    /// `info`
     Info,
+    /// `quit`
     Quit,
 }
 
@@ -118,3 +147,8 @@ pub fn find_keyword(word: &[u8]) -> Option<Keyword>
     }
     None
 }
+
+/// No two keywords are written alike.
+pub fn keywords_differ()
+    ensures { (j k : AnyKeyword) → spelling j ≡ spelling k → j ≡ k }
+{}

@@ -14,5 +14,7 @@ mod tests;
 mod words;
 
 pub use command::{BreakPlace, Command, Count, PathPart, PathParts, PathText, ValuePath};
-pub use parsing::parse;
+pub use keywords::{Keyword, keywords_differ};
+pub use numbers::number;
+pub use parsing::{first_keyword, parse};
 pub use printing::{print, read_again};

@@ -1,11 +1,11 @@
 //! The command that a line is.
-ghost use Rattle.std.specs.Prelude.{◌≡◌, ◌<◌, ◌≤◌, ◌+◌, List, length, Result};
+ghost use Rattle.std.specs.Prelude.{◌≡◌, ◌<◌, ◌≤◌, ◌+◌, List, length, Result, None, MatchOption, MatchResult};
 ghost use Rattle.spv_base.specs.Answers.{Answers};
 ghost use Rattle.spv_base.specs.declared.causes.CmdRefusal.{CmdRefusal};
 ghost use Rattle.spv_cmd.specs.declared.command.Command.{Command};
 ghost use Rattle.spv_cmd.specs.Words.{words_in};
 ghost use Rattle.spv_cmd.specs.Grammar.{row, spelling, Means};
-ghost use Rattle.spv_cmd.specs.Answers.{Reads, IsDue, IsAnswer};
+ghost use Rattle.spv_cmd.specs.Answers.{Reads, IsDue, IsAnswer, IsFirstRefused, BeginsWith, Begins, IsSplit};
 
 use crate::arguments::{count, none, number, path, place};
 use crate::command::Command;
@@ -15,13 +15,39 @@ use spv_base::{CmdRefusal, Fail};
 use std::alloc::Global;
 
 /// No command has this word.
-const UNKNOWN_COMMAND: Fail<CmdRefusal> = Fail::Refused(CmdRefusal { code: 1 });
+const UNKNOWN_COMMAND: CmdRefusal = CmdRefusal { code: 1 };
 
 /// How many bytes a line may have.
 const LONGEST_LINE: usize = 4096;
 
 /// The line has more than 4,096 bytes.
-const LINE_TOO_LONG: Fail<CmdRefusal> = Fail::Refused(CmdRefusal { code: 11 });
+const LINE_TOO_LONG: CmdRefusal = CmdRefusal { code: 11 };
+
+/// What a line begins with: the keyword that its first word is, and what stands behind it. A line without words has none.
+fn split(line: &[u8]) -> Result<Option<(Keyword, &[u8])>, CmdRefusal>
+    ensures { MatchResult result
+        (λ first. MatchOption first (BeginsWith line.now None) (λ parts. IsSplit line.now parts.0 parts.1.now))
+        (λ refusal. IsFirstRefused line.now refusal.code) }
+{
+    if line.len() > LONGEST_LINE {
+        return Err(LINE_TOO_LONG);
+    }
+    match next_word(line) {
+        None => Ok(None),
+        Some((word, arguments)) => match find_keyword(word) {
+            None => Err(UNKNOWN_COMMAND),
+            Some(keyword) => Ok(Some((keyword, arguments))),
+        },
+    }
+}
+
+/// The keyword that a line begins with, or none where it has no words. A line is refused that has more than 4,096 bytes
+/// (C11), or whose first word is no command's (C1): these are the refusals that `parse` looks for first.
+pub fn first_keyword(line: &[u8]) -> Result<Option<Keyword>, CmdRefusal>
+    ensures { Begins line.now result }
+{
+    Ok(split(line)?.map(|(keyword, _)| keyword))
+}
 
 /// The command that a line is. A line is refused that has more than 4,096 bytes (C11), whose first word is no command's
 /// (C1), or whose other words aren't the command's arguments (C2).
@@ -29,15 +55,9 @@ pub fn parse(alloc: Global, line: &[u8]) -> Result<Command, Fail<CmdRefusal>>
     ensures due { IsAnswer line.now result }
     ensures answered { (due : Result Command CmdRefusal) → IsDue line.now due → Answers due result }
 {
-    if line.len() > LONGEST_LINE {
-        return Err(LINE_TOO_LONG);
-    }
-    match next_word(line) {
+    match split(line)? {
         None => Ok(Command::Empty),
-        Some((word, arguments)) => match find_keyword(word) {
-            None => Err(UNKNOWN_COMMAND),
-            Some(keyword) => command(alloc, keyword, arguments),
-        },
+        Some((keyword, arguments)) => command(alloc, keyword, arguments),
     }
 }
 

@@ -1,5 +1,5 @@
 //! Lines, and what is answered to them.
-use crate::{Command, PathPart, PathText, parse, print};
+use crate::{Command, Keyword, PathPart, PathText, first_keyword, parse, print};
 use spv_base::{CmdRefusal, Fail, Text};
 use std::alloc::Global;
 use std::test;
@@ -166,6 +166,16 @@ fn long_lines_come_first(rt: HostRuntime) -> Result<(), test::Fail> {
         answer(rt.alloc(), &line[..4096])?.as_slice(),
         b"C1".as_slice()
     );
+    Ok(())
+}
+
+#[test]
+fn first_words_are_keywords(rt: HostRuntime) -> Result<(), test::Fail> {
+    assert_eq!(rt; first_keyword(b" where 5"), Ok(Some(Keyword::Where)));
+    assert_eq!(rt; first_keyword(b"  "), Ok(None));
+    assert_eq!(rt; first_keyword(b"order 1 2"), Err(CmdRefusal { code: 1 }));
+    let line = vec![in rt.alloc(); b' '; 4097]?;
+    assert_eq!(rt; first_keyword(&line), Err(CmdRefusal { code: 11 }));
     Ok(())
 }
 

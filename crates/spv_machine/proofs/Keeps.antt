@@ -20,7 +20,8 @@ use Rattle.spv_machine.specs.Held.{HasTop, HasRegister}
 use Rattle.spv_machine.specs.Valid.{IsValid, IsExecutable, GoesOn}
 use Rattle.spv_machine.specs.Effect as effect
 use Rattle.spv_machine.specs.Effect.{◌>>=◌, operand, pointer, loaded, pointer_of, lane_of, sum_of, result_effect, effect_of, row}
-use Rattle.spv_machine.specs.Step.{put_store, put_register, go, apply, outcome, due_at, due_of, at_pc, past_pc, by_status, step_of, StoreFits, RegisterFits, Fits}
+use Rattle.spv_machine.specs.Step.{put_store, put_register, go, apply, outcome, due_at, due_of, at_pc, past_pc, by_status, step_of}
+use Rattle.spv_machine.specs.Fits.{StoreFits, RegisterFits, Fits}
 use Rattle.spv_machine.specs.Sound.{HasShape, Stands, AllStand, IsSound, LeadsSoundly}
 use Rattle.spv_machine.proofs.Standing.{register_place, stands_stored, stands_set, stands_ready, stands_passed, stands_left}
 use Rattle.spv_machine.proofs.Operands.{scalar_shape, sum_int, got, IsLocal, value_shape, operand_lane, pointer_local, loaded_shape}

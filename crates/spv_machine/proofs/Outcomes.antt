@@ -17,7 +17,8 @@ use Rattle.spv_machine.specs.Held.{HasTop}
 use Rattle.spv_machine.specs.Program.{Program, next_of, variables_of, is_register_inst}
 use Rattle.spv_machine.specs.Effect.{int_width}
 use Rattle.spv_machine.specs.Valid.{IsValid}
-use Rattle.spv_machine.specs.Step.{Outcome, Idles, Moves, outcome, due_of, at_pc, past_pc, by_status, step_of, happening_of, fault_in, HasFrames, start_of}
+use Rattle.spv_machine.specs.Step.{Outcome, Idles, Moves, outcome, due_of, at_pc, past_pc, by_status, step_of, happening_of, fault_in, start_of}
+use Rattle.spv_machine.specs.Fits.{HasFrames}
 use Rattle.spv_machine.specs.Does.{Does}
 use Rattle.spv_machine.specs.Sound.{IsSound, HaveShapes, RegistersHaveShapes, Stands, LeadsSoundly}
 use Rattle.spv_machine.proofs.Operands.{scalar_shape, undefined_int}

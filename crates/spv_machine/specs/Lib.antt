@@ -8,5 +8,6 @@ pub mod Held
 pub mod Places
 pub mod Effect
 pub mod Step
+pub mod Fits
 pub mod Does
 pub mod Sound

@@ -1,7 +1,7 @@
 -- The start of a run, and one step of an invocation.
-use Rattle.std.specs.Prelude.{◌<◌, ℕ, length, IsSome, ⊤, List, [], ◌∷◌, map, filter, Option, Some, None, Result, Ok, Err, slice_get}
+use Rattle.std.specs.Prelude.{ℕ, List, [], ◌∷◌, map, filter, Option, Some, None, Result, Ok, Err, slice_get}
 use Rattle.spv_base.specs.Lane.{undefined_lane}
-use Rattle.spv_base.specs.State.{State, Frame, Roots, Registers, frames_of, top_pc, set_reg, set_pc, set_status, pop_frame, on_memory, stored, load_of}
+use Rattle.spv_base.specs.State.{State, Frame, Roots, Registers, frames_of, top_pc, set_reg, set_pc, set_status, pop_frame, on_memory, stored}
 use Rattle.spv_base.specs.declared.values.Value.{Value, Scalar}
 use Rattle.spv_base.specs.declared.values.Pointer.{Pointer}
 use Rattle.spv_base.specs.declared.happenings.Happening.{Happening}
@@ -14,7 +14,6 @@ use Rattle.spv_machine.specs.declared.effects.Effect.{Effect}
 use Rattle.spv_machine.specs.declared.effects.Control.{Control}
 use Rattle.spv_machine.specs.declared.effects.Control.TheVariants.{Goto, Leave}
 use Rattle.spv_machine.specs.Program.{Program, entry_of, is_register_inst, variables_of, inst_at, next_of, first_of}
-use Rattle.spv_machine.specs.Held.{HasTop, HasRegister}
 use Rattle.spv_machine.specs.Effect.{effect_of, int_width}
 
 -- ---- the start
@@ -60,27 +59,6 @@ go i Leave s = set_status i Finished (pop_frame i s)
 abbrev pub apply : ℕ → Effect → State → State
 apply i e s = go i e.control (put_register i e.register (put_store i e.store s))
 
--- ---- what an effect needs: the part of memory, the place of the register, and the frame
-
-abbrev pub StoreFits : ℕ → Option (Pointer × Value) → State → Type 0
-StoreFits i None s = ⊤
-StoreFits i (Some e) s = IsSome (load_of s.memory i e.0)
-
-abbrev pub RegisterFits : ℕ → Option (ℕ × Value) → State → Type 0
-RegisterFits i None s = ⊤
-RegisterFits i (Some e) s = HasRegister (frames_of s i) e.0
-
-pub record GoFits (i : ℕ) (s : State) : Type 0 where
-  pub top : HasTop (frames_of s i)
-  pub statuses : i < length s.statuses
-  pub stacks : i < length s.stacks
-  pub locals : i < length s.memory.locals
-
-pub record Fits (i : ℕ) (e : Effect) (s : State) : Type 0 where
-  pub store : StoreFits i e.store s
-  pub register : RegisterFits i e.register (put_store i e.store s)
-  pub control : GoFits i (put_register i e.register (put_store i e.store s))
-
 -- ---- a step
 
 -- what one event of an invocation is
@@ -97,14 +75,6 @@ happening_of i word = record { inv = i; kind = Plain; word = word; root = 0; lin
 abbrev pub outcome : State → ℕ → ℕ → Result Effect ℕ → Outcome
 outcome s i pc (Ok e) = Moves (happening_of i pc) (apply i e s)
 outcome s i pc (Err code) = Faults (record { code = code; inv = i; word = pc })
-
--- an invocation with this status has frames
-abbrev pub HasFrames : Option Status4 → Type 0
-HasFrames (Some Ready) = ⊤
-HasFrames (Some Arrived) = ⊤
-HasFrames (Some Passed) = ⊤
-HasFrames (Some Finished) = ⊥
-HasFrames None = ⊥
 
 -- the effect of the instruction at a word; code 0 where none stands there
 abbrev pub due_at : Program → State → ℕ → ℕ → Option Inst → Result Effect ℕ

@@ -6,6 +6,7 @@ ghost use Rattle.spv_base.specs.declared.happenings.Status4.{Status4 as StatusTy
 ghost use Rattle.spv_machine.specs.Held as held;
 ghost use Rattle.spv_machine.specs.Program as program;
 ghost use Rattle.spv_machine.specs.Step as spec;
+ghost use Rattle.spv_machine.specs.Fits.{HasFrames, StoreFits, RegisterFits, GoFits, Fits};
 ghost use Rattle.spv_machine.specs.Does.{Does};
 ghost use Rattle.spv_machine.specs.Sound.{IsSound, LeadsSoundly};
 
@@ -45,7 +46,7 @@ fn plain(inv: u32, word: u32) -> Happening
 }
 
 fn put_store(w: &mut World, inv: u32, store: Option<(Pointer, Value)>)
-    requires { spec.StoreFits inv store w.old }
+    requires { StoreFits inv store w.old }
     ensures { w.new ≡ spec.put_store inv store w.old }
 {
     if let Some((pointer, value)) = store {
@@ -54,7 +55,7 @@ fn put_store(w: &mut World, inv: u32, store: Option<(Pointer, Value)>)
 }
 
 fn put_register(w: &mut World, inv: u32, register: Option<(u32, Value)>)
-    requires { spec.RegisterFits inv register w.old }
+    requires { RegisterFits inv register w.old }
     ensures { w.new ≡ spec.put_register inv register w.old }
 {
     if let Some((id, value)) = register {
@@ -63,7 +64,7 @@ fn put_register(w: &mut World, inv: u32, register: Option<(u32, Value)>)
 }
 
 fn go(w: &mut World, inv: u32, control: Control)
-    requires { spec.GoFits inv w.old }
+    requires { GoFits inv w.old }
     ensures { w.new ≡ spec.go inv control w.old }
 {
     match control {
@@ -77,7 +78,7 @@ fn go(w: &mut World, inv: u32, control: Control)
 
 /// Does an effect. It takes no memory and can't fail.
 fn apply(w: &mut World, inv: u32, effect: Effect)
-    requires { spec.Fits inv effect w.old }
+    requires { Fits inv effect w.old }
     ensures { w.new ≡ spec.apply inv effect w.old }
 {
     let Effect {
@@ -94,7 +95,7 @@ fn apply(w: &mut World, inv: u32, effect: Effect)
 fn word_of(m: &Runnable, w: &World, inv: u32) -> u32
     requires inv { inv < length w.now.statuses }
     requires sound { IsSound m.now w.now }
-    requires stands { spec.HasFrames (slice_get w.now.statuses inv) }
+    requires stands { HasFrames (slice_get w.now.statuses inv) }
     ensures { state.top_pc (state.frames_of w.now inv) ≡ Some result }
 {
     match w.stack(inv).pc() {
@@ -110,7 +111,7 @@ fn due(alloc: Global, m: &Runnable, w: &World, inv: u32, pc: u32) -> Result<Effe
     requires pc { state.top_pc (state.frames_of w.now inv) ≡ Some pc }
     requires sound { IsSound m.now w.now }
     ensures due { Answers (spec.due_of m.now w.now inv pc) result }
-    ensures fits { IfOk result (λ effect. spec.Fits inv effect w.now) }
+    ensures fits { IfOk result (λ effect. Fits inv effect w.now) }
 {
     match m.inst_at(pc) {
         Some(inst) => effect_of(alloc, m, w, inv, pc, inst),

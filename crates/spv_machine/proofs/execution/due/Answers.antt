@@ -2,7 +2,8 @@ use Rattle.std.proofs.Common.{◌≡◌, sym, ap, subst}
 use Rattle.spv_base.specs.Answers.{Answers}
 use Rattle.spv_machine.specs.Program.{inst_at}
 use Rattle.spv_machine.specs.Effect.{effect_of}
-use Rattle.spv_machine.specs.Step.{Fits, due_at, due_of}
+use Rattle.spv_machine.specs.Step.{due_at, due_of}
+use Rattle.spv_machine.specs.Fits.{Fits}
 use Rattle.spv_machine.proofs.Keeps.{stacks_within, inst_there, due_fits}
 use Rattle.spv_machine.proofs.Outcomes.{none_some, answers_hold}
 use Rattle.spv_machine.proofs.execution.due.Goals as goal

@@ -1,0 +1,5 @@
+use Rattle.spv_cmd.proofs.Keyword_lemmas.{one_keyword}
+use Rattle.spv_cmd.proofs.keywords.keywords_differ.Goals as goal
+
+pub returns : goal.returns
+returns c j k e = one_keyword j k e
