@@ -19,11 +19,15 @@ byte_text byte =
     else if nat_le 32 byte && nat_le byte 126 then byte ∷ []
     else 92 ∷ 120 ∷ hex_digit (byte / 16) ∷ hex_digit (byte % 16) ∷ []
 
+-- the bytes of a string and its last quote
+abbrev pub quoted : List ℕ → List ℕ
+quoted bytes = flat_map byte_text bytes ++ 34 ∷ []
+
 -- an id, a literal word, a string in quotes
 abbrev pub operand_text : Operand → List ℕ
 operand_text (Id id) = 37 ∷ decimal id
 operand_text (Lit literal) = decimal literal
-operand_text (Text bytes) = 34 ∷ flat_map byte_text bytes ++ 34 ∷ []
+operand_text (Text bytes) = 34 ∷ quoted bytes
 
 -- a result type, a result id, an operand
 abbrev pub part_text : Part → List ℕ
@@ -34,6 +38,10 @@ part_text (part.Operand operand) = operand_text operand
 -- a space before each part
 abbrev pub parts_text : List Part → List ℕ
 parts_text parts = flat_map (λ part. 32 ∷ part_text part) parts
+
+-- parts and the byte LF, the end of a line
+abbrev pub ended : List Part → List ℕ
+ended parts = parts_text parts ++ 10 ∷ []
 
 -- the word, a colon, a name and the parts, and the byte LF
 abbrev pub line_text : Line → List ℕ

@@ -19,3 +19,16 @@ pub struct Line {
     pub name: Text,
     pub parts: Items<Part>,
 }
+
+/// What is wrong with a line of a text that is no listing, in this order.
+#[derive(Clone, Copy, Debug, PartialEq, Eq)]
+pub enum Wrong {
+    /// No line: it has no LF, or isn't made of a word, a colon, a name and parts.
+    NoLine,
+    /// The name is no opcode's.
+    UnknownName,
+    /// The type, the id and the operands aren't of the opcode's form.
+    WrongForm,
+    /// The instruction has more than 65,535 words, or doesn't stand behind those before.
+    Misplaced,
+}

@@ -1,0 +1,14 @@
+use Rattle.std.proofs.Common.{refl, ap, ◌∙◌, take, drop}
+use Rattle.spv_text.specs.Lines.{is_name_byte}
+use Rattle.spv_text.proofs.Front_lemmas.{front_passes}
+use Rattle.spv_text.proofs.numbers.letters_at.Goals as goal
+
+pub returns-clause-letters : goal.returns-clause-letters
+returns-clause-letters c =
+    let text = c.args.text.now in
+    (front_passes is_name_byte text c.split_at.result.0.now c.split_at.result.1.now c.name_end.result refl c.name_end.ensures (c.split_at.ensures.front ∙ ap (λ n. take n text) c.unwrap_or.ensures) (c.split_at.ensures.back ∙ ap (λ n. drop n text) c.unwrap_or.ensures)).0
+
+pub returns-clause-rest : goal.returns-clause-rest
+returns-clause-rest c =
+    let text = c.args.text.now in
+    (front_passes is_name_byte text c.split_at.result.0.now c.split_at.result.1.now c.name_end.result refl c.name_end.ensures (c.split_at.ensures.front ∙ ap (λ n. take n text) c.unwrap_or.ensures) (c.split_at.ensures.back ∙ ap (λ n. drop n text) c.unwrap_or.ensures)).1
