@@ -1,6 +1,7 @@
 //! Values as rows of cells in code, and as trees in contracts.
 #![tactic(auto)]
 
+pub mod laws;
 pub mod parts;
 pub mod rows;
 pub mod trees;

@@ -2,7 +2,8 @@
 ghost use Rattle.std.specs.Prelude.{◌≡◌, ◌+◌, ◌≤◌, Some, length};
 ghost use Rattle.spv_base.specs.Parts.{part_at};
 ghost use Rattle.spv_base.specs.declared.values.Value.{Value};
-ghost use Rattle.spv_types.specs.Rows.{HasRow, leaves};
+ghost use Rattle.spv_types.specs.Rows.{leaves};
+ghost use Rattle.spv_values.specs.Places.{IsRowAt};
 
 use crate::trees::{part_of, same};
 use spv_base::{Cell, Ghost, Path, Value};
@@ -78,7 +79,7 @@ impl<'a> Part<'a> {
     /// The part that a path names, which lies behind `start` cells and has `len` of them.
     #[tactic(auto, using(crate::proofs::RowLemmas::row_within, crate::proofs::RowLemmas::row_is))]
     pub fn part(&self, path: &Path, start: usize, len: usize) -> Part<'a>
-        requires { HasRow self.now path.now start len }
+        requires { IsRowAt self.now path.now start len }
         ensures { part_at self.now path.now ≡ Some result }
     {
         Part {

@@ -2,7 +2,8 @@
 ghost use Rattle.std.specs.Prelude.{◌≡◌, ◌+◌, ◌≤◌, IfOk, Some, length};
 ghost use Rattle.spv_base.specs.Parts.{part_at, with_part};
 ghost use Rattle.spv_base.specs.declared.values.Value.{Value};
-ghost use Rattle.spv_types.specs.Rows.{HasRow, leaves};
+ghost use Rattle.spv_types.specs.Rows.{leaves};
+ghost use Rattle.spv_values.specs.Places.{IsRowAt};
 
 use crate::parts::Part;
 use crate::trees::{part_of, replaced, same};
@@ -79,16 +80,16 @@ impl Row {
     /// The part that a path names, which lies behind `start` cells and has `len` of them.
     #[tactic(auto, using(crate::proofs::RowLemmas::row_within, crate::proofs::RowLemmas::row_is))]
     pub fn part(&self, path: &Path, start: usize, len: usize) -> Part<'_>
-        requires { HasRow self.now path.now start len }
+        requires { IsRowAt self.now path.now start len }
         ensures { part_at self.now path.now ≡ Some result }
     {
         Part::with_tree(&self.cells[start..start + len], part_of(&self.tree, path))
     }
 
     /// Exchanges the part that a path names, which lies behind `start` cells, with a value of as many cells.
-    #[tactic(auto, using(crate::proofs::RowLemmas::row_within, crate::proofs::RowLemmas::row_is, crate::proofs::RowLemmas::row_written))]
+    #[tactic(auto, using(crate::proofs::RowLemmas::row_within, crate::proofs::RowLemmas::row_is))]
     pub fn exchange(&mut self, path: &Path, start: usize, other: &mut Row)
-        requires { HasRow self.old path.now start (length (leaves other.old)) }
+        requires { IsRowAt self.old path.now start (length (leaves other.old)) }
         ensures after { self.new ≡ with_part self.old path.now other.old }
         ensures handed { part_at self.old path.now ≡ Some other.new }
     {

@@ -1,0 +1,235 @@
+-- The leaves of types, by their forms, and the parts of values, each with its type.
+use Rattle.std.proofs.Common.{◌≡◌, ◌∙◌, ◌⊎◌, ℕ, zero, suc, ◌+◌, ◌*◌, ◌<◌, ◌≤◌, ◌&&◌, Bool, true, false, List, [], ◌∷◌, ◌++◌, length, length-append, take, slice_get, Option, Some, None, nat_lt, refl, sym, ap, subst, inl, inr, arith}
+use Rattle.std.specs.Prelude.{if◌then◌else◌}
+use Rattle.std.specs.Bool.{MatchBool}
+use Rattle.std.specs.Option.{IsSomeAnd, MatchOption, is_some, option_map, option_and_then}
+use Rattle.std.specs.List.{All, AllZip, flat_map}
+use Rattle.std.proofs.lemmas.List.Elements.{All-head, All-tail}
+use Rattle.std.proofs.lemmas.Option.{slice_get_past, slice_get_within}
+use Rattle.spv_base.specs.Parts.{part_at, parts_in}
+use Rattle.spv_base.specs.declared.values.Root.{Root}
+use Rattle.spv_base.specs.declared.values.Value.{Value, out-Value}
+use Rattle.spv_base.specs.declared.values.Value.TheOpen.{Value-F}
+use Rattle.spv_types.specs.declared.forms.Form.{Form}
+use Rattle.spv_types.specs.declared.forms.Form.TheVariants.{Void, Bool as Boolean, Int, Vector, Array, Runtime, Struct, Pointer, Function}
+use Rattle.spv_types.specs.declared.forms.Member.{Member}
+use Rattle.spv_types.specs.Types.{Types, form_at, form_of, is_number, number_of}
+use Rattle.spv_types.specs.Cells.{added, cells_among, cells_of, cells_step, members_cells}
+use Rattle.spv_types.specs.Laws.{AreSound, IsAmong}
+use Rattle.spv_types.specs.Leaves.{element_part, leaf_of, member_part, part_of}
+use Rattle.spv_types.specs.Rows.{leaves}
+use Rattle.spv_types.specs.Shapes.{HasShape, HasShapeAmong, part_type, reached, shape_step}
+use Rattle.spv_types.proofs.CellLemmas.{added_is}
+use Rattle.spv_types.proofs.CountedLemmas.{cells_at, cells_whole}
+use Rattle.spv_types.proofs.RowCounts.{many_is, shapes_count, times_is}
+use Rattle.spv_types.proofs.ShapeLemmas.{form_number, shapes_are_by_forms}
+use Rattle.spv_types.proofs.TypeLemmas.{number_form, number_lt}
+use Rattle.spv_mem.specs.Targets.{end_open, is_counted, is_open_array, last_of}
+
+-- ---- numbers of leaves
+
+members_alike : (c d : ℕ → Option ℕ) (ms : List Member) → ((k part : ℕ) → option_map (λ (m : Member). m.ty) (slice_get ms k) ≡ Some part → c part ≡ d part) → members_cells c ms ≡ members_cells d ms
+unfolding members_cells
+members_alike c d [] h = refl
+members_alike c d (m ∷ ms) h = rw (h 0 m.ty refl, members_alike c d ms (λ k part is. h (suc k) part is)) refl
+
+cells_alike : (c d : ℕ → Option ℕ) (f : Form) → ((index part : ℕ) → part_type f index ≡ Some part → c part ≡ d part) → cells_step c f ≡ cells_step d f
+cells_alike c d Void h = refl
+cells_alike c d Boolean h = refl
+cells_alike c d (Int width sign) h = refl
+cells_alike c d (Vector component count) h = rw (h 0 component refl) refl
+cells_alike c d (Array element None stride) h = refl
+cells_alike c d (Array element (Some n) stride) h = rw (h 0 element refl) refl
+cells_alike c d (Runtime element stride) h = refl
+cells_alike c d (Struct members block) h = members_alike c d members h
+cells_alike c d (Pointer class target) h = refl
+cells_alike c d (Function returns parameters) h = refl
+
+pub cells_by_form : (ts : Types) → AreSound ts → (id : ℕ) (f : Form) → form_of ts id ≡ Some f → cells_of ts id ≡ cells_step (cells_of ts) f
+unfolding cells_of
+cells_by_form ts sound id f is =
+    let number = form_number ts id f is in
+    let form : Some (form_at ts number.0) ≡ Some f = sym (number_form ts id number.0 (0, Void) number.1) ∙ is in
+    let same : form_at ts number.0 ≡ f = cc in
+    cells_at ts (length ts) id number.0 number.1 (number_lt ts id number.0 number.1) ∙ ap (cells_step (cells_among ts number.0)) same ∙ cells_alike (cells_among ts number.0) (cells_of ts) f (λ index part typed. whole number.0 number.1 index part typed)
+  where
+    whole : (n : ℕ) → number_of ts id ≡ Some n → (index part : ℕ) → part_type f index ≡ Some part → cells_among ts n part ≡ cells_of ts part
+    whole n e index part typed =
+        let before = sound.ordered id index part f is typed in
+        let at : Some before.number ≡ Some n = sym before.is ∙ e in
+        let same : before.number ≡ n = cc in
+        cells_whole ts n part (subst (λ (k : ℕ). IsAmong ts k part) same before.among)
+
+pub counted_is : (o : Option ℕ) → is_some o ≡ true → (n : ℕ) × (o ≡ Some n)
+counted_is None h = absurd cc
+counted_is (Some n) h = (n, refl)
+
+pub is_counted_by : (o : Option ℕ) (n : ℕ) → o ≡ Some n → is_some o ≡ true
+is_counted_by o n h = rw h refl
+
+-- ---- a value of a shape has a type with a form
+
+no_form : (ts : Types) (roots : Root → Option ℕ) (n id : ℕ) (v : Value) → form_of ts id ≡ None → HasShapeAmong ts roots n id v → ⊥
+unfolding HasShapeAmong
+no_form ts roots zero id v none h = h
+no_form ts roots (suc n) id v none h = go (no_form ts roots n id v none) (is_number n (number_of ts id)) (form_of ts id) none h
+  where
+    go : (HasShapeAmong ts roots n id v → ⊥) → (b : Bool) (o : Option Form) → o ≡ None → MatchBool b (MatchOption o ⊥ (λ f. shape_step ts roots (HasShapeAmong ts roots n) f v)) (HasShapeAmong ts roots n id v) → ⊥
+    go below true None e has = has
+    go below true (Some f) e has = absurd cc
+    go below false o e has = below has
+
+pub shape_formed : (ts : Types) (roots : Root → Option ℕ) (id : ℕ) (v : Value) → HasShape ts roots id v → (f : Form) × (form_of ts id ≡ Some f)
+unfolding HasShape
+shape_formed ts roots id v h = go (form_of ts id) refl
+  where
+    go : (o : Option Form) → form_of ts id ≡ o → (f : Form) × (form_of ts id ≡ Some f)
+    go None e = absurd (no_form ts roots (length ts) id v e h)
+    go (Some f) e = (f, e)
+
+-- ---- one part of a value
+
+-- part i of a value: the leaves before it, its type, and the part
+pub record PartIs (ts : Types) (roots : Root → Option ℕ) (f : Form) (v : Value) (i : ℕ) : Type 0 where
+  pub before : ℕ
+  pub type : ℕ
+  pub values : List Value
+  pub part : Value
+  pub at : part_of (cells_of ts) f i ≡ Some (before, type)
+  pub typed : part_type f i ≡ Some type
+  pub is : out-Value v ≡ Value-F.List values
+  pub found : slice_get values i ≡ Some part
+  pub shape : HasShape ts roots type part
+  pub counted : is_counted ts type ≡ true
+
+-- the value that an index names in a value
+abbrev pub item_at : Value → ℕ → Option Value
+item_at v i = option_and_then (λ vs. slice_get vs i) (parts_in (out-Value v))
+
+-- no part i
+abbrev pub NoPart : Types → Form → Value → ℕ → Type 0
+NoPart ts f v i = (part_of (cells_of ts) f i ≡ None) × (item_at v i ≡ None)
+
+pub at_index : {A : Type 0} (xs : List A) (i : ℕ) → ((x : A) × (i < length xs) × (slice_get xs i ≡ Some x)) ⊎ ((length xs ≤ i) × (slice_get xs i ≡ None))
+at_index [] i = inr (omega arith, refl)
+at_index (x ∷ xs) zero = inl (x, omega arith, refl)
+at_index (x ∷ xs) (suc i) = elim (at_index xs i) [
+  | inl h ↦ inl (h.0, omega (arith, h.1), h.2)
+  | inr h ↦ inr (omega (arith, h.0), h.1)
+]
+
+pub all_at : (P : Value → Type 0) (vs : List Value) (i : ℕ) (u : Value) → All P vs → slice_get vs i ≡ Some u → P u
+all_at P [] i u all h = absurd cc
+all_at P (v ∷ vs) zero u all h = let e : v ≡ u = cc in subst P e (All-head P v vs all)
+all_at P (v ∷ vs) (suc i) u all h = all_at P vs i u (All-tail P v vs all) h
+
+element_at : (cells : ℕ → Option ℕ) (element i c : ℕ) → cells element ≡ Some c → element_part cells element i ≡ Some (c * i, element)
+element_at cells element i c h = rw h refl
+
+pub below_is : (i n : ℕ) → i < n → nat_lt i n ≡ true
+below_is i n h = grind arith
+
+pub past_is : (i n : ℕ) → n ≤ i → nat_lt i n ≡ false
+past_is i n h = grind arith
+
+-- members: their values, and the leaves before one of them
+pub record MemberAt (ts : Types) (roots : Root → Option ℕ) (ms : List Member) (vs : List Value) (k : ℕ) : Type 0 where
+  pub member : Member
+  pub part : Value
+  pub before : ℕ
+  pub is : slice_get ms k ≡ Some member
+  pub found : slice_get vs k ≡ Some part
+  pub sum : members_cells (cells_of ts) (take k ms) ≡ Some before
+  pub shape : HasShape ts roots member.ty part
+  pub kind : (is_counted ts member.ty ≡ true)
+      ⊎ ((is_open_array ts (form_of ts member.ty) ≡ true) × (last_of vs ≡ Some part) × (before + length (leaves part) ≡ length (flat_map leaves vs)))
+
+abbrev pub NoMember : List Member → List Value → ℕ → Type 0
+NoMember ms vs k = (slice_get ms k ≡ None) × (slice_get vs k ≡ None)
+
+module _ (ts : Types) (roots : Root → Option ℕ) where
+  abbrev Shapes : List Member → List Value → Type 0
+  Shapes ms vs = AllZip (λ (m : Member). HasShape ts roots m.ty) ms vs
+
+  sum_more : (m : Member) (ms : List Member) (k c b : ℕ) → cells_of ts m.ty ≡ Some c → members_cells (cells_of ts) (take k ms) ≡ Some b → members_cells (cells_of ts) (m ∷ take k ms) ≡ Some (c + b)
+  unfolding members_cells
+  sum_more m ms k c b h g = rw (h, g) refl
+
+  sum_none : members_cells (cells_of ts) [] ≡ Some 0
+  unfolding members_cells
+  sum_none = refl
+
+  pub counted_member : (ms : List Member) (vs : List Value) (k n : ℕ) → Shapes ms vs → members_cells (cells_of ts) ms ≡ Some n
+      → NoMember ms vs k ⊎ ((at : MemberAt ts roots ms vs k) × (is_counted ts at.member.ty ≡ true))
+  unfolding members_cells
+  counted_member [] [] k n all h = inl (refl, refl)
+  counted_member [] (v ∷ vs) k n all h = absurd all
+  counted_member (m ∷ ms) [] k n all h = absurd all
+  counted_member (m ∷ ms) (v ∷ vs) zero n all h =
+      let sum = added_is (cells_of ts m.ty) (members_cells (cells_of ts) ms) n h in
+      let one : is_counted ts m.ty ≡ true = is_counted_by (cells_of ts m.ty) sum.0 sum.2 in
+      inr (record { member = m; part = v; before = 0; is = refl; found = refl; sum = sum_none; shape = all.0; kind = inl one }, one)
+  counted_member (m ∷ ms) (v ∷ vs) (suc k) n all h =
+      let sum = added_is (cells_of ts m.ty) (members_cells (cells_of ts) ms) n h in
+      elim (counted_member ms vs k sum.1 all.1 sum.3) [
+        | inl none ↦ inl none
+        | inr at ↦ inr (
+          record {
+            member = at.0.member;
+            part = at.0.part;
+            before = sum.0 + at.0.before;
+            is = at.0.is;
+            found = at.0.found;
+            sum = sum_more m ms k sum.0 at.0.before sum.2 at.0.sum;
+            shape = at.0.shape;
+            kind = inl at.1;
+          },
+          at.1,
+        )
+      ]
+
+  both_are : (a b : Bool) → (a && b) ≡ true → (a ≡ true) × (b ≡ true)
+  both_are true true h = (refl, refl)
+  both_are true false h = absurd cc
+  both_are false b h = absurd cc
+
+  later_last : (v : Value) (vs : List Value) (u : Value) → last_of vs ≡ Some u → last_of (v ∷ vs) ≡ Some u
+  later_last v [] u h = absurd cc
+  later_last v (w ∷ vs) u h = h
+
+  longer_row : (v : Value) (vs : List Value) (c b : ℕ) (u : Value) → length (leaves v) ≡ c → b + length (leaves u) ≡ length (flat_map leaves vs) → (c + b) + length (leaves u) ≡ length (flat_map leaves (v ∷ vs))
+  longer_row v vs c b u one rest = rw (length-append (leaves v) (flat_map leaves vs)) (omega arith)
+
+  single_row : (v : Value) → 0 + length (leaves v) ≡ length (flat_map leaves (v ∷ []))
+  single_row v = rw (length-append (leaves v) []) (omega arith)
+
+  pub open_member : (ms : List Member) (vs : List Value) (k : ℕ) → Shapes ms vs → end_open ts ms ≡ true → NoMember ms vs k ⊎ MemberAt ts roots ms vs k
+  open_member [] vs k all h = absurd cc
+  open_member (m ∷ ms) [] k all h = absurd all
+  open_member (m ∷ []) (v ∷ u ∷ vs) k all h = absurd all.1
+  open_member (m ∷ []) (v ∷ []) zero all h =
+      inr (record { member = m; part = v; before = 0; is = refl; found = refl; sum = sum_none; shape = all.0; kind = inr (h, refl, single_row v) })
+  open_member (m ∷ []) (v ∷ []) (suc k) all h = inl (refl, refl)
+  open_member (m ∷ n ∷ ms) (v ∷ []) k all h = absurd all.1
+  open_member (m ∷ n ∷ ms) (v ∷ u ∷ vs) zero all h =
+      let both = both_are (is_counted ts m.ty) (end_open ts (n ∷ ms)) h in
+      inr (record { member = m; part = v; before = 0; is = refl; found = refl; sum = sum_none; shape = all.0; kind = inl both.0 })
+  open_member (m ∷ n ∷ ms) (v ∷ u ∷ vs) (suc k) all h =
+      let both = both_are (is_counted ts m.ty) (end_open ts (n ∷ ms)) h in
+      let c = counted_is (cells_of ts m.ty) both.0 in
+      elim (open_member (n ∷ ms) (u ∷ vs) k all.1 both.1) [
+        | inl none ↦ inl none
+        | inr at ↦ inr (record {
+          member = at.member;
+          part = at.part;
+          before = c.0 + at.before;
+          is = at.is;
+          found = at.found;
+          sum = sum_more m (n ∷ ms) k c.0 at.before c.1 at.sum;
+          shape = at.shape;
+          kind = elim at.kind [
+            | inl one ↦ inl one
+            | inr o ↦ inr (o.0, later_last v (u ∷ vs) at.part o.1, longer_row v (u ∷ vs) c.0 at.before at.part (shapes_count ts roots m.ty v c.0 all.0 c.1) o.2)
+          ];
+        })
+      ]
