@@ -1,2 +1,3 @@
 pub mod Line_lemmas
 pub mod Row_lemmas
+pub mod Index_lemmas

@@ -57,7 +57,7 @@ is_in_grid place number = nat_lt place.0 number.0 && (nat_lt place.1 number.1 &&
 abbrev pub group_line : Option (ℕ × ℕ × ℕ) → Option (ℕ × ℕ × ℕ) → Result Line LineFault
 group_line None number = Err Form
 group_line (Some place) None = Err Form
-group_line (Some place) (Some number) = if is_in_grid place number then Ok (Group place number) else Err Form
+group_line (Some place) (Some number) = if is_in_grid place number then Ok (Group (record { place = place; number = number })) else Err Form
 
 -- X Y Z of X Y Z
 abbrev pub group_row : List (List ℕ) → Result Line LineFault

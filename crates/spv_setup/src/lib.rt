@@ -3,6 +3,9 @@
 
 mod line;
 mod lines;
+mod reading;
 mod rows;
+mod settings;
 
-pub use line::{Content, Line};
+pub use line::{Content, Workgroup};
+pub use settings::{Buffer, Push, Run, Settings};

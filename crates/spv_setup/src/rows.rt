@@ -4,7 +4,7 @@ ghost use Rattle.spv_base.specs.Answers.{Answers};
 ghost use Rattle.spv_line.specs.Words.{words_in};
 ghost use Rattle.spv_setup.specs.Rows as spec;
 
-use crate::line::{Content, Line, LineFault};
+use crate::line::{Content, Line, LineFault, Workgroup};
 use spv_base::{Bytes, Fail};
 use spv_line::{bytes, next_word, only_word};
 use std::alloc::Global;
@@ -134,7 +134,7 @@ fn group_line(
     let place = place.ok_or(FORM)?;
     let number = number.ok_or(FORM)?;
     if is_in_grid(place, number) {
-        Ok(Line::Group { place, number })
+        Ok(Line::Group(Workgroup { place, number }))
     } else {
         Err(FORM)
     }
