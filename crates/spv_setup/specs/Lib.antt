@@ -1,4 +1,5 @@
 pub mod Lines
 pub mod Rows
+pub mod Codes
 pub mod Settings
 pub mod Reading

@@ -1,12 +1,11 @@
 -- The grammar of setups, by rows: what the words of a line say.
-use Rattle.std.specs.Prelude.{ℕ, ◌-◌, ◌^◌, ◌==◌, ◌&&◌, nat_lt, nat_le, Bool, if◌then◌else◌, ℤ, pos, neg_ℤ, List, [], ◌∷◌, length, drop, slice_index, codes, Option, Some, None, Result, Ok, Err}
+use Rattle.std.specs.Prelude.{ℕ, ◌==◌, ◌&&◌, nat_lt, nat_le, Bool, if◌then◌else◌, ℤ, pos, neg_ℤ, List, [], ◌∷◌, length, drop, slice_index, codes, Option, Some, None, Result, Ok, Err}
 use Rattle.std.specs.Option.{option_map}
 use Rattle.std.specs.Str.{bytes_eq}
 use Rattle.spv_base.specs.Answers.{after}
 use Rattle.spv_line.specs.Words.{words_in}
 use Rattle.spv_line.specs.Numbers.{number_of}
 use Rattle.spv_line.specs.Hex.{bytes_of}
-use Rattle.spv_setup.specs.declared.line.Content.{Content}
 use Rattle.spv_setup.specs.declared.line.Content.TheVariants.{Hex, Zero}
 use Rattle.spv_setup.specs.declared.line.Line.{Line}
 use Rattle.spv_setup.specs.declared.line.Line.TheVariants.{Entry, Group, Spec, Buffer, Push, Move, Rounds}

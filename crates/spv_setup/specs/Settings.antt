@@ -1,5 +1,5 @@
 -- What a setup's text sets: line by line, from the defaults on, to the lowest line that is refused.
-use Rattle.std.specs.Prelude.{ℕ, suc, ℤ, ◌==◌, ◌&&◌, Bool, true, false, if◌then◌else◌, List, [], ◌∷◌, ◌++◌, codes, Option, Some, None, Result, Ok, Err}
+use Rattle.std.specs.Prelude.{ℕ, suc, ◌==◌, ◌&&◌, Bool, false, if◌then◌else◌, List, [], ◌∷◌, ◌++◌, codes, Option, Some, None, Result, Ok, Err}
 use Rattle.std.specs.List.{list_any}
 use Rattle.std.specs.Option.{is_some}
 use Rattle.std.specs.Str.{bytes_eq}
@@ -9,10 +9,11 @@ use Rattle.spv_line.specs.Words.{words_in}
 use Rattle.spv_setup.specs.declared.line.Line.{Line}
 use Rattle.spv_setup.specs.declared.line.Line.TheVariants.{Entry, Group, Spec, Buffer, Push, Move, Rounds}
 use Rattle.spv_setup.specs.declared.line.LineFault.{LineFault}
-use Rattle.spv_setup.specs.declared.line.LineFault.TheVariants.{Words, Form, Repeated}
+use Rattle.spv_setup.specs.declared.line.LineFault.TheVariants.{Repeated}
 use Rattle.spv_setup.specs.declared.settings.Run.TheVariants as run
 use Rattle.spv_setup.specs.declared.settings.Settings.{Settings}
 use Rattle.spv_setup.specs.Lines.{lines_of}
+use Rattle.spv_setup.specs.Codes.{code_of}
 use Rattle.spv_setup.specs.Rows.{meaning}
 
 -- before any line
@@ -59,12 +60,6 @@ with_meaning n s None = Ok s
 with_meaning n s (Some line) = added n line s
 
 -- ---- the lowest refusal
-
--- S2, S3 and S4
-abbrev pub code_of : LineFault → ℕ
-code_of Words = 2
-code_of Form = 3
-code_of Repeated = 4
 
 abbrev pub at_line : {A : Type 0} → ℕ → Result A LineFault → Result A SetupRefusal
 at_line n (Ok x) = Ok x

@@ -6,6 +6,8 @@ mod lines;
 mod reading;
 mod rows;
 mod settings;
+mod setup;
 
 pub use line::{Content, Workgroup};
 pub use settings::{Buffer, Push, Run, Settings};
+pub use setup::Setup;

@@ -1,4 +1,7 @@
 //! What a line of a setup says.
+ghost use Rattle.std.specs.Prelude.{◌≡◌};
+ghost use Rattle.spv_setup.specs.Codes.{code_of};
+
 use spv_base::Bytes;
 
 /// The bytes of a buffer.
@@ -57,4 +60,17 @@ pub enum LineFault {
     Form,
     /// There was such a line before, and there may be one alone.
     Repeated,
+}
+
+impl LineFault {
+    /// The number in the code of its refusal.
+    pub fn code(self) -> u8
+        ensures { result ≡ code_of self }
+    {
+        match self {
+            LineFault::Words => 2,
+            LineFault::Form => 3,
+            LineFault::Repeated => 4,
+        }
+    }
 }

@@ -1,7 +1,7 @@
 //! The reading of a setup, line by line.
 ghost use Rattle.std.specs.Prelude.{◌≡◌, ◌≤◌, ◌<◌, ◌++◌, ◌∷◌, [], Ok, OnOk, option_copied};
-ghost use Rattle.spv_base.specs.Answers.{Answers};
-ghost use Rattle.spv_line.specs.Words.{words_in};
+ghost use Rattle.spv_base.specs.Answers.{after};
+ghost use Rattle.spv_setup.specs.Rows.{meaning};
 ghost use Rattle.spv_setup.specs.declared.line.Line.TheVariants as says;
 ghost use Rattle.spv_setup.specs.Lines.{lines_in, left_length};
 ghost use Rattle.spv_setup.specs.Settings as spec;
@@ -96,7 +96,13 @@ impl Reader {
         Ok(())
     }
 
-    fn add_buffer(&mut self, line: u32, set: u32, binding: u32, content: Content) -> Result<(), Fail<LineFault>>
+    fn add_buffer(
+        &mut self,
+        line: u32,
+        set: u32,
+        binding: u32,
+        content: Content,
+    ) -> Result<(), Fail<LineFault>>
         requires { IsIndexed self.old.ids self.old.bindings self.old.settings }
         ensures settings { Leaves (spec.added line (says.Buffer set binding content) self.old.settings) self.new.settings result }
         ensures indexed { OnOk result (IsIndexed self.new.ids self.new.bindings self.new.settings) }
@@ -104,7 +110,12 @@ impl Reader {
         if !self.bindings.insert((set, binding))? {
             return Err(REPEATED);
         }
-        self.settings.buffers.push(Buffer { line, set, binding, content })?;
+        self.settings.buffers.push(Buffer {
+            line,
+            set,
+            binding,
+            content,
+        })?;
         Ok(())
     }
 
@@ -127,10 +138,68 @@ impl Reader {
             Line::Entry(name) => self.set_entry(line, name),
             Line::Group(group) => self.set_group(line, group),
             Line::Spec { id, value } => self.add_override(line, id, value),
-            Line::Buffer { set, binding, content } => self.add_buffer(line, set, binding, content),
+            Line::Buffer {
+                set,
+                binding,
+                content,
+            } => self.add_buffer(line, set, binding, content),
             Line::Push(bytes) => self.set_push(line, bytes),
-            Line::Move { invocation, count } => self.add_run(Run::Move { line, invocation, count }),
+            Line::Move { invocation, count } => self.add_run(Run::Move {
+                line,
+                invocation,
+                count,
+            }),
             Line::Rounds(count) => self.add_run(Run::Rounds(count)),
         }
+    }
+
+    /// Reads a line after the first.
+    fn read(&mut self, alloc: Global, number: u32, text: &[u8]) -> Result<(), Fail<LineFault>>
+        requires { IsIndexed self.old.ids self.old.bindings self.old.settings }
+        ensures settings { Leaves (after (meaning text.now) (spec.with_meaning number self.old.settings)) self.new.settings result }
+        ensures indexed { OnOk result (IsIndexed self.new.ids self.new.bindings self.new.settings) }
+    {
+        match read_line(alloc, text)? {
+            None => Ok(()),
+            Some(line) => self.add(number, line),
+        }
+    }
+
+    /// Reads the line of a number, or is refused there.
+    #[tactic(auto, unfolding(crate::specs::Settings::line_after))]
+    fn read_at(&mut self, alloc: Global, number: u32, text: &[u8]) -> Result<(), Fail<SetupRefusal>>
+        requires { IsIndexed self.old.ids self.old.bindings self.old.settings }
+        ensures settings { Leaves (spec.line_after number text.now self.old.settings) self.new.settings result }
+        ensures indexed { OnOk result (IsIndexed self.new.ids self.new.bindings self.new.settings) }
+    {
+        match self.read(alloc, number, text) {
+            Ok(()) => Ok(()),
+            Err(Fail::Refused(fault)) => Err(Fail::Refused(SetupRefusal {
+                code: fault.code(),
+                line: number,
+            })),
+            Err(Fail::NoMemory) => Err(Fail::NoMemory),
+        }
+    }
+
+    /// Reads the lines after the first, or is refused at the lowest that is.
+    pub fn read_lines(
+        &mut self,
+        alloc: Global,
+        text: Option<&[u8]>,
+    ) -> Result<(), Fail<SetupRefusal>>
+        requires indexed { IsIndexed self.old.ids self.old.bindings self.old.settings }
+        requires short { left_length (option_copied text) ≤ 67108864 }
+        ensures { Leaves (spec.lines_after 2 (lines_in (option_copied text.entry)) self.old.settings) self.new.settings result }
+    {
+        let mut number: u32 = 1;
+        let mut left = text;
+        while let Some(text) = left {
+            let (line, rest) = next_line(text);
+            number += 1;
+            self.read_at(alloc, number, line)?;
+            left = rest;
+        }
+        Ok(())
     }
 }

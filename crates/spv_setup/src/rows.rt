@@ -75,7 +75,7 @@ type Three<'a> = (&'a [u8], &'a [u8], &'a [u8]);
 
 /// The two words of a text.
 #[tactic(auto, using(crate::proofs::Row_lemmas::not_two))]
-fn two_words(text: &[u8]) -> Option<(&[u8], &[u8])>
+pub fn two_words(text: &[u8]) -> Option<(&[u8], &[u8])>
     ensures { MatchOption result (length (words_in text.now) ≢ 2) (λ p. words_in text.now ≡ p.0.now ∷ p.1.now ∷ []) }
 {
     let (first, rest) = next_word(text)?;
