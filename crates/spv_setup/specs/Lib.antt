@@ -3,3 +3,5 @@ pub mod Rows
 pub mod Codes
 pub mod Settings
 pub mod Reading
+pub mod Schedule
+pub mod Pieces

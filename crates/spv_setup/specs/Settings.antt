@@ -1,11 +1,12 @@
 -- What a setup's text sets: line by line, from the defaults on, to the lowest line that is refused.
 use Rattle.std.specs.Prelude.{ℕ, suc, ◌==◌, ◌&&◌, Bool, false, if◌then◌else◌, List, [], ◌∷◌, ◌++◌, codes, Option, Some, None, Result, Ok, Err}
 use Rattle.std.specs.List.{list_any}
-use Rattle.std.specs.Option.{is_some}
+use Rattle.std.specs.Option.{is_some, unwrap_or}
 use Rattle.std.specs.Str.{bytes_eq}
 use Rattle.spv_base.specs.Answers.{after}
 use Rattle.spv_base.specs.declared.causes.SetupRefusal.{SetupRefusal}
 use Rattle.spv_line.specs.Words.{words_in}
+use Rattle.spv_setup.specs.declared.line.Workgroup.{Workgroup}
 use Rattle.spv_setup.specs.declared.line.Line.{Line}
 use Rattle.spv_setup.specs.declared.line.Line.TheVariants.{Entry, Group, Spec, Buffer, Push, Move, Rounds}
 use Rattle.spv_setup.specs.declared.line.LineFault.{LineFault}
@@ -88,3 +89,7 @@ of_lines (first ∷ lines) = if is_head (words_in first) then lines_after 2 line
 -- what a text sets, or its lowest refusal
 unfoldable pub settings_of : List ℕ → Result Settings SetupRefusal
 settings_of text = of_lines (lines_of text)
+
+-- the workgroup that runs: `0 0 0 of 1 1 1` where the text names none
+abbrev pub group_of : Settings → Workgroup
+group_of s = unwrap_or s.group (record { place = (0, 0, 0); number = (1, 1, 1) })

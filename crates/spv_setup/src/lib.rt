@@ -3,11 +3,14 @@
 
 mod line;
 mod lines;
+mod pieces;
 mod reading;
 mod rows;
+mod schedule;
 mod settings;
 mod setup;
 
 pub use line::{Content, Workgroup};
-pub use settings::{Buffer, Push, Run, Settings};
+pub use schedule::Schedule;
+pub use settings::{Buffer, Push};
 pub use setup::Setup;

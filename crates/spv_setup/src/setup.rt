@@ -1,20 +1,28 @@
 //! The setup of a run, as its text sets it.
-ghost use Rattle.std.specs.Prelude.{◌≡◌, ◌≤◌, length, option_copied};
+ghost use Rattle.std.specs.Prelude.{◌≡◌, ◌≤◌, ◌<◌, None, length, option_copied};
 ghost use Rattle.spv_base.specs.Answers.{Answers};
 ghost use Rattle.spv_line.specs.Words.{words_in};
-ghost use Rattle.spv_setup.specs.Settings.{is_head, settings_of};
+ghost use Rattle.spv_setup.specs.Settings.{is_head, settings_of, group_of};
+ghost use Rattle.spv_setup.specs.Schedule.{check_moves, schedule_of, stray_line};
 
 use crate::line::Workgroup;
 use crate::lines::next_line;
 use crate::reading::Reader;
 use crate::rows::two_words;
+use crate::schedule::{Schedule, check_moves};
 use crate::settings::{Buffer, Push, Run, Settings};
-use spv_base::{Fail, Overrides, SetupRefusal};
+use spv_base::{Fail, Items, Overrides, Places, SetupRefusal};
 use std::alloc::Global;
 use std::marker::Model;
 
 /// The first line is another than `spvdbg-setup 1`.
 const OTHER_HEAD: Fail<SetupRefusal> = Fail::Refused(SetupRefusal { code: 1, line: 1 });
+
+/// The workgroup that runs where the text names none.
+const ONLY_GROUP: Workgroup = Workgroup {
+    place: (0, 0, 0),
+    number: (1, 1, 1),
+};
 
 /// Whether the first line is `spvdbg-setup 1`.
 #[tactic(auto, using(crate::proofs::Row_lemmas::no_head))]
@@ -76,5 +84,50 @@ impl Setup {
         ensures { result.now ≡ self.now.overrides }
     {
         &self.settings.overrides
+    }
+
+    /// The line of each number for a SpecId, in the same order.
+    pub fn override_lines(&self) -> &Places
+        ensures { result.now ≡ self.now.override_lines }
+    {
+        &self.settings.override_lines
+    }
+
+    /// The numbers of the workgroup that runs, and how many workgroups there are.
+    pub fn group(&self) -> Workgroup
+        ensures { result ≡ group_of self.now }
+    {
+        self.settings.group.unwrap_or(ONLY_GROUP)
+    }
+
+    /// The buffers that are given.
+    pub fn buffers(&self) -> &Items<Buffer>
+        ensures { result.now ≡ self.now.buffers }
+    {
+        &self.settings.buffers
+    }
+
+    /// The push constants, where they are given.
+    pub fn push(&self) -> Option<&Push>
+        ensures { option_copied result ≡ self.now.push }
+    {
+        self.settings.push.as_ref()
+    }
+
+    /// Looks whether each `move` names an invocation that exists. Else S5 at the lowest line that doesn't.
+    pub fn check_moves(&self, invocations: u32) -> Result<(), SetupRefusal>
+        ensures { result ≡ check_moves invocations self.now.runs }
+    {
+        check_moves(invocations, self.settings.runs.as_slice())
+    }
+
+    /// The schedule for so many invocations, at least 1, which each `move` names one of. Refuses more than 4,194,304 entries
+    /// (S9).
+    pub fn schedule(&self, alloc: Global, invocations: u32) -> Result<Schedule, Fail<SetupRefusal>>
+        requires some { 0 < invocations }
+        requires exist { stray_line invocations self.now.runs ≡ None }
+        ensures { Answers (schedule_of invocations self.now.runs) result }
+    {
+        Schedule::of(alloc, invocations, self.settings.runs.as_slice())
     }
 }
