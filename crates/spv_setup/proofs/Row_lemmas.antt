@@ -1,6 +1,7 @@
 -- Rows whose number of words is wrong.
-use Rattle.std.proofs.Common.{◌≡◌, ◌≢◌, ℕ, ◌+◌, ◌<◌, List, [], ◌∷◌, length, Err, refl, ap, ◌∙◌, arith}
+use Rattle.std.proofs.Common.{◌≡◌, ◌≢◌, ℕ, ◌<◌, List, [], ◌∷◌, length, Err, false, refl, ap, arith}
 use Rattle.spv_setup.specs.declared.line.LineFault.TheVariants.{Words}
+use Rattle.spv_setup.specs.Settings.{is_head}
 use Rattle.spv_setup.specs.Rows.{entry_row, group_row, spec_row, zero_row, buffer_row, move_row, rounds_row}
 
 pub not_two : (words rest : List (List ℕ)) (first : List ℕ) → words ≡ first ∷ rest → ((word : List ℕ) → rest ≢ word ∷ []) → length words ≢ 2
@@ -51,3 +52,9 @@ no_group (a ∷ b ∷ c ∷ d ∷ e ∷ []) h = refl
 no_group (a ∷ b ∷ c ∷ d ∷ e ∷ f ∷ []) h = refl
 no_group (a ∷ b ∷ c ∷ d ∷ e ∷ f ∷ g ∷ []) h = absurd (h (omega arith))
 no_group (a ∷ b ∷ c ∷ d ∷ e ∷ f ∷ g ∷ more ∷ words) h = refl
+
+pub no_head : (words : List (List ℕ)) → length words ≢ 2 → is_head words ≡ false
+no_head [] h = refl
+no_head (name ∷ []) h = refl
+no_head (name ∷ version ∷ []) h = absurd (h (omega arith))
+no_head (name ∷ version ∷ more ∷ words) h = refl

@@ -1,12 +1,11 @@
 -- The grammar of setups, by rows: what the words of a line say.
-use Rattle.std.specs.Prelude.{ℕ, ◌-◌, ◌^◌, ◌==◌, ◌&&◌, nat_lt, nat_le, Bool, if◌then◌else◌, ℤ, pos, neg_ℤ, List, [], ◌∷◌, length, drop, slice_index, codes, Option, Some, None, Result, Ok, Err}
+use Rattle.std.specs.Prelude.{ℕ, ◌==◌, ◌&&◌, nat_lt, nat_le, Bool, if◌then◌else◌, ℤ, pos, neg_ℤ, List, [], ◌∷◌, length, drop, slice_index, codes, Option, Some, None, Result, Ok, Err}
 use Rattle.std.specs.Option.{option_map}
 use Rattle.std.specs.Str.{bytes_eq}
 use Rattle.spv_base.specs.Answers.{after}
 use Rattle.spv_line.specs.Words.{words_in}
 use Rattle.spv_line.specs.Numbers.{number_of}
 use Rattle.spv_line.specs.Hex.{bytes_of}
-use Rattle.spv_setup.specs.declared.line.Content.{Content}
 use Rattle.spv_setup.specs.declared.line.Content.TheVariants.{Hex, Zero}
 use Rattle.spv_setup.specs.declared.line.Line.{Line}
 use Rattle.spv_setup.specs.declared.line.Line.TheVariants.{Entry, Group, Spec, Buffer, Push, Move, Rounds}
@@ -57,7 +56,7 @@ is_in_grid place number = nat_lt place.0 number.0 && (nat_lt place.1 number.1 &&
 abbrev pub group_line : Option (ℕ × ℕ × ℕ) → Option (ℕ × ℕ × ℕ) → Result Line LineFault
 group_line None number = Err Form
 group_line (Some place) None = Err Form
-group_line (Some place) (Some number) = if is_in_grid place number then Ok (Group place number) else Err Form
+group_line (Some place) (Some number) = if is_in_grid place number then Ok (Group (record { place = place; number = number })) else Err Form
 
 -- X Y Z of X Y Z
 abbrev pub group_row : List (List ℕ) → Result Line LineFault

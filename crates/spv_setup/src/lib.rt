@@ -3,6 +3,14 @@
 
 mod line;
 mod lines;
+mod pieces;
+mod reading;
 mod rows;
+mod schedule;
+mod settings;
+mod setup;
 
-pub use line::{Content, Line};
+pub use line::{Content, Workgroup};
+pub use schedule::Schedule;
+pub use settings::{Buffer, Push};
+pub use setup::Setup;

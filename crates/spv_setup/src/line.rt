@@ -1,4 +1,7 @@
 //! What a line of a setup says.
+ghost use Rattle.std.specs.Prelude.{◌≡◌};
+ghost use Rattle.spv_setup.specs.Codes.{code_of};
+
 use spv_base::Bytes;
 
 /// The bytes of a buffer.
@@ -10,16 +13,22 @@ pub enum Content {
     Zero(u32),
 }
 
+/// The numbers of a workgroup, and how many workgroups there are, each by x, y and z.
+#[derive(Clone, Copy, Debug, PartialEq, Eq)]
+pub struct Workgroup {
+    /// WorkgroupId, each number below that of `number`.
+    pub place: (u32, u32, u32),
+    /// NumWorkgroups.
+    pub number: (u32, u32, u32),
+}
+
 /// What a line of a setup after the first says.
 #[derive(Debug, Drop)]
 pub enum Line {
     /// `entry NAME`: the name of the entry point.
     Entry(Bytes),
     /// `group X Y Z of X Y Z`: which workgroup runs, and of how many.
-    Group {
-        place: (u32, u32, u32),
-        number: (u32, u32, u32),
-    },
+    Group(Workgroup),
     /// `spec ID VALUE`: a number for the constants of a SpecId, from -2^63 to 2^64 - 1.
     Spec {
         id: u32,
@@ -51,4 +60,17 @@ pub enum LineFault {
     Form,
     /// There was such a line before, and there may be one alone.
     Repeated,
+}
+
+impl LineFault {
+    /// The number in the code of its refusal.
+    pub fn code(self) -> u8
+        ensures { result ≡ code_of self }
+    {
+        match self {
+            LineFault::Words => 2,
+            LineFault::Form => 3,
+            LineFault::Repeated => 4,
+        }
+    }
 }

@@ -4,7 +4,7 @@ ghost use Rattle.spv_base.specs.Answers.{Answers};
 ghost use Rattle.spv_line.specs.Words.{words_in};
 ghost use Rattle.spv_setup.specs.Rows as spec;
 
-use crate::line::{Content, Line, LineFault};
+use crate::line::{Content, Line, LineFault, Workgroup};
 use spv_base::{Bytes, Fail};
 use spv_line::{bytes, next_word, only_word};
 use std::alloc::Global;
@@ -75,7 +75,7 @@ type Three<'a> = (&'a [u8], &'a [u8], &'a [u8]);
 
 /// The two words of a text.
 #[tactic(auto, using(crate::proofs::Row_lemmas::not_two))]
-fn two_words(text: &[u8]) -> Option<(&[u8], &[u8])>
+pub fn two_words(text: &[u8]) -> Option<(&[u8], &[u8])>
     ensures { MatchOption result (length (words_in text.now) ≢ 2) (λ p. words_in text.now ≡ p.0.now ∷ p.1.now ∷ []) }
 {
     let (first, rest) = next_word(text)?;
@@ -134,7 +134,7 @@ fn group_line(
     let place = place.ok_or(FORM)?;
     let number = number.ok_or(FORM)?;
     if is_in_grid(place, number) {
-        Ok(Line::Group { place, number })
+        Ok(Line::Group(Workgroup { place, number }))
     } else {
         Err(FORM)
     }

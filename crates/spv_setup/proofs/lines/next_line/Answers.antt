@@ -1,4 +1,4 @@
-use Rattle.std.proofs.Common.{◌≡◌, Some, None, sym, ap, ◌∙◌}
+use Rattle.std.proofs.Common.{◌≡◌, Some, sym, ap, ◌∙◌}
 use Rattle.std.specs.List.{position}
 use Rattle.spv_setup.specs.Lines.{is_line_feed, without_return}
 use Rattle.spv_setup.proofs.Line_lemmas.{only_line, first_line}

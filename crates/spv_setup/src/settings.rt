@@ -1,0 +1,51 @@
+//! What the lines of a setup set.
+use crate::line::{Content, Workgroup};
+use spv_base::{Bytes, Items, Overrides, Places};
+
+/// A buffer's bytes, and the line that gives them.
+#[derive(Debug, Drop)]
+pub struct Buffer {
+    pub line: u32,
+    pub set: u32,
+    pub binding: u32,
+    pub content: Content,
+}
+
+/// The bytes of the push constants, and the line that gives them.
+#[derive(Debug, Drop)]
+pub struct Push {
+    pub line: u32,
+    pub bytes: Bytes,
+}
+
+/// A part of the schedule.
+#[derive(Clone, Copy, Debug, PartialEq, Eq)]
+pub enum Run {
+    /// So many entries of one invocation, and the line that names it.
+    Move {
+        line: u32,
+        invocation: u32,
+        count: u32,
+    },
+    /// So many times an entry of each invocation.
+    Rounds(u32),
+}
+
+/// What the lines of a setup set, each list in the order of the lines.
+#[derive(Debug, Drop)]
+pub struct Settings {
+    /// The name of the entry point, where one is given.
+    pub entry: Option<Bytes>,
+    /// Which workgroup runs, where one is given.
+    pub group: Option<Workgroup>,
+    /// Numbers for SpecIds.
+    pub overrides: Overrides,
+    /// The line of each of these.
+    pub override_lines: Places,
+    /// The buffers that are given.
+    pub buffers: Items<Buffer>,
+    /// The push constants, where they are given.
+    pub push: Option<Push>,
+    /// The parts of the schedule.
+    pub runs: Items<Run>,
+}
