@@ -1,8 +1,10 @@
 //! The rules of decorations and of the blocks that variables point to.
-ghost use Rattle.std.specs.Prelude.{◌≡◌, ◌||◌, ◌&&◌, ◌==◌, ◌∷◌, [], ℕ, List, IfOk, OnOk, drop, length};
+ghost use Rattle.std.specs.Prelude.{◌≡◌, ◌||◌, ◌&&◌, ◌==◌, ◌∷◌, [], ℕ, List, false, IfOk, OnOk, drop, length};
+ghost use Rattle.std.specs.Option.{is_some, option_and_then, option_map_or};
 ghost use Rattle.std.specs.BTreeSet.{contains};
 ghost use Rattle.spv_base.specs.Answers.{Answers};
 ghost use Rattle.spv_base.specs.declared.instructions.Inst.{Inst as Instruction};
+ghost use Rattle.spv_index.specs.Definitions.{defining};
 ghost use Rattle.spv_index.specs.Keys.{pair_cmp};
 ghost use Rattle.spv_types.specs.Types.{form_of};
 ghost use Rattle.spv_types.specs.Build.{unless_refused};
@@ -21,14 +23,13 @@ ghost use Rattle.spv_types.specs.Blocks.{
   keeps_pair,
   module_breaches,
   layout_of,
-  target_of,
+  points_to_laid,
 };
 
 use crate::forms::Form;
-use crate::operands::{id_at, lit_at};
 use crate::table::TypeTable;
 use spv_base::{Fail, Inst, NoMemory, Refusal};
-use spv_index::Index;
+use spv_index::{Index, id_operand, literal_operand};
 use spv_ops::{decoration, op, storage_class};
 use std::alloc::Global;
 use std::collections::BTreeSet;
@@ -54,19 +55,48 @@ fn is_buffer_class(class: u32) -> bool
     class == storage_class::UNIFORM || class == storage_class::STORAGE_BUFFER
 }
 
+/// Whether there is a storage class, and it is one of buffers.
+fn has_buffer_class(class: Option<u32>) -> bool
+    ensures { result ≡ option_map_or is_buffer_class class false }
+{
+    match class {
+        Some(class) => is_buffer_class(class),
+        None => false,
+    }
+}
+
+/// Whether there is a storage class, and its variables point to blocks.
+fn has_block_class(class: Option<u32>) -> bool
+    ensures { result ≡ option_map_or is_block_class class false }
+{
+    match class {
+        Some(class) => is_buffer_class(class) || class == storage_class::PUSH_CONSTANT,
+        None => false,
+    }
+}
+
 /// Whether an instruction is a variable of a class whose variables point to blocks.
 fn is_block_variable(inst: &Inst) -> bool
     ensures { result ≡ is_block_variable inst.now }
 {
-    let class = lit_at(inst, 0);
-    inst.op == op::VARIABLE && (is_buffer_class(class) || class == storage_class::PUSH_CONSTANT)
+    inst.op == op::VARIABLE && has_block_class(literal_operand(inst, 0))
+}
+
+/// Whether there is an id, and an instruction defines it.
+fn is_defined(index: &Index, id: Option<u32>) -> bool
+    ensures { result ≡ is_some (option_and_then (defining index.now.insts) id) }
+{
+    match id {
+        Some(id) => index.defining(id).is_some(),
+        None => false,
+    }
 }
 
 /// Whether a decoration of some kind is not BufferBlock, or of an id that nothing defines.
-fn keeps_decoration(index: &Index, inst: &Inst, kind: u32) -> bool
+fn keeps_decoration(index: &Index, inst: &Inst, kind: Option<u32>) -> bool
     ensures { result ≡ keeps_decoration index.now.insts inst.now kind }
 {
-    !(kind == decoration::BUFFER_BLOCK && index.defining(id_at(inst, 0)).is_some())
+    !(kind == Some(decoration::BUFFER_BLOCK) && is_defined(index, id_operand(inst, 0)))
 }
 
 /// Whether a descriptor set and a binding are there and not taken.
@@ -94,7 +124,7 @@ fn note_place(index: &Index, places: &mut Places, inst: &Inst) -> Result<(), NoM
     if inst.op != op::VARIABLE {
         return Ok(());
     }
-    if !is_buffer_class(lit_at(inst, 0)) {
+    if !has_buffer_class(literal_operand(inst, 0)) {
         return Ok(());
     }
     let Some(set) = index.decoration(inst.id, decoration::DESCRIPTOR_SET) else {
@@ -107,13 +137,15 @@ fn note_place(index: &Index, places: &mut Places, inst: &Inst) -> Result<(), NoM
 }
 
 impl TypeTable {
-    /// The target of a pointer type, or 0.
-    fn target(&self, ty: u32) -> u32
-        ensures { result ≡ target_of (form_of self.now ty) }
+    /// Whether a type is a pointer type whose target is laid out.
+    fn points_to_laid(&self, laid: &[bool], ty: u32) -> bool
+        requires laid { AreLaid self.now laid.now }
+        requires all { length laid.now ≡ length self.now }
+        ensures { result ≡ points_to_laid self.now (form_of self.now ty) }
     {
         match self.form(ty) {
-            Some(Form::Pointer { target, .. }) => *target,
-            _ => 0,
+            Some(Form::Pointer { target, .. }) => self.whole_laid(laid, *target),
+            _ => false,
         }
     }
 
@@ -123,12 +155,13 @@ impl TypeTable {
         requires all { length laid.now ≡ length self.now }
         ensures { (before : List Instruction) → ArePlaces index.now.insts before (λ a b. contains pair_cmp places.now (a, b)) → result ≡ keeps_block index.now.insts self.now before inst.now }
     {
-        if !self.whole_laid(laid, self.target(inst.ty)) {
+        if !self.points_to_laid(laid, inst.ty) {
             return false;
         }
         let set = index.decoration(inst.id, decoration::DESCRIPTOR_SET);
         let binding = index.decoration(inst.id, decoration::BINDING);
-        lit_at(inst, 0) == storage_class::PUSH_CONSTANT || keeps_pair(places, set, binding)
+        literal_operand(inst, 0) == Some(storage_class::PUSH_CONSTANT)
+            || keeps_pair(places, set, binding)
     }
 
     /// Whether an instruction keeps the rules of layout.
@@ -139,8 +172,8 @@ impl TypeTable {
         ensures { (before : List Instruction) → ArePlaces index.now.insts before (λ a b. contains pair_cmp places.now (a, b)) → result ≡ keeps_layout index.now.insts self.now before inst.now }
     {
         match inst.op {
-            op::DECORATE => keeps_decoration(index, inst, lit_at(inst, 1)),
-            op::MEMBER_DECORATE => keeps_decoration(index, inst, lit_at(inst, 2)),
+            op::DECORATE => keeps_decoration(index, inst, literal_operand(inst, 1)),
+            op::MEMBER_DECORATE => keeps_decoration(index, inst, literal_operand(inst, 2)),
             _ if is_block_variable(inst) => self.keeps_block(index, laid, places, inst),
             _ => true,
         }

@@ -128,18 +128,13 @@ fn types_of(alloc: Global) -> Result<TypeTable, Fail> {
     }
 }
 
-/// The type at a place, or 0.
-fn type_at(types: &[u32], place: usize) -> u32 {
-    types.get(place).copied().unwrap_or(0)
-}
-
 /// The types of operands.
 fn operands(types: &[u32]) -> OperandTypes {
     OperandTypes {
-        first: type_at(types, 0),
-        second: type_at(types, 1),
-        third: type_at(types, 2),
-        fourth: type_at(types, 3),
+        first: types.get(0).copied(),
+        second: types.get(1).copied(),
+        third: types.get(2).copied(),
+        fourth: types.get(3).copied(),
     }
 }
 
