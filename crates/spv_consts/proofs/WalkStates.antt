@@ -1,17 +1,18 @@
 -- What one instruction makes of a state, and what is so in each state of the walk over a module's constants.
-use Rattle.std.proofs.Common.{◌≡◌, ◌⊎◌, ◌∙◌, ℕ, ◌==◌, Bool, true, false, List, [], ◌∷◌, ◌++◌, Option, Some, None, inl, inr, refl, sym, ap}
+use Rattle.std.proofs.Common.{◌≡◌, ◌⊎◌, ◌∙◌, ℕ, ◌==◌, Bool, true, false, List, [], ◌∷◌, ◌++◌, drop, Option, Some, None, inl, inr, refl, sym, ap}
 use Rattle.std.proofs.lemmas.Bool.{eqb-true, ne_eqb}
 use Rattle.std.specs.Prelude.{nat_lt, not, ◌&&◌, if◌then◌else◌, unwrap_or}
-use Rattle.std.specs.Option.{is_some, option_map_or}
+use Rattle.std.specs.Option.{is_some, option_map, option_map_or}
 use Rattle.spv_base.specs.declared.causes.Refusal.{Refusal}
 use Rattle.spv_base.specs.declared.instructions.Inst.{Inst}
 use Rattle.spv_types.specs.declared.forms.Form.{Form}
 use Rattle.spv_types.specs.declared.forms.Form.TheVariants.{Void, Bool as Boolean, Int, Vector, Array, Runtime, Struct, Pointer, Function}
 use Rattle.spv_ops.specs.declared.op.TheConstants.{TYPE_VOID, TYPE_BOOL, TYPE_INT, TYPE_VECTOR, TYPE_ARRAY, TYPE_RUNTIME_ARRAY, TYPE_STRUCT, TYPE_POINTER, TYPE_FUNCTION}
 use Rattle.spv_types.specs.Constants.{is_constant}
-use Rattle.spv_types.specs.Rules.{is_data}
-use Rattle.spv_types.specs.Types.{IsUnset, form_of, lengthened as with_size, with_length}
-use Rattle.spv_types.specs.Typing.{defined_form}
+use Rattle.spv_index.specs.Operands.{id_operand, literal_operand}
+use Rattle.spv_types.specs.Rules.{is_data, is_type, keeps_other, keeps_rules as keeps_types}
+use Rattle.spv_types.specs.Types.{IsUnset, Types, form_of, lengthened as with_size, with_length}
+use Rattle.spv_types.specs.Typing.{defined_form, function_form, ids_in, integer_form, members_from, of_both, pointer_form, runtime_form, struct_form, vector_form}
 use Rattle.spv_consts.specs.Context.{Context}
 use Rattle.spv_consts.specs.State.{State, is_next}
 use Rattle.spv_consts.specs.Lengths.{constant_length, is_unset, lengthened, with_array, with_length_if}
