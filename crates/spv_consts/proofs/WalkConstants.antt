@@ -34,7 +34,7 @@ use Rattle.spv_consts.proofs.TreeLemmas.{row_is}
 use Rattle.spv_consts.proofs.ValueFills.{blanks_fill, constants_fill}
 use Rattle.spv_consts.proofs.WalkIds.{before_is_front, each_weaker}
 use Rattle.spv_consts.proofs.WalkTypes.{no_breach, number_of_form}
-use Rattle.spv_consts.proofs.WalkStates.{array_form, array_length, constant_no_array, constant_no_type, no_length, only_arrays_unset, passed}
+use Rattle.spv_consts.proofs.WalkStates.{array_length, constant_no_array, constant_no_type, no_length, only_arrays_unset, passed}
 use Rattle.spv_consts.proofs.WalkPlaces.{IsPlaced, declared, placed}
 use Rattle.spv_consts.proofs.WalkSteps.{Follows, IsFilled, constant_follows, follows_start, length_follows, length_sets, other_follows, type_follows}
 
@@ -180,7 +180,7 @@ module _
     other_passes : (m : Context) (front : List Inst) (i : Inst) (s u : State) → Follows m.all front s → IsPlaced m.all front i → defined_form m.all i ≡ None → keeps_rules m s i ≡ true → lengthened m s i ≡ Some u
         → Follows m.all (front ++ i ∷ []) (entered m u i)
     other_passes m front i s u follows place form rules lengthens =
-        subst (λ (t : State). Follows m.all (front ++ i ∷ []) (entered m t i)) (sym (no_length m s u i (array_form m.all i form) lengthens)) (by_kind (cases_Bool (is_constant i.op)))
+        subst (λ (t : State). Follows m.all (front ++ i ∷ []) (entered m t i)) (sym (no_length m s u i (place.no_array form) lengthens)) (by_kind (cases_Bool (is_constant i.op)))
       where
         aside : is_next s i.id ≡ false
         aside = not_next s i.id (follows.numbers i.id ∙ place.no_type form)

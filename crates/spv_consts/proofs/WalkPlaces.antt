@@ -1,5 +1,5 @@
 -- What a module's ids, order and types say of an instruction before the functions, whatever the constants before it are.
-use Rattle.std.proofs.Common.{◌≡◌, ◌∙◌, ℕ, ◌<◌, ◌≤◌, true, List, [], ◌∷◌, ◌++◌, length, length-append, append_assoc, Option, Some, None, sym, ap, subst, arith}
+use Rattle.std.proofs.Common.{◌≡◌, ◌∙◌, ℕ, ◌<◌, ◌≤◌, ◌==◌, true, false, List, [], ◌∷◌, ◌++◌, length, length-append, append_assoc, Option, Some, None, sym, ap, subst, arith}
 use Rattle.std.proofs.lemmas.Bool.{and_parts, or_right}
 use Rattle.std.specs.Prelude.{find, unwrap_or, option_map}
 use Rattle.std.specs.List.{AllByRecursion}
@@ -7,7 +7,7 @@ use Rattle.std.specs.Option.{is_some}
 use Rattle.spv_base.specs.Order.{AreDistinct, Ascend}
 use Rattle.spv_base.specs.declared.instructions.Inst.{Inst}
 use Rattle.spv_types.specs.declared.forms.Form.{Form}
-use Rattle.spv_ops.specs.declared.op.TheConstants.{UNDEF}
+use Rattle.spv_ops.specs.declared.op.TheConstants.{TYPE_ARRAY, UNDEF}
 use Rattle.spv_types.specs.Build.{type_breaches}
 use Rattle.spv_types.specs.Constants.{is_constant}
 use Rattle.spv_types.specs.Laws.{AreNamed, HasResult, IsAmong, TypesComeFirst}
@@ -16,6 +16,7 @@ use Rattle.spv_types.specs.Types.{Types, form_of, number_of}
 use Rattle.spv_types.specs.Typing.{defined_form, types_in}
 use Rattle.spv_index.specs.Definitions.{before_functions, defining, has_result, type_of}
 use Rattle.spv_consts.proofs.WalkIds.{defining_is, distinct_left, each_left, each_right, found_before, found_of_defining, type_comes_first}
+use Rattle.spv_consts.proofs.WalkStates.{array_has_form}
 use Rattle.spv_consts.proofs.WalkTypes.{earlier_type, kept_at, known_data, other_number, type_number, types_joined, undef_is_sized}
 
 -- the types that a module declares
@@ -27,6 +28,7 @@ declared insts = types_in insts (before_functions insts)
 pub record IsPlaced (insts front : List Inst) (i : Inst) : Type 0 where
   pub type_at : (f : Form) → defined_form insts i ≡ Some f → (number_of (declared insts) i.id ≡ Some (length (types_in insts front))) × (form_of (declared insts) i.id ≡ Some f)
   pub no_type : defined_form insts i ≡ None → number_of (declared insts) i.id ≡ None
+  pub no_array : defined_form insts i ≡ None → (i.op == TYPE_ARRAY) ≡ false
   pub own_type : is_constant i.op ≡ true → type_of insts i.id ≡ i.ty
   pub earlier : is_constant i.op ≡ true → (n : ℕ) → number_of (declared insts) i.ty ≡ Some n → n < length (types_in insts front)
   pub undefined : (id : ℕ) (d : Inst) → defining insts id ≡ Some d → d.op ≡ UNDEF → d.word < i.word → IsAmong (declared insts) (length (types_in insts front)) d.ty × (is_data (form_of (declared insts) d.ty) ≡ true)
@@ -63,6 +65,7 @@ module _ (insts front rest tail : List Inst) (i : Inst) (place : before_function
     type_at = λ f e. let at = type_number insts front rest i f distinct results e in
         (ap (λ (is : List Inst). number_of (types_in insts is) i.id) place ∙ at.0, ap (λ (is : List Inst). form_of (types_in insts is) i.id) place ∙ at.1);
     no_type = λ e. ap (λ (is : List Inst). number_of (types_in insts is) i.id) place ∙ other_number insts front rest i distinct results e;
+    no_array = array_has_form insts (types_in insts front) i (kept_at insts [] front rest i (subst (λ (is : List Inst). type_breaches insts [] is ≡ []) place none));
     own_type = λ constant. ap (λ (o : Option Inst). unwrap_or (option_map (λ (j : Inst). j.ty) o) 0) (defined constant);
     earlier = λ constant n e. earlier_type insts front (i ∷ rest) i.ty n distinct results (type_comes_first [] front rest i first constant) (sym (ap (λ (is : List Inst). number_of (types_in insts is) i.ty) place) ∙ e);
     undefined = undefined_type ascend none;

@@ -1,17 +1,18 @@
 -- What one instruction makes of a state, and what is so in each state of the walk over a module's constants.
-use Rattle.std.proofs.Common.{◌≡◌, ◌⊎◌, ◌∙◌, ℕ, ◌==◌, Bool, true, false, List, [], ◌∷◌, ◌++◌, Option, Some, None, inl, inr, refl, sym, ap}
+use Rattle.std.proofs.Common.{◌≡◌, ◌⊎◌, ◌∙◌, ℕ, ◌==◌, Bool, true, false, List, [], ◌∷◌, ◌++◌, drop, Option, Some, None, inl, inr, refl, sym, ap}
 use Rattle.std.proofs.lemmas.Bool.{eqb-true, ne_eqb}
 use Rattle.std.specs.Prelude.{nat_lt, not, ◌&&◌, if◌then◌else◌, unwrap_or}
-use Rattle.std.specs.Option.{is_some, option_map_or}
+use Rattle.std.specs.Option.{is_some, option_map, option_map_or}
 use Rattle.spv_base.specs.declared.causes.Refusal.{Refusal}
 use Rattle.spv_base.specs.declared.instructions.Inst.{Inst}
 use Rattle.spv_types.specs.declared.forms.Form.{Form}
 use Rattle.spv_types.specs.declared.forms.Form.TheVariants.{Void, Bool as Boolean, Int, Vector, Array, Runtime, Struct, Pointer, Function}
 use Rattle.spv_ops.specs.declared.op.TheConstants.{TYPE_VOID, TYPE_BOOL, TYPE_INT, TYPE_VECTOR, TYPE_ARRAY, TYPE_RUNTIME_ARRAY, TYPE_STRUCT, TYPE_POINTER, TYPE_FUNCTION}
 use Rattle.spv_types.specs.Constants.{is_constant}
-use Rattle.spv_types.specs.Rules.{is_data}
-use Rattle.spv_types.specs.Types.{IsUnset, form_of, lengthened as with_size, with_length}
-use Rattle.spv_types.specs.Typing.{defined_form}
+use Rattle.spv_index.specs.Operands.{id_operand, literal_operand}
+use Rattle.spv_types.specs.Rules.{is_data, is_type, keeps_other, keeps_rules as keeps_types}
+use Rattle.spv_types.specs.Types.{IsUnset, Types, form_of, lengthened as with_size, with_length}
+use Rattle.spv_types.specs.Typing.{defined_form, function_form, ids_in, integer_form, members_from, of_both, pointer_form, runtime_form, struct_form, vector_form}
 use Rattle.spv_consts.specs.Context.{Context}
 use Rattle.spv_consts.specs.State.{State, is_next}
 use Rattle.spv_consts.specs.Lengths.{constant_length, is_unset, lengthened, with_array, with_length_if}
@@ -70,27 +71,42 @@ set_by_test false o p one other = other
 set_otherwise : (b : Bool) (o p : Option Form) → b ≡ false → IsSet p → IsSet (if b then o else p)
 set_otherwise b o p fails other = rw fails other
 
+set_both : {A B : Type 0} (make : A → B → Form) → ((x : A) (y : B) → IsSet (Some (make x y))) → (a : Option A) (b : Option B) → IsSet (of_both make a b)
+set_both make each None b = λ u. u
+set_both make each (Some x) None = λ u. u
+set_both make each (Some x) (Some y) = each x y
+
+set_map : {A : Type 0} (make : A → Form) → ((x : A) → IsSet (Some (make x))) → (a : Option A) → IsSet (option_map make a)
+set_map make each None = λ u. u
+set_map make each (Some x) = each x
+
 -- an instruction that declares no array declares no array without a length
 pub only_arrays_unset : (all : List Inst) (i : Inst) → (i.op == TYPE_ARRAY) ≡ false → IsUnset (defined_form all i) → ⊥
 unfolding defined_form
 only_arrays_unset all i h =
     set_by_test (i.op == TYPE_VOID) (Some Void) _ (λ u. u)
     (set_by_test (i.op == TYPE_BOOL) (Some Boolean) _ (λ u. u)
-    (set_by_test (i.op == TYPE_INT) (Some (Int _ _)) _ (λ u. u)
-    (set_by_test (i.op == TYPE_VECTOR) (Some (Vector _ _)) _ (λ u. u)
+    (set_by_test (i.op == TYPE_INT) (integer_form i) _ (set_both Int (λ x y u. u) (literal_operand i 0) (literal_operand i 1))
+    (set_by_test (i.op == TYPE_VECTOR) (vector_form i) _ (set_both Vector (λ x y u. u) (id_operand i 0) (literal_operand i 1))
     (set_otherwise (i.op == TYPE_ARRAY) _ _ h
-    (set_by_test (i.op == TYPE_RUNTIME_ARRAY) (Some (Runtime _ _)) _ (λ u. u)
-    (set_by_test (i.op == TYPE_STRUCT) (Some (Struct _ _)) _ (λ u. u)
-    (set_by_test (i.op == TYPE_POINTER) (Some (Pointer _ _)) _ (λ u. u)
-    (set_by_test (i.op == TYPE_FUNCTION) (Some (Function _ _)) _ (λ u. u) (λ u. u)))))))))
+    (set_by_test (i.op == TYPE_RUNTIME_ARRAY) (runtime_form all i) _ (set_map (λ element. Runtime element _) (λ x u. u) (id_operand i 0))
+    (set_by_test (i.op == TYPE_STRUCT) (struct_form all i) _ (set_map (λ members. Struct members _) (λ x u. u) (members_from all i.id 0 i.operands))
+    (set_by_test (i.op == TYPE_POINTER) (pointer_form i) _ (set_both Pointer (λ x y u. u) (literal_operand i 0) (id_operand i 1))
+    (set_by_test (i.op == TYPE_FUNCTION) (function_form i) _ (set_both Function (λ x y u. u) (id_operand i 0) (ids_in (drop 1 i.operands))) (λ u. u)))))))))
 
--- an array type has a form
-pub array_form : (all : List Inst) (i : Inst) → defined_form all i ≡ None → (i.op == TYPE_ARRAY) ≡ false
-unfolding defined_form
-array_form all i h = by_test (i.op == TYPE_ARRAY) refl
+no_form : (op : ℕ) (p q : Bool) → (if op == 59 then p else (if op == 1 then q else not (is_type op))) ≡ true → op ≡ TYPE_ARRAY → false ≡ true
+no_form op p q h e = rw e at h
+
+-- an array type has a form, where it keeps the rules of types
+pub array_has_form : (all : List Inst) (ts : Types) (i : Inst) → keeps_types all ts i ≡ true → defined_form all i ≡ None → (i.op == TYPE_ARRAY) ≡ false
+unfolding keeps_types
+array_has_form all ts i h none = by_test (i.op == TYPE_ARRAY) refl
   where
+    kept : keeps_other all ts i None ≡ true
+    kept = rw none at h
+
     by_test : (b : Bool) → (i.op == TYPE_ARRAY) ≡ b → b ≡ false
-    by_test true e = let op : i.op ≡ TYPE_ARRAY = eqb-true i.op TYPE_ARRAY e in let some = rw op at h in cc
+    by_test true e = let clash : false ≡ true = no_form i.op _ _ kept (eqb-true i.op TYPE_ARRAY e) in absurd (cc)
     by_test false e = refl
 
 not_test : (op n : ℕ) → is_constant op ≡ true → is_constant n ≡ false → (op == n) ≡ false

@@ -13,5 +13,5 @@ mod table;
 mod tests;
 
 pub use index::Index;
-pub use operands::{id_operand, literal_operand, text_operand};
+pub use operands::{id_in, id_operand, literal_operand, text_operand};
 pub use table::Table;

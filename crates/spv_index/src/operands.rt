@@ -4,14 +4,21 @@ ghost use Rattle.spv_index.specs.Operands as spec;
 
 use spv_base::{Inst, Operand};
 
+/// The id that an operand is.
+pub fn id_in(operand: &Operand) -> Option<u32>
+    ensures { result ≡ spec.id_in operand.now }
+{
+    match operand {
+        Operand::Id(id) => Some(*id),
+        Operand::Lit(_) | Operand::Text(_) => None,
+    }
+}
+
 /// The operand with a number, where it is an id. Operands are counted from 0, behind the result type and the result.
 pub fn id_operand(inst: &Inst, n: usize) -> Option<u32>
     ensures { result ≡ spec.id_operand inst.now n }
 {
-    match inst.operands.get(n)? {
-        Operand::Id(id) => Some(*id),
-        Operand::Lit(_) | Operand::Text(_) => None,
-    }
+    id_in(inst.operands.get(n)?)
 }
 
 /// The operand with a number, where it is a literal word. Operands are counted from 0, behind the result type and the result.

@@ -24,11 +24,11 @@ use Rattle.spv_sections.proofs.TypesFirst.{constant_has_type, typed_has_result, 
 
 -- ---- the opcodes of types
 
-one_more : (op n : ℕ) (f : Form) (o : Option Form) → has_result (head_of n) ≡ true → (is_some o ≡ true → has_result (head_of op) ≡ true)
-    → is_some (cond (op == n) (Some f) o) ≡ true → has_result (head_of op) ≡ true
+one_more : (op n : ℕ) (f o : Option Form) → has_result (head_of n) ≡ true → (is_some o ≡ true → has_result (head_of op) ≡ true)
+    → is_some (cond (op == n) f o) ≡ true → has_result (head_of op) ≡ true
 one_more op n f o here behind h = by_test (op == n) refl h
   where
-    by_test : (b : Bool) → (op == n) ≡ b → is_some (cond b (Some f) o) ≡ true → has_result (head_of op) ≡ true
+    by_test : (b : Bool) → (op == n) ≡ b → is_some (cond b f o) ≡ true → has_result (head_of op) ≡ true
     by_test true t e = rw (eqb-true op n t) here
     by_test false t e = behind e
 

@@ -128,9 +128,14 @@ abbrev pub keeps_pointer : List Inst → Types → Inst → Option Form → Bool
 keeps_pointer all ts i (Some (Pointer class target)) = holds class (literal_operand i 0) && keeps_target all ts i class target
 keeps_pointer all ts i _ = false
 
--- a type, or an OpVariable or OpUndef, keeps its rules
+-- OpTypeVoid 19, OpTypeBool 20, OpTypeInt 21, OpTypeVector 23, OpTypeArray 28, OpTypeRuntimeArray 29, OpTypeStruct 30,
+-- OpTypePointer 32 and OpTypeFunction 33
+abbrev pub is_type : ℕ → Bool
+is_type op = ((nat_le 19 op && nat_le op 21) || op == 23) || ((nat_le 28 op && nat_le op 30) || (nat_le 32 op && nat_le op 33))
+
+-- a type, or an OpVariable or OpUndef, keeps its rules; a type instruction defines a form
 abbrev pub keeps_other : List Inst → Types → Inst → Option Form → Bool
-keeps_other all ts i None = if i.op == 59 then keeps_pointer all ts i (form_of ts i.ty) else (if i.op == 1 then is_sized_data ts i.ty else true)
+keeps_other all ts i None = if i.op == 59 then keeps_pointer all ts i (form_of ts i.ty) else (if i.op == 1 then is_sized_data ts i.ty else not (is_type i.op))
 keeps_other all ts i (Some f) = keeps_form ts f
 
 -- an instruction before the functions keeps the rules of types, after some types

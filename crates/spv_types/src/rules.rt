@@ -13,6 +13,7 @@ ghost use Rattle.spv_types.specs.Rules.{
   is_scalar,
   is_sized_data,
   is_three_words,
+  is_type,
   is_width,
   is_word,
   keep_members,
@@ -33,6 +34,16 @@ use crate::table::TypeTable;
 use spv_base::Inst;
 use spv_index::{Index, id_operand, literal_operand};
 use spv_ops::{built_in, decoration, op, storage_class};
+
+/// Whether an opcode is that of a type.
+fn is_type(op: u16) -> bool
+    ensures { result ≡ is_type op }
+{
+    op >= op::TYPE_VOID && op <= op::TYPE_INT
+        || op == op::TYPE_VECTOR
+        || op >= op::TYPE_ARRAY && op <= op::TYPE_STRUCT
+        || op >= op::TYPE_POINTER && op <= op::TYPE_FUNCTION
+}
 
 fn is_width(n: u32) -> bool
     ensures { result ≡ is_width n }
@@ -241,7 +252,7 @@ impl TypeTable {
             None => match inst.op {
                 op::VARIABLE => self.keeps_variable(index, inst),
                 op::UNDEF => self.is_sized_data(inst.ty),
-                _ => true,
+                op => !is_type(op),
             },
         }
     }
