@@ -15,7 +15,7 @@ use Rattle.spv_consts.specs.State.{State, is_operand, operand_cells}
 use Rattle.spv_consts.specs.Overrides.{is_same}
 use Rattle.spv_consts.specs.Rules.{keeps_composite, keeps_part, keeps_parts, part_count, part_type_of}
 use Rattle.spv_consts.specs.Laws.{FillType, OperandsFillTypes}
-use Rattle.spv_consts.specs.Values.{leaf_widths, part_types, widths_step}
+use Rattle.spv_consts.specs.Values.{leaf_widths, widths_step}
 use Rattle.spv_consts.proofs.FillLemmas.{Fill, fill_append}
 use Rattle.spv_consts.proofs.ScalarShapes.{impossible, some_same}
 

@@ -54,6 +54,35 @@ module _ (m : Context) (s : State) (word : ℕ) where
       let next : suc k ≡ 1 + k = omega arith in
       subst (λ n. is_operand m s word (id_at (o ∷ os) n) ≡ true) next (operand_among os k h (omega arith))
 
+-- ---- what an operation keeps
+
+module _ (m : Context) (s : State) (i : Inst) (op : ℕ) (kept : keeps_opcode m s i op ≡ true) where
+  abbrev pub own : ℕ → ℕ
+  own k = type_of m.all (id_at i.operands (1 + k))
+
+  known : (is_constant_operation op ≡ true) × ((keeps_count i op && (are_operands m s i.word (drop 1 i.operands) && fits s.types op i.ty own)) ≡ true)
+  known = parts (is_constant_operation op) _ kept
+
+  count : (keeps_count i op ≡ true) × ((are_operands m s i.word (drop 1 i.operands) && fits s.types op i.ty own) ≡ true)
+  count = parts (keeps_count i op) _ known.1
+
+  rest : (are_operands m s i.word (drop 1 i.operands) ≡ true) × (fits s.types op i.ty own ≡ true)
+  rest = parts (are_operands m s i.word (drop 1 i.operands)) _ count.1
+
+  -- its rule, which constants are computed by and the types keep
+  pub ruled_by : (rule : Rule) × (is_constant_rule rule ≡ true) × (rule_of op ≡ Some rule) × IsTyped s.types rule i.ty own
+  ruled_by =
+      let ruled = (rule_is s.types op i.ty own).0 rest.1 in
+      let constant = (parts (option_map_or is_constant_rule (rule_of op) false) (not (op == 204 || op == 205)) known.0).0 in
+      (ruled.0, rw ruled.1 at constant, ruled.1, ruled.2)
+
+  -- each of its operands is a constant or an OpUndef
+  pub counted : (rule : Rule) → rule_of op ≡ Some rule → (n k : ℕ) → rule_count rule ≡ Some n → k < n → is_operand m s i.word (id_at i.operands (1 + k)) ≡ true
+  counted rule e n k has l =
+      let wanted : option_map (λ n. n + 1) (operand_count op) ≡ Some (n + 1) = rw (e, has) refl in
+      let long : length i.operands ≡ n + 1 = same_count (length i.operands) (option_map (λ n. n + 1) (operand_count op)) (n + 1) wanted count.0 in
+      operand_behind m s i.word i.operands k rest.0 (omega arith)
+
 -- ---- one instruction
 
 module _ (m : Context) (s : State) (i : Inst) (op : ℕ) (sound : AreSound s.types) where
@@ -66,7 +95,7 @@ module _ (m : Context) (s : State) (i : Inst) (op : ℕ) (sound : AreSound s.typ
   Fits id cs = FillType s.types id cs
 
   -- as many as its lanes
-  lanes_fill : (id n : ℕ) (e : Element) → lanes_of s.types id ≡ Some (repeated n e) → (cs : List Lane) → Fits id cs → Fill (replicate n (width_of e)) cs
+  pub lanes_fill : (id n : ℕ) (e : Element) → lanes_of s.types id ≡ Some (repeated n e) → (cs : List Lane) → Fits id cs → Fill (replicate n (width_of e)) cs
   lanes_fill id n e l cs h = subst (λ (ws : List ℕ). Fill ws cs) (are_lanes s.types sound id n e l).leaves h
 
   fill_lanes : (id n : ℕ) (e : Element) → lanes_of s.types id ≡ Some (repeated n e) → (cs : List Lane) → Fill (replicate n (width_of e)) cs → Fits id cs
@@ -170,27 +199,6 @@ module _ (m : Context) (s : State) (i : Inst) (op : ℕ) (sound : AreSound s.typ
   by_rule ExtractField is suit t fit = impossible is
 
   pub computed_fills : OperandsFillTypes m s i.word → keeps_opcode m s i op ≡ true → FillType s.types i.ty (computed_cells m s i op)
-  computed_fills operands h = ruled ((rule_is s.types op i.ty ty).0 r.1)
-    where
-      p : (is_constant_operation op ≡ true) × ((keeps_count i op && (are_operands m s i.word (drop 1 i.operands) && fits s.types op i.ty ty)) ≡ true)
-      p = parts (is_constant_operation op) _ h
-
-      q : (keeps_count i op ≡ true) × ((are_operands m s i.word (drop 1 i.operands) && fits s.types op i.ty ty) ≡ true)
-      q = parts (keeps_count i op) _ p.1
-
-      r : (are_operands m s i.word (drop 1 i.operands) ≡ true) × (fits s.types op i.ty ty ≡ true)
-      r = parts (are_operands m s i.word (drop 1 i.operands)) _ q.1
-
-      constant : (rule : Rule) → rule_of op ≡ Some rule → is_constant_rule rule ≡ true
-      constant rule e =
-          let t = (parts (option_map_or is_constant_rule (rule_of op) false) (not (op == 204 || op == 205)) p.0).0 in
-          rw e at t
-
-      fit : (rule : Rule) → rule_of op ≡ Some rule → AreFit (rule_count rule)
-      fit rule e n k count l =
-          let known : option_map (λ n. n + 1) (operand_count op) ≡ Some (n + 1) = rw (e, count) refl in
-          let long : length i.operands ≡ n + 1 = same_count (length i.operands) (option_map (λ n. n + 1) (operand_count op)) (n + 1) known q.0 in
-          operands (id_at i.operands (1 + k)) (operand_behind m s i.word i.operands k r.0 (omega arith))
-
-      ruled : (rule : Rule) × (rule_of op ≡ Some rule) × IsTyped s.types rule i.ty ty → FillType s.types i.ty (computed_cells m s i op)
-      ruled t = by_rule t.0 (constant t.0 t.1) (suits_of op t.0 t.1) t.2 (fit t.0 t.1)
+  computed_fills operands h =
+      let t = ruled_by m s i op h in
+      by_rule t.0 t.1 (suits_of op t.0 t.2) t.3 (λ n k count l. operands (id_at i.operands (1 + k)) (counted m s i op h t.0 t.2 n k count l))

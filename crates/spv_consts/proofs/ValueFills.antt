@@ -163,7 +163,7 @@ no_array op h = by_test (op == 28) refl
     by_test true e = let constant : is_constant 28 ≡ true = subst (λ (k : ℕ). is_constant k ≡ true) (equal op 28 e) h in impossible constant
     by_test false e = refl
 
-constant_rules : (m : Context) (s : State) (i : Inst) → is_constant i.op ≡ true → keeps_rules m s i ≡ true → (is_sized_data s.types i.ty && keeps_kind m s i) ≡ true
+pub constant_rules : (m : Context) (s : State) (i : Inst) → is_constant i.op ≡ true → keeps_rules m s i ≡ true → (is_sized_data s.types i.ty && keeps_kind m s i) ≡ true
 constant_rules m s i constant h = by_tests (i.op == 28) (is_constant i.op) (no_array i.op constant) constant h
   where
     by_tests : (b c : Bool) → b ≡ false → c ≡ true → (if b then is_some (length_at m s i) else (if c then is_sized_data s.types i.ty && keeps_kind m s i else true)) ≡ true → (is_sized_data s.types i.ty && keeps_kind m s i) ≡ true

@@ -1,9 +1,9 @@
 -- The walk over a module's constants, from its first instruction to its last before the functions.
-use Rattle.std.proofs.Common.{◌≡◌, ◌≢◌, ◌⊎◌, ◌∙◌, ℕ, ◌<◌, ◌==◌, Bool, true, false, List, [], ◌∷◌, ◌++◌, length, append_assoc, append-nil, Option, Some, None, Result, Ok, Err, inl, inr, refl, sym, ap, subst}
-use Rattle.std.proofs.lemmas.Bool.{and_parts, cases_Bool, eqb-true, eq-eqb, ltb-true}
-use Rattle.std.specs.Prelude.{nat_le, nat_lt, ◌&&◌, ◌||◌, if◌then◌else◌, unwrap_or, option_map}
+use Rattle.std.proofs.Common.{◌≡◌, ◌≢◌, ◌⊎◌, ◌∙◌, ℕ, ◌<◌, ◌==◌, Bool, true, false, List, [], ◌∷◌, ◌++◌, length, append_assoc, append-nil, Option, Some, None, Ok, Err, inl, inr, refl, sym, ap, subst}
+use Rattle.std.proofs.lemmas.Bool.{and_parts, cases_Bool, eqb-true, eq-eqb}
+use Rattle.std.specs.Prelude.{nat_le, ◌&&◌, if◌then◌else◌}
 use Rattle.std.specs.List.{AllByRecursion}
-use Rattle.std.specs.Option.{is_some, option_map_or}
+use Rattle.std.specs.Option.{option_map_or}
 use Rattle.spv_base.specs.Entries.{reads}
 use Rattle.spv_base.specs.Order.{Ascend}
 use Rattle.spv_base.specs.declared.causes.Refusal.{Refusal}
@@ -60,13 +60,13 @@ data_number ts id h = by_form (form_of ts id) refl h
     by_form None e data_is = cc
     by_form (Some f) e data_is = number_of_form ts id f e
 
-constant_rules : (m : Context) (s : State) (i : Inst) → is_constant i.op ≡ true → keeps_rules m s i ≡ true → is_data (form_of s.types i.ty) ≡ true
+pub constant_rules : (m : Context) (s : State) (i : Inst) → is_constant i.op ≡ true → keeps_rules m s i ≡ true → is_data (form_of s.types i.ty) ≡ true
 constant_rules m s i constant rules =
     let rest : (is_sized_data s.types i.ty && keeps_kind m s i) ≡ true = rw (constant_no_array i.op constant, constant) at rules in
     let sized = and_parts (is_sized_data s.types i.ty) (keeps_kind m s i) rest in
     (and_parts (is_data (form_of s.types i.ty)) _ sized.0).0
 
-constant_among : (m : Context) (front : List Inst) (i : Inst) (s : State) → Follows m.all front s → IsPlaced m.all front i → is_constant i.op ≡ true → keeps_rules m s i ≡ true → IsAmong s.types s.known i.ty
+pub constant_among : (m : Context) (front : List Inst) (i : Inst) (s : State) → Follows m.all front s → IsPlaced m.all front i → is_constant i.op ≡ true → keeps_rules m s i ≡ true → IsAmong s.types s.known i.ty
 constant_among m front i s follows place constant rules =
     let number = data_number s.types i.ty (constant_rules m s i constant rules) in
     let below = place.earlier constant number.0 (sym (follows.numbers i.ty) ∙ number.1) in
@@ -74,7 +74,7 @@ constant_among m front i s follows place constant rules =
 
 -- ---- its operands
 
-operands_fill : (m : Context) (front : List Inst) (i : Inst) (s : State) → Follows m.all front s → OperandsFillTypes m s i.word
+pub operands_fill : (m : Context) (front : List Inst) (i : Inst) (s : State) → Follows m.all front s → OperandsFillTypes m s i.word
 operands_fill m front i s follows = λ id h. by_value id (reads id s.values) refl
   where
     by_value : (id : ℕ) (o : Option Row) → reads id s.values ≡ o → FillType s.types (type_of m.all id) (option_map_or (λ (r : Row). r.cells) (reads id s.values) (undefined_of s.types (type_of m.all id)))
@@ -88,14 +88,14 @@ operands_fill m front i s follows = λ id h. by_value id (reads id s.values) ref
 next_is : (s : State) (id n : ℕ) → number_of s.types id ≡ Some n → s.known ≡ n → is_next s id ≡ true
 next_is s id n number known = rw number (eq-eqb n s.known (sym known))
 
-not_next : (s : State) (id : ℕ) → number_of s.types id ≡ None → is_next s id ≡ false
+pub not_next : (s : State) (id : ℕ) → number_of s.types id ≡ None → is_next s id ≡ false
 not_next s id number = rw number refl
 
 -- what comes of an instruction by its kind
 type_entered : (m : Context) (s : State) (i : Inst) → is_next s i.id ≡ true → entered m s i ≡ with_type s
 type_entered m s i comes_next = rw comes_next refl
 
-constant_entered : (m : Context) (s : State) (i : Inst) → is_next s i.id ≡ false → is_constant i.op ≡ true → entered m s i ≡ with_constant m s i
+pub constant_entered : (m : Context) (s : State) (i : Inst) → is_next s i.id ≡ false → is_constant i.op ≡ true → entered m s i ≡ with_constant m s i
 constant_entered m s i other constant = rw (other, constant) refl
 
 other_entered : (m : Context) (s : State) (i : Inst) → is_next s i.id ≡ false → is_constant i.op ≡ false → entered m s i ≡ s
@@ -103,7 +103,7 @@ other_entered m s i other no_constant = rw (other, no_constant) refl
 
 -- ---- the state at the end
 
-ends : (insts : List Inst) (ts : Types) (over : Numbers) (known : Types × Constants) → constants_of ts insts over ≡ Ok known
+pub ends : (insts : List Inst) (ts : Types) (over : Numbers) (known : Types × Constants) → constants_of ts insts over ≡ Ok known
     → (front_breaches ts insts over ≡ []) × (known ≡ known_of (state_of ts insts over))
 unfolding constants_of
 ends insts ts over known is = by_breaches (front_breaches ts insts over) (lowest_wrong insts insts) is
@@ -119,7 +119,7 @@ ends insts ts over known is = by_breaches (front_breaches ts insts over) (lowest
         by_word false h = cc
 
 -- no breach of two lists is none of either
-none_of : (rs ss : List Refusal) → rs ++ ss ≡ [] → (rs ≡ []) × (ss ≡ [])
+pub none_of : (rs ss : List Refusal) → rs ++ ss ≡ [] → (rs ≡ []) × (ss ≡ [])
 none_of [] ss h = (refl, h)
 none_of (r ∷ rs) ss h = absurd (cc)
 
@@ -193,7 +193,7 @@ module _
             subst (λ (t : State). Follows m.all (front ++ i ∷ []) t) (sym (constant_entered m s i aside constant)) follows_t
         by_kind (inr no_constant) = subst (λ (t : State). Follows m.all (front ++ i ∷ []) t) (sym (other_entered m s i aside no_constant)) (other_follows m.all front i s follows form no_constant)
 
-    step_follows : (m : Context) (front : List Inst) (i : Inst) (s : State) → Follows m.all front s → IsPlaced m.all front i → breaches_at m s i ≡ [] → Follows m.all (front ++ i ∷ []) (stepped m s i)
+    pub step_follows : (m : Context) (front : List Inst) (i : Inst) (s : State) → Follows m.all front s → IsPlaced m.all front i → breaches_at m s i ≡ [] → Follows m.all (front ++ i ∷ []) (stepped m s i)
     step_follows m front i s follows place none = by_form (defined_form m.all i) refl
       where
         passes : (keeps_rules m s i ≡ true) × ((u : State) × (lengthened m s i ≡ Some u) × (stepped m s i ≡ entered m u i))
@@ -218,7 +218,7 @@ module _
 
     -- ---- the answer
 
-    abbrev Walked : List Inst → Types × Constants → Type 0
+    abbrev pub Walked : List Inst → Types × Constants → Type 0
     Walked insts known = (s : State) × Follows insts (before_functions insts) s × (known ≡ (s.types, s.values))
 
     walked_by : (insts : List Inst) (ts : Types) (over : Numbers) (known : Types × Constants) → Ascend 0 insts → AreNamed insts → types_of insts ≡ Ok ts → constants_of ts insts over ≡ Ok known → Walked insts known

@@ -1,6 +1,6 @@
 -- What is so in each state of the walk over a module's constants: the types up to there are complete, and each constant fills its
 -- type.
-use Rattle.std.proofs.Common.{◌≡◌, ◌≢◌, ◌⊎◌, ◌∙◌, ℕ, ◌+◌, ◌<◌, ◌≤◌, ◌==◌, Bool, true, false, eqb, List, [], ◌∷◌, ◌++◌, length, length-append, append-nil, Option, Some, None, inl, inr, refl, sym, ap, subst, arith}
+use Rattle.std.proofs.Common.{◌≡◌, ◌≢◌, ◌⊎◌, ◌∙◌, ℕ, ◌+◌, ◌<◌, ◌≤◌, ◌==◌, Bool, true, false, eqb, List, [], ◌∷◌, ◌++◌, length, length-append, append-nil, Some, None, inl, inr, refl, sym, ap, subst, arith}
 use Rattle.std.proofs.lemmas.Bool.{cases_eq, cases_lt, eq-eqb}
 use Rattle.std.specs.Prelude.{if◌then◌else◌}
 use Rattle.std.specs.List.{AllByRecursion}
@@ -150,7 +150,7 @@ other_follows insts front i s follows e other = record {
 -- ---- the length of an array
 
 -- the leaves of a type before an array stay what they are
-widths_kept : (ts : Types) (id k n q : ℕ) → number_of ts id ≡ Some k → IsAmong ts k q → leaf_widths (with_length ts id n) q ≡ leaf_widths ts q
+pub widths_kept : (ts : Types) (id k n q : ℕ) → number_of ts id ≡ Some k → IsAmong ts k q → leaf_widths (with_length ts id n) q ≡ leaf_widths ts q
 unfolding leaf_widths widths_among
 widths_kept ts id k n q number among = in_first_kept [] widths_step ts id k n q number among
 
@@ -172,7 +172,7 @@ module _
         let own = own_set ts id n _ form in
         ap is_data own ∙ sized_data n _ ∙ sym (ap is_data form)
 
-    earlier_among : (ts : Types) (id n k q : ℕ) → IsAmong ts k q → IsAmong (with_length ts id n) k q
+    pub earlier_among : (ts : Types) (id n k q : ℕ) → IsAmong ts k q → IsAmong (with_length ts id n) k q
     earlier_among ts id n k q among = record { number = among.number; is = number_kept ts id n q ∙ among.is; below = among.below }
 
     pub length_follows : (insts front : List Inst) (s : State) (id n : ℕ) → Follows insts front s → number_of s.types id ≡ Some s.known → Follows insts front (record s { types = with_length s.types id n })

@@ -12,7 +12,7 @@ use Rattle.spv_types.specs.Types.{Types}
 use Rattle.spv_types.specs.Typing.{before_functions}
 use Rattle.spv_index.specs.Definitions.{type_of}
 use Rattle.spv_consts.specs.Table.{Constants, Row}
-use Rattle.spv_consts.specs.Trees.{tree_of, value_at}
+use Rattle.spv_consts.specs.Trees.{value_at}
 use Rattle.spv_consts.specs.Values.{leaf_widths}
 use Rattle.spv_consts.specs.Context.{Context}
 use Rattle.spv_consts.specs.State.{State, is_operand, operand_cells}
