@@ -7,7 +7,7 @@ use Rattle.spv_base.specs.declared.instructions.Operand.{Operand}
 use Rattle.spv_consts.specs.Table.{Constants}
 use Rattle.spv_types.specs.declared.forms.Form.{Form}
 use Rattle.spv_types.specs.declared.forms.Form.TheVariants.{Int, Pointer, Vector}
-use Rattle.spv_types.specs.Facts.{is_constant}
+use Rattle.spv_types.specs.Constants.{is_constant}
 use Rattle.spv_types.specs.Types.{Types, form_of}
 use Rattle.spv_index.specs.Definitions.{defining, result_type}
 use Rattle.spv_index.specs.Operands.{id_in, id_operand}

@@ -1,6 +1,6 @@
 -- The rules of lane-wise operations (SPIR-V 1.6 sections 3.42.11 and 3.42.13 to 3.42.15), and of the instructions of an
 -- imported set.
-use Rattle.std.specs.Prelude.{◌≡◌, ◌⊎◌, ℕ, ◌+◌, ◌-◌, ◌||◌, Bool, true, false, length, Some, unwrap_or}
+use Rattle.std.specs.Prelude.{◌≡◌, ◌⊎◌, ℕ, ◌+◌, ◌-◌, ◌||◌, Bool, true, false, length, Option, Some}
 use Rattle.std.specs.Option.{option_map_or}
 use Rattle.spv_base.specs.declared.instructions.Inst.{Inst}
 use Rattle.spv_index.specs.Classes.{is_debug}
@@ -12,13 +12,9 @@ use Rattle.spv_typing.specs.Laws.{IsTyped}
 use Rattle.spv_typing.specs.Rules.{rule_count, rule_of}
 use Rattle.spv_bodies.specs.Context.{Known, type_at}
 
--- the type of the operand at a place, and 0, which is no type, where there is none
-abbrev pub type_or_none : Known → Inst → ℕ → ℕ
-type_or_none k i n = unwrap_or (type_at k i n) 0
-
--- of each operand after the first ones
-abbrev pub types_after : Known → Inst → ℕ → ℕ → ℕ
-types_after k i from n = type_or_none k i (from + n)
+-- the type of each operand after the first ones that has one
+abbrev pub types_after : Known → Inst → ℕ → ℕ → Option ℕ
+types_after k i from n = type_at k i (from + n)
 
 -- the operands and the result have the types that the opcode's rule asks
 abbrev pub KeepsLanes : Known → Inst → Type 0

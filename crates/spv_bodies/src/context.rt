@@ -8,7 +8,7 @@ use crate::operands::id_in;
 use spv_base::{Inst, Operand};
 use spv_consts::ConstTable;
 use spv_index::{Index, Table, id_operand};
-use spv_types::facts::is_constant;
+use spv_types::constants::is_constant;
 use spv_types::views::{Pointed, is_integer, pointee};
 use spv_types::{Form, TypeTable};
 use std::marker::Model;

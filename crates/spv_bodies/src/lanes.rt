@@ -10,22 +10,15 @@ use spv_index::classes::number_at;
 use spv_index::literal_operand;
 use spv_typing::{OperandTypes, fits_glsl_types, fits_types};
 
-/// The type of the id at a place among the operands, or 0.
-fn type_or_none(context: &Context, inst: &Inst, place: usize) -> u32
-    ensures { result ≡ spec.type_or_none context.now inst.now place }
-{
-    context.type_at(inst, place).unwrap_or(0)
-}
-
 /// The types of the first four operands.
 fn types_of(context: &Context, inst: &Inst) -> OperandTypes
     ensures { result ≡ types_by (spec.types_after context.now inst.now 0) }
 {
     OperandTypes {
-        first: type_or_none(context, inst, 0),
-        second: type_or_none(context, inst, 1),
-        third: type_or_none(context, inst, 2),
-        fourth: type_or_none(context, inst, 3),
+        first: context.type_at(inst, 0),
+        second: context.type_at(inst, 1),
+        third: context.type_at(inst, 2),
+        fourth: context.type_at(inst, 3),
     }
 }
 
@@ -34,10 +27,10 @@ fn extended_types_of(context: &Context, inst: &Inst) -> OperandTypes
     ensures { result ≡ types_by (spec.types_after context.now inst.now 2) }
 {
     OperandTypes {
-        first: type_or_none(context, inst, 2),
-        second: type_or_none(context, inst, 3),
-        third: type_or_none(context, inst, 4),
-        fourth: type_or_none(context, inst, 5),
+        first: context.type_at(inst, 2),
+        second: context.type_at(inst, 3),
+        third: context.type_at(inst, 4),
+        fourth: context.type_at(inst, 5),
     }
 }
 

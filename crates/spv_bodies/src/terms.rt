@@ -27,7 +27,7 @@ impl Model for Terms {
     ghost use Rattle.std.specs.Prelude.{◌≡◌, ◌↔◌, ℕ, List, Some, slice_get};
     ghost use Rattle.std.specs.Ordering.{nat_cmp};
     ghost use Rattle.std.specs.BTreeMap.{get};
-    ghost use Rattle.spv_types.specs.Facts.{pair_cmp};
+    ghost use Rattle.spv_index.specs.Keys.{pair_cmp};
     ghost use Rattle.spv_bodies.specs.declared.terms.Node.{Node};
     ghost use Rattle.spv_bodies.specs.declared.terms.Node.TheVariants.{Number, Pair};
 

@@ -5,7 +5,7 @@ use Rattle.spv_base.specs.declared.causes.Fail.{Fail}
 use Rattle.spv_base.specs.declared.causes.Refusal.{Refusal}
 use Rattle.spv_base.specs.declared.instructions.Inst.{Inst}
 use Rattle.spv_types.specs.Types.{Types}
-use Rattle.spv_types.specs.Typing.{before_functions}
+use Rattle.spv_index.specs.Definitions.{before_functions}
 use Rattle.spv_consts.specs.Table.{Constants}
 use Rattle.spv_consts.specs.Overrides.{Numbers}
 use Rattle.spv_consts.specs.Context.{Context}

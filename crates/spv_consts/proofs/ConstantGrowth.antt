@@ -8,7 +8,7 @@ use Rattle.spv_base.specs.Entries.{reads}
 use Rattle.spv_base.specs.declared.instructions.Inst.{Inst}
 use Rattle.spv_types.specs.declared.forms.Form.{Form}
 use Rattle.spv_types.specs.declared.forms.Form.TheVariants.{Void, Bool as Boolean, Int, Vector, Array, Runtime, Struct, Pointer, Function}
-use Rattle.spv_types.specs.Facts.{is_constant}
+use Rattle.spv_types.specs.Constants.{is_constant}
 use Rattle.spv_types.specs.Laws.{AreSound, IsAmong}
 use Rattle.spv_types.specs.Types.{Types, form_of, lengthened as with_size, number_of, with_length}
 use Rattle.spv_types.proofs.TypeLemmas.{number_form}

@@ -7,10 +7,11 @@ use Rattle.spv_base.specs.Order.{Ascend}
 use Rattle.spv_base.specs.declared.instructions.Inst.{Inst}
 use Rattle.spv_types.specs.declared.forms.Form.{Form}
 use Rattle.spv_types.specs.Build.{type_breaches, types_of}
-use Rattle.spv_types.specs.Facts.{is_constant}
+use Rattle.spv_types.specs.Constants.{is_constant}
 use Rattle.spv_types.specs.Laws.{AreByForms, AreNamed, AreSound, HasResult}
 use Rattle.spv_types.specs.Types.{Types, form_of, lengthened as with_size, number_of, with_length}
-use Rattle.spv_types.specs.Typing.{before_functions, defined_form}
+use Rattle.spv_index.specs.Definitions.{before_functions}
+use Rattle.spv_types.specs.Typing.{defined_form}
 use Rattle.spv_base.specs.declared.values.Root.{Root}
 use Rattle.spv_consts.specs.Build.{constants_of, context_of, known_of, start_of}
 use Rattle.spv_consts.specs.Constants.{AreConstants, IsConstant, Known}

@@ -1,20 +1,23 @@
 -- The leaves that an operation of OpSpecConstantOp gives fill its result's type.
-use Rattle.std.proofs.Common.{◌≡◌, ◌∙◌, inl, inr, ℕ, zero, suc, ◌+◌, ◌<◌, ◌≤◌, ◌==◌, true, false, List, [], ◌∷◌, length, drop, replicate, Option, Some, None, refl, sym, subst, arith}
-use Rattle.std.specs.Prelude.{◌&&◌, ◌||◌, not}
-use Rattle.std.specs.Option.{option_map, option_map_or}
+use Rattle.std.proofs.Common.{◌≡◌, ◌∙◌, inl, inr, ℕ, zero, suc, ◌+◌, ◌<◌, ◌≤◌, ◌==◌, Bool, true, false, List, [], ◌∷◌, length, drop, replicate, Option, Some, None, refl, sym, subst, arith, slice_get}
+use Rattle.std.specs.Prelude.{◌&&◌, ◌||◌, not, if◌then◌else◌, unwrap_or}
+use Rattle.std.specs.Option.{option_and_then, option_map, option_map_or}
 use Rattle.spv_base.specs.declared.instructions.Inst.{Inst}
 use Rattle.spv_base.specs.declared.instructions.Operand.{Operand}
 use Rattle.spv_base.specs.Lane.{Lane}
-use Rattle.spv_types.specs.Operands.{id_at, id_of}
+use Rattle.spv_base.specs.declared.instructions.Operand.TheVariants.{Id, Lit, Text}
+use Rattle.spv_types.specs.Operands.{id_at, id_if, id_of}
 use Rattle.spv_types.specs.Types.{form_of}
 use Rattle.spv_types.specs.Laws.{AreSound}
-use Rattle.spv_index.specs.Definitions.{type_of}
+use Rattle.spv_index.specs.Definitions.{defining, result_type, type_in, type_of}
+use Rattle.spv_index.specs.Operands.{id_in}
 use Rattle.spv_typing.specs.declared.lanes.Element.{Element}
 use Rattle.spv_typing.specs.declared.lanes.Element.TheVariants.{Bool as OneBoolean, Int}
 use Rattle.spv_typing.specs.declared.rules.Rule.{Rule}
 use Rattle.spv_typing.specs.declared.rules.Rule.TheVariants.{Convert, Bitcast, Integer, Integers, Clamp, Shift, Boolean, Booleans, Reduce, Compare, Extended, Select as Choice, InsertField, ExtractField}
 use Rattle.spv_typing.specs.Fitting.{fits}
-use Rattle.spv_typing.specs.Lanes.{lanes_of, repeated}
+use Rattle.spv_typing.specs.declared.lanes.Lanes.{Lanes}
+use Rattle.spv_typing.specs.Lanes.{lanes_at, lanes_of, repeated}
 use Rattle.spv_typing.specs.Laws.{IsCondition, IsTyped}
 use Rattle.spv_typing.specs.Rules.{is_constant_operation, is_constant_rule, operand_count, rule_count, rule_of}
 use Rattle.spv_typing.proofs.LawLemmas.{equal, parts, rule_is}
@@ -25,7 +28,7 @@ use Rattle.spv_consts.specs.Laws.{FillType, HasWidth, OperandsFillTypes}
 use Rattle.spv_consts.specs.Operations.{lane_width, selected}
 use Rattle.spv_consts.specs.Values.{leaf_widths}
 use Rattle.spv_consts.specs.Overrides.{is_same}
-use Rattle.spv_consts.specs.Rules.{are_operands, keeps_count, keeps_opcode}
+use Rattle.spv_consts.specs.Rules.{are_operands, keeps_count, keeps_opcode, operand_type}
 use Rattle.spv_consts.specs.State.{State, is_operand}
 use Rattle.spv_consts.proofs.FillLemmas.{Fill, fill_one, fill_pair, fill_three, fill_two}
 use Rattle.spv_consts.proofs.LaneFills.{binary_has_width, impossible, select_has_width, takes_pair_of, unary_has_width}
@@ -57,22 +60,22 @@ module _ (m : Context) (s : State) (word : ℕ) where
 -- ---- what an operation keeps
 
 module _ (m : Context) (s : State) (i : Inst) (op : ℕ) (kept : keeps_opcode m s i op ≡ true) where
-  abbrev pub own : ℕ → ℕ
-  own k = type_of m.all (id_at i.operands (1 + k))
+  abbrev given : ℕ → Option ℕ
+  given k = operand_type m i (1 + k)
 
-  known : (is_constant_operation op ≡ true) × ((keeps_count i op && (are_operands m s i.word (drop 1 i.operands) && fits s.types op i.ty own)) ≡ true)
+  known : (is_constant_operation op ≡ true) × ((keeps_count i op && (are_operands m s i.word (drop 1 i.operands) && fits s.types op i.ty given)) ≡ true)
   known = parts (is_constant_operation op) _ kept
 
-  count : (keeps_count i op ≡ true) × ((are_operands m s i.word (drop 1 i.operands) && fits s.types op i.ty own) ≡ true)
+  count : (keeps_count i op ≡ true) × ((are_operands m s i.word (drop 1 i.operands) && fits s.types op i.ty given) ≡ true)
   count = parts (keeps_count i op) _ known.1
 
-  rest : (are_operands m s i.word (drop 1 i.operands) ≡ true) × (fits s.types op i.ty own ≡ true)
+  rest : (are_operands m s i.word (drop 1 i.operands) ≡ true) × (fits s.types op i.ty given ≡ true)
   rest = parts (are_operands m s i.word (drop 1 i.operands)) _ count.1
 
   -- its rule, which constants are computed by and the types keep
-  pub ruled_by : (rule : Rule) × (is_constant_rule rule ≡ true) × (rule_of op ≡ Some rule) × IsTyped s.types rule i.ty own
+  pub ruled_by : (rule : Rule) × (is_constant_rule rule ≡ true) × (rule_of op ≡ Some rule) × IsTyped s.types rule i.ty given
   ruled_by =
-      let ruled = (rule_is s.types op i.ty own).0 rest.1 in
+      let ruled = (rule_is s.types op i.ty given).0 rest.1 in
       let constant = (parts (option_map_or is_constant_rule (rule_of op) false) (not (op == 204 || op == 205)) known.0).0 in
       (ruled.0, rw ruled.1 at constant, ruled.1, ruled.2)
 
@@ -89,6 +92,34 @@ module _ (m : Context) (s : State) (i : Inst) (op : ℕ) (sound : AreSound s.typ
   -- the type of an operand
   abbrev ty : ℕ → ℕ
   ty k = type_of m.all (id_at i.operands (1 + k))
+
+  -- the type of an operand that has one
+  abbrev own : ℕ → Option ℕ
+  own k = operand_type m i (1 + k)
+
+  named : (k t : ℕ) → own k ≡ Some t → ty k ≡ t
+  named k t h = by_operand (slice_get i.operands (1 + k)) h
+    where
+      by_test : (b : Bool) (n : ℕ) → (if b then None else Some n) ≡ Some t → n ≡ t
+      by_test true n h = cc
+      by_test false n h = cc
+
+      by_defining : (o : Option Inst) → option_and_then type_in o ≡ Some t → unwrap_or (option_map (λ (j : Inst). j.ty) o) 0 ≡ t
+      by_defining None h = cc
+      by_defining (Some j) h = by_test (j.ty == 0) j.ty h
+
+      by_operand : (o : Option Operand) → option_and_then (result_type m.all) (option_and_then id_in o) ≡ Some t → type_of m.all (id_if o) ≡ t
+      by_operand None h = cc
+      by_operand (Some (Id id)) h = by_defining (defining m.all id) h
+      by_operand (Some (Lit word)) h = cc
+      by_operand (Some (Text bytes)) h = cc
+
+  pub lanes_named : (k : ℕ) (l : Lanes) → lanes_at s.types (own k) ≡ Some l → lanes_of s.types (ty k) ≡ Some l
+  lanes_named k l h = by_type (own k) refl h
+    where
+      by_type : (o : Option ℕ) → own k ≡ o → lanes_at s.types o ≡ Some l → lanes_of s.types (ty k) ≡ Some l
+      by_type None e h = cc
+      by_type (Some t) e h = rw (named k t e) h
 
   -- leaves fill the type with an id
   abbrev Fits : ℕ → List Lane → Type 0
@@ -146,11 +177,11 @@ module _ (m : Context) (s : State) (i : Inst) (op : ℕ) (sound : AreSound s.typ
   each_chosen (suc (suc n)) w (t ∷ []) xs ys l h f g = absurd h.1
   each_chosen n w (t ∷ u ∷ ts) xs ys l h f g = fill_three select_lane 1 w n (choose w) (t ∷ u ∷ ts) xs ys h f g
 
-  select_fills : IsCondition (lanes_of s.types i.ty) (lanes_of s.types (ty 0))
+  select_fills : IsCondition (lanes_of s.types i.ty) (lanes_at s.types (own 0))
       → Fits (ty 0) (operand_at m s i 1) → Fits i.ty (operand_at m s i 2) → Fits i.ty (operand_at m s i 3) → Fits i.ty (select_cells m s i)
   select_fills (inl one) h g k =
-      one_chosen (operand_at m s i 1) (operand_at m s i 2) (operand_at m s i 3) (lanes_fill (ty 0) 1 OneBoolean one (operand_at m s i 1) h) (leaf_widths s.types i.ty) g k
-  select_fills (inr each) h g k = several each.0 each.1 each.2 each.3 each.4
+      one_chosen (operand_at m s i 1) (operand_at m s i 2) (operand_at m s i 3) (lanes_fill (ty 0) 1 OneBoolean (lanes_named 0 _ one) (operand_at m s i 1) h) (leaf_widths s.types i.ty) g k
+  select_fills (inr each) h g k = several each.0 each.1 each.2 (lanes_named 0 _ each.3) each.4
     where
       several : (n : ℕ) (e : Element) → 2 ≤ n → lanes_of s.types (ty 0) ≡ Some (repeated n OneBoolean) → lanes_of s.types i.ty ≡ Some (repeated n e) → Fits i.ty (select_cells m s i)
       several n e l b r =
@@ -164,37 +195,37 @@ module _ (m : Context) (s : State) (i : Inst) (op : ℕ) (sound : AreSound s.typ
   abbrev AreFit : Option ℕ → Type 0
   AreFit o = (n k : ℕ) → o ≡ Some n → k < n → Fits (ty k) (operand_at m s i (1 + k))
 
-  by_rule : (rule : Rule) → is_constant_rule rule ≡ true → suits rule op ≡ true → IsTyped s.types rule i.ty ty → AreFit (rule_count rule) → Fits i.ty (computed_cells m s i op)
+  by_rule : (rule : Rule) → is_constant_rule rule ≡ true → suits rule op ≡ true → IsTyped s.types rule i.ty own → AreFit (rule_count rule) → Fits i.ty (computed_cells m s i op)
   by_rule Convert is suit t fit =
       rw (one_computed m s i op is_conversion suit)
-      (unary_fills t.0 (Int t.1) (Int t.2) t.3 t.4 (λ wide from. conversion_takes op t.2 t.1 suit from wide) (fit 1 0 refl (omega arith)))
+      (unary_fills t.0 (Int t.1) (Int t.2) t.3 (lanes_named 0 _ t.4) (λ wide from. conversion_takes op t.2 t.1 suit from wide) (fit 1 0 refl (omega arith)))
   by_rule Bitcast is suit t fit = impossible is
   by_rule Integer is suit t fit =
       rw (one_computed m s i op is_arithmetic suit)
-      (unary_fills t.0 (Int t.1) (Int t.1) t.2 t.3 (λ wide from. arithmetic_takes op t.1 suit wide) (fit 1 0 refl (omega arith)))
+      (unary_fills t.0 (Int t.1) (Int t.1) t.2 (lanes_named 0 _ t.3) (λ wide from. arithmetic_takes op t.1 suit wide) (fit 1 0 refl (omega arith)))
   by_rule Integers is suit t fit =
       rw (two_computed m s i op gives_integer suit)
-      (binary_fills t.0 (Int t.1) (Int t.1) (Int t.1) t.2 t.3 t.4 (λ wide second. integers_take op t.1 suit wide) (fit 2 0 refl (omega arith)) (fit 2 1 refl (omega arith)))
+      (binary_fills t.0 (Int t.1) (Int t.1) (Int t.1) t.2 (lanes_named 0 _ t.3) (lanes_named 1 _ t.4) (λ wide second. integers_take op t.1 suit wide) (fit 2 0 refl (omega arith)) (fit 2 1 refl (omega arith)))
   by_rule Clamp is suit t fit = impossible is
   by_rule Shift is suit t fit =
       rw (two_computed m s i op shifts suit)
-      (binary_fills t.0 (Int t.1) (Int t.1) (Int t.2) t.3 t.4 t.5 (λ wide second. shifts_take op t.1 t.2 suit wide second) (fit 2 0 refl (omega arith)) (fit 2 1 refl (omega arith)))
+      (binary_fills t.0 (Int t.1) (Int t.1) (Int t.2) t.3 (lanes_named 0 _ t.4) (lanes_named 1 _ t.5) (λ wide second. shifts_take op t.1 t.2 suit wide second) (fit 2 0 refl (omega arith)) (fit 2 1 refl (omega arith)))
   by_rule Boolean is suit t fit =
       rw (one_computed m s i op is_negation suit)
-      (unary_fills t.0 OneBoolean OneBoolean t.1 t.2 (λ wide from. negation_takes op suit) (fit 1 0 refl (omega arith)))
+      (unary_fills t.0 OneBoolean OneBoolean t.1 (lanes_named 0 _ t.2) (λ wide from. negation_takes op suit) (fit 1 0 refl (omega arith)))
   by_rule Booleans is suit t fit =
       rw (two_computed m s i op joins_booleans suit)
-      (binary_fills t.0 OneBoolean OneBoolean OneBoolean t.1 t.2 t.3 (λ wide second. booleans_take op suit) (fit 2 0 refl (omega arith)) (fit 2 1 refl (omega arith)))
+      (binary_fills t.0 OneBoolean OneBoolean OneBoolean t.1 (lanes_named 0 _ t.2) (lanes_named 1 _ t.3) (λ wide second. booleans_take op suit) (fit 2 0 refl (omega arith)) (fit 2 1 refl (omega arith)))
   by_rule Reduce is suit t fit = impossible is
   by_rule Compare is suit t fit =
       rw (two_computed m s i op compares suit)
-      (binary_fills t.0 OneBoolean (Int t.1) (Int t.1) t.2 t.3 t.4 (λ wide second. comparisons_take op t.1 suit wide) (fit 2 0 refl (omega arith)) (fit 2 1 refl (omega arith)))
+      (binary_fills t.0 OneBoolean (Int t.1) (Int t.1) t.2 (lanes_named 0 _ t.3) (lanes_named 1 _ t.4) (λ wide second. comparisons_take op t.1 suit wide) (fit 2 0 refl (omega arith)) (fit 2 1 refl (omega arith)))
   by_rule Extended is suit t fit = impossible is
   by_rule Choice is suit t fit =
       rw (select_computed m s i op suit)
       (select_fills t.3 (fit 3 0 refl (omega arith))
-      (subst (λ id. Fits id (operand_at m s i 2)) t.1 (fit 3 1 refl (omega arith)))
-      (subst (λ id. Fits id (operand_at m s i 3)) t.2 (fit 3 2 refl (omega arith))))
+      (subst (λ id. Fits id (operand_at m s i 2)) (named 1 i.ty t.1) (fit 3 1 refl (omega arith)))
+      (subst (λ id. Fits id (operand_at m s i 3)) (named 2 i.ty t.2) (fit 3 2 refl (omega arith))))
   by_rule InsertField is suit t fit = impossible is
   by_rule ExtractField is suit t fit = impossible is
 

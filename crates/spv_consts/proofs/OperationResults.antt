@@ -19,7 +19,8 @@ use Rattle.spv_typing.specs.declared.lanes.Element.{Element}
 use Rattle.spv_typing.specs.declared.lanes.Element.TheVariants.{Bool as OneBoolean, Int}
 use Rattle.spv_typing.specs.declared.rules.Rule.{Rule}
 use Rattle.spv_typing.specs.declared.rules.Rule.TheVariants.{Convert, Bitcast, Integer, Integers, Clamp, Shift, Boolean, Booleans, Reduce, Compare, Extended, Select as Choice, InsertField, ExtractField}
-use Rattle.spv_typing.specs.Lanes.{lanes_of, repeated}
+use Rattle.spv_typing.specs.Lanes.{lanes_at, lanes_of, repeated}
+use Rattle.spv_typing.specs.declared.lanes.Lanes.{Lanes}
 use Rattle.spv_typing.specs.Laws.{IsTyped}
 use Rattle.spv_typing.specs.Rules.{is_constant_rule, rule_count}
 use Rattle.spv_typing.proofs.LawLemmas.{parts}
@@ -29,11 +30,11 @@ use Rattle.spv_consts.specs.Evaluation.{binary_cells, computed_cells, operand_at
 use Rattle.spv_consts.specs.Lanes.{binary_lane, is_lane_width, pair_takes, row_takes, takes_one, unary_lane}
 use Rattle.spv_consts.specs.Laws.{FillType, HasWidth}
 use Rattle.spv_consts.specs.Operations.{by_two, lane_width, selected}
-use Rattle.spv_consts.specs.Rules.{keeps_opcode}
+use Rattle.spv_consts.specs.Rules.{keeps_opcode, operand_type}
 use Rattle.spv_consts.specs.State.{State, is_operand, operand_cells}
 use Rattle.spv_consts.proofs.FillLemmas.{Fill}
 use Rattle.spv_consts.proofs.LaneFills.{impossible, takes_pair, takes_pair_of}
-use Rattle.spv_consts.proofs.OperationFills.{counted, lanes_fill, ruled_by}
+use Rattle.spv_consts.proofs.OperationFills.{counted, lanes_fill, lanes_named, ruled_by}
 use Rattle.spv_consts.proofs.OperationKinds.{arithmetic_takes, booleans_take, comparisons_take, compares, computes_one, computes_two, conversion_takes, gives_integer, integers_take, is_arithmetic, is_conversion, is_negation, joins_booleans, negation_takes, one_computed, select_computed, shifts, shifts_take, suits, suits_of, two_computed}
 use Rattle.spv_consts.proofs.ScalarTypes.{AreLanes, are_lanes, width_of}
 
@@ -97,6 +98,13 @@ module _ (m : Context) (s : State) (i : Inst) (op : ℕ) (sound : AreSound s.typ
   where
     abbrev ty : ℕ → ℕ
     ty n = type_of m.all (id_at i.operands (1 + n))
+
+    -- the type of an operand that has one
+    abbrev given : ℕ → Option ℕ
+    given n = operand_type m i (1 + n)
+
+    named : (n : ℕ) (l : Lanes) → lanes_at s.types (given n) ≡ Some l → lanes_of s.types (ty n) ≡ Some l
+    named n l h = lanes_named m s i op sound n l h
 
     -- the leaves of an operand fill its type, and are those in the end
     abbrev IsGood : ℕ → Type 0
@@ -172,31 +180,31 @@ module _ (m : Context) (s : State) (i : Inst) (op : ℕ) (sound : AreSound s.typ
     abbrev AreGood : Option ℕ → Type 0
     AreGood o = (n j : ℕ) → o ≡ Some n → j < n → IsGood j
 
-    by_rule : (rule : Rule) → is_constant_rule rule ≡ true → suits rule op ≡ true → IsTyped s.types rule i.ty ty → AreGood (rule_count rule) → result_of m k i op ≡ Some (computed_cells m s i op)
+    by_rule : (rule : Rule) → is_constant_rule rule ≡ true → suits rule op ≡ true → IsTyped s.types rule i.ty given → AreGood (rule_count rule) → result_of m k i op ≡ Some (computed_cells m s i op)
     by_rule Convert is suit t good =
         rw (one_computed m s i op is_conversion suit)
-        (one_given is_conversion suit t.0 (Int t.1) (Int t.2) t.3 t.4 (λ wide from. conversion_takes op t.2 t.1 suit from wide) (good 1 0 refl (omega arith)))
+        (one_given is_conversion suit t.0 (Int t.1) (Int t.2) t.3 (named 0 _ t.4) (λ wide from. conversion_takes op t.2 t.1 suit from wide) (good 1 0 refl (omega arith)))
     by_rule Bitcast is suit t good = impossible is
     by_rule Integer is suit t good =
         rw (one_computed m s i op is_arithmetic suit)
-        (one_given is_arithmetic suit t.0 (Int t.1) (Int t.1) t.2 t.3 (λ wide from. arithmetic_takes op t.1 suit wide) (good 1 0 refl (omega arith)))
+        (one_given is_arithmetic suit t.0 (Int t.1) (Int t.1) t.2 (named 0 _ t.3) (λ wide from. arithmetic_takes op t.1 suit wide) (good 1 0 refl (omega arith)))
     by_rule Integers is suit t good =
         rw (two_computed m s i op gives_integer suit)
-        (two_given gives_integer suit t.0 (Int t.1) (Int t.1) (Int t.1) t.3 t.4 (λ wide second. integers_take op t.1 suit wide) (good 2 0 refl (omega arith)) (good 2 1 refl (omega arith)))
+        (two_given gives_integer suit t.0 (Int t.1) (Int t.1) (Int t.1) (named 0 _ t.3) (named 1 _ t.4) (λ wide second. integers_take op t.1 suit wide) (good 2 0 refl (omega arith)) (good 2 1 refl (omega arith)))
     by_rule Clamp is suit t good = impossible is
     by_rule Shift is suit t good =
         rw (two_computed m s i op shifts suit)
-        (two_given shifts suit t.0 (Int t.1) (Int t.1) (Int t.2) t.4 t.5 (λ wide second. shifts_take op t.1 t.2 suit wide second) (good 2 0 refl (omega arith)) (good 2 1 refl (omega arith)))
+        (two_given shifts suit t.0 (Int t.1) (Int t.1) (Int t.2) (named 0 _ t.4) (named 1 _ t.5) (λ wide second. shifts_take op t.1 t.2 suit wide second) (good 2 0 refl (omega arith)) (good 2 1 refl (omega arith)))
     by_rule Boolean is suit t good =
         rw (one_computed m s i op is_negation suit)
-        (one_given is_negation suit t.0 OneBoolean OneBoolean t.1 t.2 (λ wide from. negation_takes op suit) (good 1 0 refl (omega arith)))
+        (one_given is_negation suit t.0 OneBoolean OneBoolean t.1 (named 0 _ t.2) (λ wide from. negation_takes op suit) (good 1 0 refl (omega arith)))
     by_rule Booleans is suit t good =
         rw (two_computed m s i op joins_booleans suit)
-        (two_given joins_booleans suit t.0 OneBoolean OneBoolean OneBoolean t.2 t.3 (λ wide second. booleans_take op suit) (good 2 0 refl (omega arith)) (good 2 1 refl (omega arith)))
+        (two_given joins_booleans suit t.0 OneBoolean OneBoolean OneBoolean (named 0 _ t.2) (named 1 _ t.3) (λ wide second. booleans_take op suit) (good 2 0 refl (omega arith)) (good 2 1 refl (omega arith)))
     by_rule Reduce is suit t good = impossible is
     by_rule Compare is suit t good =
         rw (two_computed m s i op compares suit)
-        (two_given compares suit t.0 OneBoolean (Int t.1) (Int t.1) t.3 t.4 (λ wide second. comparisons_take op t.1 suit wide) (good 2 0 refl (omega arith)) (good 2 1 refl (omega arith)))
+        (two_given compares suit t.0 OneBoolean (Int t.1) (Int t.1) (named 0 _ t.3) (named 1 _ t.4) (λ wide second. comparisons_take op t.1 suit wide) (good 2 0 refl (omega arith)) (good 2 1 refl (omega arith)))
     by_rule Extended is suit t good = impossible is
     by_rule Choice is suit t good =
         let a = good 3 0 refl (omega arith) in

@@ -11,12 +11,12 @@ use Rattle.spv_base.specs.declared.instructions.Inst.{Inst}
 use Rattle.spv_base.specs.declared.values.Root.{Root}
 use Rattle.spv_types.specs.declared.forms.Form.{Form}
 use Rattle.spv_types.specs.Build.{type_breaches, types_of, unless_refused}
-use Rattle.spv_types.specs.Facts.{is_constant}
+use Rattle.spv_types.specs.Constants.{is_constant}
 use Rattle.spv_types.specs.Laws.{AreByForms, AreComplete, AreNamed, AreSound, HasResult, IsAmong}
 use Rattle.spv_types.specs.Rules.{is_data, is_sized_data}
 use Rattle.spv_types.specs.Types.{IsUnset, Types, form_of, lengthened as with_size, number_of, with_length}
-use Rattle.spv_types.specs.Typing.{before_functions, defined_form, types_in}
-use Rattle.spv_index.specs.Definitions.{type_of}
+use Rattle.spv_types.specs.Typing.{defined_form, types_in}
+use Rattle.spv_index.specs.Definitions.{before_functions, type_of}
 use Rattle.spv_consts.specs.Table.{Constants, Row}
 use Rattle.spv_consts.specs.Context.{Context}
 use Rattle.spv_consts.specs.State.{State, is_next}

@@ -5,11 +5,10 @@ use Rattle.std.specs.Prelude.{nat_lt, find, if◌then◌else◌}
 use Rattle.std.specs.List.{AllByRecursion, Contains}
 use Rattle.spv_base.specs.Order.{AreDistinct, Ascend}
 use Rattle.spv_base.specs.declared.instructions.Inst.{Inst}
-use Rattle.spv_types.specs.Facts.{is_constant}
+use Rattle.spv_types.specs.Constants.{is_constant}
 use Rattle.spv_types.specs.Laws.{TypesComeFirst}
-use Rattle.spv_types.specs.Typing.{before_functions}
-use Rattle.spv_types.specs.declared.opcodes.TheConstants.{FUNCTION}
-use Rattle.spv_index.specs.Definitions.{defining, has_result, is_id}
+use Rattle.spv_ops.specs.declared.op.TheConstants.{FUNCTION}
+use Rattle.spv_index.specs.Definitions.{before_functions, defining, has_result, is_id}
 
 -- ---- each of some instructions
 

@@ -7,14 +7,14 @@ use Rattle.std.specs.Option.{is_some}
 use Rattle.spv_base.specs.Order.{AreDistinct, Ascend}
 use Rattle.spv_base.specs.declared.instructions.Inst.{Inst}
 use Rattle.spv_types.specs.declared.forms.Form.{Form}
-use Rattle.spv_types.specs.declared.opcodes.TheConstants.{UNDEF}
+use Rattle.spv_ops.specs.declared.op.TheConstants.{UNDEF}
 use Rattle.spv_types.specs.Build.{type_breaches}
-use Rattle.spv_types.specs.Facts.{is_constant}
+use Rattle.spv_types.specs.Constants.{is_constant}
 use Rattle.spv_types.specs.Laws.{AreNamed, HasResult, IsAmong, TypesComeFirst}
 use Rattle.spv_types.specs.Rules.{is_data, is_sized_data}
 use Rattle.spv_types.specs.Types.{Types, form_of, number_of}
-use Rattle.spv_types.specs.Typing.{before_functions, defined_form, types_in}
-use Rattle.spv_index.specs.Definitions.{defining, has_result, type_of}
+use Rattle.spv_types.specs.Typing.{defined_form, types_in}
+use Rattle.spv_index.specs.Definitions.{before_functions, defining, has_result, type_of}
 use Rattle.spv_consts.proofs.WalkIds.{Differs, defining_is, differ_before, distinct_left, each_left, each_right, found_before, found_of_defining, type_comes_first}
 use Rattle.spv_consts.proofs.WalkTypes.{earlier_type, kept_at, known_data, other_number, type_number, types_joined, undef_is_sized}
 

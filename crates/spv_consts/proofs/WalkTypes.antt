@@ -8,13 +8,14 @@ use Rattle.spv_base.specs.Order.{AreDistinct}
 use Rattle.spv_base.specs.declared.causes.Refusal.{Refusal}
 use Rattle.spv_base.specs.declared.instructions.Inst.{Inst}
 use Rattle.spv_types.specs.declared.forms.Form.{Form}
-use Rattle.spv_types.specs.declared.opcodes.TheConstants.{UNDEF}
+use Rattle.spv_ops.specs.declared.op.TheConstants.{UNDEF}
 use Rattle.spv_types.specs.Build.{type_breaches, type_code, types_of, unless_refused}
-use Rattle.spv_types.specs.Facts.{is_constant}
+use Rattle.spv_types.specs.Constants.{is_constant}
 use Rattle.spv_types.specs.Laws.{HasResult, IsAmong}
 use Rattle.spv_types.specs.Rules.{is_data, is_sized_data, keeps_rules}
 use Rattle.spv_types.specs.Types.{Types, form_of, number_of}
-use Rattle.spv_types.specs.Typing.{before_functions, defined_form, types_in, with_form}
+use Rattle.spv_index.specs.Definitions.{before_functions}
+use Rattle.spv_types.specs.Typing.{defined_form, types_in, with_form}
 use Rattle.spv_types.proofs.GrowthLemmas.{form_append}
 use Rattle.spv_types.proofs.TypeLemmas.{number_lt, number_none}
 use Rattle.spv_consts.proofs.WalkIds.{Differs, differ_before, differ_behind, differ_from_earlier, each_left, each_right}

@@ -6,7 +6,7 @@ use Rattle.spv_base.specs.declared.instructions.Inst.{Inst}
 use Rattle.spv_base.specs.declared.causes.Refusal.{Refusal}
 use Rattle.spv_types.specs.Build.{unless_refused}
 use Rattle.spv_types.specs.Types.{Types}
-use Rattle.spv_types.specs.Typing.{before_functions}
+use Rattle.spv_index.specs.Definitions.{before_functions}
 use Rattle.spv_consts.specs.Table.{Constants}
 use Rattle.spv_consts.specs.Overrides.{Numbers, held_of}
 use Rattle.spv_consts.specs.Context.{Context}

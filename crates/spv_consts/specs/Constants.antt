@@ -8,11 +8,10 @@ use Rattle.spv_base.specs.Entries.{reads}
 use Rattle.spv_base.specs.Lane.{Lane}
 use Rattle.spv_base.specs.declared.instructions.Inst.{Inst}
 use Rattle.spv_base.specs.declared.instructions.Operand.{Operand}
-use Rattle.spv_types.specs.Facts.{is_constant}
+use Rattle.spv_types.specs.Constants.{is_constant}
 use Rattle.spv_types.specs.Operands.{id_at, id_of}
 use Rattle.spv_types.specs.Types.{Types, form_of}
-use Rattle.spv_types.specs.Typing.{before_functions}
-use Rattle.spv_index.specs.Definitions.{type_of}
+use Rattle.spv_index.specs.Definitions.{before_functions, type_of}
 use Rattle.spv_alu.specs.Results.{integer, truth}
 use Rattle.spv_alu.specs.Unary.{unary_lane, unary_op}
 use Rattle.spv_alu.specs.Binary.{binary_lane, binary_op}

@@ -1,18 +1,19 @@
 -- The rules of constants and of array lengths (SPIR-V 1.6 sections 2.16.1, 3.42.6 and 3.42.7, and this project's profile),
 -- by what stands before an instruction.
 use Rattle.std.specs.Prelude.{ℕ, suc, ◌+◌, ◌==◌, ◌&&◌, ◌||◌, nat_lt, if◌then◌else◌, Bool, true, false, List, [], ◌∷◌, length, drop, Option, Some, None}
-use Rattle.std.specs.Option.{is_some, option_map, option_map_or}
+use Rattle.std.specs.Option.{is_some, option_and_then, option_map, option_map_or}
 use Rattle.spv_base.specs.declared.instructions.Inst.{Inst}
 use Rattle.spv_base.specs.declared.instructions.Operand.{Operand}
 use Rattle.spv_types.specs.declared.forms.Form.{Form}
 use Rattle.spv_types.specs.declared.forms.Form.TheVariants.{Void, Bool as Boolean, Int, Vector, Array, Runtime, Struct, Pointer, Function}
-use Rattle.spv_types.specs.Operands.{id_at, id_of, lit_at}
 use Rattle.spv_types.specs.Types.{form_of}
-use Rattle.spv_types.specs.Facts.{is_constant}
+use Rattle.spv_types.specs.Constants.{is_constant}
 use Rattle.spv_types.specs.Rules.{is_sized_data}
 use Rattle.spv_types.specs.Shapes.{part_type}
 use Rattle.spv_types.specs.Views.{is_boolean}
-use Rattle.spv_index.specs.Definitions.{type_of}
+use Rattle.spv_index.specs.Definitions.{result_type, type_of}
+use Rattle.spv_index.specs.Operands.{id_operand, literal_operand}
+use Rattle.spv_types.specs.Operands.{id_of}
 use Rattle.spv_typing.specs.Rules.{is_constant_operation, operand_count}
 use Rattle.spv_typing.specs.Fitting.{fits}
 use Rattle.spv_consts.specs.Literals.{integer_width, keeps_literal}
@@ -54,7 +55,7 @@ keeps_composite m s i form = is_same (length i.operands) (part_count form) && ke
 
 -- the opcode of an OpSpecConstantOp; an opcode has 16 bits
 abbrev pub opcode_of : Inst → Option ℕ
-opcode_of i = if nat_lt (lit_at i.operands 0) 65536 then Some (lit_at i.operands 0) else None
+opcode_of i = option_and_then (λ op. if nat_lt op 65536 then Some op else None) (literal_operand i 0)
 
 -- each operand is a constant or an OpUndef before the instruction
 unfoldable pub are_operands : Context → State → ℕ → List Operand → Bool
@@ -65,9 +66,13 @@ are_operands m s word (o ∷ os) = is_operand m s word (id_of o) && are_operands
 abbrev pub keeps_count : Inst → ℕ → Bool
 keeps_count i op = is_same (length i.operands) (option_map (λ n. n + 1) (operand_count op))
 
+-- the type of the operand at a place, where it has one
+abbrev pub operand_type : Context → Inst → ℕ → Option ℕ
+operand_type m i place = option_and_then (result_type m.all) (id_operand i place)
+
 -- an operation that constants may be computed by, with as many operands as it has, of types that fit the result
 abbrev pub keeps_opcode : Context → State → Inst → ℕ → Bool
-keeps_opcode m s i op = is_constant_operation op && (keeps_count i op && (are_operands m s i.word (drop 1 i.operands) && fits s.types op i.ty (λ k. type_of m.all (id_at i.operands (1 + k)))))
+keeps_opcode m s i op = is_constant_operation op && (keeps_count i op && (are_operands m s i.word (drop 1 i.operands) && fits s.types op i.ty (λ k. operand_type m i (1 + k))))
 
 abbrev pub keeps_operation : Context → State → Inst → Bool
 keeps_operation m s i = option_map_or (keeps_opcode m s i) (opcode_of i) false

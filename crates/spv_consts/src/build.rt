@@ -15,7 +15,7 @@ use crate::table::ConstTable;
 use crate::walk::Walk;
 use spv_base::{Fail, Inst, NoMemory, Overrides, Refusal};
 use spv_index::Index;
-use spv_types::{TypeTable, functions_start};
+use spv_types::TypeTable;
 use std::alloc::Global;
 
 /// What the constants of a module are read by.
@@ -76,7 +76,7 @@ impl ConstTable {
         let insts = index.insts();
         let context = context_of(alloc, &types, index, over)?;
         let word = context.lowest_wrong(insts);
-        let front = &insts[..functions_start(insts)];
+        let front = &insts[..index.functions_start()];
         let outcome = Walk::new(alloc, types).built(alloc, &context, front);
         unless_earlier(word, outcome)
     }

@@ -1,7 +1,5 @@
 //! The rules of constants and of array lengths.
 ghost use Rattle.std.specs.Prelude.{◌≡◌, ◌+◌, drop};
-ghost use Rattle.spv_index.specs.Definitions.{type_of};
-ghost use Rattle.spv_types.specs.Operands.{id_at};
 ghost use Rattle.spv_typing.specs.Operands.{types_by};
 ghost use Rattle.spv_types.specs.Types.{form_of};
 ghost use Rattle.spv_consts.specs.Rules as spec;
@@ -10,10 +8,11 @@ use crate::context::Context;
 use crate::literals::{integer_width, keeps_literal};
 use crate::walk::Walk;
 use spv_base::{Inst, Operand};
+use spv_index::{id_operand, literal_operand};
 use spv_ops::op;
-use spv_types::facts::is_constant;
+use spv_types::constants::is_constant;
 use spv_types::views::is_boolean;
-use spv_types::{Form, TypeTable, id_at, id_of, lit_at};
+use spv_types::{Form, TypeTable, id_of};
 use spv_typing::{OperandTypes, fits_types, is_constant_operation, operand_count};
 
 /// The number of parts of a vector, array or struct.
@@ -50,7 +49,7 @@ fn part_type(types: &TypeTable, ty: u32, part: usize) -> Option<u32>
 pub(crate) fn opcode_of(inst: &Inst) -> Option<u16>
     ensures { result ≡ spec.opcode_of inst.now }
 {
-    let op = lit_at(inst, 0);
+    let op = literal_operand(inst, 0)?;
     if op < 65_536 { Some(op as u16) } else { None }
 }
 
@@ -65,15 +64,22 @@ fn operands_of(inst: &Inst) -> &[Operand]
     &operands[1..]
 }
 
+/// The type of the operand at a place, where it has one.
+fn operand_type(context: &Context, inst: &Inst, place: usize) -> Option<u32>
+    ensures { result ≡ spec.operand_type context.now inst.now place }
+{
+    context.index.result_type(id_operand(inst, place)?)
+}
+
 /// The types of the operands of an OpSpecConstantOp after its opcode.
 fn operand_types(context: &Context, inst: &Inst) -> OperandTypes
-    ensures { result ≡ types_by (λ k. type_of context.now.all (id_at inst.now.operands (1 + k))) }
+    ensures { result ≡ types_by (λ k. spec.operand_type context.now inst.now (1 + k)) }
 {
     OperandTypes {
-        first: context.type_of(id_at(inst, 1)),
-        second: context.type_of(id_at(inst, 2)),
-        third: context.type_of(id_at(inst, 3)),
-        fourth: context.type_of(id_at(inst, 4)),
+        first: operand_type(context, inst, 1),
+        second: operand_type(context, inst, 2),
+        third: operand_type(context, inst, 3),
+        fourth: operand_type(context, inst, 4),
     }
 }
 

@@ -10,7 +10,7 @@ use crate::numbers::{LIMITS_CODE, MOST_CELLS, MOST_NESTING, RULES_CODE};
 use crate::walk::Walk;
 use spv_base::{Fail, Inst, NoMemory, Refusal};
 use spv_types::Limit;
-use spv_types::facts::is_constant;
+use spv_types::constants::is_constant;
 use std::alloc::Global;
 
 fn breach(code: u8, inst: &Inst) -> Refusal

@@ -5,7 +5,7 @@ use Rattle.std.specs.Ordering.{is_eq}
 use Rattle.spv_base.specs.declared.instructions.Inst.{Inst}
 use Rattle.spv_index.specs.Definitions.{number_from}
 use Rattle.spv_index.specs.Keys.{is_pair, is_triple, pair_cmp, triple_cmp}
-use Rattle.spv_index.proofs.Places.{drop_back}
+use Rattle.spv_index.proofs.ListLemmas.{drop_back}
 
 same_pair : (a b c d : ℕ) → is_eq (pair_cmp (a, b) (c, d)) ≡ (a == c && b == d)
 same_pair a b c d = search (tests, rules)

@@ -1,4 +1,4 @@
-pub mod Places
+pub mod ListLemmas
 mod TableLemmas
 pub mod FirstLemmas
 pub mod KeyLemmas

@@ -4,7 +4,7 @@ use Rattle.std.proofs.lemmas.List.{get_or-set_same, get_or-set_other, length-set
 use Rattle.std.proofs.lemmas.Grind.{common_steps}
 use Rattle.std.specs.Ordering.{nat_cmp, is_eq}
 use Rattle.spv_base.specs.Entries.{reads}
-use Rattle.spv_index.proofs.Places.{drop_back, eq_apart}
+use Rattle.spv_index.proofs.ListLemmas.{drop_back, eq_apart}
 
 -- what stands under a number, among the low ones by their list
 abbrev pub found : {V : Type 0} → List (Option V) → (ℕ → Option V) → ℕ → Option V

@@ -1,5 +1,5 @@
 -- What the instructions of a module say of ids and words. Where several do, the first counts.
-use Rattle.std.specs.Prelude.{◌≡◌, ℕ, suc, ◌<◌, ◌==◌, ◌&&◌, nat_lt, if◌then◌else◌, Bool, false, List, [], ◌∷◌, length, Option, Some, None, find, option_map, drop, slice_index_or, unwrap_or}
+use Rattle.std.specs.Prelude.{ℕ, suc, ◌==◌, ◌&&◌, nat_lt, if◌then◌else◌, Bool, false, List, [], ◌∷◌, Option, Some, None, find, option_map, unwrap_or}
 use Rattle.std.specs.Option.{option_and_then}
 use Rattle.spv_base.specs.declared.instructions.Inst.{Inst}
 use Rattle.spv_index.specs.Operands.{id_operand, literal_operand, text_operand}
@@ -98,22 +98,3 @@ member_decorating insts id member kind = find (decorates_member id member kind) 
 -- the first literal behind a decoration of a member
 abbrev pub member_decoration : List Inst → ℕ → ℕ → ℕ → Option ℕ
 member_decoration insts id member kind = option_and_then (λ i. literal_operand i 3) (member_decorating insts id member kind)
-
--- ---- by numbers
-
--- the number of the first of some instructions, counted from n, with an id as its result
-abbrev pub place_from : ℕ → List Inst → ℕ → Option ℕ
-place_from n [] id = None
-place_from n (i ∷ is) id = if has_result id i then Some n else place_from (suc n) is id
-
-abbrev pub place_in : List Inst → ℕ → Option ℕ
-place_in insts id = if is_id id then place_from 0 insts id else None
-
--- what a list has for an id
-abbrev pub slot : List (Option ℕ) → ℕ → Option ℕ
-slot places id = slice_index_or places id None
-
--- a list has, by ids, the numbers of the instructions from number n on that define them
-pub record ArePlaces (insts : List Inst) (n : ℕ) (places : List (Option ℕ)) : Type 0 where
-  pub all : length places ≡ 1048576
-  pub places_are : (id : ℕ) → id < 1048576 → slot places id ≡ place_from n (drop n insts) id

@@ -3,7 +3,6 @@
 
 pub mod classes;
 mod decorations;
-mod definitions;
 mod firsts;
 mod index;
 mod operands;
@@ -13,7 +12,6 @@ mod table;
 #[cfg(test)]
 mod tests;
 
-pub use definitions::Definitions;
 pub use index::Index;
 pub use operands::{id_operand, literal_operand, text_operand};
 pub use table::Table;

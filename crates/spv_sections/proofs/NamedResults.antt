@@ -12,7 +12,7 @@ use Rattle.spv_index.specs.Definitions.{defining, has_result as is_result_of, is
 use Rattle.spv_ops.specs.Forms.{row_of}
 use Rattle.spv_ops.specs.Opcodes.{table}
 use Rattle.spv_types.specs.Blocks.{nothing}
-use Rattle.spv_types.specs.Facts.{is_constant}
+use Rattle.spv_types.specs.Constants.{is_constant}
 use Rattle.spv_types.specs.Laws.{AreNamed, HasResult}
 use Rattle.spv_types.specs.Typing.{defined_form}
 use Rattle.spv_types.specs.declared.forms.Form.{Form}

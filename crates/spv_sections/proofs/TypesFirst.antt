@@ -20,10 +20,10 @@ use Rattle.spv_ops.specs.Forms.{row_of}
 use Rattle.spv_ops.specs.Opcodes.{table}
 use Rattle.spv_ops.specs.declared.forms.Head.{Head}
 use Rattle.spv_ops.specs.declared.forms.Head.TheVariants.{Plain, Result, TypedResult}
-use Rattle.spv_types.specs.declared.opcodes.TheConstants.{FUNCTION}
-use Rattle.spv_types.specs.Facts.{is_constant}
+use Rattle.spv_ops.specs.declared.op.TheConstants.{FUNCTION}
+use Rattle.spv_types.specs.Constants.{is_constant}
 use Rattle.spv_types.specs.Laws.{TypesComeFirst}
-use Rattle.spv_types.specs.Typing.{before_functions}
+use Rattle.spv_index.specs.Definitions.{before_functions}
 use Rattle.spv_sections.specs.declared.definitions.Definition.{Definition}
 use Rattle.spv_sections.specs.declared.ids.Scope.{Scope}
 use Rattle.spv_sections.specs.declared.kinds.Wanted.{Wanted}

@@ -1,7 +1,7 @@
 -- Types stay sound as a type that keeps the rule of its form is added at their end.
 use Rattle.std.proofs.Common.{◌≡◌, ◌∙◌, ◌⊎◌, inl, inr, ⊎_elim, ℕ, zero, suc, ◌==◌, Bool, true, false, List, [], ◌∷◌, ◌++◌, length, Option, Some, None, slice_get, refl, sym, ap}
 use Rattle.std.specs.Prelude.{not, ◌&&◌, ◌||◌, if◌then◌else◌}
-use Rattle.std.specs.Option.{option_map, option_or}
+use Rattle.std.specs.Option.{option_map, option_map_or, option_or}
 use Rattle.spv_types.specs.declared.forms.Form.{Form}
 use Rattle.spv_types.specs.declared.forms.Form.TheVariants.{Void, Bool as Boolean, Int, Vector, Array, Runtime, Struct, Pointer, Function}
 use Rattle.spv_types.specs.declared.forms.Member.{Member}
@@ -105,46 +105,39 @@ module _ (ts : Types) (id : ℕ) (f : Form) where
   carried : (test : Option Form → Bool) (q : ℕ) → test None ≡ false → test (form_of ts q) ≡ true → test (form_of (ts ++ (id, f) ∷ []) q) ≡ true
   carried test q none h = ap test (stays q (found_by ts test q none h)) ∙ h
 
-  none_before : (q : ℕ) → form_of (ts ++ (id, f) ∷ []) q ≡ None → form_of ts q ≡ None
-  none_before q h = go (form_of ts q) refl
-    where
-      go : (o : Option Form) → form_of ts q ≡ o → o ≡ None
-      go None e = refl
-      go (Some g) e = let s = found_form q g e in cc
-
-  -- the last member of a struct that keeps its rule, where 0 is no type's id
-  last_stays : (block : Bool) (ms : List Member) → form_of (ts ++ (id, f) ∷ []) 0 ≡ None → keep_members ts block ms ≡ true
-      → form_of (ts ++ (id, f) ∷ []) (last_type ms) ≡ form_of ts (last_type ms)
+  -- the last member of a struct that keeps its rule
+  last_stays : (block : Bool) (ms : List Member) → keep_members ts block ms ≡ true
+      → option_map_or (λ (q : ℕ). is_runtime (form_of (ts ++ (id, f) ∷ []) q)) (last_type ms) false ≡ option_map_or (λ (q : ℕ). is_runtime (form_of ts q)) (last_type ms) false
   unfolding keep_members
-  last_stays block [] free h = free ∙ sym (none_before 0 free)
-  last_stays block (m ∷ []) free h = stays m.ty (member_found ts block true m.ty (both_hold (keeps_member ts block true m.ty) true h).0)
-  last_stays block (m ∷ n ∷ ms) free h = last_stays block (n ∷ ms) free (both_hold (keeps_member ts block (length (n ∷ ms) == 0) m.ty) (keep_members ts block (n ∷ ms)) h).1
+  last_stays block [] h = refl
+  last_stays block (m ∷ []) h = ap (λ (o : Option Form). is_runtime o) (stays m.ty (member_found ts block true m.ty (both_hold (keeps_member ts block true m.ty) true h).0))
+  last_stays block (m ∷ n ∷ ms) h = last_stays block (n ∷ ms) (both_hold (keeps_member ts block (length (n ∷ ms) == 0) m.ty) (keep_members ts block (n ∷ ms)) h).1
 
-  runtime_stays : (o : Option Form) → form_of (ts ++ (id, f) ∷ []) 0 ≡ None → ((g : Form) → o ≡ Some g → keeps_form ts g ≡ true) → form_has_runtime (ts ++ (id, f) ∷ []) o ≡ form_has_runtime ts o
-  runtime_stays None free kept = refl
-  runtime_stays (Some Void) free kept = refl
-  runtime_stays (Some Boolean) free kept = refl
-  runtime_stays (Some (Int width sign)) free kept = refl
-  runtime_stays (Some (Vector component count)) free kept = refl
-  runtime_stays (Some (Array element n stride)) free kept = refl
-  runtime_stays (Some (Runtime element stride)) free kept = refl
-  runtime_stays (Some (Struct members block)) free kept = ap (λ (o : Option Form). is_runtime o) (last_stays block members free (kept (Struct members block) refl))
-  runtime_stays (Some (Pointer class target)) free kept = refl
-  runtime_stays (Some (Function returns parameters)) free kept = refl
+  runtime_stays : (o : Option Form) → ((g : Form) → o ≡ Some g → keeps_form ts g ≡ true) → form_has_runtime (ts ++ (id, f) ∷ []) o ≡ form_has_runtime ts o
+  runtime_stays None kept = refl
+  runtime_stays (Some Void) kept = refl
+  runtime_stays (Some Boolean) kept = refl
+  runtime_stays (Some (Int width sign)) kept = refl
+  runtime_stays (Some (Vector component count)) kept = refl
+  runtime_stays (Some (Array element n stride)) kept = refl
+  runtime_stays (Some (Runtime element stride)) kept = refl
+  runtime_stays (Some (Struct members block)) kept = last_stays block members (kept (Struct members block) refl)
+  runtime_stays (Some (Pointer class target)) kept = refl
+  runtime_stays (Some (Function returns parameters)) kept = refl
 
-  sized_stays : AreSound ts → form_of (ts ++ (id, f) ∷ []) 0 ≡ None → (q : ℕ) → is_sized_data ts q ≡ true → is_sized_data (ts ++ (id, f) ∷ []) q ≡ true
-  sized_stays sound free q h =
+  sized_stays : AreSound ts → (q : ℕ) → is_sized_data ts q ≡ true → is_sized_data (ts ++ (id, f) ∷ []) q ≡ true
+  sized_stays sound q h =
       let parts = both_hold (is_data (form_of ts q)) (not (has_runtime ts q)) h in
       let same : form_of (ts ++ (id, f) ∷ []) q ≡ form_of ts q = stays q (sized_found ts q h) in
       let runtime : has_runtime (ts ++ (id, f) ∷ []) q ≡ has_runtime ts q
-      = ap (λ (o : Option Form). form_has_runtime (ts ++ (id, f) ∷ []) o) same ∙ runtime_stays (form_of ts q) free (λ g is. sound.kept q g is) in
+      = ap (λ (o : Option Form). form_has_runtime (ts ++ (id, f) ∷ []) o) same ∙ runtime_stays (form_of ts q) (λ g is. sound.kept q g is) in
       and_holds _ _ (carried (λ o. is_data o) q refl parts.0) (ap (λ (b : Bool). not b) runtime ∙ parts.1)
 
-  grown : AreSound ts → form_of (ts ++ (id, f) ∷ []) 0 ≡ None → CountAlike ts (ts ++ (id, f) ∷ [])
-  grown sound free = record {
+  grown : AreSound ts → CountAlike ts (ts ++ (id, f) ∷ [])
+  grown sound = record {
     scalars = λ q h. carried (λ o. is_scalar o) q refl h;
     parts = λ q h. carried (λ o. is_data o) q refl h;
-    sized = λ q h. sized_stays sound free q h;
+    sized = λ q h. sized_stays sound q h;
     runtimes = λ q h. carried (λ o. is_runtime o) q refl h;
   }
 
@@ -165,9 +158,9 @@ module _ (ts : Types) (id : ℕ) (f : Form) where
         among = record { number = number.0; is = found_number part number.0 number.1; below = number_lt ts part number.0 number.1 };
       }
 
-  pub sound_push : AreSound ts → form_of (ts ++ (id, f) ∷ []) 0 ≡ None → keeps_form ts f ≡ true → AreSound (ts ++ (id, f) ∷ [])
-  sound_push sound free keeps = record {
-    kept = λ q g h. form_carried ts (ts ++ (id, f) ∷ []) g (grown sound free)
+  pub sound_push : AreSound ts → keeps_form ts f ≡ true → AreSound (ts ++ (id, f) ∷ [])
+  sound_push sound keeps = record {
+    kept = λ q g h. form_carried ts (ts ++ (id, f) ∷ []) g (grown sound)
         (⊎_elim (λ was. sound.kept q g was) (λ added. ap (λ (x : Form). keeps_form ts x) (sym added.1) ∙ keeps) (in_either q g h));
     ordered = λ q index part g h is.
         ⊎_elim (λ was. still_before part q (sound.ordered q index part g was is))

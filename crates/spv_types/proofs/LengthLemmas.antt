@@ -9,7 +9,7 @@ use Rattle.spv_base.specs.declared.values.Value.{Value}
 use Rattle.spv_types.specs.declared.forms.Form.{Form}
 use Rattle.spv_types.specs.declared.forms.Form.TheVariants.{Void, Bool as Boolean, Int, Vector, Array, Runtime, Struct, Pointer, Function}
 use Rattle.spv_types.specs.Types.{Types, form_of, is_number, lengthened, number_of, with_length}
-use Rattle.spv_types.specs.Rules.{form_has_runtime, has_runtime, is_data, is_runtime, is_scalar, is_sized_data, keeps_form}
+use Rattle.spv_types.specs.Rules.{form_has_runtime, has_runtime, is_data, is_runtime, is_scalar, is_sized_data, keeps_form, last_type}
 use Rattle.spv_types.specs.Shapes.{HasShape, HasShapeAmong, part_type, reached, shape_step}
 use Rattle.spv_types.specs.Laws.{AreSound, ComesBefore, IsAmong}
 use Rattle.spv_types.proofs.TypeLemmas.{number_lt, number_same}
@@ -125,6 +125,10 @@ module _ (ts : Types) (id n : ℕ) where
   scalar_same : (q : ℕ) → is_scalar (form_of (with_length ts id n) q) ≡ is_scalar (form_of ts q)
   scalar_same q = may_same n (λ o. is_scalar o) (form_of ts q) (form_of (with_length ts id n) q) (length_may ts id n q) (λ element length stride. refl)
 
+  last_same : (o : Option ℕ) → option_map_or (λ (q : ℕ). is_runtime (form_of (with_length ts id n) q)) o false ≡ option_map_or (λ (q : ℕ). is_runtime (form_of ts q)) o false
+  last_same None = refl
+  last_same (Some q) = runtime_same q
+
   form_runtime_same : (o : Option Form) → form_has_runtime (with_length ts id n) o ≡ form_has_runtime ts o
   form_runtime_same None = refl
   form_runtime_same (Some Void) = refl
@@ -133,7 +137,7 @@ module _ (ts : Types) (id n : ℕ) where
   form_runtime_same (Some (Vector component count)) = refl
   form_runtime_same (Some (Array element length stride)) = refl
   form_runtime_same (Some (Runtime element stride)) = refl
-  form_runtime_same (Some (Struct members block)) = runtime_same _
+  form_runtime_same (Some (Struct members block)) = last_same (last_type members)
   form_runtime_same (Some (Pointer class target)) = refl
   form_runtime_same (Some (Function returns parameters)) = refl
 

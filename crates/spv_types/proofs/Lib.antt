@@ -4,7 +4,6 @@ pub mod Cuts
 pub mod LeafLemmas
 pub mod PlaceLemmas
 pub mod TableLemmas
-pub mod FactLemmas
 pub mod TypingLemmas
 pub mod RuleLemmas
 pub mod BuildLemmas

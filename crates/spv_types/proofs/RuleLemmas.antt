@@ -5,9 +5,9 @@ use Rattle.spv_types.specs.declared.forms.Member.{Member}
 use Rattle.spv_types.specs.Types.{Types}
 use Rattle.spv_types.specs.Rules.{keep_members, keeps_member, last_type}
 
-pub last_type_is : (ms : List Member) (m : Member) → slice_get ms (length ms - 1) ≡ Some m → last_type ms ≡ m.ty
+pub last_type_is : (ms : List Member) (m : Member) → slice_get ms (length ms - 1) ≡ Some m → last_type ms ≡ Some m.ty
 last_type_is [] m h = cc
-last_type_is (x ∷ []) m h = let e : x ≡ m = cc in ap (λ (y : Member). y.ty) e
+last_type_is (x ∷ []) m h = let e : x ≡ m = cc in ap (λ (y : Member). Some y.ty) e
 last_type_is (x ∷ y ∷ ms) m h = last_type_is (y ∷ ms) m (shift (length ms) x y ms m h)
   where
     shift : (k : ℕ) (x y : Member) (ms : List Member) (m : Member) → slice_get (x ∷ y ∷ ms) (suc (suc k) - 1) ≡ Some m → slice_get (y ∷ ms) (suc k - 1) ≡ Some m

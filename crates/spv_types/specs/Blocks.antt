@@ -2,14 +2,14 @@
 -- project's profile).
 use Rattle.std.specs.Prelude.{◌≡◌, ℕ, ◌==◌, ◌&&◌, ◌||◌, not, if◌then◌else◌, Bool, true, false, List, [], ◌∷◌, ◌++◌, Option, Some, None, Result}
 use Rattle.std.specs.List.{list_any}
-use Rattle.std.specs.Option.{is_some}
+use Rattle.std.specs.Option.{is_some, option_and_then, option_map_or}
 use Rattle.spv_base.specs.declared.instructions.Inst.{Inst}
 use Rattle.spv_base.specs.declared.causes.Refusal.{Refusal}
 use Rattle.spv_types.specs.declared.forms.Form.{Form}
 use Rattle.spv_types.specs.declared.forms.Form.TheVariants.{Pointer}
 use Rattle.spv_types.specs.Types.{Types, form_of}
-use Rattle.spv_types.specs.Operands.{id_at, lit_at}
-use Rattle.spv_index.specs.Definitions.{decoration, defining}
+use Rattle.spv_index.specs.Definitions.{decoration, defining, holds}
+use Rattle.spv_index.specs.Operands.{id_operand, literal_operand}
 use Rattle.spv_types.specs.Build.{unless_refused}
 use Rattle.spv_types.specs.Layout.{is_laid}
 
@@ -27,28 +27,24 @@ is_block_class class = is_buffer_class class || class == 9
 
 -- an OpVariable of a class whose variables point to blocks
 abbrev pub is_block_variable : Inst → Bool
-is_block_variable i = i.op == 59 && is_block_class (lit_at i.operands 0)
+is_block_variable i = i.op == 59 && option_map_or is_block_class (literal_operand i 0) false
 
 -- the target of a pointer type, or 0
 abbrev pub target_of : Option Form → ℕ
 target_of (Some (Pointer class target)) = target
 target_of _ = 0
 
-abbrev pub is_value : ℕ → Option ℕ → Bool
-is_value n None = false
-is_value n (Some m) = m == n
-
 -- a buffer variable with a DescriptorSet and a Binding
 abbrev pub is_at : List Inst → ℕ → ℕ → Inst → Bool
-is_at all set binding i = (i.op == 59 && is_buffer_class (lit_at i.operands 0)) && (is_value set (decoration all i.id 34) && is_value binding (decoration all i.id 33))
+is_at all set binding i = (i.op == 59 && option_map_or is_buffer_class (literal_operand i 0) false) && (holds set (decoration all i.id 34) && holds binding (decoration all i.id 33))
 
 -- one of some instructions is a buffer variable with that descriptor set and binding
 unfoldable pub is_taken : List Inst → List Inst → ℕ → ℕ → Bool
 is_taken all before set binding = list_any (is_at all set binding) before
 
--- a map has the places of the buffer variables among some instructions
-abbrev pub ArePlaces : List Inst → List Inst → (ℕ × ℕ → Option ℕ) → Type 0
-ArePlaces all before places = (set binding : ℕ) → is_some (places (set, binding)) ≡ is_taken all before set binding
+-- a set has the places of the buffer variables among some instructions
+abbrev pub ArePlaces : List Inst → List Inst → (ℕ → ℕ → Bool) → Type 0
+ArePlaces all before places = (set binding : ℕ) → places set binding ≡ is_taken all before set binding
 
 -- a buffer variable has a descriptor set and a binding, which no variable before it shares
 abbrev pub keeps_pair : List Inst → List Inst → Option ℕ → Option ℕ → Bool
@@ -56,19 +52,24 @@ keeps_pair all before None binding = false
 keeps_pair all before (Some set) None = false
 keeps_pair all before (Some set) (Some binding) = not (is_taken all before set binding)
 
+-- a pointer type whose target is laid out
+abbrev pub points_to_laid : Types → Option Form → Bool
+points_to_laid ts (Some (Pointer class target)) = is_laid ts target
+points_to_laid ts _ = false
+
 -- a variable of a block class points to a block that is laid out, and a buffer has a place of its own
 abbrev pub keeps_block : List Inst → Types → List Inst → Inst → Bool
-keeps_block all ts before i = is_laid ts (target_of (form_of ts i.ty)) && (lit_at i.operands 0 == 9 || keeps_pair all before (decoration all i.id 34) (decoration all i.id 33))
+keeps_block all ts before i = points_to_laid ts (form_of ts i.ty) && (holds 9 (literal_operand i 0) || keeps_pair all before (decoration all i.id 34) (decoration all i.id 33))
 
 -- the decoration BufferBlock stands on no id that is defined
-abbrev pub keeps_decoration : List Inst → Inst → ℕ → Bool
-keeps_decoration all i kind = not (kind == 3 && is_some (defining all (id_at i.operands 0)))
+abbrev pub keeps_decoration : List Inst → Inst → Option ℕ → Bool
+keeps_decoration all i kind = not (holds 3 kind && is_some (option_and_then (defining all) (id_operand i 0)))
 
 -- an instruction keeps the rules of layout, after those before it: OpDecorate, OpMemberDecorate and OpVariable have some
 unfoldable pub keeps_layout : List Inst → Types → List Inst → Inst → Bool
 keeps_layout all ts before i =
-    if i.op == 71 then keeps_decoration all i (lit_at i.operands 1)
-    else (if i.op == 72 then keeps_decoration all i (lit_at i.operands 2)
+    if i.op == 71 then keeps_decoration all i (literal_operand i 1)
+    else (if i.op == 72 then keeps_decoration all i (literal_operand i 2)
     else (if is_block_variable i then keeps_block all ts before i
     else true))
 

@@ -8,8 +8,9 @@ use Rattle.spv_base.specs.declared.values.Root.{Root}
 use Rattle.spv_base.specs.declared.values.Value.{Value}
 use Rattle.spv_types.specs.declared.forms.Form.{Form}
 use Rattle.spv_types.specs.Types.{IsUnset, Types, form_of, number_of}
-use Rattle.spv_types.specs.Typing.{before_functions, defined_form}
-use Rattle.spv_types.specs.Facts.{is_constant}
+use Rattle.spv_index.specs.Definitions.{before_functions}
+use Rattle.spv_types.specs.Typing.{defined_form}
+use Rattle.spv_types.specs.Constants.{is_constant}
 use Rattle.spv_types.specs.Rules.{keeps_form}
 use Rattle.spv_types.specs.Shapes.{HasShape, part_type, shape_step}
 

@@ -4,7 +4,7 @@ pub mod Cuts
 pub mod Leaves
 pub mod Places
 pub mod Operands
-pub mod Facts
+pub mod Constants
 pub mod Typing
 pub mod Rules
 pub mod Build

@@ -7,10 +7,9 @@ use Rattle.spv_types.specs.declared.forms.Form.{Form}
 use Rattle.spv_types.specs.declared.forms.Form.TheVariants.{Void, Bool as Boolean, Int, Vector, Array, Runtime, Struct, Pointer, Function}
 use Rattle.spv_types.specs.declared.forms.Member.{Member}
 use Rattle.spv_types.specs.Types.{Types, form_of}
-use Rattle.spv_types.specs.Operands.{lit_at}
-use Rattle.spv_types.specs.Facts.{is_constant}
-use Rattle.spv_index.specs.Definitions.{decoration, defining}
-use Rattle.spv_index.specs.Operands.{id_operand}
+use Rattle.spv_types.specs.Constants.{is_constant}
+use Rattle.spv_index.specs.Definitions.{decoration, defining, holds}
+use Rattle.spv_index.specs.Operands.{id_operand, literal_operand}
 use Rattle.spv_types.specs.Typing.{defined_form}
 
 -- a Boolean or integer type
@@ -33,16 +32,16 @@ abbrev pub is_runtime : Option Form → Bool
 is_runtime (Some (Runtime element stride)) = true
 is_runtime _ = false
 
--- the last member's type, or 0
-abbrev pub last_type : List Member → ℕ
-last_type [] = 0
-last_type (m ∷ []) = m.ty
+-- the last member's type
+abbrev pub last_type : List Member → Option ℕ
+last_type [] = None
+last_type (m ∷ []) = Some m.ty
 last_type (m ∷ n ∷ ms) = last_type (n ∷ ms)
 
 -- the type with a runtime array: one itself, or a struct whose last member is one
 abbrev pub form_has_runtime : Types → Option Form → Bool
 form_has_runtime ts (Some (Runtime element stride)) = true
-form_has_runtime ts (Some (Struct members block)) = is_runtime (form_of ts (last_type members))
+form_has_runtime ts (Some (Struct members block)) = option_map_or (λ ty. is_runtime (form_of ts ty)) (last_type members) false
 form_has_runtime ts _ = false
 
 abbrev pub has_runtime : Types → ℕ → Bool
@@ -126,7 +125,7 @@ keeps_target all ts i class target =
 
 -- a variable has a pointer type of its own class
 abbrev pub keeps_pointer : List Inst → Types → Inst → Option Form → Bool
-keeps_pointer all ts i (Some (Pointer class target)) = lit_at i.operands 0 == class && keeps_target all ts i class target
+keeps_pointer all ts i (Some (Pointer class target)) = holds class (literal_operand i 0) && keeps_target all ts i class target
 keeps_pointer all ts i _ = false
 
 -- a type, or an OpVariable or OpUndef, keeps its rules

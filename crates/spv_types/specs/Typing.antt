@@ -39,8 +39,3 @@ with_form ts id (Some f) = ts ++ (id, f) ∷ []
 unfoldable pub types_in : List Inst → List Inst → Types
 types_in all [] = []
 types_in all (i ∷ is) = with_form [] i.id (defined_form all i) ++ types_in all is
-
--- the instructions before the first OpFunction
-unfoldable pub before_functions : List Inst → List Inst
-before_functions [] = []
-before_functions (i ∷ is) = if i.op == 54 then [] else i ∷ before_functions is

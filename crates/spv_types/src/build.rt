@@ -1,31 +1,15 @@
 //! The types of a module.
-ghost use Rattle.std.specs.Prelude.{◌≡◌, ◌≤◌, length, take};
 ghost use Rattle.spv_base.specs.Answers.{Answers};
-ghost use Rattle.spv_types.specs.Typing.{before_functions};
 ghost use Rattle.spv_types.specs.Build.{types_of};
 
 use crate::table::TypeTable;
 use crate::typing::defined_form;
-use spv_base::{Fail, Inst, Refusal};
+use spv_base::{Fail, Refusal};
 use spv_index::Index;
-use spv_ops::op;
 use std::alloc::Global;
 
 /// The code of the rules of types.
 const TYPE_CODE: u8 = 12;
-
-/// The number of instructions before the functions.
-pub fn functions_start(insts: &[Inst]) -> usize
-    ensures within { result ≤ length insts.now }
-    ensures before { take result insts.now ≡ before_functions insts.now }
-{
-    for (n, inst) in insts.iter().enumerate() {
-        if inst.op == op::FUNCTION {
-            return n;
-        }
-    }
-    insts.len()
-}
 
 impl TypeTable {
     /// The types of a module, by the instructions before its functions.

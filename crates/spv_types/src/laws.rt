@@ -1,6 +1,5 @@
 //! Laws of types: what an accepted module's types give, and what the length of an array leaves as it was.
-ghost use Rattle.std.specs.Prelude.{◌≡◌, ◌≢◌, ℕ, List, None, Ok, Option, Some};
-ghost use Rattle.std.specs.List.{AllByRecursion};
+ghost use Rattle.std.specs.Prelude.{◌≡◌, ◌≢◌, ℕ, List, Ok, Option, Some};
 ghost use Rattle.spv_base.specs.declared.instructions.Inst.{Inst};
 ghost use Rattle.spv_base.specs.declared.values.Root.{Root};
 ghost use Rattle.spv_base.specs.declared.values.Value.{Value};
@@ -8,7 +7,7 @@ ghost use Rattle.spv_types.specs.declared.forms.Form.{Form};
 ghost use Rattle.spv_types.specs.Types.{Types, form_of, lengthened, number_of, with_length};
 ghost use Rattle.spv_types.specs.Build.{types_of};
 ghost use Rattle.spv_types.specs.Shapes.{HasShape};
-ghost use Rattle.spv_types.specs.Laws.{AreByForms, AreSound, HasResult, IsAmong};
+ghost use Rattle.spv_types.specs.Laws.{AreByForms, AreSound, IsAmong};
 
 /// Where types are sound, the shape of each is made of its form and of the shapes of its parts.
 pub fn shapes_are_by_forms()
@@ -30,10 +29,7 @@ pub fn lengths_leave_earlier_shapes()
         → IsAmong ts k id → HasShape ts roots id v → HasShape (with_length ts array n) roots id v }
 {}
 
-/// The types of a module that keeps the rules of types are sound, where none has the id 0: 0 is no id, and the rules take it
-/// for the last member's type of a struct with no members.
+/// The types of a module that keeps the rules of types are sound.
 pub fn accepted_types_are_sound()
-    ensures sound { (insts : List Inst) (ts : Types) → form_of ts 0 ≡ None → types_of insts ≡ Ok ts → AreSound ts }
-    ensures named { (insts : List Inst) (ts : Types) → AllByRecursion (HasResult insts) insts → types_of insts ≡ Ok ts
-        → AreSound ts }
+    ensures { (insts : List Inst) (ts : Types) → types_of insts ≡ Ok ts → AreSound ts }
 {}

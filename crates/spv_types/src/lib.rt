@@ -3,17 +3,16 @@
 #![tactic(auto)]
 
 mod blocks;
-pub mod build;
+mod build;
+pub mod constants;
 pub mod counting;
 pub mod counts;
-pub mod facts;
 pub mod forms;
 pub mod laws;
 mod layout;
 pub mod leaves;
 pub mod limits;
 mod numbers;
-pub mod opcodes;
 pub mod operands;
 pub mod places;
 pub mod rows;
@@ -25,8 +24,6 @@ mod tests;
 mod typing;
 pub mod views;
 
-pub use build::functions_start;
-pub use facts::Facts;
 pub use forms::{Form, Member};
 pub use limits::Limit;
 pub use operands::{id_at, id_of, lit_at};

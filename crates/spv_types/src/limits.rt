@@ -1,11 +1,9 @@
 //! What the limits on types count.
-ghost use Rattle.std.specs.Prelude.{◌≡◌, length, IfOk};
-ghost use Rattle.spv_types.specs.Limits.{AreLimits, limit_among, limit_of, limit_step, members_limit, repeated_limit, struct_limit};
+ghost use Rattle.std.specs.Prelude.{◌≡◌, length};
+ghost use Rattle.spv_types.specs.Limits.{AreLimits, limit_among, limit_step, members_limit, repeated_limit, struct_limit};
 
 use crate::forms::{Form, Member};
 use crate::table::TypeTable;
-use spv_base::NoMemory;
-use std::alloc::Global;
 
 /// How deep a type is nested, and how many cells it counts as. Both stop at the greatest u64.
 #[derive(Clone, Copy, Debug, PartialEq, Eq)]
@@ -99,27 +97,5 @@ impl TypeTable {
             Form::Runtime { element, .. } => self.known_limit(limits, *element).repeated(0),
             Form::Struct { members, .. } => self.struct_limit(limits, members.as_slice()),
         }
-    }
-
-    /// The nesting and the cells of each type, by its number.
-    pub fn limits(&self, alloc: Global) -> Result<Vec<Limit>, NoMemory>
-        ensures limits { IfOk result (λ limits. AreLimits self.now limits.items) }
-        ensures all { IfOk result (λ limits. length limits.items ≡ length self.now) }
-    {
-        let mut limits = Vec::new(alloc);
-        for n in 0..self.len() {
-            limits.push(self.form_limit(limits.as_slice(), self.form_at(n)))?;
-        }
-        Ok(limits)
-    }
-
-    /// The nesting and the cells of a type, where they are known of all.
-    #[tactic(auto, unfolding(crate::specs::Limits::limit_of))]
-    pub fn limit(&self, limits: &[Limit], ty: u32) -> Limit
-        requires limits { AreLimits self.now limits.now }
-        requires all { length limits.now ≡ length self.now }
-        ensures { result ≡ limit_of self.now ty }
-    {
-        self.known_limit(limits, ty)
     }
 }

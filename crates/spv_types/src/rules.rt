@@ -27,12 +27,11 @@ ghost use Rattle.spv_types.specs.Rules.{
   names_constant,
 };
 
-use crate::facts::is_constant;
+use crate::constants::is_constant;
 use crate::forms::{Form, Member};
-use crate::operands::lit_at;
 use crate::table::TypeTable;
 use spv_base::Inst;
-use spv_index::{Index, id_operand};
+use spv_index::{Index, id_operand, literal_operand};
 use spv_ops::{built_in, decoration, op, storage_class};
 
 fn is_width(n: u32) -> bool
@@ -56,13 +55,13 @@ fn is_class(n: u32) -> bool
     )
 }
 
-/// The type of the last member, or 0.
-fn last_type(members: &[Member]) -> u32
+/// The type of the last member.
+fn last_type(members: &[Member]) -> Option<u32>
     ensures { result ≡ last_type members.now }
 {
     match members.last() {
-        Some(member) => member.ty,
-        None => 0,
+        Some(member) => Some(member.ty),
+        None => None,
     }
 }
 
@@ -115,13 +114,23 @@ impl TypeTable {
         }
     }
 
+    /// Whether the last of some members is a runtime array.
+    fn ends_in_runtime(&self, members: &[Member]) -> bool
+        ensures { result ≡ option_map_or (λ ty. is_runtime (form_of self.now ty)) (last_type members.now) false }
+    {
+        match last_type(members) {
+            Some(ty) => self.is_runtime(ty),
+            None => false,
+        }
+    }
+
     /// Whether a type is a runtime array or has one as its last member.
     pub fn has_runtime(&self, ty: u32) -> bool
         ensures { result ≡ has_runtime self.now ty }
     {
         match self.form(ty) {
             Some(Form::Runtime { .. }) => true,
-            Some(Form::Struct { members, .. }) => self.is_runtime(last_type(members.as_slice())),
+            Some(Form::Struct { members, .. }) => self.ends_in_runtime(members.as_slice()),
             _ => false,
         }
     }
@@ -216,7 +225,8 @@ impl TypeTable {
     {
         match self.form(inst.ty) {
             Some(Form::Pointer { class, target }) => {
-                lit_at(inst, 0) == *class && self.keeps_target(index, inst, *class, *target)
+                literal_operand(inst, 0) == Some(*class)
+                    && self.keeps_target(index, inst, *class, *target)
             }
             _ => false,
         }

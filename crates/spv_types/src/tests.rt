@@ -1,5 +1,4 @@
 //! Types and blocks, built from instructions.
-use crate::limits::Limit;
 use crate::table::TypeTable;
 use spv_base::{Fail as Failure, Inst, Items, NoMemory, Operand, Refusal};
 use spv_index::Index;
@@ -106,14 +105,6 @@ fn leaves_and_places_of_a_block(rt: HostRuntime) -> Result<(), Fail> {
         table.set_length(3, 3);
     }
     table.count(alloc)?;
-    let limits = table.limits(alloc)?;
-    assert!(rt;
-        table.limit(limits.as_slice(), 4)
-            == Limit {
-                nesting: 4,
-                cells: 7
-            }
-    );
     let copy = table.copy(alloc)?;
     for table in [&table, &copy] {
         assert!(rt; table.cells(4) == Some(7));

@@ -2,6 +2,7 @@
 use Rattle.std.proofs.Common.{◌≡◌, ◌∙◌, ℕ, ◌*◌, ◌≤◌, ◌==◌, Bool, true, false, [], ◌∷◌, Option, Some, None, refl, sym, ap, arith, inl, inr}
 use Rattle.std.specs.Prelude.{◌&&◌, ◌||◌, not, nat_le, ◌⊎◌, ◌↔◌}
 use Rattle.std.specs.Option.{option_and_then, option_map_or}
+use Rattle.spv_index.specs.Definitions.{holds as is_held}
 use Rattle.spv_types.specs.declared.forms.Form.{Form}
 use Rattle.spv_types.specs.declared.forms.Form.TheVariants.{Void, Bool as FormBool, Int as FormInt, Vector, Array, Runtime, Struct, Pointer, Function}
 use Rattle.spv_types.specs.declared.forms.Member.{Member}
@@ -9,8 +10,8 @@ use Rattle.spv_types.specs.Types.{Types, form_of}
 use Rattle.spv_typing.specs.declared.lanes.Element.{Element}
 use Rattle.spv_typing.specs.declared.lanes.Element.TheVariants.{Bool as Boolean, Int}
 use Rattle.spv_typing.specs.declared.lanes.Lanes.{Lanes}
-use Rattle.spv_typing.specs.Lanes.{lanes_of, are_booleans, are_integers, are_several, is_boolean, is_integer, is_single, repeated, same_count, same_element, same_lanes, same_size}
-use Rattle.spv_typing.specs.Fitting.{fits, fits_rule, is_selectable, are_counted, fits_bitcast, fits_boolean, fits_booleans, fits_clamp, fits_compare, fits_convert, fits_integer, fits_integers, fits_reduce, fits_shift, is_condition, is_boolean_vector, is_field, is_one_boolean, is_one_integer, is_pair_of}
+use Rattle.spv_typing.specs.Lanes.{lanes_at, lanes_of, are_booleans, are_integers, are_several, is_boolean, is_integer, is_single, repeated, same_count, same_element, same_lanes, same_size}
+use Rattle.spv_typing.specs.Fitting.{fits, fits_rule, is_selectable, are_counted, fits_bitcast, fits_boolean, fits_booleans, fits_clamp, fits_compare, fits_convert, fits_extended, fits_integer, fits_integers, fits_reduce, fits_shift, is_condition, is_boolean_vector, is_field, is_one_boolean, is_one_integer, is_pair_of}
 use Rattle.spv_typing.specs.declared.rules.Rule.{Rule}
 use Rattle.spv_typing.specs.declared.rules.Rule.TheVariants.{Convert, Bitcast, Integer, Integers, Clamp, Shift, Boolean as OneBoolean, Booleans, Reduce, Compare, Extended, Select, InsertField, ExtractField}
 use Rattle.spv_typing.specs.Rules.{is_constant_operation, is_constant_rule, operand_count, rule_count, rule_of}
@@ -243,6 +244,23 @@ pair_says ty (Some (Struct (a ∷ b ∷ c ∷ ms) block)) h = impossible h
 pair_says ty (Some (Pointer class target)) h = impossible h
 pair_says ty (Some (Function returns parameters)) h = impossible h
 
+held : (t : ℕ) (o : Option ℕ) → is_held t o ≡ true → o ≡ Some t
+held t None h = impossible h
+held t (Some n) h = ap Some (equal n t h)
+
+holding : (t : ℕ) (o : Option ℕ) → o ≡ Some t → is_held t o ≡ true
+holding t o e = rw e (same t)
+
+extended_says : (ts : Types) (r : ℕ) (x y : Option ℕ) → fits_extended ts r x y ≡ true
+    → (t : ℕ) × (n : ℕ) × (w : ℕ) × (a : Member) × (b : Member) × (block : Bool) × (x ≡ Some t) × (lanes_of ts t ≡ integers n w) × (y ≡ Some t) × (form_of ts r ≡ Some (Struct (a ∷ b ∷ []) block)) × (a.ty ≡ t) × (b.ty ≡ t)
+extended_says ts r None y h = impossible h
+extended_says ts r (Some t) y h =
+    let p = parts (are_integers (lanes_of ts t) && is_held t y) (is_pair_of t (form_of ts r)) h in
+    let k = parts (are_integers (lanes_of ts t)) (is_held t y) p.0 in
+    let q = are_ints (lanes_of ts t) k.0 in
+    let s = pair_says t (form_of ts r) p.1 in
+    (t, q.0, q.1, s.0, s.1, s.2, refl, q.2, held t y k.1, s.3, s.4, s.5)
+
 -- ---- what gives each test
 
 convert_holds : (n w v : ℕ) (r a : Option Lanes) → r ≡ integers n w → a ≡ integers n v → fits_convert r a ≡ true
@@ -290,75 +308,66 @@ field_holds w v a b e f = rw (e, f) refl
 
 -- ---- the rules
 
-says : (ts : Types) (rule : Rule) (r : ℕ) (ty : ℕ → ℕ) → fits_rule ts rule r ty ≡ true → IsTyped ts rule r ty
-says ts Convert r ty h = convert_says (lanes_of ts r) (lanes_of ts (ty 0)) h
-says ts Bitcast r ty h = bitcast_says (lanes_of ts r) (lanes_of ts (ty 0)) h
-says ts Integer r ty h = integer_says (lanes_of ts r) (lanes_of ts (ty 0)) h
-says ts Integers r ty h = integers_say (lanes_of ts r) (lanes_of ts (ty 0)) (lanes_of ts (ty 1)) h
-says ts Clamp r ty h = clamp_says (lanes_of ts r) (lanes_of ts (ty 0)) (lanes_of ts (ty 1)) (lanes_of ts (ty 2)) h
-says ts Shift r ty h = shift_says (lanes_of ts r) (lanes_of ts (ty 0)) (lanes_of ts (ty 1)) h
-says ts OneBoolean r ty h = boolean_says (lanes_of ts r) (lanes_of ts (ty 0)) h
-says ts Booleans r ty h = booleans_say (lanes_of ts r) (lanes_of ts (ty 0)) (lanes_of ts (ty 1)) h
-says ts Reduce r ty h = reduce_says (lanes_of ts r) (lanes_of ts (ty 0)) h
-says ts Compare r ty h = compare_says (lanes_of ts r) (lanes_of ts (ty 0)) (lanes_of ts (ty 1)) h
-says ts Extended r ty h =
-    let p = parts (are_integers (lanes_of ts (ty 0)) && (ty 1 == ty 0)) (is_pair_of (ty 0) (form_of ts r)) h in
-    let k = parts (are_integers (lanes_of ts (ty 0))) (ty 1 == ty 0) p.0 in
-    let q = are_ints (lanes_of ts (ty 0)) k.0 in
-    let s = pair_says (ty 0) (form_of ts r) p.1 in
-    (q.0, q.1, s.0, s.1, s.2, q.2, equal (ty 1) (ty 0) k.1, s.3, s.4, s.5)
+says : (ts : Types) (rule : Rule) (r : ℕ) (ty : ℕ → Option ℕ) → fits_rule ts rule r ty ≡ true → IsTyped ts rule r ty
+says ts Convert r ty h = convert_says (lanes_of ts r) (lanes_at ts (ty 0)) h
+says ts Bitcast r ty h = bitcast_says (lanes_of ts r) (lanes_at ts (ty 0)) h
+says ts Integer r ty h = integer_says (lanes_of ts r) (lanes_at ts (ty 0)) h
+says ts Integers r ty h = integers_say (lanes_of ts r) (lanes_at ts (ty 0)) (lanes_at ts (ty 1)) h
+says ts Clamp r ty h = clamp_says (lanes_of ts r) (lanes_at ts (ty 0)) (lanes_at ts (ty 1)) (lanes_at ts (ty 2)) h
+says ts Shift r ty h = shift_says (lanes_of ts r) (lanes_at ts (ty 0)) (lanes_at ts (ty 1)) h
+says ts OneBoolean r ty h = boolean_says (lanes_of ts r) (lanes_at ts (ty 0)) h
+says ts Booleans r ty h = booleans_say (lanes_of ts r) (lanes_at ts (ty 0)) (lanes_at ts (ty 1)) h
+says ts Reduce r ty h = reduce_says (lanes_of ts r) (lanes_at ts (ty 0)) h
+says ts Compare r ty h = compare_says (lanes_of ts r) (lanes_at ts (ty 0)) (lanes_at ts (ty 1)) h
+says ts Extended r ty h = extended_says ts r (ty 0) (ty 1) h
 says ts Select r ty h =
-    let p = parts (is_selectable (form_of ts r) && ((ty 1 == r) && (ty 2 == r))) (is_condition (lanes_of ts r) (lanes_of ts (ty 0))) h in
-    let k = parts (is_selectable (form_of ts r)) ((ty 1 == r) && (ty 2 == r)) p.0 in
-    let q = parts (ty 1 == r) (ty 2 == r) k.1 in
-    (k.0, equal (ty 1) r q.0, equal (ty 2) r q.1, condition_says (lanes_of ts r) (lanes_of ts (ty 0)) p.1)
+    let p = parts (is_selectable (form_of ts r) && (is_held r (ty 1) && is_held r (ty 2))) (is_condition (lanes_of ts r) (lanes_at ts (ty 0))) h in
+    let k = parts (is_selectable (form_of ts r)) (is_held r (ty 1) && is_held r (ty 2)) p.0 in
+    let q = parts (is_held r (ty 1)) (is_held r (ty 2)) k.1 in
+    (k.0, held r (ty 1) q.0, held r (ty 2) q.1, condition_says (lanes_of ts r) (lanes_at ts (ty 0)) p.1)
 says ts InsertField r ty h =
-    let p = parts (fits_integers (lanes_of ts r) (lanes_of ts (ty 0)) (lanes_of ts (ty 1))) (is_field (lanes_of ts (ty 2)) (lanes_of ts (ty 3))) h in
-    let q = integers_say (lanes_of ts r) (lanes_of ts (ty 0)) (lanes_of ts (ty 1)) p.0 in
-    let k = parts (is_one_integer (lanes_of ts (ty 2))) (is_one_integer (lanes_of ts (ty 3))) p.1 in
-    let v = one_integer (lanes_of ts (ty 2)) k.0 in
-    let u = one_integer (lanes_of ts (ty 3)) k.1 in
+    let p = parts (fits_integers (lanes_of ts r) (lanes_at ts (ty 0)) (lanes_at ts (ty 1))) (is_field (lanes_at ts (ty 2)) (lanes_at ts (ty 3))) h in
+    let q = integers_say (lanes_of ts r) (lanes_at ts (ty 0)) (lanes_at ts (ty 1)) p.0 in
+    let k = parts (is_one_integer (lanes_at ts (ty 2))) (is_one_integer (lanes_at ts (ty 3))) p.1 in
+    let v = one_integer (lanes_at ts (ty 2)) k.0 in
+    let u = one_integer (lanes_at ts (ty 3)) k.1 in
     (q.0, q.1, v.0, u.0, q.2, q.3, q.4, v.1, u.1)
 says ts ExtractField r ty h =
-    let p = parts (fits_integer (lanes_of ts r) (lanes_of ts (ty 0))) (is_field (lanes_of ts (ty 1)) (lanes_of ts (ty 2))) h in
-    let q = integer_says (lanes_of ts r) (lanes_of ts (ty 0)) p.0 in
-    let k = parts (is_one_integer (lanes_of ts (ty 1))) (is_one_integer (lanes_of ts (ty 2))) p.1 in
-    let v = one_integer (lanes_of ts (ty 1)) k.0 in
-    let u = one_integer (lanes_of ts (ty 2)) k.1 in
+    let p = parts (fits_integer (lanes_of ts r) (lanes_at ts (ty 0))) (is_field (lanes_at ts (ty 1)) (lanes_at ts (ty 2))) h in
+    let q = integer_says (lanes_of ts r) (lanes_at ts (ty 0)) p.0 in
+    let k = parts (is_one_integer (lanes_at ts (ty 1))) (is_one_integer (lanes_at ts (ty 2))) p.1 in
+    let v = one_integer (lanes_at ts (ty 1)) k.0 in
+    let u = one_integer (lanes_at ts (ty 2)) k.1 in
     (q.0, q.1, v.0, u.0, q.2, q.3, v.1, u.1)
 
-holds : (ts : Types) (rule : Rule) (r : ℕ) (ty : ℕ → ℕ) → IsTyped ts rule r ty → fits_rule ts rule r ty ≡ true
-holds ts Convert r ty t = convert_holds t.0 t.1 t.2 (lanes_of ts r) (lanes_of ts (ty 0)) t.3 t.4
-holds ts Bitcast r ty t = bitcast_holds t.0 t.1 t.2 t.3 (lanes_of ts r) (lanes_of ts (ty 0)) t.4 t.5 t.6
-holds ts Integer r ty t = integer_holds t.0 t.1 (lanes_of ts r) (lanes_of ts (ty 0)) t.2 t.3
-holds ts Integers r ty t = integers_hold t.0 t.1 (lanes_of ts r) (lanes_of ts (ty 0)) (lanes_of ts (ty 1)) t.2 t.3 t.4
-holds ts Clamp r ty t = clamp_holds t.0 t.1 (lanes_of ts r) (lanes_of ts (ty 0)) (lanes_of ts (ty 1)) (lanes_of ts (ty 2)) t.2 t.3 t.4 t.5
-holds ts Shift r ty t = shift_holds t.0 t.1 t.2 (lanes_of ts r) (lanes_of ts (ty 0)) (lanes_of ts (ty 1)) t.3 t.4 t.5
-holds ts OneBoolean r ty t = boolean_holds t.0 (lanes_of ts r) (lanes_of ts (ty 0)) t.1 t.2
-holds ts Booleans r ty t = booleans_hold t.0 (lanes_of ts r) (lanes_of ts (ty 0)) (lanes_of ts (ty 1)) t.1 t.2 t.3
-holds ts Reduce r ty t = reduce_holds t.0 (lanes_of ts r) (lanes_of ts (ty 0)) t.1 t.2 t.3
-holds ts Compare r ty t = compare_holds t.0 t.1 (lanes_of ts r) (lanes_of ts (ty 0)) (lanes_of ts (ty 1)) t.2 t.3 t.4
-holds ts Extended r ty t = extended t.0 t.1 t.5 t.6
-  where
-    extended : (n w : ℕ) → lanes_of ts (ty 0) ≡ integers n w → ty 1 ≡ ty 0 → fits_rule ts Extended r ty ≡ true
-    extended n w e f =
-        both (are_integers (lanes_of ts (ty 0)) && (ty 1 == ty 0)) (is_pair_of (ty 0) (form_of ts r))
-        (both (are_integers (lanes_of ts (ty 0))) (ty 1 == ty 0) (rw e refl) (equals (ty 1) (ty 0) f))
-        (pair_holds (ty 0) (form_of ts r) t.2 t.3 t.4 t.7 t.8 t.9)
+holds : (ts : Types) (rule : Rule) (r : ℕ) (ty : ℕ → Option ℕ) → IsTyped ts rule r ty → fits_rule ts rule r ty ≡ true
+holds ts Convert r ty t = convert_holds t.0 t.1 t.2 (lanes_of ts r) (lanes_at ts (ty 0)) t.3 t.4
+holds ts Bitcast r ty t = bitcast_holds t.0 t.1 t.2 t.3 (lanes_of ts r) (lanes_at ts (ty 0)) t.4 t.5 t.6
+holds ts Integer r ty t = integer_holds t.0 t.1 (lanes_of ts r) (lanes_at ts (ty 0)) t.2 t.3
+holds ts Integers r ty t = integers_hold t.0 t.1 (lanes_of ts r) (lanes_at ts (ty 0)) (lanes_at ts (ty 1)) t.2 t.3 t.4
+holds ts Clamp r ty t = clamp_holds t.0 t.1 (lanes_of ts r) (lanes_at ts (ty 0)) (lanes_at ts (ty 1)) (lanes_at ts (ty 2)) t.2 t.3 t.4 t.5
+holds ts Shift r ty t = shift_holds t.0 t.1 t.2 (lanes_of ts r) (lanes_at ts (ty 0)) (lanes_at ts (ty 1)) t.3 t.4 t.5
+holds ts OneBoolean r ty t = boolean_holds t.0 (lanes_of ts r) (lanes_at ts (ty 0)) t.1 t.2
+holds ts Booleans r ty t = booleans_hold t.0 (lanes_of ts r) (lanes_at ts (ty 0)) (lanes_at ts (ty 1)) t.1 t.2 t.3
+holds ts Reduce r ty t = reduce_holds t.0 (lanes_of ts r) (lanes_at ts (ty 0)) t.1 t.2 t.3
+holds ts Compare r ty t = compare_holds t.0 t.1 (lanes_of ts r) (lanes_at ts (ty 0)) (lanes_at ts (ty 1)) t.2 t.3 t.4
+holds ts Extended r ty t = rw t.6 (both (are_integers (lanes_of ts t.0) && is_held t.0 (ty 1)) (is_pair_of t.0 (form_of ts r))
+    (both (are_integers (lanes_of ts t.0)) (is_held t.0 (ty 1)) (rw t.7 refl) (holding t.0 (ty 1) t.8))
+    (pair_holds t.0 (form_of ts r) t.3 t.4 t.5 t.9 t.10 t.11))
 holds ts Select r ty t =
-    both (is_selectable (form_of ts r) && ((ty 1 == r) && (ty 2 == r))) (is_condition (lanes_of ts r) (lanes_of ts (ty 0)))
-    (both (is_selectable (form_of ts r)) ((ty 1 == r) && (ty 2 == r)) t.0 (both (ty 1 == r) (ty 2 == r) (equals (ty 1) r t.1) (equals (ty 2) r t.2)))
-    (condition_holds (lanes_of ts r) (lanes_of ts (ty 0)) t.3)
+    both (is_selectable (form_of ts r) && (is_held r (ty 1) && is_held r (ty 2))) (is_condition (lanes_of ts r) (lanes_at ts (ty 0)))
+    (both (is_selectable (form_of ts r)) (is_held r (ty 1) && is_held r (ty 2)) t.0 (both (is_held r (ty 1)) (is_held r (ty 2)) (holding r (ty 1) t.1) (holding r (ty 2) t.2)))
+    (condition_holds (lanes_of ts r) (lanes_at ts (ty 0)) t.3)
 holds ts InsertField r ty t =
-    both (fits_integers (lanes_of ts r) (lanes_of ts (ty 0)) (lanes_of ts (ty 1))) (is_field (lanes_of ts (ty 2)) (lanes_of ts (ty 3)))
-    (integers_hold t.0 t.1 (lanes_of ts r) (lanes_of ts (ty 0)) (lanes_of ts (ty 1)) t.4 t.5 t.6)
-    (field_holds t.2 t.3 (lanes_of ts (ty 2)) (lanes_of ts (ty 3)) t.7 t.8)
+    both (fits_integers (lanes_of ts r) (lanes_at ts (ty 0)) (lanes_at ts (ty 1))) (is_field (lanes_at ts (ty 2)) (lanes_at ts (ty 3)))
+    (integers_hold t.0 t.1 (lanes_of ts r) (lanes_at ts (ty 0)) (lanes_at ts (ty 1)) t.4 t.5 t.6)
+    (field_holds t.2 t.3 (lanes_at ts (ty 2)) (lanes_at ts (ty 3)) t.7 t.8)
 holds ts ExtractField r ty t =
-    both (fits_integer (lanes_of ts r) (lanes_of ts (ty 0))) (is_field (lanes_of ts (ty 1)) (lanes_of ts (ty 2)))
-    (integer_holds t.0 t.1 (lanes_of ts r) (lanes_of ts (ty 0)) t.4 t.5)
-    (field_holds t.2 t.3 (lanes_of ts (ty 1)) (lanes_of ts (ty 2)) t.6 t.7)
+    both (fits_integer (lanes_of ts r) (lanes_at ts (ty 0))) (is_field (lanes_at ts (ty 1)) (lanes_at ts (ty 2)))
+    (integer_holds t.0 t.1 (lanes_of ts r) (lanes_at ts (ty 0)) t.4 t.5)
+    (field_holds t.2 t.3 (lanes_at ts (ty 1)) (lanes_at ts (ty 2)) t.6 t.7)
 
-pub rule_is : (ts : Types) (op r : ℕ) (ty : ℕ → ℕ) → (fits ts op r ty ≡ true) ↔ ((rule : Rule) × (rule_of op ≡ Some rule) × IsTyped ts rule r ty)
+pub rule_is : (ts : Types) (op r : ℕ) (ty : ℕ → Option ℕ) → (fits ts op r ty ≡ true) ↔ ((rule : Rule) × (rule_of op ≡ Some rule) × IsTyped ts rule r ty)
 rule_is ts op r ty = (found (rule_of op), back)
   where
     found : (o : Option Rule) → option_map_or (λ rule. fits_rule ts rule r ty) o false ≡ true → (rule : Rule) × (o ≡ Some rule) × IsTyped ts rule r ty
@@ -375,7 +384,7 @@ count_says count (Some n) h = ap Some (equal n count h)
 count_holds : (count : ℕ) (n : Option ℕ) → n ≡ Some count → has_count count n ≡ true
 count_holds count n e = rw e (same count)
 
-pub glsl_rule_is : (ts : Types) (number count r : ℕ) (ty : ℕ → ℕ) → (fits_glsl ts number count r ty ≡ true) ↔ ((rule : Rule) × (glsl_rule number ≡ Some rule) × (rule_count rule ≡ Some count) × IsTyped ts rule r ty)
+pub glsl_rule_is : (ts : Types) (number count r : ℕ) (ty : ℕ → Option ℕ) → (fits_glsl ts number count r ty ≡ true) ↔ ((rule : Rule) × (glsl_rule number ≡ Some rule) × (rule_count rule ≡ Some count) × IsTyped ts rule r ty)
 glsl_rule_is ts number count r ty = (found (glsl_rule number), back)
   where
     found : (o : Option Rule) → option_map_or (λ rule. has_count count (rule_count rule) && fits_rule ts rule r ty) o false ≡ true → (rule : Rule) × (o ≡ Some rule) × (rule_count rule ≡ Some count) × IsTyped ts rule r ty
@@ -409,7 +418,7 @@ constants_have_operands op h = counted (rule_of op) (parts (option_map_or is_con
 
 -- ---- only the first four operands are asked for
 
-rule_by : (ts : Types) (rule : Rule) (r : ℕ) (ty : ℕ → ℕ) → fits_rule ts rule r (operand_type (types_by ty)) ≡ fits_rule ts rule r ty
+rule_by : (ts : Types) (rule : Rule) (r : ℕ) (ty : ℕ → Option ℕ) → fits_rule ts rule r (operand_type (types_by ty)) ≡ fits_rule ts rule r ty
 rule_by ts Convert r ty = refl
 rule_by ts Bitcast r ty = refl
 rule_by ts Integer r ty = refl
@@ -425,14 +434,14 @@ rule_by ts Select r ty = refl
 rule_by ts InsertField r ty = refl
 rule_by ts ExtractField r ty = refl
 
-pub fits_by : (ts : Types) (op r : ℕ) (ty : ℕ → ℕ) → fits ts op r (operand_type (types_by ty)) ≡ fits ts op r ty
+pub fits_by : (ts : Types) (op r : ℕ) (ty : ℕ → Option ℕ) → fits ts op r (operand_type (types_by ty)) ≡ fits ts op r ty
 fits_by ts op r ty = found (rule_of op)
   where
     found : (o : Option Rule) → option_map_or (λ rule. fits_rule ts rule r (operand_type (types_by ty))) o false ≡ option_map_or (λ rule. fits_rule ts rule r ty) o false
     found None = refl
     found (Some rule) = rule_by ts rule r ty
 
-pub fits_glsl_by : (ts : Types) (number count r : ℕ) (ty : ℕ → ℕ) → fits_glsl ts number count r (operand_type (types_by ty)) ≡ fits_glsl ts number count r ty
+pub fits_glsl_by : (ts : Types) (number count r : ℕ) (ty : ℕ → Option ℕ) → fits_glsl ts number count r (operand_type (types_by ty)) ≡ fits_glsl ts number count r ty
 fits_glsl_by ts number count r ty = found (glsl_rule number)
   where
     found : (o : Option Rule) → option_map_or (λ rule. has_count count (rule_count rule) && fits_rule ts rule r (operand_type (types_by ty))) o false ≡ option_map_or (λ rule. has_count count (rule_count rule) && fits_rule ts rule r ty) o false

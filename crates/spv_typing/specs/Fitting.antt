@@ -3,6 +3,7 @@
 -- their ids are equal.
 use Rattle.std.specs.Prelude.{ℕ, ◌==◌, ◌&&◌, ◌||◌, Bool, true, false, List, [], ◌∷◌, Option, Some, None}
 use Rattle.std.specs.Option.{option_map_or}
+use Rattle.spv_index.specs.Definitions.{holds}
 use Rattle.spv_types.specs.declared.forms.Form.{Form}
 use Rattle.spv_types.specs.declared.forms.Form.TheVariants.{Void, Bool as FormBool, Int, Vector, Array, Runtime, Struct, Pointer, Function}
 use Rattle.spv_types.specs.declared.forms.Member.{Member}
@@ -10,7 +11,7 @@ use Rattle.spv_types.specs.Types.{Types, form_of}
 use Rattle.spv_typing.specs.declared.lanes.Lanes.{Lanes}
 use Rattle.spv_typing.specs.declared.rules.Rule.{Rule}
 use Rattle.spv_typing.specs.declared.rules.Rule.TheVariants.{Convert, Bitcast, Integer, Integers, Clamp, Shift, Boolean, Booleans, Reduce, Compare, Extended, Select, InsertField, ExtractField}
-use Rattle.spv_typing.specs.Lanes.{lanes_of, are_booleans, are_integers, are_several, is_single, same_count, same_lanes, same_size}
+use Rattle.spv_typing.specs.Lanes.{lanes_at, lanes_of, are_booleans, are_integers, are_several, is_single, same_count, same_lanes, same_size}
 use Rattle.spv_typing.specs.Rules.{rule_of}
 
 -- integers, and as many as of the result
@@ -108,35 +109,36 @@ abbrev pub fits_compare : Option Lanes → Option Lanes → Option Lanes → Boo
 fits_compare result a b = are_booleans result && (are_counted result a && same_lanes b a)
 
 -- IAddCarry, ISubBorrow, UMulExtended and SMulExtended: integers of one type give a struct of two of it
-abbrev pub fits_extended : Types → ℕ → ℕ → ℕ → Bool
-fits_extended ts result a b = (are_integers (lanes_of ts a) && b == a) && is_pair_of a (form_of ts result)
+abbrev pub fits_extended : Types → ℕ → Option ℕ → Option ℕ → Bool
+fits_extended ts result None b = false
+fits_extended ts result (Some ty) b = (are_integers (lanes_of ts ty) && holds ty b) && is_pair_of ty (form_of ts result)
 
 -- Select: both objects have the result's type
-abbrev pub fits_select : Types → ℕ → ℕ → ℕ → ℕ → Bool
-fits_select ts result condition a b = (is_selectable (form_of ts result) && (a == result && b == result)) && is_condition (lanes_of ts result) (lanes_of ts condition)
+abbrev pub fits_select : Types → ℕ → Option ℕ → Option ℕ → Option ℕ → Bool
+fits_select ts result condition a b = (is_selectable (form_of ts result) && (holds result a && holds result b)) && is_condition (lanes_of ts result) (lanes_at ts condition)
 
 -- the offset and the number of bits of a bit field: they hold for every lane
 abbrev pub is_field : Option Lanes → Option Lanes → Bool
 is_field offset count = is_one_integer offset && is_one_integer count
 
 -- whether operands with these types fit a result of a type, by a rule
-abbrev pub fits_rule : Types → Rule → ℕ → (ℕ → ℕ) → Bool
-fits_rule ts Convert result ty = fits_convert (lanes_of ts result) (lanes_of ts (ty 0))
-fits_rule ts Bitcast result ty = fits_bitcast (lanes_of ts result) (lanes_of ts (ty 0))
-fits_rule ts Integer result ty = fits_integer (lanes_of ts result) (lanes_of ts (ty 0))
-fits_rule ts Integers result ty = fits_integers (lanes_of ts result) (lanes_of ts (ty 0)) (lanes_of ts (ty 1))
-fits_rule ts Clamp result ty = fits_clamp (lanes_of ts result) (lanes_of ts (ty 0)) (lanes_of ts (ty 1)) (lanes_of ts (ty 2))
-fits_rule ts Shift result ty = fits_shift (lanes_of ts result) (lanes_of ts (ty 0)) (lanes_of ts (ty 1))
-fits_rule ts Boolean result ty = fits_boolean (lanes_of ts result) (lanes_of ts (ty 0))
-fits_rule ts Booleans result ty = fits_booleans (lanes_of ts result) (lanes_of ts (ty 0)) (lanes_of ts (ty 1))
-fits_rule ts Reduce result ty = fits_reduce (lanes_of ts result) (lanes_of ts (ty 0))
-fits_rule ts Compare result ty = fits_compare (lanes_of ts result) (lanes_of ts (ty 0)) (lanes_of ts (ty 1))
+abbrev pub fits_rule : Types → Rule → ℕ → (ℕ → Option ℕ) → Bool
+fits_rule ts Convert result ty = fits_convert (lanes_of ts result) (lanes_at ts (ty 0))
+fits_rule ts Bitcast result ty = fits_bitcast (lanes_of ts result) (lanes_at ts (ty 0))
+fits_rule ts Integer result ty = fits_integer (lanes_of ts result) (lanes_at ts (ty 0))
+fits_rule ts Integers result ty = fits_integers (lanes_of ts result) (lanes_at ts (ty 0)) (lanes_at ts (ty 1))
+fits_rule ts Clamp result ty = fits_clamp (lanes_of ts result) (lanes_at ts (ty 0)) (lanes_at ts (ty 1)) (lanes_at ts (ty 2))
+fits_rule ts Shift result ty = fits_shift (lanes_of ts result) (lanes_at ts (ty 0)) (lanes_at ts (ty 1))
+fits_rule ts Boolean result ty = fits_boolean (lanes_of ts result) (lanes_at ts (ty 0))
+fits_rule ts Booleans result ty = fits_booleans (lanes_of ts result) (lanes_at ts (ty 0)) (lanes_at ts (ty 1))
+fits_rule ts Reduce result ty = fits_reduce (lanes_of ts result) (lanes_at ts (ty 0))
+fits_rule ts Compare result ty = fits_compare (lanes_of ts result) (lanes_at ts (ty 0)) (lanes_at ts (ty 1))
 fits_rule ts Extended result ty = fits_extended ts result (ty 0) (ty 1)
 fits_rule ts Select result ty = fits_select ts result (ty 0) (ty 1) (ty 2)
-fits_rule ts InsertField result ty = fits_integers (lanes_of ts result) (lanes_of ts (ty 0)) (lanes_of ts (ty 1)) && is_field (lanes_of ts (ty 2)) (lanes_of ts (ty 3))
-fits_rule ts ExtractField result ty = fits_integer (lanes_of ts result) (lanes_of ts (ty 0)) && is_field (lanes_of ts (ty 1)) (lanes_of ts (ty 2))
+fits_rule ts InsertField result ty = fits_integers (lanes_of ts result) (lanes_at ts (ty 0)) (lanes_at ts (ty 1)) && is_field (lanes_at ts (ty 2)) (lanes_at ts (ty 3))
+fits_rule ts ExtractField result ty = fits_integer (lanes_of ts result) (lanes_at ts (ty 0)) && is_field (lanes_at ts (ty 1)) (lanes_at ts (ty 2))
 
--- Whether an operation's operands fit its result, where ty gives the type of each operand. An opcode without a rule fits
--- nothing.
-abbrev pub fits : Types → ℕ → ℕ → (ℕ → ℕ) → Bool
+-- Whether an operation's operands fit its result, where ty gives the type of each operand that has one. An opcode without a
+-- rule fits nothing.
+abbrev pub fits : Types → ℕ → ℕ → (ℕ → Option ℕ) → Bool
 fits ts op result ty = option_map_or (λ rule. fits_rule ts rule result ty) (rule_of op) false

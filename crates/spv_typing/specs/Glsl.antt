@@ -23,6 +23,6 @@ glsl_rule number = reads number glsl_rules
 abbrev pub has_count : ℕ → Option ℕ → Bool
 has_count count n = option_map_or (λ k. k == count) n false
 
--- Whether so many operands fit the result of an instruction, where ty gives the type of each operand.
-abbrev pub fits_glsl : Types → ℕ → ℕ → ℕ → (ℕ → ℕ) → Bool
+-- Whether so many operands fit the result of an instruction, where ty gives the type of each operand that has one.
+abbrev pub fits_glsl : Types → ℕ → ℕ → ℕ → (ℕ → Option ℕ) → Bool
 fits_glsl ts number count result ty = option_map_or (λ rule. has_count count (rule_count rule) && fits_rule ts rule result ty) (glsl_rule number) false

@@ -1,7 +1,7 @@
 -- The lanes of a type: its components, each a Boolean or an integer of a width (SPIR-V 1.6 section 2.2.1, "Scalar" and
 -- "Vector"). The sign of an integer type is not looked at.
 use Rattle.std.specs.Prelude.{ℕ, ◌*◌, ◌==◌, ◌&&◌, nat_le, Bool, true, false, Option, Some, None}
-use Rattle.std.specs.Option.{option_map}
+use Rattle.std.specs.Option.{option_map, option_and_then}
 use Rattle.spv_types.specs.declared.forms.Form.{Form}
 use Rattle.spv_types.specs.declared.forms.Form.TheVariants.{Void, Bool as FormBool, Int as FormInt, Vector, Array, Runtime, Struct, Pointer, Function}
 use Rattle.spv_types.specs.Types.{Types, form_of}
@@ -41,6 +41,10 @@ form_lanes ts (Some (Function returns parameters)) = None
 -- the lanes of the type with an id; none where it is no scalar and no vector
 unfoldable pub lanes_of : Types → ℕ → Option Lanes
 lanes_of ts id = form_lanes ts (form_of ts id)
+
+-- the lanes of an operand's type, where it has one
+abbrev pub lanes_at : Types → Option ℕ → Option Lanes
+lanes_at ts ty = option_and_then (lanes_of ts) ty
 
 -- ---- tests
 

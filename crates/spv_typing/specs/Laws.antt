@@ -9,7 +9,7 @@ use Rattle.spv_typing.specs.declared.lanes.Element.TheVariants.{Bool as Boolean,
 use Rattle.spv_typing.specs.declared.lanes.Lanes.{Lanes}
 use Rattle.spv_typing.specs.declared.rules.Rule.{Rule}
 use Rattle.spv_typing.specs.declared.rules.Rule.TheVariants.{Convert, Bitcast, Integer, Integers, Clamp, Shift, Boolean as OneBoolean, Booleans, Reduce, Compare, Extended, Select, InsertField, ExtractField}
-use Rattle.spv_typing.specs.Lanes.{lanes_of, repeated}
+use Rattle.spv_typing.specs.Lanes.{lanes_at, lanes_of, repeated}
 use Rattle.spv_typing.specs.Fitting.{is_selectable}
 
 -- so many integers of a width
@@ -24,19 +24,19 @@ booleans n = Some (repeated n Boolean)
 abbrev pub IsCondition : Option Lanes → Option Lanes → Type 0
 IsCondition result condition = (condition ≡ booleans 1) ⊎ ((n : ℕ) × (e : Element) × (2 ≤ n) × (condition ≡ booleans n) × (result ≡ Some (repeated n e)))
 
--- the types of the result and of the operands, where ty gives the type of each operand
-abbrev pub IsTyped : Types → Rule → ℕ → (ℕ → ℕ) → Type 0
-IsTyped ts Convert result ty = (n : ℕ) × (w : ℕ) × (v : ℕ) × (lanes_of ts result ≡ integers n w) × (lanes_of ts (ty 0) ≡ integers n v)
-IsTyped ts Bitcast result ty = (n : ℕ) × (w : ℕ) × (m : ℕ) × (v : ℕ) × (lanes_of ts result ≡ integers n w) × (lanes_of ts (ty 0) ≡ integers m v) × (m * v ≡ n * w)
-IsTyped ts Integer result ty = (n : ℕ) × (w : ℕ) × (lanes_of ts result ≡ integers n w) × (lanes_of ts (ty 0) ≡ integers n w)
-IsTyped ts Integers result ty = (n : ℕ) × (w : ℕ) × (lanes_of ts result ≡ integers n w) × (lanes_of ts (ty 0) ≡ integers n w) × (lanes_of ts (ty 1) ≡ integers n w)
-IsTyped ts Clamp result ty = (n : ℕ) × (w : ℕ) × (lanes_of ts result ≡ integers n w) × (lanes_of ts (ty 0) ≡ integers n w) × (lanes_of ts (ty 1) ≡ integers n w) × (lanes_of ts (ty 2) ≡ integers n w)
-IsTyped ts Shift result ty = (n : ℕ) × (w : ℕ) × (v : ℕ) × (lanes_of ts result ≡ integers n w) × (lanes_of ts (ty 0) ≡ integers n w) × (lanes_of ts (ty 1) ≡ integers n v)
-IsTyped ts OneBoolean result ty = (n : ℕ) × (lanes_of ts result ≡ booleans n) × (lanes_of ts (ty 0) ≡ booleans n)
-IsTyped ts Booleans result ty = (n : ℕ) × (lanes_of ts result ≡ booleans n) × (lanes_of ts (ty 0) ≡ booleans n) × (lanes_of ts (ty 1) ≡ booleans n)
-IsTyped ts Reduce result ty = (n : ℕ) × (2 ≤ n) × (lanes_of ts result ≡ booleans 1) × (lanes_of ts (ty 0) ≡ booleans n)
-IsTyped ts Compare result ty = (n : ℕ) × (w : ℕ) × (lanes_of ts result ≡ booleans n) × (lanes_of ts (ty 0) ≡ integers n w) × (lanes_of ts (ty 1) ≡ integers n w)
-IsTyped ts Extended result ty = (n : ℕ) × (w : ℕ) × (a : Member) × (b : Member) × (block : Bool) × (lanes_of ts (ty 0) ≡ integers n w) × (ty 1 ≡ ty 0) × (form_of ts result ≡ Some (Struct (a ∷ b ∷ []) block)) × (a.ty ≡ ty 0) × (b.ty ≡ ty 0)
-IsTyped ts Select result ty = (is_selectable (form_of ts result) ≡ true) × (ty 1 ≡ result) × (ty 2 ≡ result) × IsCondition (lanes_of ts result) (lanes_of ts (ty 0))
-IsTyped ts InsertField result ty = (n : ℕ) × (w : ℕ) × (v : ℕ) × (u : ℕ) × (lanes_of ts result ≡ integers n w) × (lanes_of ts (ty 0) ≡ integers n w) × (lanes_of ts (ty 1) ≡ integers n w) × (lanes_of ts (ty 2) ≡ integers 1 v) × (lanes_of ts (ty 3) ≡ integers 1 u)
-IsTyped ts ExtractField result ty = (n : ℕ) × (w : ℕ) × (v : ℕ) × (u : ℕ) × (lanes_of ts result ≡ integers n w) × (lanes_of ts (ty 0) ≡ integers n w) × (lanes_of ts (ty 1) ≡ integers 1 v) × (lanes_of ts (ty 2) ≡ integers 1 u)
+-- the types of the result and of the operands, where ty gives the type of each operand that has one
+abbrev pub IsTyped : Types → Rule → ℕ → (ℕ → Option ℕ) → Type 0
+IsTyped ts Convert result ty = (n : ℕ) × (w : ℕ) × (v : ℕ) × (lanes_of ts result ≡ integers n w) × (lanes_at ts (ty 0) ≡ integers n v)
+IsTyped ts Bitcast result ty = (n : ℕ) × (w : ℕ) × (m : ℕ) × (v : ℕ) × (lanes_of ts result ≡ integers n w) × (lanes_at ts (ty 0) ≡ integers m v) × (m * v ≡ n * w)
+IsTyped ts Integer result ty = (n : ℕ) × (w : ℕ) × (lanes_of ts result ≡ integers n w) × (lanes_at ts (ty 0) ≡ integers n w)
+IsTyped ts Integers result ty = (n : ℕ) × (w : ℕ) × (lanes_of ts result ≡ integers n w) × (lanes_at ts (ty 0) ≡ integers n w) × (lanes_at ts (ty 1) ≡ integers n w)
+IsTyped ts Clamp result ty = (n : ℕ) × (w : ℕ) × (lanes_of ts result ≡ integers n w) × (lanes_at ts (ty 0) ≡ integers n w) × (lanes_at ts (ty 1) ≡ integers n w) × (lanes_at ts (ty 2) ≡ integers n w)
+IsTyped ts Shift result ty = (n : ℕ) × (w : ℕ) × (v : ℕ) × (lanes_of ts result ≡ integers n w) × (lanes_at ts (ty 0) ≡ integers n w) × (lanes_at ts (ty 1) ≡ integers n v)
+IsTyped ts OneBoolean result ty = (n : ℕ) × (lanes_of ts result ≡ booleans n) × (lanes_at ts (ty 0) ≡ booleans n)
+IsTyped ts Booleans result ty = (n : ℕ) × (lanes_of ts result ≡ booleans n) × (lanes_at ts (ty 0) ≡ booleans n) × (lanes_at ts (ty 1) ≡ booleans n)
+IsTyped ts Reduce result ty = (n : ℕ) × (2 ≤ n) × (lanes_of ts result ≡ booleans 1) × (lanes_at ts (ty 0) ≡ booleans n)
+IsTyped ts Compare result ty = (n : ℕ) × (w : ℕ) × (lanes_of ts result ≡ booleans n) × (lanes_at ts (ty 0) ≡ integers n w) × (lanes_at ts (ty 1) ≡ integers n w)
+IsTyped ts Extended result ty = (t : ℕ) × (n : ℕ) × (w : ℕ) × (a : Member) × (b : Member) × (block : Bool) × (ty 0 ≡ Some t) × (lanes_of ts t ≡ integers n w) × (ty 1 ≡ Some t) × (form_of ts result ≡ Some (Struct (a ∷ b ∷ []) block)) × (a.ty ≡ t) × (b.ty ≡ t)
+IsTyped ts Select result ty = (is_selectable (form_of ts result) ≡ true) × (ty 1 ≡ Some result) × (ty 2 ≡ Some result) × IsCondition (lanes_of ts result) (lanes_at ts (ty 0))
+IsTyped ts InsertField result ty = (n : ℕ) × (w : ℕ) × (v : ℕ) × (u : ℕ) × (lanes_of ts result ≡ integers n w) × (lanes_at ts (ty 0) ≡ integers n w) × (lanes_at ts (ty 1) ≡ integers n w) × (lanes_at ts (ty 2) ≡ integers 1 v) × (lanes_at ts (ty 3) ≡ integers 1 u)
+IsTyped ts ExtractField result ty = (n : ℕ) × (w : ℕ) × (v : ℕ) × (u : ℕ) × (lanes_of ts result ≡ integers n w) × (lanes_at ts (ty 0) ≡ integers n w) × (lanes_at ts (ty 1) ≡ integers 1 v) × (lanes_at ts (ty 2) ≡ integers 1 u)

@@ -1,19 +1,15 @@
 //! Whether the types of an operation's operands fit the type of its result.
-ghost use Rattle.std.specs.Prelude.{◌≡◌, ◌+◌};
-ghost use Rattle.spv_index.specs.Definitions.{type_of};
-ghost use Rattle.spv_types.specs.Operands.{id_at};
+ghost use Rattle.std.specs.Prelude.{◌≡◌};
 ghost use Rattle.spv_types.specs.Types.{form_of};
 ghost use Rattle.spv_typing.specs.Fitting as spec;
 ghost use Rattle.spv_typing.specs.Operands.{operand_type};
 
 use crate::lanes::{
-    Lanes, are_booleans, are_integers, are_several, is_single, lanes_of, same_count, same_lanes,
-    same_size,
+    Lanes, are_booleans, are_integers, are_several, is_single, lanes_at, lanes_of, same_count,
+    same_lanes, same_size,
 };
-use crate::operands::{OperandTypes, types_from};
+use crate::operands::OperandTypes;
 use crate::rules::{Rule, rule_of};
-use spv_base::Inst;
-use spv_index::Definitions as Index;
 use spv_types::forms::Member;
 use spv_types::{Form, TypeTable};
 
@@ -158,20 +154,29 @@ pub fn fits_compare(outcome: Option<Lanes>, a: Option<Lanes>, b: Option<Lanes>) 
 }
 
 /// IAddCarry, ISubBorrow, UMulExtended and SMulExtended: integers of one type give a struct of two of it.
-pub fn fits_extended(types: &TypeTable, outcome: u32, a: u32, b: u32) -> bool
+pub fn fits_extended(types: &TypeTable, outcome: u32, a: Option<u32>, b: Option<u32>) -> bool
     ensures { result ≡ spec.fits_extended types.now outcome a b }
 {
-    are_integers(lanes_of(types, a)) && b == a && is_pair_of(types, a, outcome)
+    let Some(ty) = a else {
+        return false;
+    };
+    are_integers(lanes_of(types, ty)) && b == Some(ty) && is_pair_of(types, ty, outcome)
 }
 
 /// Select: both objects have the outcome's type, which is no pointer.
-pub fn fits_select(types: &TypeTable, outcome: u32, condition: u32, a: u32, b: u32) -> bool
+pub fn fits_select(
+    types: &TypeTable,
+    outcome: u32,
+    condition: Option<u32>,
+    a: Option<u32>,
+    b: Option<u32>,
+) -> bool
     ensures { result ≡ spec.fits_select types.now outcome condition a b }
 {
     is_selectable(types, outcome)
-        && a == outcome
-        && b == outcome
-        && is_condition(lanes_of(types, outcome), lanes_of(types, condition))
+        && a == Some(outcome)
+        && b == Some(outcome)
+        && is_condition(lanes_of(types, outcome), lanes_at(types, condition))
 }
 
 /// Whether the offset and the number of bits of a bit field are one integer each.
@@ -186,9 +191,9 @@ pub(crate) fn fits_rule(types: &TypeTable, rule: Rule, outcome: u32, tys: Operan
     ensures { result ≡ spec.fits_rule types.now rule outcome (operand_type tys) }
 {
     let lanes = lanes_of(types, outcome);
-    let first = lanes_of(types, tys.first);
-    let second = lanes_of(types, tys.second);
-    let third = lanes_of(types, tys.third);
+    let first = lanes_at(types, tys.first);
+    let second = lanes_at(types, tys.second);
+    let third = lanes_at(types, tys.third);
     match rule {
         Rule::Convert => fits_convert(lanes, first),
         Rule::Bitcast => fits_bitcast(lanes, first),
@@ -203,7 +208,7 @@ pub(crate) fn fits_rule(types: &TypeTable, rule: Rule, outcome: u32, tys: Operan
         Rule::Extended => fits_extended(types, outcome, tys.first, tys.second),
         Rule::Select => fits_select(types, outcome, tys.first, tys.second, tys.third),
         Rule::InsertField => {
-            fits_integers(lanes, first, second) && is_field(third, lanes_of(types, tys.fourth))
+            fits_integers(lanes, first, second) && is_field(third, lanes_at(types, tys.fourth))
         }
         Rule::ExtractField => fits_integer(lanes, first) && is_field(second, third),
     }
@@ -217,13 +222,4 @@ pub fn fits_types(types: &TypeTable, op: u16, outcome: u32, tys: OperandTypes) -
         Some(rule) => fits_rule(types, rule, outcome, tys),
         None => false,
     }
-}
-
-/// Whether the types of an operation's operands fit the type of its result. The operation's first operand is the operand
-/// of the instruction after the first `from`.
-#[tactic(auto, using(crate::proofs::LawLemmas::fits_by))]
-pub fn fits(types: &TypeTable, index: &Index, inst: &Inst, op: u16, from: usize) -> bool
-    ensures { result ≡ spec.fits types.now op inst.now.ty (λ k. type_of index.now (id_at inst.now.operands (from + k))) }
-{
-    fits_types(types, op, inst.ty, types_from(index, inst, from))
 }

@@ -1,16 +1,12 @@
 //! Whether the types of the operands of an instruction of GLSL.std.450 fit the type of its result.
-ghost use Rattle.std.specs.Prelude.{◌≡◌, ◌+◌, ◌-◌, length};
-ghost use Rattle.spv_index.specs.Definitions.{type_of};
-ghost use Rattle.spv_types.specs.Operands.{id_at};
+ghost use Rattle.std.specs.Prelude.{◌≡◌};
 ghost use Rattle.spv_typing.specs.Glsl as spec;
 ghost use Rattle.spv_typing.specs.Operands.{operand_type};
 ghost use Rattle.spv_typing.specs.Rules.{rule_count};
 
 use crate::fitting::fits_rule;
-use crate::operands::{OperandTypes, types_from};
+use crate::operands::OperandTypes;
 use crate::rules::Rule;
-use spv_base::Inst;
-use spv_index::Definitions as Index;
 use spv_ops::glsl;
 use spv_types::TypeTable;
 
@@ -52,14 +48,4 @@ pub fn fits_glsl_types(
         Some(rule) => has_count(rule, count) && fits_rule(types, rule, outcome, tys),
         None => false,
     }
-}
-
-/// Whether the operands of an instruction of GLSL.std.450, by its number, fit the type of its result. They are the
-/// operands of the OpExtInst after the first `from`.
-#[tactic(auto, using(crate::proofs::LawLemmas::fits_glsl_by))]
-pub fn fits_glsl(types: &TypeTable, index: &Index, inst: &Inst, number: u32, from: usize) -> bool
-    ensures { result ≡ spec.fits_glsl types.now number (length inst.now.operands - from) inst.now.ty (λ k. type_of index.now (id_at inst.now.operands (from + k))) }
-{
-    let count = inst.operands.len().saturating_sub(from);
-    fits_glsl_types(types, number, count, inst.ty, types_from(index, inst, from))
 }

@@ -50,6 +50,13 @@ pub fn lanes_of(types: &TypeTable, ty: u32) -> Option<Lanes>
     }
 }
 
+/// The lanes of an operand's type, where it has one.
+pub(crate) fn lanes_at(types: &TypeTable, ty: Option<u32>) -> Option<Lanes>
+    ensures { result ≡ spec.lanes_at types.now ty }
+{
+    lanes_of(types, ty?)
+}
+
 impl Element {
     fn is_same(self, other: Element) -> bool
         ensures { result ≡ spec.same_element self other }

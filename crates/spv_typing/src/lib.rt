@@ -11,8 +11,8 @@ pub mod rules;
 #[cfg(test)]
 mod tests;
 
-pub use fitting::{fits, fits_types};
-pub use glsl::{fits_glsl, fits_glsl_types};
+pub use fitting::fits_types;
+pub use glsl::fits_glsl_types;
 pub use lanes::{Element, Lanes, lanes_of};
 pub use operands::OperandTypes;
 pub use rules::{Rule, is_constant_operation, operand_count};

@@ -1,7 +1,7 @@
 //! The rules of operand types, over the types of a small module.
-use crate::{fits, fits_glsl};
+use crate::{OperandTypes, fits_glsl_types, fits_types};
 use spv_base::{Inst, Items, NoMemory, Operand};
-use spv_index::Definitions as Index;
+use spv_index::Index;
 use spv_ops::{DecodedModule, glsl, op};
 use spv_types::TypeTable;
 use std::alloc::Global;
@@ -54,12 +54,6 @@ const PAIR_OF_BOOLS: u32 = 20;
 
 const CALLED: u32 = 21;
 
-/// The greatest id of a type.
-const TYPES: u32 = 21;
-
-/// The id of a value of the type with an id is so much greater.
-const VALUES: u32 = 100;
-
 /// An operand of a test's instruction.
 #[derive(Clone, Copy)]
 enum Word {
@@ -69,7 +63,7 @@ enum Word {
 
 use Word::{Id, Lit};
 
-fn inst(alloc: Global, op: u16, ty: u32, id: u32, words: &[Word]) -> Result<Inst, NoMemory> {
+fn inst(alloc: Global, op: u16, id: u32, words: &[Word]) -> Result<Inst, NoMemory> {
     let mut operands = Items::new(alloc);
     for word in words {
         operands.push(match *word {
@@ -80,13 +74,13 @@ fn inst(alloc: Global, op: u16, ty: u32, id: u32, words: &[Word]) -> Result<Inst
     Ok(Inst {
         word: 0,
         op,
-        ty,
+        ty: 0,
         id,
         operands,
     })
 }
 
-/// The types, and in a function a value of each.
+/// The type instructions.
 fn module(alloc: Global) -> Result<Vec<Inst>, NoMemory> {
     let types: [(u16, u32, &[Word]); 21] = [
         (op::TYPE_INT, UINT, &[Lit(32), Lit(0)]),
@@ -113,11 +107,7 @@ fn module(alloc: Global) -> Result<Vec<Inst>, NoMemory> {
     ];
     let mut insts = Vec::new(alloc);
     for (op, id, words) in types {
-        insts.push(inst(alloc, op, 0, id, words)?)?;
-    }
-    insts.push(inst(alloc, op::FUNCTION, VOID, 50, &[])?)?;
-    for ty in 1..=TYPES {
-        insts.push(inst(alloc, op::UNDEF, ty, VALUES + ty, &[])?)?;
+        insts.push(inst(alloc, op, id, words)?)?;
     }
     Ok(insts)
 }
@@ -131,23 +121,21 @@ fn types_of(alloc: Global) -> Result<TypeTable, Fail> {
     let Some(decoded) = DecodedModule::of(insts, 200) else {
         return Err(Fail::new("words out of order"));
     };
-    let index = spv_index::Index::of(alloc, decoded)?;
+    let index = Index::of(alloc, decoded)?;
     match TypeTable::build(alloc, &index) {
         Ok(types) => Ok(types),
         Err(_) => Err(Fail::new("refused")),
     }
 }
 
-/// Some words, and then values of some types.
-fn words_of(alloc: Global, first: &[Word], types: &[u32]) -> Result<Vec<Word>, NoMemory> {
-    let mut words = Vec::new(alloc);
-    for word in first {
-        words.push(*word)?;
+/// The types of operands.
+fn operands(types: &[u32]) -> OperandTypes {
+    OperandTypes {
+        first: types.get(0).copied(),
+        second: types.get(1).copied(),
+        third: types.get(2).copied(),
+        fourth: types.get(3).copied(),
     }
-    for ty in types {
-        words.push(Id(VALUES.saturating_add(*ty)))?;
-    }
-    Ok(words)
 }
 
 /// Opcode, type of the result, types of the operands, and whether they fit.
@@ -200,31 +188,19 @@ const ROWS: [Row; 36] = [
 
 #[test]
 fn operands_of_each_rule(rt: HostRuntime) -> Result<(), Fail> {
-    let alloc = rt.alloc();
-    let types = types_of(alloc)?;
-    let insts = module(alloc)?;
-    let index = Index::of(alloc, insts.as_slice())?;
-    for (op, ty, operands, fit) in ROWS {
-        let words = words_of(alloc, &[], operands)?;
-        let in_body = inst(alloc, op, ty, 90, words.as_slice())?;
-        let words = words_of(alloc, &[Lit(u32::from(op))], operands)?;
-        let constant = inst(alloc, op::SPEC_CONSTANT_OP, ty, 90, words.as_slice())?;
+    let types = types_of(rt.alloc())?;
+    for (op, ty, tys, fit) in ROWS {
         assert!(rt;
-            fits(&types, &index, &in_body, op, 0) == fit,
+            fits_types(&types, op, ty, operands(tys)) == fit,
             "{op} of type {ty}"
         );
-        assert!(rt; fits(&types, &index, &constant, op, 1) == fit);
-        assert!(rt; !fits(&types, &index, &constant, op, usize::MAX));
     }
     Ok(())
 }
 
 #[test]
 fn instructions_of_glsl(rt: HostRuntime) -> Result<(), Fail> {
-    let alloc = rt.alloc();
-    let types = types_of(alloc)?;
-    let insts = module(alloc)?;
-    let index = Index::of(alloc, insts.as_slice())?;
+    let types = types_of(rt.alloc())?;
     // by number: the type of the result, the types of the operands, and whether they fit
     let rows: [(u32, u32, &[u32], bool); 8] = [
         (glsl::S_ABS, INT, &[UINT], true),
@@ -236,11 +212,9 @@ fn instructions_of_glsl(rt: HostRuntime) -> Result<(), Fail> {
         (43, INT, &[INT, INT, INT], false),
         (4, INT, &[INT], false),
     ];
-    for (number, ty, operands, fit) in rows {
-        let words = words_of(alloc, &[Id(70), Lit(number)], operands)?;
-        let given = inst(alloc, op::EXT_INST, ty, 90, words.as_slice())?;
+    for (number, ty, tys, fit) in rows {
         assert!(rt;
-            fits_glsl(&types, &index, &given, number, 2) == fit,
+            fits_glsl_types(&types, number, tys.len(), ty, operands(tys)) == fit,
             "{number} of type {ty}"
         );
     }

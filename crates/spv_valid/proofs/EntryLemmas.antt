@@ -10,7 +10,7 @@ use Rattle.spv_base.specs.declared.instructions.Inst.{Inst}
 use Rattle.spv_ops.specs.Module.{Decoded}
 use Rattle.spv_index.specs.Operands.{id_operand}
 use Rattle.spv_types.specs.Types.{Types}
-use Rattle.spv_types.specs.Typing.{before_functions}
+use Rattle.spv_index.specs.Definitions.{before_functions}
 use Rattle.spv_types.specs.Build.{type_breaches}
 use Rattle.spv_consts.specs.Table.{Constants}
 use Rattle.spv_consts.specs.Build.{constant_breaches, constants_of}

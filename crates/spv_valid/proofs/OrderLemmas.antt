@@ -4,12 +4,11 @@ use Rattle.std.specs.List.{flat_map}
 use Rattle.spv_base.specs.declared.causes.Refusal.{Refusal}
 use Rattle.spv_base.specs.declared.instructions.Inst.{Inst}
 use Rattle.spv_types.specs.Types.{Types}
-use Rattle.spv_types.specs.Typing.{before_functions}
 use Rattle.spv_types.specs.Rules.{keeps_rules}
 use Rattle.spv_types.specs.Typing.{types_in}
 use Rattle.spv_types.specs.Build.{type_breaches, type_code}
 use Rattle.spv_types.specs.Blocks.{breach as layout_breach, keeps_layout, module_breaches}
-use Rattle.spv_types.specs.declared.opcodes.TheConstants.{FUNCTION}
+use Rattle.spv_ops.specs.declared.op.TheConstants.{FUNCTION}
 use Rattle.spv_index.specs.declared.positions.Position.{Position}
 use Rattle.spv_index.specs.declared.classes.Class.{Class}
 use Rattle.spv_index.specs.Classes.{class_of}
@@ -19,7 +18,7 @@ use Rattle.spv_sections.specs.declared.ids.Scope.{Scope}
 use Rattle.spv_ops.specs.Module.{Decoded}
 use Rattle.spv_sections.specs.Ids.{breaches_at, breaches_of, is_naming, is_numbered, naming_breach, number_breach, scope_of}
 use Rattle.spv_sections.specs.Capabilities.{capability_breaches, capability_code, is_here}
-use Rattle.spv_index.specs.Definitions.{before_functions as front_of}
+use Rattle.spv_index.specs.Definitions.{before_functions}
 use Rattle.spv_bodies.specs.Context.{Known}
 use Rattle.spv_bodies.specs.declared.within.Within.{Within}
 use Rattle.spv_bodies.specs.Bodies.{body_breaches, breach as body_breach, keeps_body}
@@ -178,4 +177,4 @@ bodies_in_order_from k w from [] ascend = none_in_order from
 bodies_in_order_from k w from (i ∷ is) (first, rest) = one_in_order from (keeps_body k (place i w is)) (body_breach i) _ first (bodies_in_order_from k (within_after w i) (suc i.word) is rest)
 
 pub bodies_in_order : (k : Known) (from : ℕ) (insts : List Inst) → Ascend from insts → InOrder from (body_breaches k (placed insts))
-bodies_in_order k from insts ascend = bodies_in_order_from k nowhere from (drop (length (front_of insts)) insts) (Ascend-drop (length (front_of insts)) from insts ascend)
+bodies_in_order k from insts ascend = bodies_in_order_from k nowhere from (drop (length (before_functions insts)) insts) (Ascend-drop (length (before_functions insts)) from insts ascend)

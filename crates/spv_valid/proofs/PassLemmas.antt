@@ -8,7 +8,7 @@ use Rattle.std.specs.Result.{result_err, result_unwrap_or}
 use Rattle.spv_base.specs.declared.causes.Refusal.{Refusal}
 use Rattle.spv_base.specs.declared.instructions.Inst.{Inst}
 use Rattle.spv_types.specs.Types.{Types}
-use Rattle.spv_types.specs.Typing.{before_functions}
+use Rattle.spv_index.specs.Definitions.{before_functions}
 use Rattle.spv_types.specs.Build.{type_breaches, types_of, unless_refused}
 use Rattle.spv_types.specs.Blocks.{layout_of, nothing}
 use Rattle.spv_index.specs.Classes.{sets_of}

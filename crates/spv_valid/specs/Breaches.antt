@@ -6,7 +6,8 @@ use Rattle.spv_base.specs.declared.causes.Refusal.{Refusal}
 use Rattle.spv_base.specs.declared.instructions.Inst.{Inst}
 use Rattle.spv_ops.specs.Module.{Decoded}
 use Rattle.spv_types.specs.Types.{Types}
-use Rattle.spv_types.specs.Typing.{before_functions, types_in}
+use Rattle.spv_index.specs.Definitions.{before_functions}
+use Rattle.spv_types.specs.Typing.{types_in}
 use Rattle.spv_types.specs.Build.{type_breaches}
 use Rattle.spv_types.specs.Blocks.{module_breaches}
 use Rattle.spv_cfg.specs.Flow.{block_breaches, call_breaches, flow_in}

@@ -12,7 +12,7 @@ use Rattle.spv_index.specs.Definitions.{decoration, defining, holds}
 use Rattle.spv_types.specs.declared.forms.Form.{Form}
 use Rattle.spv_types.specs.declared.forms.Form.TheVariants.{Void, Bool as Boolean, Int, Vector, Array, Runtime, Struct, Pointer, Function}
 use Rattle.spv_types.specs.Types.{Types, form_of}
-use Rattle.spv_types.specs.Facts.{is_constant}
+use Rattle.spv_types.specs.Constants.{is_constant}
 use Rattle.spv_types.specs.Rules.{is_three_words, is_word}
 use Rattle.spv_types.specs.Views.{is_void}
 use Rattle.spv_cfg.specs.Flow.{Flow}

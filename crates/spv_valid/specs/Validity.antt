@@ -10,7 +10,7 @@ use Rattle.spv_sections.specs.Laws.{AreInOrder}
 use Rattle.spv_consts.specs.Laws.{HaveShapes, HaveValues}
 use Rattle.spv_bodies.specs.Laws.{KeepRules}
 use Rattle.spv_bodies.specs.Context.{known_of}
-use Rattle.spv_types.specs.Typing.{before_functions}
+use Rattle.spv_index.specs.Definitions.{before_functions}
 use Rattle.spv_index.specs.Operands.{id_operand}
 use Rattle.spv_types.specs.Build.{type_breaches}
 use Rattle.spv_consts.specs.Build.{constant_breaches}

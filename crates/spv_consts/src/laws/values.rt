@@ -4,7 +4,7 @@ ghost use Rattle.spv_base.specs.Lane.{Lane};
 ghost use Rattle.spv_base.specs.declared.instructions.Inst.{Inst};
 ghost use Rattle.spv_base.specs.declared.values.Root.{Root};
 ghost use Rattle.spv_types.specs.Types.{Types, form_of};
-ghost use Rattle.spv_types.specs.Facts.{is_constant};
+ghost use Rattle.spv_types.specs.Constants.{is_constant};
 ghost use Rattle.spv_types.specs.Rules.{is_data};
 ghost use Rattle.spv_types.specs.Laws.{AreComplete, AreSound, IsAmong};
 ghost use Rattle.spv_consts.specs.Context.{Context};

@@ -1,6 +1,6 @@
 use Rattle.std.proofs.Common.{nat_cmp}
 use Rattle.std.specs.BTreeMap.{get}
-use Rattle.spv_types.specs.Facts.{pair_cmp}
+use Rattle.spv_index.specs.Keys.{pair_cmp}
 use Rattle.spv_bodies.proofs.TermLemmas.{all_differ}
 use Rattle.spv_bodies.proofs.terms.Terms.differ.Goals as goal
 

@@ -1,12 +1,12 @@
 use Rattle.std.proofs.Common.{◌≡◌, [], take, drop}
-use Rattle.std.specs.BTreeMap.{get}
-use Rattle.spv_types.specs.Facts.{pair_cmp}
+use Rattle.std.specs.BTreeSet.{contains}
+use Rattle.spv_index.specs.Keys.{pair_cmp}
 use Rattle.spv_types.specs.Blocks.{ArePlaces, module_breaches}
 use Rattle.spv_types.proofs.table.TypeTable.check_blocks.Given as goal
 
 -- the places of the buffer variables so far, of which none is refused
 abbrev pub invariant-loop-inst : goal.invariant-loop-inst
 invariant-loop-inst l = record {
-  places : ArePlaces l.index.insts (take l.inst-index l.insts) (get pair_cmp l.places);
+  places : ArePlaces l.index.insts (take l.inst-index l.insts) (λ a b. contains pair_cmp l.places (a, b));
   refusals : module_breaches l.index.insts l.self [] l.insts ≡ module_breaches l.index.insts l.self (take l.inst-index l.insts) (drop l.inst-index l.insts);
 }

@@ -1,8 +1,0 @@
-use Rattle.std.proofs.Common.{◌≡◌, ℕ, nat_cmp, take}
-use Rattle.std.specs.BTreeMap.{get}
-use Rattle.spv_types.specs.Facts.{constant_type}
-use Rattle.spv_types.proofs.facts.constants.Given as goal
-
--- the map has the constants of the instructions so far
-abbrev pub invariant-loop-inst : goal.invariant-loop-inst
-invariant-loop-inst l = (id : ℕ) → get nat_cmp l.map id ≡ constant_type (take l.inst-index l.insts) id
