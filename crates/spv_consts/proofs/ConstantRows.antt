@@ -1,7 +1,8 @@
 -- The row of a constant, made of the rows of its operands as they are in the end.
+use Rattle.spv_index.specs.Operands.{id_in}
 use Rattle.std.proofs.Common.{◌≡◌, ◌∙◌, ℕ, suc, ◌<◌, ◌==◌, Bool, true, false, List, [], ◌∷◌, length, map, Option, Some, None, pos, refl, sym, ap, subst}
 use Rattle.std.proofs.lemmas.Bool.{and_parts, eqb-true, ltb-true}
-use Rattle.std.specs.Prelude.{nat_lt, ◌||◌}
+use Rattle.std.specs.Prelude.{if◌then◌else◌, nat_lt, ◌||◌}
 use Rattle.std.specs.List.{flat_map}
 use Rattle.std.specs.Option.{IsSomeAnd, is_some, option_and_then, option_map, option_map_or}
 use Rattle.spv_base.specs.Entries.{reads}
@@ -12,21 +13,20 @@ use Rattle.spv_types.specs.declared.forms.Form.{Form}
 use Rattle.spv_types.specs.declared.forms.Form.TheVariants.{Void, Bool as Boolean, Int, Vector, Array, Runtime, Struct, Pointer, Function}
 use Rattle.spv_types.specs.Constants.{is_constant}
 use Rattle.spv_types.specs.Laws.{IsAmong}
-use Rattle.spv_types.specs.Operands.{id_of}
 use Rattle.spv_types.specs.Rules.{is_sized_data}
 use Rattle.spv_types.specs.Types.{Types, form_of}
-use Rattle.spv_index.specs.Definitions.{defining, type_of}
+use Rattle.spv_index.specs.Definitions.{defining, result_type, type_in}
 use Rattle.spv_alu.specs.Results.{integer, truth}
 use Rattle.spv_consts.specs.Table.{Row}
 use Rattle.spv_consts.specs.Context.{Context, has_undef_before, is_undef_before}
-use Rattle.spv_consts.specs.State.{State, is_operand, operand_cells}
+use Rattle.spv_consts.specs.State.{State, given_cells, is_operand, operand_cells}
 use Rattle.spv_consts.specs.Values.{blank_lane, leaf_widths, null_of, undefined_of}
 use Rattle.spv_consts.specs.Literals.{integer_width, keeps_literal, literal_number}
 use Rattle.spv_consts.specs.Operations.{lane_width, scalar_width}
 use Rattle.spv_consts.specs.Overrides.{is_same}
-use Rattle.spv_consts.specs.Rules.{keeps_composite, keeps_kind, keeps_opcode, keeps_operation, keeps_part, keeps_parts, keeps_rules, opcode_of, part_count, part_type_of}
+use Rattle.spv_consts.specs.Rules.{has_type, keeps_composite, keeps_kind, keeps_opcode, keeps_operation, keeps_part, keeps_parts, keeps_rules, opcode_of, part_count, part_type_of}
 use Rattle.spv_consts.specs.Evaluation.{cells_of, computed_cells, value_of}
-use Rattle.spv_consts.specs.Constants.{Has, IsConstant, Known, constituents, leaves_of, literal, result_of, specialized}
+use Rattle.spv_consts.specs.Constants.{Has, IsConstant, Known, constituents, leaves_if, leaves_of, literal, result_of, specialized}
 use Rattle.spv_consts.proofs.ConstantGrowth.{Grows, erased}
 use Rattle.spv_consts.proofs.LaneFills.{impossible}
 use Rattle.spv_consts.proofs.OperationResults.{result_is}
@@ -108,45 +108,64 @@ module _ (m : Context) (front : List Inst) (i : Inst) (s t : State) (follows : F
 
   -- ---- operands
 
-  undefined_among : (id : ℕ) (d : Inst) → defining m.all id ≡ Some d → is_undef_before i.word d ≡ true → IsAmong s.types s.known (type_of m.all id)
-  undefined_among id d defined before =
-      let tests = and_parts (d.op == 1) (nat_lt d.word i.word) before in
-      let at = (place.undefined id d defined (eqb-true d.op 1 tests.0) (ltb-true d.word i.word tests.1)).0 in
-      let among : IsAmong s.types s.known d.ty = record { number = at.number; is = follows.numbers d.ty ∙ at.is; below = subst (λ (n : ℕ). at.number < n) (sym follows.known) at.below } in
-      rw defined among
+  undefined_among : (id ty : ℕ) (d : Inst) → defining m.all id ≡ Some d → is_undef_before i.word d ≡ true → result_type m.all id ≡ Some ty → IsAmong s.types s.known ty
+  undefined_among id ty d defined before typed = subst (λ (q : ℕ). IsAmong s.types s.known q) own among
+    where
+      among : IsAmong s.types s.known d.ty
+      among =
+          let tests = and_parts (d.op == 1) (nat_lt d.word i.word) before in
+          let at = (place.undefined id d defined (eqb-true d.op 1 tests.0) (ltb-true d.word i.word tests.1)).0 in
+          record { number = at.number; is = follows.numbers d.ty ∙ at.is; below = subst (λ (n : ℕ). at.number < n) (sym follows.known) at.below }
+
+      by_test : (b : Bool) → (if b then None else Some d.ty) ≡ Some ty → d.ty ≡ ty
+      by_test true e = cc
+      by_test false e = cc
+
+      own : d.ty ≡ ty
+      own = by_test (d.ty == 0) (sym (ap (λ (o : Option Inst). option_and_then type_in o) defined) ∙ typed)
 
   no_constant : (d : Inst) → is_undef_before i.word d ≡ true → is_constant d.op ≡ true → ⊥
   no_constant d before constant =
       let op : d.op ≡ 1 = eqb-true d.op 1 (and_parts (d.op == 1) (nat_lt d.word i.word) before).0 in
       impossible (subst (λ (n : ℕ). is_constant n ≡ true) op constant)
 
+  -- of an OpUndef
+  undefined_same : (id : ℕ) (d : Inst) → defining m.all id ≡ Some d → is_undef_before i.word d ≡ true → option_map_or (undefined_of s.types) (result_type m.all id) [] ≡ option_map_or (undefined_of t.types) (result_type m.all id) []
+  undefined_same id d defined before = by_type (result_type m.all id) refl
+    where
+      by_type : (o : Option ℕ) → result_type m.all id ≡ o → option_map_or (undefined_of s.types) o [] ≡ option_map_or (undefined_of t.types) o []
+      by_type None e = refl
+      by_type (Some ty) e = blanks_same false ty (undefined_among id ty d defined before e)
+
   leaves_same : (id : ℕ) → is_operand m s i.word id ≡ true → operand_cells m s id ≡ leaves_of m k id
   leaves_same id h = by_row (reads id s.values) refl h
     where
       by_later : (d : Inst) → defining m.all id ≡ Some d → is_undef_before i.word d ≡ true → reads id s.values ≡ None → (o : Option Row) → reads id t.values ≡ o
-          → undefined_of s.types (type_of m.all id) ≡ option_map_or (λ (r : Row). r.cells) o (undefined_of t.types (type_of m.all id))
-      by_later d defined before none None e = blanks_same false (type_of m.all id) (undefined_among id d defined before)
+          → option_map_or (undefined_of s.types) (result_type m.all id) [] ≡ option_map_or (λ (r : Row). r.cells) o (option_map_or (undefined_of t.types) (result_type m.all id) [])
+      by_later d defined before none None e = undefined_same id d defined before
       by_later d defined before none (Some r) e = absurd (no_constant d before (grows.added id r d none e defined))
 
       by_defined : (o : Option Inst) → defining m.all id ≡ o → option_map_or (is_undef_before i.word) o false ≡ true → reads id s.values ≡ None
-          → undefined_of s.types (type_of m.all id) ≡ option_map_or (λ (r : Row). r.cells) (reads id t.values) (undefined_of t.types (type_of m.all id))
+          → option_map_or (undefined_of s.types) (result_type m.all id) [] ≡ option_map_or (λ (r : Row). r.cells) (reads id t.values) (option_map_or (undefined_of t.types) (result_type m.all id) [])
       by_defined None e h none = impossible h
       by_defined (Some d) e h none = by_later d e h none (reads id t.values) refl
 
-      by_row : (o : Option Row) → reads id s.values ≡ o → (is_some o || has_undef_before m i.word id) ≡ true
-          → operand_cells m s id ≡ leaves_of m k id
-      by_row None e h = ap (λ (o : Option Row). option_map_or (λ (r : Row). r.cells) o (undefined_of s.types (type_of m.all id))) e ∙ by_defined (defining m.all id) refl h e
+      by_row : (o : Option Row) → reads id s.values ≡ o → (is_some o || has_undef_before m i.word id) ≡ true → operand_cells m s id ≡ leaves_of m k id
+      by_row None e h = ap (λ (o : Option Row). option_map_or (λ (r : Row). r.cells) o (option_map_or (undefined_of s.types) (result_type m.all id) [])) e ∙ by_defined (defining m.all id) refl h e
       by_row (Some r) e h =
-          ap (λ (o : Option Row). option_map_or (λ (r : Row). r.cells) o (undefined_of s.types (type_of m.all id))) e
-          ∙ sym (ap (λ (o : Option Row). option_map_or (λ (r : Row). r.cells) o (undefined_of t.types (type_of m.all id))) (grows.kept id r e))
+          ap (λ (o : Option Row). option_map_or (λ (r : Row). r.cells) o (option_map_or (undefined_of s.types) (result_type m.all id) [])) e
+          ∙ sym (ap (λ (o : Option Row). option_map_or (λ (r : Row). r.cells) o (option_map_or (undefined_of t.types) (result_type m.all id) [])) (grows.kept id r e))
 
-  parts_same : (form : Option Form) (n : ℕ) (os : List Operand) → keeps_parts m s i.word form n os ≡ true → flat_map (λ (o : Operand). operand_cells m s (id_of o)) os ≡ flat_map (λ (o : Operand). leaves_of m k (id_of o)) os
+  part_same : (part o : Option ℕ) → keeps_part m s i.word part o ≡ true → given_cells m s o ≡ leaves_if m k o
+  part_same part None h = impossible h
+  part_same part (Some id) h = leaves_same id (and_parts (is_operand m s i.word id) (has_type m part id) h).0
+
+  parts_same : (form : Option Form) (n : ℕ) (os : List Operand) → keeps_parts m s i.word form n os ≡ true → flat_map (λ (o : Operand). given_cells m s (id_in o)) os ≡ flat_map (λ (o : Operand). leaves_if m k (id_in o)) os
   unfolding keeps_parts
   parts_same form n [] h = refl
   parts_same form n (o ∷ os) h =
-      let p = and_parts (keeps_part m s i.word (part_type_of form n) (id_of o)) (keeps_parts m s i.word form (suc n) os) h in
-      let q = and_parts (is_operand m s i.word (id_of o)) (is_same (type_of m.all (id_of o)) (part_type_of form n)) p.0 in
-      rw (leaves_same (id_of o) q.0, parts_same form (suc n) os p.1) refl
+      let p = and_parts (keeps_part m s i.word (part_type_of form n) (id_in o)) (keeps_parts m s i.word form (suc n) os) h in
+      rw (part_same (part_type_of form n) (id_in o) p.0, parts_same form (suc n) os p.1) refl
 
   -- ---- the row
 
@@ -157,7 +176,7 @@ module _ (m : Context) (front : List Inst) (i : Inst) (s t : State) (follows : F
     of_cells : (leaves : List Lane) → cells_of m s i ≡ leaves → Has k i leaves
     of_cells leaves same = has ∙ ap (λ (cs : List Lane). Some (record { ty = i.ty; cells = cs })) same
 
-    composite : keeps_composite m s i (form_of s.types i.ty) ≡ true → flat_map (λ (o : Operand). operand_cells m s (id_of o)) i.operands ≡ constituents m k i
+    composite : keeps_composite m s i (form_of s.types i.ty) ≡ true → flat_map (λ (o : Operand). given_cells m s (id_in o)) i.operands ≡ constituents m k i
     composite h =
         let p = and_parts (is_same (length i.operands) (part_count (form_of s.types i.ty))) (keeps_parts m s i.word (form_of s.types i.ty) 0 i.operands) h in
         parts_same (form_of s.types i.ty) 0 i.operands p.1
@@ -184,7 +203,7 @@ module _ (m : Context) (front : List Inst) (i : Inst) (s t : State) (follows : F
         by_opcode : (o : Option ℕ) → option_map_or (keeps_opcode m s i) o false ≡ true → cells_of m s i ≡ option_map_or (computed_cells m s i) o [] → IsSomeAnd (option_and_then (result_of m k i) o) (Has k i)
         by_opcode None h e = impossible h
         by_opcode (Some op) h e =
-            by_result op (result_is m s i op follows.sound k (lanes_same i.ty) (λ id among. (operands_fill m front i s follows id among, leaves_same id among)) h) e
+            by_result op (result_is m s i op follows.sound k (lanes_same i.ty) (λ id among. ((λ ty typed. operands_fill m front i s follows id ty among typed), leaves_same id among)) h) e
 
     pub constant_is : IsConstant m k i
     constant_is = record {

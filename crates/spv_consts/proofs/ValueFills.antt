@@ -8,7 +8,7 @@ use Rattle.spv_base.specs.declared.instructions.Inst.{Inst}
 use Rattle.spv_base.specs.declared.instructions.Operand.{Operand}
 use Rattle.spv_types.specs.declared.forms.Form.{Form}
 use Rattle.spv_types.specs.declared.forms.Form.TheVariants.{Void, Bool as Boolean, Int, Vector, Array, Runtime, Struct, Pointer, Function}
-use Rattle.spv_types.specs.Operands.{id_of}
+use Rattle.spv_index.specs.Operands.{id_in}
 use Rattle.spv_types.specs.Types.{Types, form_of}
 use Rattle.spv_types.specs.Constants.{is_constant}
 use Rattle.spv_types.specs.Rules.{is_sized_data, is_width}
@@ -17,7 +17,7 @@ use Rattle.spv_types.specs.Views.{is_boolean}
 use Rattle.spv_alu.specs.Results.{integer, truth}
 use Rattle.spv_typing.proofs.LawLemmas.{equal, parts}
 use Rattle.spv_consts.specs.Context.{Context}
-use Rattle.spv_consts.specs.State.{State, operand_cells}
+use Rattle.spv_consts.specs.State.{State, given_cells}
 use Rattle.spv_consts.specs.Values.{blank_of, leaf_widths, null_of, widths_step}
 use Rattle.spv_consts.specs.Literals.{integer_width, keeps_literal, literal_lane, literal_number}
 use Rattle.spv_consts.specs.Lengths.{length_at}
@@ -107,10 +107,10 @@ module _ (m : Context) (s : State) (i : Inst) (sound : AreSound s.types) where
   by_form : (f : Form) → form_of s.types i.ty ≡ Some f → (cs : List Lane) → Fill (widths_step (leaf_widths s.types) f) cs → Fits cs
   by_form f is cs h = subst (λ (ws : List ℕ). Fill ws cs) (sym (widths_by_form s.types sound i.ty f is)) h
 
-  composite : OperandsFillTypes m s i.word → keeps_composite m s i (form_of s.types i.ty) ≡ true → Fits (flat_map (λ (o : Operand). operand_cells m s (id_of o)) i.operands)
+  composite : OperandsFillTypes m s i.word → keeps_composite m s i (form_of s.types i.ty) ≡ true → Fits (flat_map (λ (o : Operand). given_cells m s (id_in o)) i.operands)
   composite operands h = at (form_of s.types i.ty) refl h
     where
-      at : (o : Option Form) → form_of s.types i.ty ≡ o → keeps_composite m s i o ≡ true → Fits (flat_map (λ (o : Operand). operand_cells m s (id_of o)) i.operands)
+      at : (o : Option Form) → form_of s.types i.ty ≡ o → keeps_composite m s i o ≡ true → Fits (flat_map (λ (o : Operand). given_cells m s (id_in o)) i.operands)
       at None e h = impossible h
       at (Some f) e h = by_form f e _ (composite_fills m s i.word operands f i refl h)
 
@@ -145,7 +145,7 @@ module _ (m : Context) (s : State) (i : Inst) (sound : AreSound s.types) where
           else (if d then keeps_operation m s i
           else (if e then keeps_literal (integer_width (form_of s.types i.ty)) i.operands
           else is_boolean (form_of s.types i.ty))))) ≡ true
-          → Fits (if b then flat_map (λ (o : Operand). operand_cells m s (id_of o)) i.operands
+          → Fits (if b then flat_map (λ (o : Operand). given_cells m s (id_in o)) i.operands
           else (if c then null_of s.types i.ty
           else (if d then operation_cells m s i
           else overridden (scalar_lane s i) (override_of m.all m.held i) ∷ [])))

@@ -1,9 +1,9 @@
 -- The walk over a module's constants, from its first instruction to its last before the functions.
 use Rattle.std.proofs.Common.{◌≡◌, ◌≢◌, ◌⊎◌, ◌∙◌, ℕ, ◌<◌, ◌==◌, Bool, true, false, List, [], ◌∷◌, ◌++◌, length, append_assoc, append-nil, Option, Some, None, Ok, Err, inl, inr, refl, sym, ap, subst}
 use Rattle.std.proofs.lemmas.Bool.{and_parts, cases_Bool, eqb-true, eq-eqb}
-use Rattle.std.specs.Prelude.{nat_le, ◌&&◌, if◌then◌else◌}
+use Rattle.std.specs.Prelude.{if◌then◌else◌, nat_le, option_map, unwrap_or, ◌&&◌}
 use Rattle.std.specs.List.{AllByRecursion}
-use Rattle.std.specs.Option.{option_map_or}
+use Rattle.std.specs.Option.{option_and_then, option_map_or}
 use Rattle.spv_base.specs.Entries.{reads}
 use Rattle.spv_base.specs.Order.{Ascend}
 use Rattle.spv_base.specs.declared.causes.Refusal.{Refusal}
@@ -16,7 +16,7 @@ use Rattle.spv_types.specs.Laws.{AreByForms, AreComplete, AreNamed, AreSound, Ha
 use Rattle.spv_types.specs.Rules.{is_data, is_sized_data}
 use Rattle.spv_types.specs.Types.{IsUnset, Types, form_of, lengthened as with_size, number_of, with_length}
 use Rattle.spv_types.specs.Typing.{defined_form, types_in}
-use Rattle.spv_index.specs.Definitions.{before_functions, type_of}
+use Rattle.spv_index.specs.Definitions.{before_functions, defining, result_type, type_in, type_of}
 use Rattle.spv_consts.specs.Table.{Constants, Row}
 use Rattle.spv_consts.specs.Context.{Context}
 use Rattle.spv_consts.specs.State.{State, is_next}
@@ -74,14 +74,30 @@ constant_among m front i s follows place constant rules =
 
 -- ---- its operands
 
-pub operands_fill : (m : Context) (front : List Inst) (i : Inst) (s : State) → Follows m.all front s → OperandsFillTypes m s i.word
-operands_fill m front i s follows = λ id h. by_value id (reads id s.values) refl
+-- the type of a result that has one
+type_named : (insts : List Inst) (id ty : ℕ) → result_type insts id ≡ Some ty → type_of insts id ≡ ty
+type_named insts id ty h = by_defining (defining insts id) h
   where
-    by_value : (id : ℕ) (o : Option Row) → reads id s.values ≡ o → FillType s.types (type_of m.all id) (option_map_or (λ (r : Row). r.cells) (reads id s.values) (undefined_of s.types (type_of m.all id)))
-    by_value id None e = rw e (blanks_fill s.types false (type_of m.all id) follows.sound)
-    by_value id (Some v) e =
+    by_test : (b : Bool) (n : ℕ) → (if b then None else Some n) ≡ Some ty → n ≡ ty
+    by_test true n h = cc
+    by_test false n h = cc
+
+    by_defining : (o : Option Inst) → option_and_then type_in o ≡ Some ty → unwrap_or (option_map (λ (j : Inst). j.ty) o) 0 ≡ ty
+    by_defining None h = cc
+    by_defining (Some j) h = by_test (j.ty == 0) j.ty h
+
+pub operands_fill : (m : Context) (front : List Inst) (i : Inst) (s : State) → Follows m.all front s → OperandsFillTypes m s i.word
+operands_fill m front i s follows = λ id ty h typed. by_value id ty typed (reads id s.values) refl
+  where
+    by_type : (ty : ℕ) (o : Option ℕ) → o ≡ Some ty → FillType s.types ty (option_map_or (undefined_of s.types) o [])
+    by_type ty None e = cc
+    by_type ty (Some t) e = let same : t ≡ ty = cc in subst (λ (q : ℕ). FillType s.types q (undefined_of s.types t)) same (blanks_fill s.types false t follows.sound)
+
+    by_value : (id ty : ℕ) → result_type m.all id ≡ Some ty → (o : Option Row) → reads id s.values ≡ o → FillType s.types ty (option_map_or (λ (r : Row). r.cells) o (option_map_or (undefined_of s.types) (result_type m.all id) []))
+    by_value id ty typed None e = by_type ty (result_type m.all id) typed
+    by_value id ty typed (Some v) e =
         let filled = read_filled m.all s.types s.known s.values id v follows.shaped e in
-        rw e (subst (λ (t : ℕ). FillType s.types t v.cells) filled.1 filled.3)
+        subst (λ (t : ℕ). FillType s.types t v.cells) (filled.1 ∙ type_named m.all id ty typed) filled.3
 
 -- ---- one instruction
 

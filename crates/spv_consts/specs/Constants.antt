@@ -9,9 +9,9 @@ use Rattle.spv_base.specs.Lane.{Lane}
 use Rattle.spv_base.specs.declared.instructions.Inst.{Inst}
 use Rattle.spv_base.specs.declared.instructions.Operand.{Operand}
 use Rattle.spv_types.specs.Constants.{is_constant}
-use Rattle.spv_types.specs.Operands.{id_at, id_of}
 use Rattle.spv_types.specs.Types.{Types, form_of}
-use Rattle.spv_index.specs.Definitions.{before_functions, type_of}
+use Rattle.spv_index.specs.Definitions.{before_functions, result_type}
+use Rattle.spv_index.specs.Operands.{id_in, id_operand}
 use Rattle.spv_alu.specs.Results.{integer, truth}
 use Rattle.spv_alu.specs.Unary.{unary_lane, unary_op}
 use Rattle.spv_alu.specs.Binary.{binary_lane, binary_op}
@@ -29,15 +29,19 @@ Known = Types × Constants
 
 -- the leaves of an operand: those of the constant with its id; of an OpUndef they are those of its type, all undefined
 abbrev pub leaves_of : Context → Known → ℕ → List Lane
-leaves_of m k id = option_map_or (λ (r : Row). r.cells) (reads id k.1) (undefined_of k.0 (type_of m.all id))
+leaves_of m k id = option_map_or (λ (r : Row). r.cells) (reads id k.1) (option_map_or (undefined_of k.0) (result_type m.all id) [])
+
+-- and none of what is no id
+abbrev pub leaves_if : Context → Known → Option ℕ → List Lane
+leaves_if m k o = option_map_or (leaves_of m k) o []
 
 -- those of the operand at a place
 abbrev pub operand : Context → Known → Inst → ℕ → List Lane
-operand m k i place = leaves_of m k (id_at i.operands place)
+operand m k i place = leaves_if m k (id_operand i place)
 
 -- those of all constituents, one behind the other
 abbrev pub constituents : Context → Known → Inst → List Lane
-constituents m k i = flat_map (λ (o : Operand). leaves_of m k (id_of o)) i.operands
+constituents m k i = flat_map (λ (o : Operand). leaves_if m k (id_in o)) i.operands
 
 -- the lane of a literal of an integer type: as many of its low-order bits as the type is wide
 abbrev pub literal : Known → Inst → Option Lane
