@@ -21,7 +21,7 @@ use Rattle.spv_consts.specs.Table.{Row}
 use Rattle.spv_consts.specs.Context.{Context, has_undef_before, is_undef_before}
 use Rattle.spv_consts.specs.State.{State, given_cells, is_operand, operand_cells}
 use Rattle.spv_consts.specs.Values.{blank_lane, leaf_widths, null_of, undefined_of}
-use Rattle.spv_consts.specs.Literals.{integer_width, keeps_literal, literal_number}
+use Rattle.spv_consts.specs.Literals.{integer_width, keeps_literal, literal_number, word_count}
 use Rattle.spv_consts.specs.Operations.{lane_width, scalar_width}
 use Rattle.spv_consts.specs.Overrides.{is_same}
 use Rattle.spv_consts.specs.Rules.{has_type, keeps_composite, keeps_kind, keeps_opcode, keeps_operation, keeps_part, keeps_parts, keeps_rules, opcode_of, part_count, part_type_of}
@@ -183,16 +183,21 @@ module _ (m : Context) (front : List Inst) (i : Inst) (s t : State) (follows : F
 
     -- the lane of a literal, by what is made of it
     number : (lane_of : Lane → Lane) → keeps_literal (integer_width (form_of s.types i.ty)) i.operands ≡ true
-        → ((width : ℕ) → integer_width (form_of s.types i.ty) ≡ Some width → cells_of m s i ≡ lane_of (integer width (pos (literal_number i.operands))) ∷ [])
+        → ((width n : ℕ) → integer_width (form_of s.types i.ty) ≡ Some width → literal_number width i.operands ≡ Some n → cells_of m s i ≡ lane_of (integer width (pos n)) ∷ [])
         → IsSomeAnd (literal k i) (λ lane. Has k i (lane_of lane ∷ []))
     number lane_of h same = by_width (integer_width (form_of s.types i.ty)) refl h
       where
+        by_number : (width : ℕ) → integer_width (form_of s.types i.ty) ≡ Some width → (o : Option ℕ) → literal_number width i.operands ≡ o → is_some o ≡ true → IsSomeAnd (literal k i) (λ lane. Has k i (lane_of lane ∷ []))
+        by_number width e None g h = impossible h
+        by_number width e (Some n) g h =
+            let later : integer_width (form_of t.types i.ty) ≡ Some width = sym (widths_alike i.ty) ∙ e in
+            let is : literal k i ≡ Some (integer width (pos n)) =
+            ap (option_and_then (λ w. option_map (λ x. integer w (pos x)) (literal_number w i.operands))) later ∙ ap (option_map (λ x. integer width (pos x))) g in
+            subst (λ (o : Option Lane). IsSomeAnd o (λ lane. Has k i (lane_of lane ∷ []))) (sym is) (of_cells (lane_of (integer width (pos n)) ∷ []) (same width n e g))
+
         by_width : (o : Option ℕ) → integer_width (form_of s.types i.ty) ≡ o → keeps_literal o i.operands ≡ true → IsSomeAnd (literal k i) (λ lane. Has k i (lane_of lane ∷ []))
         by_width None e h = impossible h
-        by_width (Some width) e h =
-            let later : integer_width (form_of t.types i.ty) ≡ Some width = sym (widths_alike i.ty) ∙ e in
-            let is : literal k i ≡ Some (integer width (pos (literal_number i.operands))) = ap (option_map (λ w. integer w (pos (literal_number i.operands)))) later in
-            subst (λ (o : Option Lane). IsSomeAnd o (λ lane. Has k i (lane_of lane ∷ []))) (sym is) (of_cells (lane_of (integer width (pos (literal_number i.operands))) ∷ []) (same width e))
+        by_width (Some width) e h = by_number width e (literal_number width i.operands) refl (and_parts (length i.operands == word_count width) (is_some (literal_number width i.operands)) h).1
 
     operation : keeps_operation m s i ≡ true → cells_of m s i ≡ option_map_or (computed_cells m s i) (opcode_of i) [] → IsSomeAnd (option_and_then (result_of m k i) (opcode_of i)) (Has k i)
     operation h same = by_opcode (opcode_of i) h same
@@ -209,12 +214,12 @@ module _ (m : Context) (front : List Inst) (i : Inst) (s t : State) (follows : F
     constant_is = record {
       true_is = λ op. of_cells (truth true ∷ []) (rw op refl);
       false_is = λ op. of_cells (truth false ∷ []) (rw op refl);
-      number = λ op. number (λ lane. lane) (rw op at kind) (λ width e. rw (op, e) refl);
+      number = λ op. number (λ lane. lane) (rw op at kind) (λ width n e g. rw (op, e, g) refl);
       composite = λ op. of_cells (constituents m k i) (rw op (composite (rw op at kind)));
       null = λ op. of_cells (null_of t.types i.ty) (rw op (blanks_same true i.ty (constant_among m front i s follows place constant rules)));
       spec_true = λ op. of_cells (specialized m i (truth true) ∷ []) (rw op refl);
       spec_false = λ op. of_cells (specialized m i (truth false) ∷ []) (rw op refl);
-      spec_number = λ op. number (specialized m i) (rw op at kind) (λ width e. rw (op, e) refl);
+      spec_number = λ op. number (specialized m i) (rw op at kind) (λ width n e g. rw (op, e, g) refl);
       spec_composite = λ op. of_cells (constituents m k i) (rw op (composite (rw op at kind)));
       operation = λ op. operation (rw op at kind) (rw op refl);
     }

@@ -1,11 +1,10 @@
 -- The leaves that an operation of OpSpecConstantOp gives fill its result's type.
-use Rattle.std.proofs.Common.{◌≡◌, ◌∙◌, inl, inr, ℕ, zero, suc, ◌+◌, ◌<◌, ◌≤◌, ◌==◌, Bool, true, false, List, [], ◌∷◌, length, drop, replicate, Option, Some, None, refl, sym, subst, arith, slice_get}
-use Rattle.std.specs.Prelude.{◌&&◌, ◌||◌, not, if◌then◌else◌, unwrap_or}
+use Rattle.std.proofs.Common.{◌≡◌, ◌∙◌, inl, inr, ℕ, zero, suc, ◌+◌, ◌<◌, ◌≤◌, ◌==◌, true, false, List, [], ◌∷◌, length, drop, replicate, Option, Some, None, refl, sym, subst, arith, slice_get}
+use Rattle.std.specs.Prelude.{◌&&◌, ◌||◌, not}
 use Rattle.std.specs.Option.{option_and_then, option_map, option_map_or}
 use Rattle.spv_base.specs.declared.instructions.Inst.{Inst}
 use Rattle.spv_base.specs.declared.instructions.Operand.{Operand}
 use Rattle.spv_base.specs.Lane.{Lane}
-use Rattle.spv_base.specs.declared.instructions.Operand.TheVariants.{Id, Lit, Text}
 use Rattle.spv_types.specs.Types.{form_of}
 use Rattle.spv_types.specs.Laws.{AreSound}
 use Rattle.spv_index.specs.Definitions.{result_type}

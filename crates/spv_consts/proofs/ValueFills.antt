@@ -1,9 +1,9 @@
 -- The leaves of a constant that keeps its rules fill its type.
-use Rattle.std.proofs.Common.{◌≡◌, ℕ, ◌==◌, ◌&&◌, ◌||◌, Bool, true, false, List, [], ◌∷◌, Option, Some, None, ℤ, pos, refl, sym, subst}
+use Rattle.std.proofs.Common.{Bool, List, None, Option, Some, [], false, length, pos, refl, subst, sym, true, ℕ, ℤ, ◌&&◌, ◌==◌, ◌||◌, ◌∷◌, ◌≡◌}
 use Rattle.std.specs.Prelude.{if◌then◌else◌}
 use Rattle.std.specs.List.{flat_map}
 use Rattle.std.specs.Option.{is_some, option_map_or}
-use Rattle.spv_base.specs.Lane.{IsLane, Lane}
+use Rattle.spv_base.specs.Lane.{IsLane, Lane, undefined_lane}
 use Rattle.spv_base.specs.declared.instructions.Inst.{Inst}
 use Rattle.spv_base.specs.declared.instructions.Operand.{Operand}
 use Rattle.spv_types.specs.declared.forms.Form.{Form}
@@ -19,7 +19,7 @@ use Rattle.spv_typing.proofs.LawLemmas.{equal, parts}
 use Rattle.spv_consts.specs.Context.{Context}
 use Rattle.spv_consts.specs.State.{State, given_cells}
 use Rattle.spv_consts.specs.Values.{blank_of, leaf_widths, null_of, widths_step}
-use Rattle.spv_consts.specs.Literals.{integer_width, keeps_literal, literal_lane, literal_number}
+use Rattle.spv_consts.specs.Literals.{integer_width, keeps_literal, literal_lane, literal_number, word_count}
 use Rattle.spv_consts.specs.Lengths.{length_at}
 use Rattle.spv_consts.specs.Overrides.{overridden, override_of}
 use Rattle.spv_consts.specs.Rules.{is_composite, is_number, keeps_composite, keeps_kind, keeps_opcode, keeps_operation, keeps_rules, opcode_of}
@@ -75,8 +75,12 @@ literal_fills widths Void words o h = impossible h
 literal_fills widths Boolean words o h = impossible h
 literal_fills widths (Int width sign) words o h = by_width (is_width width) refl h
   where
+    by_number : (n : Option ℕ) → is_width width ≡ true → is_some n ≡ true → Fill (width ∷ []) (overridden (option_map_or (λ k. integer width (pos k)) n (undefined_lane width)) o ∷ [])
+    by_number None e h = impossible h
+    by_number (Some n) e h = (overridden_is_lane width (integer width (pos n)) o (refl, integer_is_lane width (pos n) (width_narrow width e)), tt)
+
     by_width : (b : Bool) → is_width width ≡ b → keeps_literal (if b then Some width else None) words ≡ true → Fill (width ∷ []) (overridden (literal_lane (if b then Some width else None) words) o ∷ [])
-    by_width true e h = (overridden_is_lane width (integer width (pos (literal_number words))) o (refl, integer_is_lane width (pos (literal_number words)) (width_narrow width e)), tt)
+    by_width true e h = by_number (literal_number width words) e (parts (length words == word_count width) (is_some (literal_number width words)) h).1
     by_width false e h = impossible h
 literal_fills widths (Vector component count) words o h = impossible h
 literal_fills widths (Array element n stride) words o h = impossible h

@@ -1,7 +1,7 @@
 -- The walk over a module's constants, from its first instruction to its last before the functions.
 use Rattle.std.proofs.Common.{◌≡◌, ◌≢◌, ◌⊎◌, ◌∙◌, ℕ, ◌<◌, ◌==◌, Bool, true, false, List, [], ◌∷◌, ◌++◌, length, append_assoc, append-nil, Option, Some, None, Ok, Err, inl, inr, refl, sym, ap, subst}
 use Rattle.std.proofs.lemmas.Bool.{and_parts, cases_Bool, eqb-true, eq-eqb}
-use Rattle.std.specs.Prelude.{if◌then◌else◌, nat_le, option_map, unwrap_or, ◌&&◌}
+use Rattle.std.specs.Prelude.{if◌then◌else◌, nat_le, option_map, ◌&&◌}
 use Rattle.std.specs.List.{AllByRecursion}
 use Rattle.std.specs.Option.{option_and_then, option_map_or}
 use Rattle.spv_base.specs.Entries.{reads}
@@ -16,7 +16,7 @@ use Rattle.spv_types.specs.Laws.{AreByForms, AreComplete, AreNamed, AreSound, Ha
 use Rattle.spv_types.specs.Rules.{is_data, is_sized_data}
 use Rattle.spv_types.specs.Types.{IsUnset, Types, form_of, lengthened as with_size, number_of, with_length}
 use Rattle.spv_types.specs.Typing.{defined_form, types_in}
-use Rattle.spv_index.specs.Definitions.{before_functions, defining, result_type, type_in, type_of}
+use Rattle.spv_index.specs.Definitions.{before_functions, defining, result_type, type_in}
 use Rattle.spv_consts.specs.Table.{Constants, Row}
 use Rattle.spv_consts.specs.Context.{Context}
 use Rattle.spv_consts.specs.State.{State, is_next}
@@ -75,16 +75,16 @@ constant_among m front i s follows place constant rules =
 -- ---- its operands
 
 -- the type of a result that has one
-type_named : (insts : List Inst) (id ty : ℕ) → result_type insts id ≡ Some ty → type_of insts id ≡ ty
-type_named insts id ty h = by_defining (defining insts id) h
+type_named : (insts : List Inst) (id own ty : ℕ) → option_map (λ (i : Inst). i.ty) (defining insts id) ≡ Some own → result_type insts id ≡ Some ty → own ≡ ty
+type_named insts id own ty defined h = by_defining (defining insts id) defined h
   where
     by_test : (b : Bool) (n : ℕ) → (if b then None else Some n) ≡ Some ty → n ≡ ty
     by_test true n h = cc
     by_test false n h = cc
 
-    by_defining : (o : Option Inst) → option_and_then type_in o ≡ Some ty → unwrap_or (option_map (λ (j : Inst). j.ty) o) 0 ≡ ty
-    by_defining None h = cc
-    by_defining (Some j) h = by_test (j.ty == 0) j.ty h
+    by_defining : (o : Option Inst) → option_map (λ (j : Inst). j.ty) o ≡ Some own → option_and_then type_in o ≡ Some ty → own ≡ ty
+    by_defining None e h = cc
+    by_defining (Some j) e h = let same : j.ty ≡ own = cc in sym same ∙ by_test (j.ty == 0) j.ty h
 
 pub operands_fill : (m : Context) (front : List Inst) (i : Inst) (s : State) → Follows m.all front s → OperandsFillTypes m s i.word
 operands_fill m front i s follows = λ id ty h typed. by_value id ty typed (reads id s.values) refl
@@ -97,7 +97,7 @@ operands_fill m front i s follows = λ id ty h typed. by_value id ty typed (read
     by_value id ty typed None e = by_type ty (result_type m.all id) typed
     by_value id ty typed (Some v) e =
         let filled = read_filled m.all s.types s.known s.values id v follows.shaped e in
-        subst (λ (t : ℕ). FillType s.types t v.cells) (filled.1 ∙ type_named m.all id ty typed) filled.3
+        subst (λ (t : ℕ). FillType s.types t v.cells) (type_named m.all id v.ty ty filled.1 typed) filled.3
 
 -- ---- one instruction
 
@@ -205,7 +205,7 @@ module _
         by_kind (inl constant) =
             let among : IsAmong s.types s.known i.ty = constant_among m front i s follows place constant rules in
             let fills : FillType s.types i.ty (cells_of m s i) = constants_fill m s i follows.sound (operands_fill m front i s follows) constant rules in
-            let follows_t = constant_follows m front i s follows form (place.own_type constant) among (constant_rules m s i constant rules) fills in
+            let follows_t = constant_follows m front i s follows form (place.defined constant) among (constant_rules m s i constant rules) fills in
             subst (λ (t : State). Follows m.all (front ++ i ∷ []) t) (sym (constant_entered m s i aside constant)) follows_t
         by_kind (inr no_constant) = subst (λ (t : State). Follows m.all (front ++ i ∷ []) t) (sym (other_entered m s i aside no_constant)) (other_follows m.all front i s follows form no_constant)
 

@@ -1,7 +1,7 @@
 -- What a module's ids, order and types say of an instruction before the functions, whatever the constants before it are.
-use Rattle.std.proofs.Common.{◌≡◌, ◌∙◌, ℕ, ◌<◌, ◌≤◌, true, List, [], ◌∷◌, ◌++◌, length, length-append, append_assoc, Option, Some, None, sym, ap, subst, arith}
+use Rattle.std.proofs.Common.{◌≡◌, ◌∙◌, ℕ, ◌<◌, ◌≤◌, true, List, [], ◌∷◌, ◌++◌, length, length-append, append_assoc, Some, None, sym, ap, subst, arith}
 use Rattle.std.proofs.lemmas.Bool.{and_parts, or_right}
-use Rattle.std.specs.Prelude.{find, unwrap_or, option_map}
+use Rattle.std.specs.Prelude.{find}
 use Rattle.std.specs.List.{AllByRecursion}
 use Rattle.std.specs.Option.{is_some}
 use Rattle.spv_base.specs.Order.{AreDistinct, Ascend}
@@ -14,7 +14,7 @@ use Rattle.spv_types.specs.Laws.{AreNamed, HasResult, IsAmong, TypesComeFirst}
 use Rattle.spv_types.specs.Rules.{is_data, is_sized_data}
 use Rattle.spv_types.specs.Types.{Types, form_of, number_of}
 use Rattle.spv_types.specs.Typing.{defined_form, types_in}
-use Rattle.spv_index.specs.Definitions.{before_functions, defining, has_result, type_of}
+use Rattle.spv_index.specs.Definitions.{before_functions, defining, has_result}
 use Rattle.spv_consts.proofs.WalkIds.{Differs, defining_is, differ_before, distinct_left, each_left, each_right, found_before, found_of_defining, type_comes_first}
 use Rattle.spv_consts.proofs.WalkTypes.{earlier_type, kept_at, known_data, other_number, type_number, types_joined, undef_is_sized}
 
@@ -31,7 +31,6 @@ pub record IsPlaced (insts front : List Inst) (i : Inst) : Type 0 where
   pub apart : AllByRecursion (Differs i.id) front
   pub positive : is_constant i.op ≡ true → 0 < i.id
   pub defined : is_constant i.op ≡ true → defining insts i.id ≡ Some i
-  pub own_type : is_constant i.op ≡ true → type_of insts i.id ≡ i.ty
   pub earlier : is_constant i.op ≡ true → (n : ℕ) → number_of (declared insts) i.ty ≡ Some n → n < length (types_in insts front)
   pub undefined : (id : ℕ) (d : Inst) → defining insts id ≡ Some d → d.op ≡ UNDEF → d.word < i.word → IsAmong (declared insts) (length (types_in insts front)) d.ty × (is_data (form_of (declared insts) d.ty) ≡ true)
 
@@ -70,7 +69,6 @@ module _ (insts front rest tail : List Inst) (i : Inst) (place : before_function
     apart = differ_before front rest i distinct;
     positive = λ constant. (bounds constant).0;
     defined = defined;
-    own_type = λ constant. ap (λ (o : Option Inst). unwrap_or (option_map (λ (j : Inst). j.ty) o) 0) (defined constant);
     earlier = λ constant n e. earlier_type insts front (i ∷ rest) i.ty n distinct results (type_comes_first [] front rest i first constant) (sym (ap (λ (is : List Inst). number_of (types_in insts is) i.ty) place) ∙ e);
     undefined = undefined_type ascend none;
   }

@@ -45,7 +45,7 @@ constituents m k i = flat_map (λ (o : Operand). leaves_if m k (id_in o)) i.oper
 
 -- the lane of a literal of an integer type: as many of its low-order bits as the type is wide
 abbrev pub literal : Known → Inst → Option Lane
-literal k i = option_map (λ width. integer width (pos (literal_number i.operands))) (integer_width (form_of k.0 i.ty))
+literal k i = option_and_then (λ width. option_map (λ n. integer width (pos n)) (literal_number width i.operands)) (integer_width (form_of k.0 i.ty))
 
 -- the lane of a specialization constant: its own, or the number that overrides it
 abbrev pub specialized : Context → Inst → Lane → Lane

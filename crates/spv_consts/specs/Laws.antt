@@ -1,4 +1,5 @@
 -- What the constants of an accepted module give: rows of their types, each the row of one value of the type's shape.
+use Rattle.std.specs.Option.{option_map}
 use Rattle.std.specs.Prelude.{◌≡◌, ℕ, true, List, Option, Some, IsSome}
 use Rattle.std.specs.List.{AllByRecursion, AllZip}
 use Rattle.spv_base.specs.Entries.{reads}
@@ -9,7 +10,7 @@ use Rattle.spv_types.specs.Constants.{is_constant}
 use Rattle.spv_types.specs.Rows.{leaves}
 use Rattle.spv_types.specs.Shapes.{HasShape}
 use Rattle.spv_types.specs.Types.{Types}
-use Rattle.spv_index.specs.Definitions.{before_functions, result_type, type_of}
+use Rattle.spv_index.specs.Definitions.{before_functions, defining, result_type}
 use Rattle.spv_consts.specs.Table.{Constants, Row}
 use Rattle.spv_consts.specs.Trees.{value_at}
 use Rattle.spv_consts.specs.Values.{leaf_widths}
@@ -33,9 +34,9 @@ pub record IsRowAt (ts : Types) (roots : Root → Option ℕ) (id : ℕ) (cells 
   pub shape : HasShape ts roots id (value_at ts id cells)
   pub leaves_are : leaves (value_at ts id cells) ≡ cells
 
--- a constant has the type of its id, and its cells are the leaves of a value of the shape of that type
+-- a constant has the type of the instruction that defines its id, and its cells are the leaves of a value of the shape of that type
 pub record IsConstantOf (ts : Types) (insts : List Inst) (roots : Root → Option ℕ) (c : ℕ × Row) : Type 0 where
-  pub ty : c.1.ty ≡ type_of insts c.0
+  pub ty : option_map (λ (i : Inst). i.ty) (defining insts c.0) ≡ Some c.1.ty
   pub row : IsRowAt ts roots c.1.ty c.1.cells
 
 -- each constant does
