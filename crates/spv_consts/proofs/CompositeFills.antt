@@ -1,5 +1,5 @@
 -- Constituents of the types of a form's parts fill the form, one after another.
-use Rattle.std.proofs.Common.{◌≡◌, ◌∙◌, ℕ, zero, suc, ◌+◌, true, List, [], ◌∷◌, length, map, replicate, Option, Some, None, slice_get, option_map, refl, sym, ap, subst, arith}
+use Rattle.std.proofs.Common.{List, None, Option, Some, [], ap, arith, false, length, map, option_map, refl, replicate, slice_get, subst, suc, sym, true, zero, ℕ, ◌+◌, ◌∙◌, ◌∷◌, ◌≡◌}
 use Rattle.std.specs.List.{flat_map}
 use Rattle.spv_base.specs.Lane.{Lane}
 use Rattle.spv_base.specs.declared.instructions.Inst.{Inst}
@@ -7,15 +7,16 @@ use Rattle.spv_base.specs.declared.instructions.Operand.{Operand}
 use Rattle.spv_types.specs.declared.forms.Form.{Form}
 use Rattle.spv_types.specs.declared.forms.Form.TheVariants.{Void, Bool as Boolean, Int, Vector, Array, Runtime, Struct, Pointer, Function}
 use Rattle.spv_types.specs.declared.forms.Member.{Member}
-use Rattle.spv_types.specs.Operands.{id_of}
-use Rattle.spv_index.specs.Definitions.{type_of}
+use Rattle.std.specs.Option.{option_map_or}
+use Rattle.spv_index.specs.Definitions.{result_type}
+use Rattle.spv_index.specs.Operands.{id_in}
 use Rattle.spv_typing.proofs.LawLemmas.{equal, parts}
 use Rattle.spv_consts.specs.Context.{Context}
-use Rattle.spv_consts.specs.State.{State, is_operand, operand_cells}
+use Rattle.spv_consts.specs.State.{State, given_cells, is_operand, operand_cells}
 use Rattle.spv_consts.specs.Overrides.{is_same}
-use Rattle.spv_consts.specs.Rules.{keeps_composite, keeps_part, keeps_parts, part_count, part_type_of}
+use Rattle.spv_consts.specs.Rules.{has_type, keeps_composite, keeps_part, keeps_parts, part_count, part_type_of}
 use Rattle.spv_consts.specs.Laws.{FillType, OperandsFillTypes}
-use Rattle.spv_consts.specs.Values.{leaf_widths, part_types, widths_step}
+use Rattle.spv_consts.specs.Values.{leaf_widths, widths_step}
 use Rattle.spv_consts.proofs.FillLemmas.{Fill, fill_append}
 use Rattle.spv_consts.proofs.ScalarShapes.{impossible, some_same}
 
@@ -47,13 +48,20 @@ many (p ∷ ps) = ap suc (many ps)
 
 module _ (m : Context) (s : State) (word : ℕ) (operands : OperandsFillTypes m s word) where
   abbrev cells_in : Operand → List Lane
-  cells_in o = operand_cells m s (id_of o)
+  cells_in o = given_cells m s (id_in o)
 
-  part_fills : (part : Option ℕ) (ty id : ℕ) → part ≡ Some ty → keeps_part m s word part id ≡ true → FillType s.types ty (operand_cells m s id)
-  part_fills part ty id same h =
-      let p = parts (is_operand m s word id) (is_same (type_of m.all id) part) h in
-      let at : type_of m.all id ≡ ty = some_same (type_of m.all id) ty (same_number (type_of m.all id) part p.1 ∙ same) in
-      subst (λ (t : ℕ). FillType s.types t (operand_cells m s id)) at (operands id p.0)
+  part_fills : (part : Option ℕ) (ty : ℕ) (o : Option ℕ) → part ≡ Some ty → keeps_part m s word part o ≡ true → FillType s.types ty (given_cells m s o)
+  part_fills part ty None same h = impossible h
+  part_fills part ty (Some id) same h = by_type (result_type m.all id) refl p.1
+    where
+      p : (is_operand m s word id ≡ true) × (has_type m part id ≡ true)
+      p = parts (is_operand m s word id) (has_type m part id) h
+
+      by_type : (t : Option ℕ) → result_type m.all id ≡ t → option_map_or (λ q. is_same q part) t false ≡ true → FillType s.types ty (operand_cells m s id)
+      by_type None e h = impossible h
+      by_type (Some t) e h =
+          let at : t ≡ ty = some_same t ty (same_number t part h ∙ same) in
+          subst (λ (q : ℕ). FillType s.types q (operand_cells m s id)) at (operands id t p.0 e)
 
   parts_fill : (form : Option Form) (k : ℕ) (types : List ℕ) (os : List Operand) → length os ≡ length types → Lists form k types
       → keeps_parts m s word form k os ≡ true → Fill (flat_map (leaf_widths s.types) types) (flat_map cells_in os)
@@ -62,11 +70,11 @@ module _ (m : Context) (s : State) (word : ℕ) (operands : OperandsFillTypes m 
   parts_fill form k [] (o ∷ os) e each h = absurd (omega arith)
   parts_fill form k (t ∷ types) [] e each h = absurd (omega arith)
   parts_fill form k (t ∷ types) (o ∷ os) e each h =
-      let q = parts (keeps_part m s word (part_type_of form k) (id_of o)) (keeps_parts m s word form (suc k) os) h in
+      let q = parts (keeps_part m s word (part_type_of form k) (id_in o)) (keeps_parts m s word form (suc k) os) h in
       let at : 0 + k ≡ k = omega arith in
       let first : part_type_of form k ≡ Some t = subst (λ (n : ℕ). part_type_of form n ≡ Some t) at (each 0 t refl) in
       fill_append (leaf_widths s.types t) (flat_map (leaf_widths s.types) types) (cells_in o) (flat_map cells_in os)
-      (part_fills (part_type_of form k) t (id_of o) first q.0) (parts_fill form (suc k) types os (omega arith) next q.1)
+      (part_fills (part_type_of form k) t (id_in o) first q.0) (parts_fill form (suc k) types os (omega arith) next q.1)
     where
       next : Lists form (suc k) types
       next index part got = let moved : suc index + k ≡ index + suc k = omega arith in subst (λ (n : ℕ). part_type_of form n ≡ Some part) moved (each (suc index) part got)

@@ -1,5 +1,5 @@
 -- Leaves that go with widths: one for each, of that width.
-use Rattle.std.proofs.Common.{◌≡◌, ◌∙◌, ℕ, zero, suc, ◌≤◌, min, Bool, List, [], ◌∷◌, ◌++◌, map, replicate, refl, ap, arith}
+use Rattle.std.proofs.Common.{◌≡◌, ℕ, zero, suc, ◌≤◌, min, Bool, List, [], ◌∷◌, ◌++◌, map, replicate, refl, ap, arith}
 use Rattle.std.specs.List.{AllByRecursion, AllZip}
 use Rattle.spv_base.specs.Lane.{Lane}
 use Rattle.spv_consts.specs.Laws.{HasWidth}

@@ -3,7 +3,7 @@ use Rattle.std.proofs.Common.{◌≡◌, ℕ, ◌^◌, ◌<◌, ◌≤◌, ◌==
 use Rattle.std.specs.Prelude.{◌&&◌, if◌then◌else◌, nat_le, nat_lt}
 use Rattle.std.specs.Option.{option_map, option_map_or, unwrap_or}
 use Rattle.std.proofs.lemmas.Nat.{mod_below, pow_pos}
-use Rattle.spv_base.specs.Lane.{IsLane, Lane, undefined_lane}
+use Rattle.spv_base.specs.Lane.{Lane, undefined_lane}
 use Rattle.spv_alu.specs.Integers.{low_bits}
 use Rattle.spv_alu.specs.Results.{defined_if, integer, truth}
 use Rattle.spv_alu.specs.declared.unary_op.UnaryOp.{UnaryOp}

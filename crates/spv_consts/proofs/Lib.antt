@@ -23,3 +23,7 @@ pub mod WalkStates
 pub mod WalkPlaces
 pub mod WalkSteps
 pub mod WalkConstants
+pub mod OperationResults
+pub mod ConstantGrowth
+pub mod ConstantRows
+pub mod ConstantWalk

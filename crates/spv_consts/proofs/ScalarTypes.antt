@@ -1,6 +1,6 @@
 -- The leaves of a scalar or a vector: one, or as many as components, of its lanes' width.
 use Rattle.std.proofs.Common.{◌≡◌, ◌∙◌, ℕ, zero, suc, ◌≤◌, true, List, [], ◌∷◌, replicate, Option, Some, None, refl, sym, ap, subst, arith}
-use Rattle.std.specs.Prelude.{◌&&◌, min, nat_le, nat_lt}
+use Rattle.std.specs.Prelude.{min, nat_le, nat_lt}
 use Rattle.std.specs.Option.{option_map}
 use Rattle.std.specs.List.{flat_map}
 use Rattle.spv_types.specs.declared.forms.Form.{Form}

@@ -1,6 +1,6 @@
 -- Leaves that fill a type of data are those of the value that is read off them, which has the type's shape: a type comes after
 -- its parts, so this goes by the types' numbers.
-use Rattle.std.proofs.Common.{◌≡◌, ◌∙◌, ℕ, zero, suc, ◌<◌, ◌==◌, ◌&&◌, ◌||◌, not, Bool, true, false, List, [], ◌∷◌, ◌++◌, length, map, replicate, append_assoc, append-nil, Option, Some, None, slice_get, refl, sym, ap, subst, arith, rules}
+use Rattle.std.proofs.Common.{◌≡◌, ◌∙◌, ℕ, zero, suc, ◌==◌, ◌&&◌, ◌||◌, not, Bool, true, false, List, [], ◌∷◌, ◌++◌, length, map, replicate, append_assoc, append-nil, Option, Some, None, slice_get, refl, sym, ap, subst, arith, rules}
 use Rattle.std.proofs.Math.Path.{fun_ext}
 use Rattle.std.specs.List.{All, AllZip, flat_map}
 use Rattle.std.specs.Option.{IsSomeAnd}
@@ -14,13 +14,12 @@ use Rattle.spv_base.proofs.PartLemmas.{out_many}
 use Rattle.spv_types.specs.declared.forms.Form.{Form}
 use Rattle.spv_types.specs.declared.forms.Form.TheVariants.{Void, Bool as Boolean, Int, Vector, Array, Runtime, Struct, Pointer, Function}
 use Rattle.spv_types.specs.declared.forms.Member.{Member}
-use Rattle.spv_types.specs.Types.{IsUnset, Types, form_of, number_of}
+use Rattle.spv_types.specs.Types.{IsUnset, Types, form_of}
 use Rattle.spv_types.specs.Rows.{leaves}
 use Rattle.spv_types.specs.Rules.{has_runtime, is_data, is_runtime, is_scalar, is_sized_data, keep_members, keeps_form, keeps_member}
-use Rattle.spv_types.specs.Shapes.{HasShape, part_type, shape_step}
+use Rattle.spv_types.specs.Shapes.{HasShape, shape_step}
 use Rattle.spv_types.specs.Laws.{AreByForms, AreComplete, AreSound, ComesBefore, IsAmong}
 use Rattle.spv_types.proofs.RowLemmas.{leaves_many, scalar_row}
-use Rattle.spv_types.proofs.ShapeLemmas.{form_number}
 use Rattle.spv_typing.proofs.LawLemmas.{parts}
 use Rattle.spv_consts.specs.Laws.{FillType, HasWidth, IsRowAt}
 use Rattle.spv_consts.specs.Trees.{Reader, read_among, read_list, read_none, read_parts, read_scalar, read_step, value_at}

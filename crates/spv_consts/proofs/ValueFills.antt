@@ -1,14 +1,14 @@
 -- The leaves of a constant that keeps its rules fill its type.
-use Rattle.std.proofs.Common.{◌≡◌, ℕ, ◌==◌, ◌&&◌, ◌||◌, Bool, true, false, List, [], ◌∷◌, Option, Some, None, ℤ, pos, refl, sym, subst}
+use Rattle.std.proofs.Common.{Bool, List, None, Option, Some, [], false, length, pos, refl, subst, sym, true, ℕ, ℤ, ◌&&◌, ◌==◌, ◌||◌, ◌∷◌, ◌≡◌}
 use Rattle.std.specs.Prelude.{if◌then◌else◌}
 use Rattle.std.specs.List.{flat_map}
 use Rattle.std.specs.Option.{is_some, option_map_or}
-use Rattle.spv_base.specs.Lane.{IsLane, Lane}
+use Rattle.spv_base.specs.Lane.{IsLane, Lane, undefined_lane}
 use Rattle.spv_base.specs.declared.instructions.Inst.{Inst}
 use Rattle.spv_base.specs.declared.instructions.Operand.{Operand}
 use Rattle.spv_types.specs.declared.forms.Form.{Form}
 use Rattle.spv_types.specs.declared.forms.Form.TheVariants.{Void, Bool as Boolean, Int, Vector, Array, Runtime, Struct, Pointer, Function}
-use Rattle.spv_types.specs.Operands.{id_of}
+use Rattle.spv_index.specs.Operands.{id_in}
 use Rattle.spv_types.specs.Types.{Types, form_of}
 use Rattle.spv_types.specs.Constants.{is_constant}
 use Rattle.spv_types.specs.Rules.{is_sized_data, is_width}
@@ -17,9 +17,9 @@ use Rattle.spv_types.specs.Views.{is_boolean}
 use Rattle.spv_alu.specs.Results.{integer, truth}
 use Rattle.spv_typing.proofs.LawLemmas.{equal, parts}
 use Rattle.spv_consts.specs.Context.{Context}
-use Rattle.spv_consts.specs.State.{State, operand_cells}
+use Rattle.spv_consts.specs.State.{State, given_cells}
 use Rattle.spv_consts.specs.Values.{blank_of, leaf_widths, null_of, widths_step}
-use Rattle.spv_consts.specs.Literals.{integer_width, keeps_literal, literal_lane, literal_number}
+use Rattle.spv_consts.specs.Literals.{integer_width, keeps_literal, literal_lane, literal_number, word_count}
 use Rattle.spv_consts.specs.Lengths.{length_at}
 use Rattle.spv_consts.specs.Overrides.{overridden, override_of}
 use Rattle.spv_consts.specs.Rules.{is_composite, is_number, keeps_composite, keeps_kind, keeps_opcode, keeps_operation, keeps_rules, opcode_of}
@@ -75,8 +75,12 @@ literal_fills widths Void words o h = impossible h
 literal_fills widths Boolean words o h = impossible h
 literal_fills widths (Int width sign) words o h = by_width (is_width width) refl h
   where
+    by_number : (n : Option ℕ) → is_width width ≡ true → is_some n ≡ true → Fill (width ∷ []) (overridden (option_map_or (λ k. integer width (pos k)) n (undefined_lane width)) o ∷ [])
+    by_number None e h = impossible h
+    by_number (Some n) e h = (overridden_is_lane width (integer width (pos n)) o (refl, integer_is_lane width (pos n) (width_narrow width e)), tt)
+
     by_width : (b : Bool) → is_width width ≡ b → keeps_literal (if b then Some width else None) words ≡ true → Fill (width ∷ []) (overridden (literal_lane (if b then Some width else None) words) o ∷ [])
-    by_width true e h = (overridden_is_lane width (integer width (pos (literal_number words))) o (refl, integer_is_lane width (pos (literal_number words)) (width_narrow width e)), tt)
+    by_width true e h = by_number (literal_number width words) e (parts (length words == word_count width) (is_some (literal_number width words)) h).1
     by_width false e h = impossible h
 literal_fills widths (Vector component count) words o h = impossible h
 literal_fills widths (Array element n stride) words o h = impossible h
@@ -107,10 +111,10 @@ module _ (m : Context) (s : State) (i : Inst) (sound : AreSound s.types) where
   by_form : (f : Form) → form_of s.types i.ty ≡ Some f → (cs : List Lane) → Fill (widths_step (leaf_widths s.types) f) cs → Fits cs
   by_form f is cs h = subst (λ (ws : List ℕ). Fill ws cs) (sym (widths_by_form s.types sound i.ty f is)) h
 
-  composite : OperandsFillTypes m s i.word → keeps_composite m s i (form_of s.types i.ty) ≡ true → Fits (flat_map (λ (o : Operand). operand_cells m s (id_of o)) i.operands)
+  composite : OperandsFillTypes m s i.word → keeps_composite m s i (form_of s.types i.ty) ≡ true → Fits (flat_map (λ (o : Operand). given_cells m s (id_in o)) i.operands)
   composite operands h = at (form_of s.types i.ty) refl h
     where
-      at : (o : Option Form) → form_of s.types i.ty ≡ o → keeps_composite m s i o ≡ true → Fits (flat_map (λ (o : Operand). operand_cells m s (id_of o)) i.operands)
+      at : (o : Option Form) → form_of s.types i.ty ≡ o → keeps_composite m s i o ≡ true → Fits (flat_map (λ (o : Operand). given_cells m s (id_in o)) i.operands)
       at None e h = impossible h
       at (Some f) e h = by_form f e _ (composite_fills m s i.word operands f i refl h)
 
@@ -145,7 +149,7 @@ module _ (m : Context) (s : State) (i : Inst) (sound : AreSound s.types) where
           else (if d then keeps_operation m s i
           else (if e then keeps_literal (integer_width (form_of s.types i.ty)) i.operands
           else is_boolean (form_of s.types i.ty))))) ≡ true
-          → Fits (if b then flat_map (λ (o : Operand). operand_cells m s (id_of o)) i.operands
+          → Fits (if b then flat_map (λ (o : Operand). given_cells m s (id_in o)) i.operands
           else (if c then null_of s.types i.ty
           else (if d then operation_cells m s i
           else overridden (scalar_lane s i) (override_of m.all m.held i) ∷ [])))
@@ -163,7 +167,7 @@ no_array op h = by_test (op == 28) refl
     by_test true e = let constant : is_constant 28 ≡ true = subst (λ (k : ℕ). is_constant k ≡ true) (equal op 28 e) h in impossible constant
     by_test false e = refl
 
-constant_rules : (m : Context) (s : State) (i : Inst) → is_constant i.op ≡ true → keeps_rules m s i ≡ true → (is_sized_data s.types i.ty && keeps_kind m s i) ≡ true
+pub constant_rules : (m : Context) (s : State) (i : Inst) → is_constant i.op ≡ true → keeps_rules m s i ≡ true → (is_sized_data s.types i.ty && keeps_kind m s i) ≡ true
 constant_rules m s i constant h = by_tests (i.op == 28) (is_constant i.op) (no_array i.op constant) constant h
   where
     by_tests : (b c : Bool) → b ≡ false → c ≡ true → (if b then is_some (length_at m s i) else (if c then is_sized_data s.types i.ty && keeps_kind m s i else true)) ≡ true → (is_sized_data s.types i.ty && keeps_kind m s i) ≡ true

@@ -1,9 +1,9 @@
 -- The walk over a module's constants, from its first instruction to its last before the functions.
-use Rattle.std.proofs.Common.{◌≡◌, ◌≢◌, ◌⊎◌, ◌∙◌, ℕ, ◌<◌, ◌==◌, Bool, true, false, List, [], ◌∷◌, ◌++◌, length, append_assoc, append-nil, Option, Some, None, Result, Ok, Err, inl, inr, refl, sym, ap, subst}
-use Rattle.std.proofs.lemmas.Bool.{and_parts, cases_Bool, eqb-true, eq-eqb, ltb-true}
-use Rattle.std.specs.Prelude.{nat_le, nat_lt, ◌&&◌, ◌||◌, if◌then◌else◌, unwrap_or, option_map}
+use Rattle.std.proofs.Common.{◌≡◌, ◌≢◌, ◌⊎◌, ◌∙◌, ℕ, ◌<◌, ◌==◌, Bool, true, false, List, [], ◌∷◌, ◌++◌, length, append_assoc, append-nil, Option, Some, None, Ok, Err, inl, inr, refl, sym, ap, subst}
+use Rattle.std.proofs.lemmas.Bool.{and_parts, cases_Bool, eqb-true, eq-eqb}
+use Rattle.std.specs.Prelude.{if◌then◌else◌, nat_le, option_map, ◌&&◌}
 use Rattle.std.specs.List.{AllByRecursion}
-use Rattle.std.specs.Option.{is_some, option_map_or}
+use Rattle.std.specs.Option.{option_and_then, option_map_or}
 use Rattle.spv_base.specs.Entries.{reads}
 use Rattle.spv_base.specs.Order.{Ascend}
 use Rattle.spv_base.specs.declared.causes.Refusal.{Refusal}
@@ -16,7 +16,7 @@ use Rattle.spv_types.specs.Laws.{AreByForms, AreComplete, AreNamed, AreSound, Ha
 use Rattle.spv_types.specs.Rules.{is_data, is_sized_data}
 use Rattle.spv_types.specs.Types.{IsUnset, Types, form_of, lengthened as with_size, number_of, with_length}
 use Rattle.spv_types.specs.Typing.{defined_form, types_in}
-use Rattle.spv_index.specs.Definitions.{before_functions, type_of}
+use Rattle.spv_index.specs.Definitions.{before_functions, defining, result_type, type_in}
 use Rattle.spv_consts.specs.Table.{Constants, Row}
 use Rattle.spv_consts.specs.Context.{Context}
 use Rattle.spv_consts.specs.State.{State, is_next}
@@ -60,13 +60,13 @@ data_number ts id h = by_form (form_of ts id) refl h
     by_form None e data_is = cc
     by_form (Some f) e data_is = number_of_form ts id f e
 
-constant_rules : (m : Context) (s : State) (i : Inst) → is_constant i.op ≡ true → keeps_rules m s i ≡ true → is_data (form_of s.types i.ty) ≡ true
+pub constant_rules : (m : Context) (s : State) (i : Inst) → is_constant i.op ≡ true → keeps_rules m s i ≡ true → is_data (form_of s.types i.ty) ≡ true
 constant_rules m s i constant rules =
     let rest : (is_sized_data s.types i.ty && keeps_kind m s i) ≡ true = rw (constant_no_array i.op constant, constant) at rules in
     let sized = and_parts (is_sized_data s.types i.ty) (keeps_kind m s i) rest in
     (and_parts (is_data (form_of s.types i.ty)) _ sized.0).0
 
-constant_among : (m : Context) (front : List Inst) (i : Inst) (s : State) → Follows m.all front s → IsPlaced m.all front i → is_constant i.op ≡ true → keeps_rules m s i ≡ true → IsAmong s.types s.known i.ty
+pub constant_among : (m : Context) (front : List Inst) (i : Inst) (s : State) → Follows m.all front s → IsPlaced m.all front i → is_constant i.op ≡ true → keeps_rules m s i ≡ true → IsAmong s.types s.known i.ty
 constant_among m front i s follows place constant rules =
     let number = data_number s.types i.ty (constant_rules m s i constant rules) in
     let below = place.earlier constant number.0 (sym (follows.numbers i.ty) ∙ number.1) in
@@ -74,28 +74,44 @@ constant_among m front i s follows place constant rules =
 
 -- ---- its operands
 
-operands_fill : (m : Context) (front : List Inst) (i : Inst) (s : State) → Follows m.all front s → OperandsFillTypes m s i.word
-operands_fill m front i s follows = λ id h. by_value id (reads id s.values) refl
+-- the type of a result that has one
+type_named : (insts : List Inst) (id own ty : ℕ) → option_map (λ (i : Inst). i.ty) (defining insts id) ≡ Some own → result_type insts id ≡ Some ty → own ≡ ty
+type_named insts id own ty defined h = by_defining (defining insts id) defined h
   where
-    by_value : (id : ℕ) (o : Option Row) → reads id s.values ≡ o → FillType s.types (type_of m.all id) (option_map_or (λ (r : Row). r.cells) (reads id s.values) (undefined_of s.types (type_of m.all id)))
-    by_value id None e = rw e (blanks_fill s.types false (type_of m.all id) follows.sound)
-    by_value id (Some v) e =
+    by_test : (b : Bool) (n : ℕ) → (if b then None else Some n) ≡ Some ty → n ≡ ty
+    by_test true n h = cc
+    by_test false n h = cc
+
+    by_defining : (o : Option Inst) → option_map (λ (j : Inst). j.ty) o ≡ Some own → option_and_then type_in o ≡ Some ty → own ≡ ty
+    by_defining None e h = cc
+    by_defining (Some j) e h = let same : j.ty ≡ own = cc in sym same ∙ by_test (j.ty == 0) j.ty h
+
+pub operands_fill : (m : Context) (front : List Inst) (i : Inst) (s : State) → Follows m.all front s → OperandsFillTypes m s i.word
+operands_fill m front i s follows = λ id ty h typed. by_value id ty typed (reads id s.values) refl
+  where
+    by_type : (ty : ℕ) (o : Option ℕ) → o ≡ Some ty → FillType s.types ty (option_map_or (undefined_of s.types) o [])
+    by_type ty None e = cc
+    by_type ty (Some t) e = let same : t ≡ ty = cc in subst (λ (q : ℕ). FillType s.types q (undefined_of s.types t)) same (blanks_fill s.types false t follows.sound)
+
+    by_value : (id ty : ℕ) → result_type m.all id ≡ Some ty → (o : Option Row) → reads id s.values ≡ o → FillType s.types ty (option_map_or (λ (r : Row). r.cells) o (option_map_or (undefined_of s.types) (result_type m.all id) []))
+    by_value id ty typed None e = by_type ty (result_type m.all id) typed
+    by_value id ty typed (Some v) e =
         let filled = read_filled m.all s.types s.known s.values id v follows.shaped e in
-        rw e (subst (λ (t : ℕ). FillType s.types t v.cells) filled.1 filled.3)
+        subst (λ (t : ℕ). FillType s.types t v.cells) (type_named m.all id v.ty ty filled.1 typed) filled.3
 
 -- ---- one instruction
 
 next_is : (s : State) (id n : ℕ) → number_of s.types id ≡ Some n → s.known ≡ n → is_next s id ≡ true
 next_is s id n number known = rw number (eq-eqb n s.known (sym known))
 
-not_next : (s : State) (id : ℕ) → number_of s.types id ≡ None → is_next s id ≡ false
+pub not_next : (s : State) (id : ℕ) → number_of s.types id ≡ None → is_next s id ≡ false
 not_next s id number = rw number refl
 
 -- what comes of an instruction by its kind
 type_entered : (m : Context) (s : State) (i : Inst) → is_next s i.id ≡ true → entered m s i ≡ with_type s
 type_entered m s i comes_next = rw comes_next refl
 
-constant_entered : (m : Context) (s : State) (i : Inst) → is_next s i.id ≡ false → is_constant i.op ≡ true → entered m s i ≡ with_constant m s i
+pub constant_entered : (m : Context) (s : State) (i : Inst) → is_next s i.id ≡ false → is_constant i.op ≡ true → entered m s i ≡ with_constant m s i
 constant_entered m s i other constant = rw (other, constant) refl
 
 other_entered : (m : Context) (s : State) (i : Inst) → is_next s i.id ≡ false → is_constant i.op ≡ false → entered m s i ≡ s
@@ -103,7 +119,7 @@ other_entered m s i other no_constant = rw (other, no_constant) refl
 
 -- ---- the state at the end
 
-ends : (insts : List Inst) (ts : Types) (over : Numbers) (known : Types × Constants) → constants_of ts insts over ≡ Ok known
+pub ends : (insts : List Inst) (ts : Types) (over : Numbers) (known : Types × Constants) → constants_of ts insts over ≡ Ok known
     → (front_breaches ts insts over ≡ []) × (known ≡ known_of (state_of ts insts over))
 unfolding constants_of
 ends insts ts over known is = by_breaches (front_breaches ts insts over) (lowest_wrong insts insts) is
@@ -119,7 +135,7 @@ ends insts ts over known is = by_breaches (front_breaches ts insts over) (lowest
         by_word false h = cc
 
 -- no breach of two lists is none of either
-none_of : (rs ss : List Refusal) → rs ++ ss ≡ [] → (rs ≡ []) × (ss ≡ [])
+pub none_of : (rs ss : List Refusal) → rs ++ ss ≡ [] → (rs ≡ []) × (ss ≡ [])
 none_of [] ss h = (refl, h)
 none_of (r ∷ rs) ss h = absurd (cc)
 
@@ -189,11 +205,11 @@ module _
         by_kind (inl constant) =
             let among : IsAmong s.types s.known i.ty = constant_among m front i s follows place constant rules in
             let fills : FillType s.types i.ty (cells_of m s i) = constants_fill m s i follows.sound (operands_fill m front i s follows) constant rules in
-            let follows_t = constant_follows m front i s follows form (place.own_type constant) among (constant_rules m s i constant rules) fills in
+            let follows_t = constant_follows m front i s follows form (place.defined constant) among (constant_rules m s i constant rules) fills in
             subst (λ (t : State). Follows m.all (front ++ i ∷ []) t) (sym (constant_entered m s i aside constant)) follows_t
         by_kind (inr no_constant) = subst (λ (t : State). Follows m.all (front ++ i ∷ []) t) (sym (other_entered m s i aside no_constant)) (other_follows m.all front i s follows form no_constant)
 
-    step_follows : (m : Context) (front : List Inst) (i : Inst) (s : State) → Follows m.all front s → IsPlaced m.all front i → breaches_at m s i ≡ [] → Follows m.all (front ++ i ∷ []) (stepped m s i)
+    pub step_follows : (m : Context) (front : List Inst) (i : Inst) (s : State) → Follows m.all front s → IsPlaced m.all front i → breaches_at m s i ≡ [] → Follows m.all (front ++ i ∷ []) (stepped m s i)
     step_follows m front i s follows place none = by_form (defined_form m.all i) refl
       where
         passes : (keeps_rules m s i ≡ true) × ((u : State) × (lengthened m s i ≡ Some u) × (stepped m s i ≡ entered m u i))
@@ -218,7 +234,7 @@ module _
 
     -- ---- the answer
 
-    abbrev Walked : List Inst → Types × Constants → Type 0
+    abbrev pub Walked : List Inst → Types × Constants → Type 0
     Walked insts known = (s : State) × Follows insts (before_functions insts) s × (known ≡ (s.types, s.values))
 
     walked_by : (insts : List Inst) (ts : Types) (over : Numbers) (known : Types × Constants) → Ascend 0 insts → AreNamed insts → types_of insts ≡ Ok ts → constants_of ts insts over ≡ Ok known → Walked insts known

@@ -1,7 +1,7 @@
 -- What a module's ids, order and types say of an instruction before the functions, whatever the constants before it are.
-use Rattle.std.proofs.Common.{◌≡◌, ◌∙◌, ℕ, ◌<◌, ◌≤◌, ◌==◌, true, false, List, [], ◌∷◌, ◌++◌, length, length-append, append_assoc, Option, Some, None, sym, ap, subst, arith}
+use Rattle.std.proofs.Common.{◌≡◌, ◌∙◌, ℕ, ◌<◌, ◌≤◌, ◌==◌, true, false, List, [], ◌∷◌, ◌++◌, length, length-append, append_assoc, Some, None, sym, ap, subst, arith}
 use Rattle.std.proofs.lemmas.Bool.{and_parts, or_right}
-use Rattle.std.specs.Prelude.{find, unwrap_or, option_map}
+use Rattle.std.specs.Prelude.{find}
 use Rattle.std.specs.List.{AllByRecursion}
 use Rattle.std.specs.Option.{is_some}
 use Rattle.spv_base.specs.Order.{AreDistinct, Ascend}
@@ -14,8 +14,8 @@ use Rattle.spv_types.specs.Laws.{AreNamed, HasResult, IsAmong, TypesComeFirst}
 use Rattle.spv_types.specs.Rules.{is_data, is_sized_data}
 use Rattle.spv_types.specs.Types.{Types, form_of, number_of}
 use Rattle.spv_types.specs.Typing.{defined_form, types_in}
-use Rattle.spv_index.specs.Definitions.{before_functions, defining, has_result, type_of}
-use Rattle.spv_consts.proofs.WalkIds.{defining_is, distinct_left, each_left, each_right, found_before, found_of_defining, type_comes_first}
+use Rattle.spv_index.specs.Definitions.{before_functions, defining, has_result}
+use Rattle.spv_consts.proofs.WalkIds.{Differs, defining_is, differ_before, distinct_left, each_left, each_right, found_before, found_of_defining, type_comes_first}
 use Rattle.spv_consts.proofs.WalkStates.{array_has_form}
 use Rattle.spv_consts.proofs.WalkTypes.{earlier_type, kept_at, known_data, other_number, type_number, types_joined, undef_is_sized}
 
@@ -24,12 +24,15 @@ abbrev pub declared : List Inst → Types
 declared insts = types_in insts (before_functions insts)
 
 -- What is so of an instruction before the functions, behind some others: its type comes next among the declared types, or its
--- id is no type; a constant has its type among those before it, and so has an OpUndef before its word, of data.
+-- id is no type; no other one before it has its id, and a constant defines its id; a constant has its type among those before it,
+-- and so has an OpUndef before its word, of data.
 pub record IsPlaced (insts front : List Inst) (i : Inst) : Type 0 where
   pub type_at : (f : Form) → defined_form insts i ≡ Some f → (number_of (declared insts) i.id ≡ Some (length (types_in insts front))) × (form_of (declared insts) i.id ≡ Some f)
   pub no_type : defined_form insts i ≡ None → number_of (declared insts) i.id ≡ None
   pub no_array : defined_form insts i ≡ None → (i.op == TYPE_ARRAY) ≡ false
-  pub own_type : is_constant i.op ≡ true → type_of insts i.id ≡ i.ty
+  pub apart : AllByRecursion (Differs i.id) front
+  pub positive : is_constant i.op ≡ true → 0 < i.id
+  pub defined : is_constant i.op ≡ true → defining insts i.id ≡ Some i
   pub earlier : is_constant i.op ≡ true → (n : ℕ) → number_of (declared insts) i.ty ≡ Some n → n < length (types_in insts front)
   pub undefined : (id : ℕ) (d : Inst) → defining insts id ≡ Some d → d.op ≡ UNDEF → d.word < i.word → IsAmong (declared insts) (length (types_in insts front)) d.ty × (is_data (form_of (declared insts) d.ty) ≡ true)
 
@@ -66,7 +69,9 @@ module _ (insts front rest tail : List Inst) (i : Inst) (place : before_function
         (ap (λ (is : List Inst). number_of (types_in insts is) i.id) place ∙ at.0, ap (λ (is : List Inst). form_of (types_in insts is) i.id) place ∙ at.1);
     no_type = λ e. ap (λ (is : List Inst). number_of (types_in insts is) i.id) place ∙ other_number insts front rest i distinct results e;
     no_array = array_has_form insts (types_in insts front) i (kept_at insts [] front rest i (subst (λ (is : List Inst). type_breaches insts [] is ≡ []) place none));
-    own_type = λ constant. ap (λ (o : Option Inst). unwrap_or (option_map (λ (j : Inst). j.ty) o) 0) (defined constant);
+    apart = differ_before front rest i distinct;
+    positive = λ constant. (bounds constant).0;
+    defined = defined;
     earlier = λ constant n e. earlier_type insts front (i ∷ rest) i.ty n distinct results (type_comes_first [] front rest i first constant) (sym (ap (λ (is : List Inst). number_of (types_in insts is) i.ty) place) ∙ e);
     undefined = undefined_type ascend none;
   }
@@ -83,9 +88,11 @@ module _ (insts front rest tail : List Inst) (i : Inst) (place : before_function
       first : TypesComeFirst [] (front ++ i ∷ rest)
       first = subst (λ (is : List Inst). TypesComeFirst [] is) place named.types_first
 
+      bounds : is_constant i.op ≡ true → (0 < i.id) × (i.id < 1048576)
+      bounds constant = (each_right (HasResult insts) front (i ∷ rest) results).0 (or_right (is_some (defined_form insts i)) (is_constant i.op) constant)
+
       defined : is_constant i.op ≡ true → defining insts i.id ≡ Some i
       defined constant =
-          let own = each_right (HasResult insts) front (i ∷ rest) results in
-          let bounds = own.0 (or_right (is_some (defined_form insts i)) (is_constant i.op) constant) in
-          let is : defining (front ++ i ∷ (rest ++ tail)) i.id ≡ Some i = defining_is front (rest ++ tail) i bounds.0 bounds.1 (subst AreDistinct whole named.distinct) in
+          let within = bounds constant in
+          let is : defining (front ++ i ∷ (rest ++ tail)) i.id ≡ Some i = defining_is front (rest ++ tail) i within.0 within.1 (subst AreDistinct whole named.distinct) in
           ap (λ (is : List Inst). defining is i.id) whole ∙ is

@@ -2,7 +2,8 @@
 use Rattle.std.proofs.Common.{◌≡◌, ◌⊎◌, ◌∙◌, ℕ, ◌==◌, Bool, true, false, List, [], ◌∷◌, ◌++◌, drop, Option, Some, None, inl, inr, refl, sym, ap}
 use Rattle.std.proofs.lemmas.Bool.{eqb-true, ne_eqb}
 use Rattle.std.specs.Prelude.{nat_lt, not, ◌&&◌, if◌then◌else◌, unwrap_or}
-use Rattle.std.specs.Option.{is_some, option_map, option_map_or}
+use Rattle.std.specs.Option.{is_some, option_and_then, option_map, option_map_or}
+use Rattle.spv_index.specs.Operands.{id_operand}
 use Rattle.spv_base.specs.declared.causes.Refusal.{Refusal}
 use Rattle.spv_base.specs.declared.instructions.Inst.{Inst}
 use Rattle.spv_types.specs.declared.forms.Form.{Form}
@@ -158,7 +159,7 @@ no_length m s u i h e = let same : Some s ≡ Some u = rw h at e in cc
 -- an array type sets a length where it has none
 pub array_length : (m : Context) (s u : State) (i : Inst) → (i.op == TYPE_ARRAY) ≡ true → keeps_rules m s i ≡ true → is_next s i.id ≡ true → lengthened m s i ≡ Some u
     → ((n : ℕ) × (u ≡ record s { types = with_length s.types i.id n })) ⊎ ((u ≡ s) × (IsUnset (form_of s.types i.id) → ⊥))
-array_length m s u i array rules comes_next e = by_length (constant_length m s _) (rw array at rules) (rw array at e)
+array_length m s u i array rules comes_next e = by_length (option_and_then (constant_length m s) (id_operand i 1)) (rw array at rules) (rw array at e)
   where
     by_unset : (n : ℕ) (b : Bool) → is_unset (form_of s.types i.id) ≡ b → (if b then record s { types = with_length s.types i.id n } else s) ≡ u
         → ((k : ℕ) × (u ≡ record s { types = with_length s.types i.id k })) ⊎ ((u ≡ s) × (IsUnset (form_of s.types i.id) → ⊥))

@@ -1,10 +1,10 @@
 -- What is so in each state of the walk over a module's constants: the types up to there are complete, and each constant fills its
 -- type.
-use Rattle.std.proofs.Common.{◌≡◌, ◌≢◌, ◌⊎◌, ◌∙◌, ℕ, ◌+◌, ◌<◌, ◌≤◌, ◌==◌, Bool, true, false, eqb, List, [], ◌∷◌, ◌++◌, length, length-append, append-nil, Option, Some, None, inl, inr, refl, sym, ap, subst, arith}
+use Rattle.std.proofs.Common.{◌≡◌, ◌≢◌, ◌⊎◌, ◌∙◌, ℕ, ◌+◌, ◌<◌, ◌≤◌, ◌==◌, Bool, true, false, eqb, List, [], ◌∷◌, ◌++◌, length, length-append, append-nil, Some, None, inl, inr, refl, sym, ap, subst, arith}
 use Rattle.std.proofs.lemmas.Bool.{cases_eq, cases_lt, eq-eqb}
 use Rattle.std.specs.Prelude.{if◌then◌else◌}
 use Rattle.std.specs.List.{AllByRecursion}
-use Rattle.std.specs.Option.{IsSome}
+use Rattle.std.specs.Option.{IsSome, option_map}
 use Rattle.spv_base.specs.Entries.{reads}
 use Rattle.spv_base.specs.declared.instructions.Inst.{Inst}
 use Rattle.spv_types.specs.declared.forms.Form.{Form}
@@ -15,7 +15,7 @@ use Rattle.spv_types.specs.Rules.{is_data}
 use Rattle.spv_types.specs.Types.{IsUnset, Types, form_of, lengthened as with_size, number_of, with_length}
 use Rattle.spv_types.specs.Typing.{defined_form, types_in}
 use Rattle.spv_types.proofs.TypeLemmas.{number_form}
-use Rattle.spv_index.specs.Definitions.{type_of}
+use Rattle.spv_index.specs.Definitions.{defining}
 use Rattle.spv_consts.specs.Table.{Constants, Row}
 use Rattle.spv_consts.specs.Values.{leaf_widths}
 use Rattle.spv_consts.specs.Laws.{FillType}
@@ -33,7 +33,7 @@ use Rattle.spv_consts.proofs.WalkPlaces.{declared, wider}
 
 -- a constant has the type of its id, which is data and among the first types, and its cells fill it
 abbrev pub IsFilled : List Inst → Types → ℕ → ℕ × Row → Type 0
-IsFilled insts ts known c = IsAmong ts known c.1.ty × (c.1.ty ≡ type_of insts c.0) × (is_data (form_of ts c.1.ty) ≡ true) × FillType ts c.1.ty c.1.cells
+IsFilled insts ts known c = IsAmong ts known c.1.ty × (option_map (λ (i : Inst). i.ty) (defining insts c.0) ≡ Some c.1.ty) × (is_data (form_of ts c.1.ty) ≡ true) × FillType ts c.1.ty c.1.cells
 
 -- a constant has a value
 abbrev pub HasValue : Constants → Inst → Type 0
@@ -119,7 +119,7 @@ read_new (d ∷ cs) id v = by_test (d.0 == id) (read_new cs id v)
     by_test true rest = refl
     by_test false rest = rest
 
-pub constant_follows : (m : Context) (front : List Inst) (i : Inst) (s : State) → Follows m.all front s → defined_form m.all i ≡ None → type_of m.all i.id ≡ i.ty → IsAmong s.types s.known i.ty
+pub constant_follows : (m : Context) (front : List Inst) (i : Inst) (s : State) → Follows m.all front s → defined_form m.all i ≡ None → defining m.all i.id ≡ Some i → IsAmong s.types s.known i.ty
     → is_data (form_of s.types i.ty) ≡ true → FillType s.types i.ty (cells_of m s i) → Follows m.all (front ++ i ∷ []) (with_constant m s i)
 constant_follows m front i s follows e own among data_is fills = record {
   known = follows.known ∙ sym (types_same m.all front i e);
@@ -129,7 +129,7 @@ constant_follows m front i s follows e own among data_is fills = record {
   sound = follows.sound;
   complete = follows.complete;
   shaped = each_push (IsFilled m.all s.types s.known) s.values (i.id, value_of m s i) follows.shaped
-      (among, sym own, data_is, fills);
+      (among, ap (option_map (λ (j : Inst). j.ty)) own, data_is, fills);
   valued = each_push (HasValue (s.values ++ (i.id, value_of m s i) ∷ [])) front i
       (each_weaker (HasValue s.values) (HasValue (s.values ++ (i.id, value_of m s i) ∷ [])) (λ j valued constant. read_more s.values (i.id, value_of m s i) j.id (valued constant)) front follows.valued)
       (λ constant. read_new s.values i.id (value_of m s i));
@@ -150,7 +150,7 @@ other_follows insts front i s follows e other = record {
 -- ---- the length of an array
 
 -- the leaves of a type before an array stay what they are
-widths_kept : (ts : Types) (id k n q : ℕ) → number_of ts id ≡ Some k → IsAmong ts k q → leaf_widths (with_length ts id n) q ≡ leaf_widths ts q
+pub widths_kept : (ts : Types) (id k n q : ℕ) → number_of ts id ≡ Some k → IsAmong ts k q → leaf_widths (with_length ts id n) q ≡ leaf_widths ts q
 unfolding leaf_widths widths_among
 widths_kept ts id k n q number among = in_first_kept [] widths_step ts id k n q number among
 
@@ -172,7 +172,7 @@ module _
         let own = own_set ts id n _ form in
         ap is_data own ∙ sized_data n _ ∙ sym (ap is_data form)
 
-    earlier_among : (ts : Types) (id n k q : ℕ) → IsAmong ts k q → IsAmong (with_length ts id n) k q
+    pub earlier_among : (ts : Types) (id n k q : ℕ) → IsAmong ts k q → IsAmong (with_length ts id n) k q
     earlier_among ts id n k q among = record { number = among.number; is = number_kept ts id n q ∙ among.is; below = among.below }
 
     pub length_follows : (insts front : List Inst) (s : State) (id n : ℕ) → Follows insts front s → number_of s.types id ≡ Some s.known → Follows insts front (record s { types = with_length s.types id n })

@@ -5,7 +5,7 @@ use Rattle.std.specs.Option.{is_some, option_map_or}
 use Rattle.spv_base.specs.Lane.{Lane}
 use Rattle.spv_base.specs.declared.instructions.Inst.{Inst}
 use Rattle.spv_base.specs.declared.instructions.Operand.{Operand}
-use Rattle.spv_types.specs.Operands.{id_at, id_of}
+use Rattle.spv_index.specs.Operands.{id_in, id_operand}
 use Rattle.spv_types.specs.Types.{form_of}
 use Rattle.spv_alu.specs.Results.{truth}
 use Rattle.spv_alu.specs.Unary.{unary_op}
@@ -16,7 +16,7 @@ use Rattle.spv_consts.specs.Overrides.{overridden, override_of}
 use Rattle.spv_consts.specs.Lanes.{binary_lane, unary_lane}
 use Rattle.spv_consts.specs.Operations.{by_two, lane_width, selected}
 use Rattle.spv_consts.specs.Context.{Context}
-use Rattle.spv_consts.specs.State.{State, operand_cells}
+use Rattle.spv_consts.specs.State.{State, given_cells}
 use Rattle.spv_consts.specs.Rules.{is_composite, opcode_of}
 
 -- the lane of a scalar constant without its override: OpConstantTrue 41 and OpSpecConstantTrue 48, OpConstantFalse 42 and
@@ -29,7 +29,7 @@ scalar_lane s i =
 
 -- the leaves of the operand at a place; the opcode of an OpSpecConstantOp is at place 0
 abbrev pub operand_at : Context → State → Inst → ℕ → List Lane
-operand_at m s i place = operand_cells m s (id_at i.operands place)
+operand_at m s i place = given_cells m s (id_operand i place)
 
 abbrev pub select_cells : Context → State → Inst → List Lane
 select_cells m s i = selected (operand_at m s i 1) (operand_at m s i 2) (operand_at m s i 3)
@@ -54,7 +54,7 @@ operation_cells m s i = option_map_or (computed_cells m s i) (opcode_of i) []
 -- scalars
 abbrev pub cells_of : Context → State → Inst → List Lane
 cells_of m s i =
-    if is_composite i.op then flat_map (λ (o : Operand). operand_cells m s (id_of o)) i.operands
+    if is_composite i.op then flat_map (λ (o : Operand). given_cells m s (id_in o)) i.operands
     else (if i.op == 46 then null_of s.types i.ty
     else (if i.op == 52 then operation_cells m s i
     else overridden (scalar_lane s i) (override_of m.all m.held i) ∷ []))

@@ -6,10 +6,10 @@ use Rattle.spv_base.specs.Lane.{Lane}
 use Rattle.spv_base.specs.declared.instructions.Inst.{Inst}
 use Rattle.spv_types.specs.declared.forms.Form.{Form}
 use Rattle.spv_types.specs.declared.forms.Form.TheVariants.{Void, Bool as Boolean, Int, Vector, Array, Runtime, Struct, Pointer, Function}
-use Rattle.spv_types.specs.Operands.{id_at}
-use Rattle.spv_types.specs.Types.{form_of, with_length}
+use Rattle.spv_types.specs.Types.{Types, form_of, with_length}
 use Rattle.spv_alu.specs.Integers.{signed}
-use Rattle.spv_index.specs.Definitions.{type_of}
+use Rattle.spv_index.specs.Definitions.{result_type}
+use Rattle.spv_index.specs.Operands.{id_operand}
 use Rattle.spv_consts.specs.Table.{scalar_of}
 use Rattle.spv_consts.specs.Context.{Context}
 use Rattle.spv_consts.specs.State.{State, is_next}
@@ -27,6 +27,10 @@ sign_of (Some (Struct members block)) = None
 sign_of (Some (Pointer class target)) = None
 sign_of (Some (Function returns parameters)) = None
 
+-- the sign of a type that is there, and an integer
+abbrev pub sign_at : Types → Option ℕ → Option ℕ
+sign_at ts ty = option_and_then (λ id. sign_of (form_of ts id)) ty
+
 -- the number of a lane, read as signed where the sign is 1
 abbrev pub number_in : ℕ → Lane → ℤ
 number_in sign c = if sign == 1 && nat_le 1 c.width then signed c.width c.bits else pos c.bits
@@ -37,11 +41,11 @@ lane_length sign c = if c.defined && int_le (pos 1) (number_in sign c) then Some
 
 -- the length that the constant with an id gives
 abbrev pub constant_length : Context → State → ℕ → Option ℕ
-constant_length m s id = option_and_then (λ sign. option_and_then (lane_length sign) (scalar_of s.values id)) (sign_of (form_of s.types (type_of m.all id)))
+constant_length m s id = option_and_then (λ sign. option_and_then (lane_length sign) (scalar_of s.values id)) (sign_at s.types (result_type m.all id))
 
 -- the length of an array type, OpTypeArray 28, and none of another instruction
 abbrev pub length_at : Context → State → Inst → Option ℕ
-length_at m s i = if i.op == 28 then constant_length m s (id_at i.operands 1) else None
+length_at m s i = if i.op == 28 then option_and_then (constant_length m s) (id_operand i 1) else None
 
 abbrev pub is_unset : Option Form → Bool
 is_unset None = false

@@ -14,4 +14,5 @@ pub mod Rules
 pub mod Evaluation
 pub mod Steps
 pub mod Build
+pub mod Constants
 pub mod Laws

@@ -6,20 +6,19 @@ use Rattle.spv_base.specs.declared.instructions.Inst.{Inst}
 use Rattle.spv_base.specs.declared.instructions.Operand.{Operand}
 use Rattle.spv_types.specs.declared.forms.Form.{Form}
 use Rattle.spv_types.specs.declared.forms.Form.TheVariants.{Void, Bool as Boolean, Int, Vector, Array, Runtime, Struct, Pointer, Function}
-use Rattle.spv_types.specs.Operands.{id_of, lit_at}
 use Rattle.spv_types.specs.Types.{form_of}
 use Rattle.spv_types.specs.Constants.{is_constant}
 use Rattle.spv_types.specs.Rules.{is_sized_data}
 use Rattle.spv_types.specs.Shapes.{part_type}
 use Rattle.spv_types.specs.Views.{is_boolean}
-use Rattle.spv_index.specs.Definitions.{result_type, type_of}
-use Rattle.spv_index.specs.Operands.{id_operand}
+use Rattle.spv_index.specs.Definitions.{result_type}
+use Rattle.spv_index.specs.Operands.{id_in, id_operand, literal_operand}
 use Rattle.spv_typing.specs.Rules.{is_constant_operation, operand_count}
 use Rattle.spv_typing.specs.Fitting.{fits}
 use Rattle.spv_consts.specs.Literals.{integer_width, keeps_literal}
 use Rattle.spv_consts.specs.Overrides.{is_same}
 use Rattle.spv_consts.specs.Context.{Context}
-use Rattle.spv_consts.specs.State.{State, is_operand}
+use Rattle.spv_consts.specs.State.{State, is_given, is_operand}
 use Rattle.spv_consts.specs.Lengths.{length_at}
 
 -- the number of parts of a vector, array or struct
@@ -40,14 +39,21 @@ abbrev pub part_type_of : Option Form → ℕ → Option ℕ
 part_type_of None k = None
 part_type_of (Some f) k = part_type f k
 
+-- the result with an id has the type of a part
+abbrev pub has_type : Context → Option ℕ → ℕ → Bool
+has_type m part id = option_map_or (λ ty. is_same ty part) (result_type m.all id) false
+
 -- a constituent is a constant or an OpUndef before the composite, of the part's type
-abbrev pub keeps_part : Context → State → ℕ → Option ℕ → ℕ → Bool
-keeps_part m s word part id = is_operand m s word id && is_same (type_of m.all id) part
+abbrev pub is_part : Context → State → ℕ → Option ℕ → ℕ → Bool
+is_part m s word part id = is_operand m s word id && has_type m part id
+
+abbrev pub keeps_part : Context → State → ℕ → Option ℕ → Option ℕ → Bool
+keeps_part m s word part o = option_map_or (is_part m s word part) o false
 
 -- constituents from number k on
 unfoldable pub keeps_parts : Context → State → ℕ → Option Form → ℕ → List Operand → Bool
 keeps_parts m s word form k [] = true
-keeps_parts m s word form k (o ∷ os) = keeps_part m s word (part_type_of form k) (id_of o) && keeps_parts m s word form (suc k) os
+keeps_parts m s word form k (o ∷ os) = keeps_part m s word (part_type_of form k) (id_in o) && keeps_parts m s word form (suc k) os
 
 -- a composite has one constituent for each part
 abbrev pub keeps_composite : Context → State → Inst → Option Form → Bool
@@ -55,12 +61,12 @@ keeps_composite m s i form = is_same (length i.operands) (part_count form) && ke
 
 -- the opcode of an OpSpecConstantOp; an opcode has 16 bits
 abbrev pub opcode_of : Inst → Option ℕ
-opcode_of i = if nat_lt (lit_at i.operands 0) 65536 then Some (lit_at i.operands 0) else None
+opcode_of i = option_and_then (λ op. if nat_lt op 65536 then Some op else None) (literal_operand i 0)
 
 -- each operand is a constant or an OpUndef before the instruction
 unfoldable pub are_operands : Context → State → ℕ → List Operand → Bool
 are_operands m s word [] = true
-are_operands m s word (o ∷ os) = is_operand m s word (id_of o) && are_operands m s word os
+are_operands m s word (o ∷ os) = is_given m s word (id_in o) && are_operands m s word os
 
 -- the operation's opcode and as many operands as it has
 abbrev pub keeps_count : Inst → ℕ → Bool

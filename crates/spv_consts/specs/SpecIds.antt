@@ -4,13 +4,13 @@
 use Rattle.std.specs.Prelude.{ℕ, ◌==◌, ◌&&◌, ◌||◌, max, min, if◌then◌else◌, Bool, List, [], ◌∷◌, Option, Some, None}
 use Rattle.std.specs.Option.{option_and_then}
 use Rattle.spv_base.specs.declared.instructions.Inst.{Inst}
-use Rattle.spv_types.specs.Operands.{id_at, lit_at}
 use Rattle.spv_index.specs.Definitions.{defining}
-use Rattle.spv_consts.specs.Overrides.{is_specializable}
+use Rattle.spv_index.specs.Operands.{id_operand, literal_operand}
+use Rattle.spv_consts.specs.Overrides.{is_same, is_specializable}
 
 -- a decoration SpecId, 1, of an id by OpDecorate 71 or of a member by OpMemberDecorate 72
 abbrev pub is_spec_id : Inst → Bool
-is_spec_id d = (d.op == 71 && lit_at d.operands 1 == 1) || (d.op == 72 && lit_at d.operands 2 == 1)
+is_spec_id d = (d.op == 71 && is_same 1 (literal_operand d 1)) || (d.op == 72 && is_same 1 (literal_operand d 2))
 
 -- it stands on an instruction that takes one
 abbrev pub takes_spec_id : Inst → Inst → Bool
@@ -21,7 +21,7 @@ wrong_on d i = if takes_spec_id d i then None else Some (max d.word i.word)
 
 -- the word where a decoration is a SpecId on what takes none
 abbrev pub wrong_spec_id : List Inst → Inst → Option ℕ
-wrong_spec_id all d = if is_spec_id d then option_and_then (wrong_on d) (defining all (id_at d.operands 0)) else None
+wrong_spec_id all d = if is_spec_id d then option_and_then (wrong_on d) (option_and_then (defining all) (id_operand d 0)) else None
 
 -- the lower of two words
 abbrev pub lower : Option ℕ → Option ℕ → Option ℕ

@@ -1,7 +1,7 @@
 -- One instruction after another: the breaches of the rules of constants (code 14) and of the limits on types and constants
 -- (code 18; this project's limits), and what is known after it. An instruction is judged by what the instructions before it give
 -- that break nothing.
-use Rattle.std.specs.Prelude.{ℕ, ◌+◌, ◌||◌, ◌&&◌, not, nat_lt, if◌then◌else◌, Bool, true, false, List, [], ◌∷◌, ◌++◌, Option, Some, None, unwrap_or}
+use Rattle.std.specs.Prelude.{ℕ, ◌+◌, ◌||◌, ◌&&◌, not, nat_lt, if◌then◌else◌, Bool, true, false, List, [], ◌∷◌, ◌++◌, unwrap_or}
 use Rattle.std.specs.Option.{option_map_or}
 use Rattle.spv_base.specs.declared.instructions.Inst.{Inst}
 use Rattle.spv_base.specs.declared.causes.Refusal.{Refusal}

@@ -1,6 +1,5 @@
 //! What the constants of a module are read by.
 ghost use Rattle.std.specs.Prelude.{◌≡◌};
-ghost use Rattle.spv_index.specs.Definitions.{type_of};
 ghost use Rattle.spv_consts.specs.Context.{has_undef_before, is_undef_before};
 ghost use Rattle.spv_consts.specs.Overrides.{override_of};
 
@@ -32,16 +31,6 @@ fn is_undef_before(word: u32, inst: &Inst) -> bool
 }
 
 impl<'a> Context<'a> {
-    /// The type that an id's instruction has, or 0.
-    pub(crate) fn type_of(&self, id: u32) -> u32
-        ensures { result ≡ type_of self.now.all id }
-    {
-        match self.index.defining(id) {
-            Some(inst) => inst.ty,
-            None => 0,
-        }
-    }
-
     /// Whether an id is an OpUndef before a word.
     pub(crate) fn has_undef_before(&self, word: u32, id: u32) -> bool
         ensures { result ≡ has_undef_before self.now word id }

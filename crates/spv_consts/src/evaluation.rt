@@ -2,8 +2,8 @@
 ghost use Rattle.std.specs.Prelude.{◌≡◌, ◌++◌, IfOk, OnOk};
 ghost use Rattle.std.specs.List.{flat_map};
 ghost use Rattle.spv_base.specs.declared.instructions.Operand.{Operand as Given};
-ghost use Rattle.spv_types.specs.Operands.{id_of};
-ghost use Rattle.spv_consts.specs.State.{operand_cells};
+ghost use Rattle.spv_index.specs.Operands.{id_in};
+ghost use Rattle.spv_consts.specs.State.{given_cells};
 ghost use Rattle.spv_consts.specs.Values.{null_of};
 ghost use Rattle.spv_consts.specs.Evaluation as spec;
 
@@ -11,13 +11,13 @@ use crate::context::Context;
 use crate::literals::literal_lane;
 use crate::operations::{PairOp, by_one, by_two, lane_width, selected};
 use crate::overrides::overridden;
-use crate::rules::opcode_of;
+use crate::rules::{id_in, opcode_of};
 use crate::values::append_blank;
 use crate::walk::Walk;
 use spv_alu::{UnaryOp, results};
 use spv_base::{Cell, Inst, NoMemory, Operand};
+use spv_index::id_operand;
 use spv_ops::op;
-use spv_types::{id_at, id_of};
 use std::alloc::Global;
 
 impl Walk {
@@ -39,11 +39,11 @@ impl Walk {
         context: &Context,
         operands: &[Operand],
     ) -> Result<Vec<Cell>, NoMemory>
-        ensures { IfOk result (λ cells. cells.items ≡ flat_map (λ (o : Given). operand_cells context.now self.now (id_of o)) operands.now) }
+        ensures { IfOk result (λ cells. cells.items ≡ flat_map (λ (o : Given). given_cells context.now self.now (id_in o)) operands.now) }
     {
         let mut cells = Vec::new(alloc);
         for operand in operands {
-            self.append_operand(&mut cells, context, id_of(operand))?;
+            self.append_given(&mut cells, context, id_in(operand))?;
         }
         Ok(cells)
     }
@@ -59,7 +59,7 @@ impl Walk {
         ensures { IfOk result (λ cells. cells.items ≡ spec.operand_at context.now self.now inst.now place) }
     {
         let mut cells = Vec::new(alloc);
-        self.append_operand(&mut cells, context, id_at(inst, place))?;
+        self.append_given(&mut cells, context, id_operand(inst, place))?;
         Ok(cells)
     }
 

@@ -8,8 +8,9 @@ use crate::numbers::MOST_CELLS;
 use crate::walk::Walk;
 use spv_alu::integers::signed;
 use spv_base::{Cell, Inst};
+use spv_index::id_operand;
 use spv_ops::op;
-use spv_types::{Form, TypeTable, id_at};
+use spv_types::{Form, TypeTable};
 
 /// The sign of an integer type.
 fn sign_of(types: &TypeTable, ty: u32) -> Option<u32>
@@ -58,7 +59,7 @@ impl Walk {
         ensures length { result ≡ spec.constant_length context.now self.now id }
         ensures positive { IfSome result (λ length. 1 ≤ length) }
     {
-        let sign = sign_of(&self.types, context.type_of(id))?;
+        let sign = sign_of(&self.types, context.index.result_type(id)?)?;
         lane_length(sign, self.values.scalar(id)?)
     }
 
@@ -68,7 +69,7 @@ impl Walk {
         ensures positive { IfSome result (λ length. 1 ≤ length) }
     {
         if inst.op == op::TYPE_ARRAY {
-            self.constant_length(context, id_at(inst, 1))
+            self.constant_length(context, id_operand(inst, 1)?)
         } else {
             None
         }

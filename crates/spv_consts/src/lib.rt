@@ -21,4 +21,4 @@ mod tests;
 mod values;
 mod walk;
 
-pub use table::ConstTable;
+pub use table::{ConstTable, Row, RowPlace};

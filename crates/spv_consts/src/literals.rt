@@ -5,7 +5,8 @@ ghost use Rattle.spv_consts.specs.Literals.{integer_width, keeps_literal, litera
 
 use spv_alu::results;
 use spv_base::{Cell, Inst};
-use spv_types::{Form, TypeTable, lit_at};
+use spv_index::literal_operand;
+use spv_types::{Form, TypeTable};
 
 /// The width of an integer type.
 pub(crate) fn integer_width(types: &TypeTable, ty: u32) -> Option<u8>
@@ -32,24 +33,34 @@ pub(crate) fn keeps_literal(width: Option<u8>, inst: &Inst) -> bool
     ensures { result ≡ keeps_literal width inst.now.operands }
 {
     match width {
-        Some(width) => inst.operands.len() == word_count(width),
+        Some(width) => {
+            inst.operands.len() == word_count(width) && literal_number(width, inst).is_some()
+        }
         None => false,
     }
 }
 
-/// The number of a literal, of one or two words.
-fn literal_number(inst: &Inst) -> u64
-    ensures { result ≡ literal_number inst.now.operands }
+/// The number of a literal of a width, of one or two words.
+fn literal_number(width: u8, inst: &Inst) -> Option<u64>
+    ensures { result ≡ literal_number width inst.now.operands }
 {
-    u64::from(lit_at(inst, 0)) + u64::from(lit_at(inst, 1)) * 4_294_967_296
+    let low = u64::from(literal_operand(inst, 0)?);
+    if width <= 32 {
+        return Some(low);
+    }
+    let high = u64::from(literal_operand(inst, 1)?);
+    Some(low + high * 4_294_967_296)
 }
 
 /// The lane of a literal.
 pub(crate) fn literal_lane(types: &TypeTable, inst: &Inst) -> Cell
     ensures { result ≡ literal_lane (integer_width (form_of types.now inst.now.ty)) inst.now.operands }
 {
-    match integer_width(types, inst.ty) {
-        Some(width) => results::integer(literal_number(inst), width),
-        None => results::undefined(1),
+    let Some(width) = integer_width(types, inst.ty) else {
+        return results::undefined(1);
+    };
+    match literal_number(width, inst) {
+        Some(number) => results::integer(number, width),
+        None => results::undefined(width),
     }
 }

@@ -1,6 +1,7 @@
 //! The rules of constants and of array lengths.
 ghost use Rattle.std.specs.Prelude.{◌≡◌, ◌+◌, drop};
 ghost use Rattle.spv_typing.specs.Operands.{types_by};
+ghost use Rattle.spv_index.specs.Operands.{id_in};
 ghost use Rattle.spv_types.specs.Types.{form_of};
 ghost use Rattle.spv_consts.specs.Rules as spec;
 
@@ -8,11 +9,11 @@ use crate::context::Context;
 use crate::literals::{integer_width, keeps_literal};
 use crate::walk::Walk;
 use spv_base::{Inst, Operand};
-use spv_index::id_operand;
+use spv_index::{id_operand, literal_operand};
 use spv_ops::op;
 use spv_types::constants::is_constant;
 use spv_types::views::is_boolean;
-use spv_types::{Form, TypeTable, id_of, lit_at};
+use spv_types::{Form, TypeTable};
 use spv_typing::{OperandTypes, fits_types, is_constant_operation, operand_count};
 
 /// The number of parts of a vector, array or struct.
@@ -45,11 +46,31 @@ fn part_type(types: &TypeTable, ty: u32, part: usize) -> Option<u32>
     }
 }
 
+/// Whether the result with an id has the type of a part.
+fn has_type(context: &Context, part: Option<u32>, id: u32) -> bool
+    ensures { result ≡ spec.has_type context.now part id }
+{
+    match context.index.result_type(id) {
+        Some(ty) => part == Some(ty),
+        None => false,
+    }
+}
+
+/// The id that an operand is.
+pub(crate) fn id_in(operand: &Operand) -> Option<u32>
+    ensures { result ≡ id_in operand.now }
+{
+    match operand {
+        Operand::Id(id) => Some(*id),
+        Operand::Lit(_) | Operand::Text(_) => None,
+    }
+}
+
 /// The opcode of an OpSpecConstantOp.
 pub(crate) fn opcode_of(inst: &Inst) -> Option<u16>
     ensures { result ≡ spec.opcode_of inst.now }
 {
-    let op = lit_at(inst, 0);
+    let op = literal_operand(inst, 0)?;
     if op < 65_536 { Some(op as u16) } else { None }
 }
 
@@ -95,11 +116,16 @@ fn keeps_count(inst: &Inst, op: u16) -> bool
 
 impl Walk {
     /// Whether a constituent is a constant or an OpUndef before the composite, of a part's type.
-    fn keeps_part(&self, context: &Context, inst: &Inst, part: usize, id: u32) -> bool
+    fn keeps_part(&self, context: &Context, inst: &Inst, part: usize, id: Option<u32>) -> bool
         ensures { result ≡ spec.keeps_part context.now self.now inst.now.word (spec.part_type_of (form_of self.now.types inst.now.ty) part) id }
     {
-        self.is_operand(context, inst.word, id)
-            && part_type(&self.types, inst.ty, part) == Some(context.type_of(id))
+        match id {
+            Some(id) => {
+                self.is_operand(context, inst.word, id)
+                    && has_type(context, part_type(&self.types, inst.ty, part), id)
+            }
+            None => false,
+        }
     }
 
     /// Whether constituents are of the types of the parts.
@@ -107,7 +133,7 @@ impl Walk {
         ensures { result ≡ spec.keeps_parts context.now self.now inst.now.word (form_of self.now.types inst.now.ty) 0 inst.now.operands }
     {
         for (part, operand) in inst.operands.as_slice().iter().enumerate() {
-            if !self.keeps_part(context, inst, part, id_of(operand)) {
+            if !self.keeps_part(context, inst, part, id_in(operand)) {
                 return false;
             }
         }
@@ -127,7 +153,7 @@ impl Walk {
         ensures { result ≡ spec.are_operands context.now self.now word operands.now }
     {
         for operand in operands {
-            if !self.is_operand(context, word, id_of(operand)) {
+            if !self.is_given(context, word, id_in(operand)) {
                 return false;
             }
         }

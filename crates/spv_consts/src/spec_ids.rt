@@ -5,16 +5,16 @@ ghost use Rattle.spv_consts.specs.SpecIds as spec;
 use crate::context::Context;
 use crate::overrides::is_specializable;
 use spv_base::Inst;
+use spv_index::{id_operand, literal_operand};
 use spv_ops::{decoration, op};
-use spv_types::{id_at, lit_at};
 
 /// Whether an instruction is a decoration SpecId, of an id or of a member.
 fn is_spec_id(inst: &Inst) -> bool
     ensures { result ≡ spec.is_spec_id inst.now }
 {
     match inst.op {
-        op::DECORATE => lit_at(inst, 1) == decoration::SPEC_ID,
-        op::MEMBER_DECORATE => lit_at(inst, 2) == decoration::SPEC_ID,
+        op::DECORATE => literal_operand(inst, 1) == Some(decoration::SPEC_ID),
+        op::MEMBER_DECORATE => literal_operand(inst, 2) == Some(decoration::SPEC_ID),
         _ => false,
     }
 }
@@ -49,10 +49,9 @@ impl<'a> Context<'a> {
         if !is_spec_id(mark) {
             return None;
         }
-        match self.index.defining(id_at(mark, 0)) {
-            Some(inst) => wrong_on(mark, inst),
-            None => None,
-        }
+        let target = id_operand(mark, 0)?;
+        let inst = self.index.defining(target)?;
+        wrong_on(mark, inst)
     }
 
     /// The lowest word where a decoration is a SpecId on what takes none.

@@ -1,7 +1,7 @@
 //! The table of the constants of a module.
-ghost use Rattle.std.specs.Prelude.{◌≡◌, ℕ, ◌≤◌, ◌+◌, [], ◌∷◌, ◌++◌, length, take, drop, None, OnOk, slice_index_or, option_map};
+ghost use Rattle.std.specs.Prelude.{◌≡◌, ℕ, ◌≤◌, [], ◌∷◌, ◌++◌, length, take, drop, None, OnOk, slice_index_or, option_map};
 ghost use Rattle.spv_base.specs.Entries.{reads};
-ghost use Rattle.spv_consts.specs.Table.{only, place_of, scalar_of};
+ghost use Rattle.spv_consts.specs.Table.{only, place_from, place_of, row_at, scalar_of};
 
 use spv_base::{Cell, NoMemory};
 use std::alloc::Global;
@@ -14,6 +14,14 @@ pub(crate) struct Entry {
     pub(crate) ty: u32,
     pub(crate) start: usize,
     pub(crate) len: usize,
+}
+
+/// The place of a constant's row: the type, and where the cells begin among those of all constants and how many they are.
+#[derive(Clone, Copy, Debug, PartialEq, Eq)]
+pub struct RowPlace {
+    pub ty: u32,
+    pub start: usize,
+    pub len: usize,
 }
 
 /// The type of a constant, and the leaves of its value in order.
@@ -57,12 +65,15 @@ fn lengthen(places: &mut Vec<Option<usize>>, len: usize) -> Result<(), NoMemory>
     Ok(())
 }
 
-/// So many cells behind the first `start`.
+/// So many cells behind the first `start`, as far as there are any.
 fn part(cells: &[Cell], start: usize, len: usize) -> &[Cell]
-    requires { start + len ≤ length cells.now }
     ensures { result.now ≡ take len (drop start cells.now) }
 {
-    &cells[start..start + len]
+    if start >= cells.len() {
+        return &[];
+    }
+    let rest = &cells[start..];
+    &rest[..len.min(rest.len())]
 }
 
 /// The one cell of a row that has one.
@@ -92,15 +103,16 @@ impl ConstTable {
         ensures { OnOk result (self.new ≡ self.old ++ (id, record { ty = ty; cells = cells.now }) ∷ []) }
     {
         lengthen(&mut self.places, id as usize + 1)?;
+        self.entries.reserve(1)?;
         let number = self.entries.len();
         let start = self.cells.len();
         self.cells.extend_from_slice(cells)?;
-        self.entries.push(Entry {
+        self.entries.push_reserved(Entry {
             id,
             ty,
             start,
             len: cells.len(),
-        })?;
+        });
         if self.places[id as usize].is_none() {
             self.places[id as usize] = Some(number);
         }
@@ -114,16 +126,35 @@ impl ConstTable {
         *self.places.get(id as usize)?
     }
 
+    /// The place of the row of the constant with an id, in constant time.
+    pub fn row_place(&self, id: u32) -> Option<RowPlace>
+        ensures place { result ≡ place_from 0 self.now id }
+        ensures row { option_map (row_at self.now) result ≡ reads id self.now }
+    {
+        let number = self.place(id)?;
+        let entry = self.entries[number];
+        Some(RowPlace {
+            ty: entry.ty,
+            start: entry.start,
+            len: entry.len,
+        })
+    }
+
+    /// The row at a place, in constant time.
+    pub fn row_at(&self, place: RowPlace) -> Row<'_>
+        ensures { record { ty = result.ty; cells = result.cells.now } ≡ row_at self.now place }
+    {
+        Row {
+            ty: place.ty,
+            cells: part(self.cells.as_slice(), place.start, place.len),
+        }
+    }
+
     /// The row of the constant with an id, in constant time.
     pub fn value(&self, id: u32) -> Option<Row<'_>>
         ensures { option_map (λ r. record { ty = r.ty; cells = r.cells.now }) result ≡ reads id self.now }
     {
-        let place = self.place(id)?;
-        let entry = self.entries[place];
-        Some(Row {
-            ty: entry.ty,
-            cells: part(self.cells.as_slice(), entry.start, entry.len),
-        })
+        Some(self.row_at(self.row_place(id)?))
     }
 
     /// The cell of the constant with an id, where it is a scalar.

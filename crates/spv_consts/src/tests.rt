@@ -232,5 +232,16 @@ fn values_of_constants(rt: HostRuntime) -> Result<(), Fail> {
     };
     assert!(rt; types.cells(20) == Some(6));
     assert!(rt; table.value(13).is_none());
+    let Some(place) = table.row_place(16) else {
+        return Err(Fail::new("no place"));
+    };
+    assert!(rt; (place.ty, place.start, place.len) == (6, 5, 2));
+    assert!(rt;
+        table
+            .row_at(place)
+            .cells
+            .get(1)
+            .is_some_and(|cell| cell.bits == 3)
+    );
     Ok(())
 }

@@ -76,7 +76,35 @@ impl Walk {
     {
         match self.values.value(id) {
             Some(row) => Ok(cells.extend_from_slice(row.cells)?),
-            None => append_blank(cells, &self.types, false, context.type_of(id)),
+            None => match context.index.result_type(id) {
+                Some(ty) => append_blank(cells, &self.types, false, ty),
+                None => Ok(()),
+            },
+        }
+    }
+
+    /// Whether an operand is a constant, or an OpUndef, before a word.
+    pub(crate) fn is_given(&self, context: &Context, word: u32, id: Option<u32>) -> bool
+        ensures { result ≡ spec.is_given context.now self.now word id }
+    {
+        match id {
+            Some(id) => self.is_operand(context, word, id),
+            None => false,
+        }
+    }
+
+    /// Appends the cells of an operand, and none where it is no id.
+    pub(crate) fn append_given(
+        &self,
+        cells: &mut Vec<Cell>,
+        context: &Context,
+        id: Option<u32>,
+    ) -> Result<(), NoMemory>
+        ensures { OnOk result (cells.new.items ≡ cells.old.items ++ spec.given_cells context.now self.now id) }
+    {
+        match id {
+            Some(id) => self.append_operand(cells, context, id),
+            None => Ok(()),
         }
     }
 }

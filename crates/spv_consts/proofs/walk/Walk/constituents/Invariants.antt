@@ -1,12 +1,12 @@
 use Rattle.std.proofs.Common.{◌≡◌, ◌++◌, drop}
 use Rattle.std.specs.List.{flat_map}
 use Rattle.spv_base.specs.declared.instructions.Operand.{Operand}
-use Rattle.spv_types.specs.Operands.{id_of}
-use Rattle.spv_consts.specs.State.{operand_cells}
+use Rattle.spv_index.specs.Operands.{id_in}
+use Rattle.spv_consts.specs.State.{given_cells}
 use Rattle.spv_consts.proofs.walk.Walk.constituents.Given as goal
 
 -- the cells so far and those of the constituents that are left
 abbrev pub invariant-loop-operand : goal.invariant-loop-operand
 invariant-loop-operand l =
-    l.cells.items ++ flat_map (λ (o : Operand). operand_cells l.context l.self (id_of o)) (drop l.operand-index l.operands)
-    ≡ flat_map (λ (o : Operand). operand_cells l.context l.self (id_of o)) l.operands
+    l.cells.items ++ flat_map (λ (o : Operand). given_cells l.context l.self (id_in o)) (drop l.operand-index l.operands)
+    ≡ flat_map (λ (o : Operand). given_cells l.context l.self (id_in o)) l.operands
