@@ -9,7 +9,7 @@ use crate::entry::Entry;
 use crate::meanings::{Meaning, meaning_of};
 use crate::validity::accepted_modules_are_valid;
 use spv_base::Inst;
-use spv_cfg::Code;
+use spv_cfg::Flow;
 use spv_consts::ConstTable;
 use spv_index::Index;
 use spv_types::TypeTable;
@@ -21,7 +21,7 @@ pub struct Module {
     pub(crate) index: Index,
     pub(crate) types: TypeTable,
     pub(crate) consts: ConstTable,
-    pub(crate) code: Code,
+    pub(crate) flow: Flow,
     pub(crate) entry: Entry,
     pub(crate) stack_cells: u64,
 }
@@ -91,11 +91,11 @@ impl Module {
         &self.consts
     }
 
-    /// The functions and blocks.
-    pub fn code(&self) -> &Code
+    /// The control flow: the functions, blocks and calls.
+    pub fn flow(&self) -> &Flow
         ensures { result.now ≡ self.now.flow }
     {
-        &self.code
+        &self.flow
     }
 
     /// The id of the entry point's function.
