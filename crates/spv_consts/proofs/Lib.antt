@@ -23,3 +23,4 @@ pub mod WalkStates
 pub mod WalkPlaces
 pub mod WalkSteps
 pub mod WalkConstants
+pub mod WalkLimits

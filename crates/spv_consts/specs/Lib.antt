@@ -15,3 +15,4 @@ pub mod Evaluation
 pub mod Steps
 pub mod Build
 pub mod Laws
+pub mod Limits
