@@ -1,6 +1,7 @@
 -- Chains of calls, one function more at a time.
 use Rattle.std.proofs.Common.{◌≡◌, ◌<◌, ◌≤◌, ◌+◌, ◌-◌, drop, set, append_assoc, add-one, ⊎_elim, ℕ, zero, suc, List, [], ◌∷◌, length, get_or, max, eqb, cond, ◌++◌, ◌&&◌, refl, sym, ap, ◌∙◌, arith, rules, true, false, IfSome, Some, None, Option}
 use Rattle.std.specs.List.{All, flat_map}
+use Rattle.std.specs.Option.{option_and_then}
 use Rattle.std.proofs.lemmas.Grind.{common_steps}
 use Rattle.std.proofs.lemmas.Bool.{cases_lt}
 use Rattle.std.proofs.lemmas.List.{append-nil, drop_all, drop_more, get_or_past}
@@ -9,8 +10,9 @@ use Rattle.spv_cfg.proofs.LowestLemmas.{sooner_assoc, sooner-none, lowest-append
 use Rattle.spv_cfg.proofs.Backwards.{drop_back}
 use Rattle.std.proofs.lemmas.List.Elements.{All-nil, All-append, All-head, All-tail}
 use Rattle.spv_base.specs.Entries.{reads}
-use Rattle.spv_cfg.specs.Calls.{most, longest, limit, lengths, numbered, call_between, call_of, depths, over, too_deep}
-use Rattle.spv_index.specs.Classes.{number_at}
+use Rattle.spv_base.specs.declared.instructions.Inst.{Inst}
+use Rattle.spv_cfg.specs.Calls.{most, longest, limit, lengths, numbered, call_between, call_of, callee_of, depths, over, too_deep}
+use Rattle.spv_index.specs.Operands.{id_operand}
 use Rattle.spv_index.specs.Positions.{Stand, in_function}
 
 pub longest-suc : (k : ℕ) (calls : List (ℕ × ℕ)) (f : ℕ) → longest (suc k) calls f ≡ suc (most (λ g. longest k calls g) f calls)
@@ -73,14 +75,22 @@ call_between-within n None callee one other = λ k d lt. absurd (omega arith)
 call_between-within n (Some a) None one other = λ k d lt. absurd (omega arith)
 call_between-within n (Some a) (Some b) one other = search rules
 
+-- the function that a call names is one of them
+callee_within : (numbers : List (ℕ × ℕ)) (n : ℕ) → ((id : ℕ) → IfSome (reads id numbers) (λ k. k < n)) → (inst : Inst) → IfSome (callee_of numbers inst) (λ k. k < n)
+callee_within numbers n small inst = by_operand (id_operand inst 0)
+  where
+    by_operand : (o : Option ℕ) → IfSome (option_and_then (λ id. reads id numbers) o) (λ k. k < n)
+    by_operand None = tt
+    by_operand (Some id) = small id
+
 -- all calls are between functions
 pub calls_within : (numbers : List (ℕ × ℕ)) (n : ℕ) → ((id : ℕ) → IfSome (reads id numbers) (λ k. k < n)) → (stood : List Stand)
     → Within n (flat_map (call_of numbers) stood)
 calls_within numbers n small [] = All-nil (λ call. (call.0 < n) × (call.1 < n))
 calls_within numbers n small (s ∷ more) =
     let P : ℕ × ℕ → Type 0 = λ call. (call.0 < n) × (call.1 < n) in
-    let call = call_between-within n (reads s.position.function numbers) (reads (number_at s.inst 0) numbers) (small s.position.function) (small (number_at s.inst 0)) in
-    let between : List (ℕ × ℕ) = call_between (reads s.position.function numbers) (reads (number_at s.inst 0) numbers) in
+    let call = call_between-within n (reads s.position.function numbers) (callee_of numbers s.inst) (small s.position.function) (callee_within numbers n small s.inst) in
+    let between : List (ℕ × ℕ) = call_between (reads s.position.function numbers) (callee_of numbers s.inst) in
     let here : Within n (call_of numbers s)
     = elim (eqb s.inst.op 57 && in_function s.position.stage) as (λ b. Within n (cond b between [])) [ true ↦ call | false ↦ All-nil P ] in
     All-append P (call_of numbers s) (flat_map (call_of numbers) more) here (calls_within numbers n small more)

@@ -8,7 +8,7 @@ use Rattle.spv_index.specs.Definitions.{has_result, is_id}
 use Rattle.spv_base.specs.declared.instructions.Inst.{Inst}
 use Rattle.std.specs.Prelude.{find}
 use Rattle.std.specs.Option.{option_map}
-use Rattle.spv_cfg.specs.Branches.{branch_breach, is_branch_right, is_later_block_of, is_target, selector_width, stands_so, targets_of}
+use Rattle.spv_cfg.specs.Branches.{branch_breach, has_targets, is_branch_right, is_later_block_of, is_target, selector_width, stands_so, targets_of}
 use Rattle.spv_cfg.specs.Flow.{Flow}
 use Rattle.spv_cfg.specs.Laws.{HasFirst, IsEntered}
 use Rattle.spv_cfg.proofs.LayoutLemmas.{nil_parts}
@@ -51,18 +51,25 @@ first_part : (p q : Bool) → (p && q) ≡ true → p ≡ true
 first_part true q is = refl
 first_part false q is = cc
 
+second_part : (p q : Bool) → (p && q) ≡ true → q ≡ true
+second_part true q is = is
+second_part false q is = cc
+
 pub branches_are_entered : (f : Flow) (insts : List Inst) (stood : List Stand) → ((function label : ℕ) → is_target insts function label ≡ true → HasFirst f label)
     → flat_map (branch_breach insts) stood ≡ []
     → AllByRecursion (λ (s : Stand). (is_terminator s.class && in_block s.position.stage) ≡ true
-    → AllByRecursion (IsEntered insts f s.position.function) (targets_of (selector_width insts s.inst) s.inst)) stood
+    → (has_targets s.inst ≡ true) × AllByRecursion (IsEntered insts f s.position.function) (targets_of (selector_width insts s.inst) s.inst)) stood
 branches_are_entered f insts [] first none = tt
 branches_are_entered f insts (s ∷ more) first none =
     let parts = nil_parts (branch_breach insts s) (flat_map (branch_breach insts) more) none in
     let width : ℕ = selector_width insts s.inst in (
       λ ends.
           let right = right_from_none (is_terminator s.class && in_block s.position.stage) (is_branch_right insts width s.position.function s.inst) s.inst.word ends parts.0 in
-          all_from_test (is_target insts s.position.function) (IsEntered insts f s.position.function) (λ label is. (is, first s.position.function label is)) (targets_of width s.inst)
-          (first_part (list_all (is_target insts s.position.function) (targets_of width s.inst)) _ right),
+          let targets = second_part (has_targets s.inst) _ right in (
+            first_part (has_targets s.inst) _ right,
+            all_from_test (is_target insts s.position.function) (IsEntered insts f s.position.function) (λ label is. (is, first s.position.function label is)) (targets_of width s.inst)
+                (first_part (list_all (is_target insts s.position.function) (targets_of width s.inst)) _ targets),
+          ),
       branches_are_entered f insts more first parts.1,
     )
 

@@ -1,10 +1,11 @@
 -- Chains of calls: which function calls which, and how long a chain of calls may become.
 use Rattle.std.specs.Prelude.{◌≡◌, ◌≤◌, length, ℕ, zero, suc, Bool, List, [], ◌∷◌, ◌++◌, ◌==◌, ◌&&◌, nat_lt, if◌then◌else◌, Option, Some, None, max}
 use Rattle.std.specs.List.{flat_map, Contains}
+use Rattle.std.specs.Option.{option_and_then}
 use Rattle.spv_base.specs.Entries.{reads}
 use Rattle.spv_base.specs.declared.instructions.Inst.{Inst}
-use Rattle.spv_index.specs.Classes.{number_at, sets_of}
-use Rattle.spv_index.specs.Positions.{Stand, stands, outside, in_function}
+use Rattle.spv_index.specs.Operands.{id_operand}
+use Rattle.spv_index.specs.Positions.{Stand, in_function, stands_of}
 
 -- the functions: the id and the word of each OpFunction
 abbrev pub function_of : Inst → List (ℕ × ℕ)
@@ -23,18 +24,27 @@ call_between (Some caller) (Some callee) = (caller, callee) ∷ []
 call_between (Some caller) None = []
 call_between None callee = []
 
+-- the number of the function that an OpFunctionCall names: its first operand
+abbrev pub callee_of : List (ℕ × ℕ) → Inst → Option ℕ
+callee_of numbers inst = option_and_then (λ id. reads id numbers) (id_operand inst 0)
+
 -- the calls: the number of the function that an OpFunctionCall (57) stands in, and the number of the one that it names
 abbrev pub call_of : List (ℕ × ℕ) → Stand → List (ℕ × ℕ)
 call_of numbers s =
     if (s.inst.op == 57) && in_function s.position.stage
-    then call_between (reads s.position.function numbers) (reads (number_at s.inst 0) numbers)
+    then call_between (reads s.position.function numbers) (callee_of numbers s.inst)
     else []
 
-abbrev pub calls_in : List (ℕ × Bool) → List (ℕ × ℕ) → List Inst → List (ℕ × ℕ)
-calls_in sets numbers insts = flat_map (call_of numbers) (stands sets outside insts)
-
 abbrev pub calls_of : List Inst → List (ℕ × ℕ)
-calls_of insts = calls_in (sets_of insts) (numbered 0 (functions_of insts)) insts
+calls_of insts = flat_map (call_of (numbered 0 (functions_of insts))) (stands_of insts)
+
+-- the functions of a module, and the calls among them by their numbers
+pub record Calls : Type 0 where
+  pub functions : List (ℕ × ℕ)
+  pub list : List (ℕ × ℕ)
+
+abbrev pub calls_in : List Inst → Calls
+calls_in insts = record { functions = functions_of insts; list = calls_of insts }
 
 -- the most that a callee of a function has
 abbrev pub most : (ℕ → ℕ) → ℕ → List (ℕ × ℕ) → ℕ

@@ -1,4 +1,4 @@
--- What a debugger reads off a module's functions and blocks, and the lowest breach of their rules.
+-- The control flow of a module: what a debugger reads off its functions and blocks, and the lowest breach of their rules.
 use Rattle.std.specs.Prelude.{ℕ, length, List, ◌++◌, Option, Some, None, Result, Ok, Err, nat_lt, if◌then◌else◌}
 use Rattle.spv_base.specs.declared.causes.Refusal.{Refusal}
 use Rattle.spv_base.specs.declared.instructions.Inst.{Inst}
@@ -7,14 +7,15 @@ use Rattle.spv_cfg.specs.Lowest.{lowest}
 use Rattle.spv_cfg.specs.Layout.{layout_breaches}
 use Rattle.spv_cfg.specs.Branches.{branch_breaches}
 use Rattle.spv_cfg.specs.Phis.{phi_breaches}
-use Rattle.spv_cfg.specs.Calls.{functions_of, calls_of, lengths, depths, too_deep}
+use Rattle.spv_cfg.specs.Calls.{Calls, functions_of, calls_of, calls_in, lengths, depths, too_deep}
 
 -- The executables, each with the label of its block before it; the executables, each with the one after it in its block;
--- and the functions, each with the length of the longest chain of calls from it.
+-- the functions, each with the length of the longest chain of calls from it; and the calls.
 pub record Flow : Type 0 where
   pub blocks : List (ℕ × ℕ)
   pub nexts : List (ℕ × Option ℕ)
   pub depths : List (ℕ × ℕ)
+  pub calls : Calls
 
 -- the length of the longest chain of calls from each function
 abbrev pub lengths_of : List Inst → List ℕ
@@ -25,6 +26,7 @@ flow_in insts = record {
   blocks = executables_of insts;
   nexts = followed (executables_of insts);
   depths = depths (functions_of insts) (lengths_of insts);
+  calls = calls_in insts;
 }
 
 -- where a rule of blocks, terminators or phis is broken

@@ -6,7 +6,7 @@ use Rattle.spv_base.specs.declared.instructions.Inst.{Inst}
 use Rattle.spv_index.specs.declared.classes.Class.TheVariants.{Function}
 use Rattle.spv_index.specs.Classes.{is_executable, is_label, is_terminator}
 use Rattle.spv_index.specs.Positions.{Stand, in_block, in_function, stands_of}
-use Rattle.spv_cfg.specs.Branches.{Home, is_target, labels_of, selector_width, targets_of}
+use Rattle.spv_cfg.specs.Branches.{Home, has_targets, is_target, labels_of, selector_width, targets_of}
 use Rattle.spv_cfg.specs.Flow.{Flow}
 
 -- a run that comes to the block with this label stops first at this word
@@ -42,11 +42,11 @@ BlocksAreEntered insts f = AllByRecursion (λ (s : Stand). (is_label s.class && 
 abbrev pub RunsGoOn : List Inst → Flow → Type 0
 RunsGoOn insts f = AllByRecursion (λ (s : Stand). (is_executable s.class && in_block s.position.stage) ≡ true → is_terminator s.class ≡ false → HasNext f s) (stands_of insts)
 
--- each label that a terminator may go to can be gone to
+-- a terminator has the labels that its opcode asks, and each that it may go to can be gone to
 abbrev pub TargetsAreEntered : List Inst → Flow → Type 0
 TargetsAreEntered insts f =
     AllByRecursion (λ (s : Stand). (is_terminator s.class && in_block s.position.stage) ≡ true
-    → AllByRecursion (IsEntered insts f s.position.function) (targets_of (selector_width insts s.inst) s.inst)) (stands_of insts)
+    → (has_targets s.inst ≡ true) × AllByRecursion (IsEntered insts f s.position.function) (targets_of (selector_width insts s.inst) s.inst)) (stands_of insts)
 
 -- each function has a depth
 abbrev pub FunctionsHaveDepths : List Inst → Flow → Type 0

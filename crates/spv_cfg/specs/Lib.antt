@@ -1,6 +1,7 @@
 pub mod Executables
 pub mod Lowest
 pub mod Layout
+pub mod Operands
 pub mod Branches
 pub mod Phis
 pub mod Calls

@@ -2,8 +2,9 @@
 use Rattle.std.specs.Prelude.{ℕ, Bool, not, List, [], ◌∷◌, ◌++◌, ◌%◌, ◌==◌, ◌&&◌, if◌then◌else◌, map, length}
 use Rattle.std.specs.List.{flat_map, filter, list_any, list_all, count_by}
 use Rattle.spv_base.specs.declared.instructions.Inst.{Inst}
-use Rattle.spv_index.specs.Classes.{is_phi, is_terminator, numbers_of}
+use Rattle.spv_index.specs.Classes.{is_phi, is_terminator}
 use Rattle.spv_index.specs.Positions.{Stand, in_block, stands_of}
+use Rattle.spv_cfg.specs.Operands.{ids_in, is_name}
 use Rattle.spv_cfg.specs.Branches.{is_within, targets_of, selector_width, cases_by_word, are_distinct}
 
 -- each number once
@@ -33,12 +34,12 @@ is_predecessor edges label block = list_any (λ edge. (edge.0 == label) && (edge
 
 -- the parent blocks that a phi names: the second of each pair
 abbrev pub parents_of : Inst → List ℕ
-parents_of inst = map (λ pair. pair.1) (cases_by_word (numbers_of inst))
+parents_of inst = map (λ pair. pair.1) (cases_by_word (ids_in inst.operands))
 
--- whole pairs, as many as there are predecessors, each with another predecessor
+-- ids in whole pairs, as many as there are predecessors, each with another predecessor
 abbrev pub is_phi_right : List (ℕ × ℕ) → ℕ → Inst → Bool
 is_phi_right edges label inst =
-    (length (numbers_of inst) % 2 == 0) && ((length (parents_of inst) == predecessor_count edges label)
+    (list_all is_name inst.operands && (length (ids_in inst.operands) % 2 == 0)) && ((length (parents_of inst) == predecessor_count edges label)
     && (list_all (is_predecessor edges label) (parents_of inst) && are_distinct (parents_of inst)))
 
 abbrev pub phi_breach : List (ℕ × ℕ) → Stand → List ℕ

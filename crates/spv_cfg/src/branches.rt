@@ -1,35 +1,59 @@
 //! Branches (SPIR-V 1.6 section 2.16.1): their targets, and the literals of switches.
-ghost use Rattle.std.specs.Prelude.{◌≡◌, ◌==◌, IfOk, Bool, true, if◌then◌else◌};
+ghost use Rattle.std.specs.Prelude.{◌≡◌, ◌==◌, ◌++◌, IfOk, Bool, true, if◌then◌else◌};
 ghost use Rattle.std.specs.List.{flat_map, list_all};
+ghost use Rattle.std.specs.Option.{option_to_list};
 ghost use Rattle.spv_cfg.specs.Lowest.{lowest};
 ghost use Rattle.spv_cfg.specs.Branches as spec;
 
 use crate::labels::{is_target, selector_width};
 use crate::lowest::sooner;
-use crate::switches::{is_switch_right, switch_targets};
+use crate::switches::{is_switch_right, listed, switch_targets};
 use spv_base::{Inst, NoMemory};
-use spv_index::Index;
-use spv_index::classes::{Class, number_at};
+use spv_index::classes::Class;
 use spv_index::positions::Position;
 use spv_index::stands::Stands;
+use spv_index::{Index, id_operand};
 use spv_ops::op;
 use std::alloc::Global;
+
+/// Two labels, where they are there.
+fn both(alloc: Global, one: Option<u32>, other: Option<u32>) -> Result<Vec<u32>, NoMemory>
+    ensures { IfOk result (λ labels. labels.items ≡ option_to_list one ++ option_to_list other) }
+{
+    let mut labels = listed(alloc, one)?;
+    let more = listed(alloc, other)?;
+    labels.extend_from_slice(more.as_slice())?;
+    Ok(labels)
+}
 
 /// The labels that a terminator may go to.
 pub fn targets_of(alloc: Global, width: u32, inst: &Inst) -> Result<Vec<u32>, NoMemory>
     ensures { IfOk result (λ targets. targets.items ≡ spec.targets_of width inst.now) }
 {
-    if inst.op == op::SWITCH {
-        return switch_targets(alloc, width, inst, number_at(inst, 1));
-    }
-    let mut targets = Vec::new(alloc);
     if inst.op == op::BRANCH {
-        targets.push(number_at(inst, 0))?;
+        listed(alloc, id_operand(inst, 0))
     } else if inst.op == op::BRANCH_CONDITIONAL {
-        targets.push(number_at(inst, 1))?;
-        targets.push(number_at(inst, 2))?;
+        both(alloc, id_operand(inst, 1), id_operand(inst, 2))
+    } else if inst.op == op::SWITCH {
+        switch_targets(alloc, width, inst)
+    } else {
+        Ok(Vec::new(alloc))
     }
-    Ok(targets)
+}
+
+/// Whether the operands that have a terminator's labels are there.
+fn has_targets(inst: &Inst) -> bool
+    ensures { result ≡ spec.has_targets inst.now }
+{
+    if inst.op == op::BRANCH {
+        id_operand(inst, 0).is_some()
+    } else if inst.op == op::BRANCH_CONDITIONAL {
+        id_operand(inst, 1).is_some() && id_operand(inst, 2).is_some()
+    } else if inst.op == op::SWITCH {
+        id_operand(inst, 1).is_some()
+    } else {
+        true
+    }
 }
 
 /// Whether all are labels of this function, but not its first.
@@ -67,7 +91,7 @@ fn is_branch_right(
     let width = selector_width(index, inst);
     let targets = targets_of(alloc, width, inst)?;
     let literals = are_literals_right(alloc, width, inst)?;
-    Ok(are_targets(index, function, targets.as_slice()) && literals)
+    Ok(has_targets(inst) && are_targets(index, function, targets.as_slice()) && literals)
 }
 
 /// The instruction, where it is a terminator whose targets or literals are not right.

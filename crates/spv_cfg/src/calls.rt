@@ -1,20 +1,44 @@
 //! Chains of calls: which function calls which, and how long a chain of calls may become.
-ghost use Rattle.std.specs.Prelude.{◌≡◌, ◌<◌, ◌≤◌, ◌++◌, ◌∷◌, [], List, ℕ, suc, IfOk, length, slice_index};
+ghost use Rattle.std.specs.Prelude.{◌≡◌, ◌<◌, ◌≤◌, ◌++◌, ◌∷◌, [], List, ℕ, suc, IfOk, IfSome, length, slice_index};
 ghost use Rattle.std.specs.List.{All, flat_map};
+ghost use Rattle.spv_base.specs.Entries.{reads};
 ghost use Rattle.spv_cfg.specs.Lowest.{lowest};
 ghost use Rattle.spv_cfg.specs.Calls as spec;
 
 use crate::lowest::sooner;
 use spv_base::{Inst, NoMemory};
-use spv_index::Table;
-use spv_index::classes::{class_of, number_at};
-use spv_index::positions::Position;
 use spv_index::stands::Stands;
+use spv_index::{Index, Table, id_operand};
 use spv_ops::op;
 use std::alloc::Global;
+use std::marker::Model;
+
+/// The functions of a module in their order, and the calls among them.
+#[derive(Drop)]
+pub struct Calls {
+    /// The id and the word of each OpFunction.
+    functions: Vec<(u32, u32)>,
+    /// By the id of a function, its number.
+    numbers: Table<usize>,
+    /// Each call by the number of the function that it stands in and the number of the one that it names.
+    list: Vec<(usize, usize)>,
+}
+
+impl Model for Calls {
+    ghost use Rattle.std.specs.Prelude.{◌≡◌, ◌<◌, length};
+    ghost use Rattle.std.specs.List.{All};
+    ghost use Rattle.spv_cfg.specs.Calls as spec;
+
+    ghost Value = { spec.Calls };
+
+    ghost view = { λ c. record { functions = c.functions.items; list = c.list.items } };
+
+    ghost invariant = { λ c. (c.numbers ≡ spec.numbered 0 c.functions.items)
+        × All (λ call. (call.0 < length c.functions.items) × (call.1 < length c.functions.items)) c.list.items };
+}
 
 /// The functions: the id and the word of each OpFunction.
-pub fn functions_of(alloc: Global, insts: &[Inst]) -> Result<Vec<(u32, u32)>, NoMemory>
+fn functions_of(alloc: Global, insts: &[Inst]) -> Result<Vec<(u32, u32)>, NoMemory>
     ensures { IfOk result (λ functions. functions.items ≡ spec.functions_of insts.now) }
 {
     let mut functions = Vec::new(alloc);
@@ -27,7 +51,7 @@ pub fn functions_of(alloc: Global, insts: &[Inst]) -> Result<Vec<(u32, u32)>, No
 }
 
 /// The numbers of the functions by their ids.
-pub fn numbers_by_id(alloc: Global, functions: &[(u32, u32)]) -> Result<Table<usize>, NoMemory>
+fn numbers_by_id(alloc: Global, functions: &[(u32, u32)]) -> Result<Table<usize>, NoMemory>
     ensures { IfOk result (λ numbers. numbers ≡ spec.numbered 0 functions.now) }
 {
     let mut numbers = Vec::new(alloc);
@@ -37,28 +61,11 @@ pub fn numbers_by_id(alloc: Global, functions: &[(u32, u32)]) -> Result<Table<us
     Table::new(alloc, numbers)
 }
 
-/// The calls, each by the number of the function that it stands in and the number of the one that it names.
-pub fn calls_of(
-    alloc: Global,
-    sets: &Table<bool>,
-    numbers: &Table<usize>,
-    insts: &[Inst],
-) -> Result<Vec<(usize, usize)>, NoMemory>
-    ensures { IfOk result (λ calls. calls.items ≡ spec.calls_in sets.now numbers.now insts.now) }
+/// The number of the function that an OpFunctionCall names.
+fn callee_of(numbers: &Table<usize>, inst: &Inst) -> Option<usize>
+    ensures { result ≡ spec.callee_of numbers.now inst.now }
 {
-    let mut calls = Vec::new(alloc);
-    let mut position = Position::outside();
-    for inst in insts {
-        if inst.op == op::FUNCTION_CALL && position.stage.in_function() {
-            if let Some(caller) = numbers.get(position.function) {
-                if let Some(callee) = numbers.get(number_at(inst, 0)) {
-                    calls.push((caller, callee))?;
-                }
-            }
-        }
-        position = position.after(class_of(sets, inst), inst);
-    }
-    Ok(calls)
+    numbers.get(id_operand(inst, 0)?)
 }
 
 /// The calls among instructions, each by the number of the function that it stands in and the number of the one that it
@@ -75,7 +82,7 @@ fn calls_among(
         let stand = stands.at(n);
         if stand.inst.op == op::FUNCTION_CALL && stand.position.stage.in_function() {
             if let Some(caller) = numbers.get(stand.position.function) {
-                if let Some(callee) = numbers.get(number_at(stand.inst, 0)) {
+                if let Some(callee) = callee_of(numbers, stand.inst) {
                     calls.push((caller, callee))?;
                 }
             }
@@ -122,18 +129,59 @@ fn longest_chains(
     Ok(lengths)
 }
 
-/// For each function the length of the longest chain of calls from it, of the chains of at most 65 functions.
-pub fn lengths_of(
-    alloc: Global,
-    functions: &[(u32, u32)],
-    stands: &Stands,
-) -> Result<Vec<u32>, NoMemory>
-    ensures lengths { IfOk result (λ lengths. lengths.items ≡ spec.lengths (flat_map (spec.call_of (spec.numbered 0 functions.now)) stands.now) 0 (length functions.now)) }
-    ensures len { IfOk result (λ lengths. length lengths.items ≡ length functions.now) }
-{
-    let numbers = numbers_by_id(alloc, functions)?;
-    let calls = calls_among(alloc, &numbers, stands)?;
-    longest_chains(alloc, calls.as_slice(), functions.len())
+impl Calls {
+    /// The functions of a module, and the calls among them.
+    pub fn of(alloc: Global, index: &Index) -> Result<Calls, NoMemory>
+        ensures { IfOk result (λ calls. calls ≡ spec.calls_in index.now.insts) }
+    {
+        let functions = functions_of(alloc, index.insts())?;
+        let numbers = numbers_by_id(alloc, functions.as_slice())?;
+        let list = calls_among(alloc, &numbers, &index.stands())?;
+        Ok(Calls {
+            functions,
+            numbers,
+            list,
+        })
+    }
+
+    /// How many functions there are.
+    pub fn count(&self) -> usize
+        ensures count { result ≡ length self.now.functions }
+        ensures numbers { (id : ℕ) → IfSome (reads id (spec.numbered 0 self.now.functions)) (λ number. number < result) }
+    {
+        self.functions.len()
+    }
+
+    /// The functions: the id of each, and the word of its OpFunction.
+    pub fn functions(&self) -> &[(u32, u32)]
+        ensures { result.now ≡ self.now.functions }
+    {
+        self.functions.as_slice()
+    }
+
+    /// The number of the function with an id, counted from 0 in the order of the module. In constant time.
+    pub fn number(&self, function: u32) -> Option<usize>
+        ensures number { result ≡ reads function (spec.numbered 0 self.now.functions) }
+        ensures within { IfSome result (λ number. number < length self.now.functions) }
+    {
+        self.numbers.get(function)
+    }
+
+    /// The calls, each by the number of the function that it stands in and the number of the one that it names.
+    pub fn list(&self) -> &[(usize, usize)]
+        ensures list { result.now ≡ self.now.list }
+        ensures within { All (λ call. (call.0 < length self.now.functions) × (call.1 < length self.now.functions)) result.now }
+    {
+        self.list.as_slice()
+    }
+
+    /// For each function the length of the longest chain of calls from it, of the chains of at most 65 functions.
+    pub fn lengths(&self, alloc: Global) -> Result<Vec<u32>, NoMemory>
+        ensures lengths { IfOk result (λ lengths. lengths.items ≡ spec.lengths self.now.list 0 (length self.now.functions)) }
+        ensures len { IfOk result (λ lengths. length lengths.items ≡ length self.now.functions) }
+    {
+        longest_chains(alloc, self.list(), self.count())
+    }
 }
 
 /// The functions, each with its depth.

@@ -1,13 +1,12 @@
 //! Labels of a function, and the widths of selectors.
 ghost use Rattle.std.specs.Prelude.{◌≡◌, option_copied};
 ghost use Rattle.std.specs.Option.{option_and_then};
-ghost use Rattle.spv_index.specs.Definitions.{defining};
+ghost use Rattle.spv_index.specs.Definitions.{defining, result_type};
 ghost use Rattle.spv_cfg.specs.Branches as spec;
 
 use spv_base::Inst;
-use spv_index::Index;
-use spv_index::classes::number_at;
 use spv_index::positions::Standing;
+use spv_index::{Index, id_operand, literal_operand};
 use spv_ops::op;
 
 /// Whether a label of this function stands so.
@@ -45,12 +44,19 @@ fn width_in(inst: Option<&Inst>) -> u32
 {
     match inst {
         Some(inst) => if inst.op == op::TYPE_INT {
-            number_at(inst, 0)
+            literal_operand(inst, 0).unwrap_or(32)
         } else {
             32
         },
         None => 32,
     }
+}
+
+/// The type of an id, where there is one and it has a type.
+fn type_of(index: &Index, id: Option<u32>) -> Option<u32>
+    ensures { result ≡ option_and_then (result_type index.now.insts) id }
+{
+    index.result_type(id?)
 }
 
 /// The instruction that defines an id, where there is one.
@@ -64,5 +70,5 @@ fn definer(index: &Index, id: Option<u32>) -> Option<&Inst>
 pub fn selector_width(index: &Index, inst: &Inst) -> u32
     ensures { result ≡ spec.selector_width index.now.insts inst.now }
 {
-    width_in(definer(index, index.result_type(number_at(inst, 0))))
+    width_in(definer(index, type_of(index, id_operand(inst, 0))))
 }

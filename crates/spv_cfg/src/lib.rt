@@ -3,19 +3,20 @@
 #![tactic(auto)]
 
 mod branches;
-pub mod calls;
-mod code;
+mod calls;
 mod distinct;
 mod edges;
 mod executables;
+mod flow;
 mod labels;
 pub mod laws;
 mod layout;
 mod lowest;
+mod operands;
 mod phis;
 mod switches;
 #[cfg(test)]
 mod tests;
 
-pub use calls::depths_are_longest_chains;
-pub use code::Code;
+pub use calls::{Calls, depths_are_longest_chains};
+pub use flow::Flow;

@@ -7,7 +7,8 @@ ghost use Rattle.spv_cfg.specs.Phis as spec;
 use crate::distinct::are_distinct;
 use crate::edges::Edges;
 use crate::lowest::sooner;
-use crate::switches::{cases_by_word, numbers_of};
+use crate::operands::{are_ids, ids_in};
+use crate::switches::cases_by_word;
 use spv_base::{Inst, NoMemory};
 use spv_index::classes::Class;
 use spv_index::positions::Position;
@@ -37,16 +38,16 @@ fn are_predecessors(edges: &Edges, label: u32, pairs: &[(u64, u32)]) -> bool
     true
 }
 
-/// Whether a phi has whole pairs, as many as there are predecessors of the block, each with another predecessor.
+/// Whether a phi has ids in whole pairs, as many as there are predecessors of the block, each with another predecessor.
 fn is_phi_right(alloc: Global, edges: &Edges, label: u32, inst: &Inst) -> Result<bool, NoMemory>
     ensures { IfOk result (λ right. right ≡ spec.is_phi_right edges.now label inst.now) }
 {
-    let numbers = numbers_of(alloc, inst)?;
-    let pairs = cases_by_word(alloc, numbers.as_slice())?;
+    let ids = ids_in(alloc, inst.operands.as_slice())?;
+    let pairs = cases_by_word(alloc, ids.as_slice())?;
     let parents = seconds_of(alloc, pairs.as_slice())?;
     let distinct = are_distinct(alloc, parents.as_slice())?;
     let predecessors = are_predecessors(edges, label, pairs.as_slice());
-    let whole = numbers.len() % 2 == 0;
+    let whole = are_ids(inst.operands.as_slice()) && ids.len() % 2 == 0;
     Ok(whole && parents.len() == edges.count(label) && predecessors && distinct)
 }
 

@@ -1,33 +1,31 @@
 //! The literals and labels of switches (SPIR-V 1.6, OpSwitch).
-ghost use Rattle.std.specs.Prelude.{◌≡◌, ◌∷◌, IfOk, drop, map};
-ghost use Rattle.spv_index.specs.Classes.{numbers_of as numbers_in};
+ghost use Rattle.std.specs.Prelude.{◌≡◌, ◌++◌, IfOk, drop, map};
+ghost use Rattle.std.specs.Option.{option_to_list};
+ghost use Rattle.spv_index.specs.Operands as operands;
 ghost use Rattle.spv_cfg.specs.Branches as spec;
 
 use crate::distinct::are_distinct;
-use spv_base::{Inst, NoMemory};
-use spv_index::classes::number_in;
+use crate::operands::{are_literals, literals_in};
+use spv_base::{Inst, NoMemory, Operand};
+use spv_index::id_operand;
 use std::alloc::Global;
 
-/// The numbers in the operands.
-pub fn numbers_of(alloc: Global, inst: &Inst) -> Result<Vec<u32>, NoMemory>
-    ensures { IfOk result (λ numbers. numbers.items ≡ numbers_in inst.now) }
+/// The operands behind the first two.
+fn behind_two(operands: &[Operand]) -> &[Operand]
+    ensures { result.now ≡ drop 2 operands.now }
 {
-    let mut numbers = Vec::new(alloc);
-    for operand in inst.operands.as_slice() {
-        numbers.push(number_in(operand))?;
-    }
-    Ok(numbers)
-}
-
-/// The words behind the first two.
-fn behind_two(words: &[u32]) -> &[u32]
-    ensures { result.now ≡ drop 2 words.now }
-{
-    match words {
+    match operands {
         [_, _, rest @ ..] => rest,
         [_] => &[],
         [] => &[],
     }
+}
+
+/// The words behind the selector and the default.
+fn case_words(alloc: Global, inst: &Inst) -> Result<Vec<u32>, NoMemory>
+    ensures { IfOk result (λ words. words.items ≡ spec.case_words inst.now) }
+{
+    literals_in(alloc, behind_two(inst.operands.as_slice()))
 }
 
 /// Pairs of a literal of one word and a label.
@@ -71,8 +69,8 @@ fn cases(alloc: Global, width: u32, words: &[u32]) -> Result<Vec<(u64, u32)>, No
 fn cases_of(alloc: Global, width: u32, inst: &Inst) -> Result<Vec<(u64, u32)>, NoMemory>
     ensures { IfOk result (λ cases. cases.items ≡ spec.cases width (spec.case_words inst.now)) }
 {
-    let words = numbers_of(alloc, inst)?;
-    cases(alloc, width, behind_two(words.as_slice()))
+    let words = case_words(alloc, inst)?;
+    cases(alloc, width, words.as_slice())
 }
 
 fn are_whole(width: u32, words: &[u32]) -> bool
@@ -107,24 +105,38 @@ fn literals_of(alloc: Global, width: u32, cases: &[(u64, u32)]) -> Result<Vec<u6
     Ok(literals)
 }
 
-/// Whether the words are whole pairs, and no literal stands twice.
+/// Whether all behind the selector and the default are words, which are whole pairs, and no literal stands twice.
 pub fn is_switch_right(alloc: Global, width: u32, inst: &Inst) -> Result<bool, NoMemory>
     ensures { IfOk result (λ right. right ≡ spec.is_switch_right width inst.now) }
 {
-    let words = numbers_of(alloc, inst)?;
-    let words = behind_two(words.as_slice());
-    let cases = cases(alloc, width, words)?;
+    let words = case_words(alloc, inst)?;
+    let cases = cases(alloc, width, words.as_slice())?;
     let literals = literals_of(alloc, width, cases.as_slice())?;
     let distinct = are_distinct(alloc, literals.as_slice())?;
-    Ok(are_whole(width, words) && distinct)
+    let literal = are_literals(behind_two(inst.operands.as_slice()));
+    Ok(literal && are_whole(width, words.as_slice()) && distinct)
+}
+
+/// A label, where there is one.
+pub fn listed(alloc: Global, label: Option<u32>) -> Result<Vec<u32>, NoMemory>
+    ensures { IfOk result (λ labels. labels.items ≡ option_to_list label) }
+{
+    let mut labels = Vec::new(alloc);
+    if let Some(label) = label {
+        labels.push(label)?;
+    }
+    Ok(labels)
 }
 
 /// A default, and the labels of the cases.
-fn labels_in(alloc: Global, default: u32, cases: &[(u64, u32)]) -> Result<Vec<u32>, NoMemory>
-    ensures { IfOk result (λ labels. labels.items ≡ default ∷ map (λ c. c.1) cases.now) }
+fn labels_in(
+    alloc: Global,
+    default: Option<u32>,
+    cases: &[(u64, u32)],
+) -> Result<Vec<u32>, NoMemory>
+    ensures { IfOk result (λ labels. labels.items ≡ option_to_list default ++ map (λ c. c.1) cases.now) }
 {
-    let mut labels = Vec::new(alloc);
-    labels.push(default)?;
+    let mut labels = listed(alloc, default)?;
     for case in cases {
         labels.push(case.1)?;
     }
@@ -132,14 +144,9 @@ fn labels_in(alloc: Global, default: u32, cases: &[(u64, u32)]) -> Result<Vec<u3
 }
 
 /// The default and the labels of the cases.
-pub fn switch_targets(
-    alloc: Global,
-    width: u32,
-    inst: &Inst,
-    default: u32,
-) -> Result<Vec<u32>, NoMemory>
-    ensures { IfOk result (λ targets. targets.items ≡ default ∷ map (λ c. c.1) (spec.cases width (spec.case_words inst.now))) }
+pub fn switch_targets(alloc: Global, width: u32, inst: &Inst) -> Result<Vec<u32>, NoMemory>
+    ensures { IfOk result (λ targets. targets.items ≡ option_to_list (operands.id_operand inst.now 1) ++ map (λ c. c.1) (spec.cases width (spec.case_words inst.now))) }
 {
     let cases = cases_of(alloc, width, inst)?;
-    labels_in(alloc, default, cases.as_slice())
+    labels_in(alloc, id_operand(inst, 1), cases.as_slice())
 }

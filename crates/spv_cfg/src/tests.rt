@@ -1,5 +1,5 @@
 //! Small modules with one rule broken in each, a shader that `spirv-as` wrote, and chains of calls at and over the limit.
-use crate::Code;
+use crate::Flow;
 use spv_base::{Fail, Inst, Items, NoMemory, Operand, Refusal};
 use spv_index::Index;
 use spv_ops::DecodedModule;
@@ -47,10 +47,23 @@ const INT_64: Row = (21, 0, 3, &[64, 0]);
 
 const SELECTOR: Row = (43, 3, 4, &[0]);
 
+/// Whether the operand at a place is an id; the others are literal words.
+fn is_id(op: u16, place: usize) -> bool {
+    match op {
+        57 | 245 | 249 | 250 => true,
+        251 => place < 2,
+        _ => false,
+    }
+}
+
 fn push_inst(alloc: Global, insts: &mut Vec<Inst>, row: Row) -> Result<(), NoMemory> {
     let mut operands = Items::new(alloc);
-    for number in row.3 {
-        operands.push(Operand::Lit(*number))?;
+    for (place, number) in row.3.iter().enumerate() {
+        operands.push(if is_id(row.0, place) {
+            Operand::Id(*number)
+        } else {
+            Operand::Lit(*number)
+        })?;
     }
     let word = u32::try_from(insts.len()).unwrap_or(u32::MAX);
     insts.push(Inst {
@@ -73,7 +86,7 @@ fn indexed(alloc: Global, insts: Vec<Inst>) -> Result<Index, NoMemory> {
 
 /// The refusal of a module, or none.
 fn refusal(alloc: Global, insts: Vec<Inst>) -> Result<Option<(u8, u32)>, NoMemory> {
-    match Code::build(alloc, &indexed(alloc, insts)?) {
+    match Flow::build(alloc, &indexed(alloc, insts)?) {
         Ok(_) => Ok(None),
         Err(Fail::Refused(Refusal { code, word })) => Ok(Some((code, word))),
         Err(Fail::NoMemory) => Err(NoMemory),
@@ -308,10 +321,10 @@ fn holds_the_limit_of_chains(rt: HostRuntime) -> Result<(), TestFail> {
         assert_eq!(rt; refusal(alloc, insts)?, due, "{count} functions");
     }
     let insts = chains(alloc, 64, 64)?;
-    let code = Code::build(alloc, &indexed(alloc, insts)?)?;
+    let flow = Flow::build(alloc, &indexed(alloc, insts)?)?;
     for (function, due) in [(1, 64), (2, 63), (64, 1)] {
-        assert!(rt; code.is_function(function));
-        assert_eq!(rt; code.depth(function), due);
+        assert!(rt; flow.is_function(function));
+        assert_eq!(rt; flow.depth(function), due);
     }
     Ok(())
 }
@@ -338,14 +351,14 @@ fn goes_through_blocks(rt: HostRuntime) -> Result<(), TestFail> {
     for row in rows {
         push_inst(alloc, &mut insts, row)?;
     }
-    let code = Code::build(alloc, &indexed(alloc, insts)?)?;
+    let flow = Flow::build(alloc, &indexed(alloc, insts)?)?;
     for (label, due) in [(20, 3), (21, 7), (22, 11)] {
-        assert!(rt; code.is_block(label));
-        assert_eq!(rt; code.first(label), due);
+        assert!(rt; flow.is_block(label));
+        assert_eq!(rt; flow.first(label), due);
     }
     for (pc, due) in [(3, Some(5)), (5, None), (7, None), (11, None)] {
-        assert!(rt; code.is_pc(pc));
-        assert_eq!(rt; code.next(pc), due);
+        assert!(rt; flow.is_pc(pc));
+        assert_eq!(rt; flow.next(pc), due);
     }
     Ok(())
 }

@@ -23,7 +23,8 @@ pub mod WalkStates
 pub mod WalkPlaces
 pub mod WalkSteps
 pub mod WalkConstants
-pub mod OperationResults
 pub mod ConstantGrowth
 pub mod ConstantRows
 pub mod ConstantWalk
+pub mod OperationResults
+pub mod WalkLimits

@@ -16,3 +16,4 @@ pub mod Steps
 pub mod Build
 pub mod Constants
 pub mod Laws
+pub mod Limits

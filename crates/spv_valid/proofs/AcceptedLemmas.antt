@@ -1,5 +1,5 @@
 -- Modules in which no pass has a breach.
-use Rattle.std.proofs.Common.{◌≡◌, ℕ, ℤ, Bool, true, false, cond, List, Option, Some, None, Result, Ok, Err, option_and_then, refl, subst}
+use Rattle.std.proofs.Common.{◌≡◌, ℕ, ℤ, Bool, true, false, cond, List, Option, Some, None, Result, Ok, Err, option_and_then, refl, sym, ap, ◌∙◌, subst}
 use Rattle.std.proofs.lemmas.Option.{option_and_then_some}
 use Rattle.spv_base.specs.Entries.{reads}
 use Rattle.spv_base.specs.declared.causes.Refusal.{Refusal}
@@ -9,6 +9,7 @@ use Rattle.spv_index.specs.Operands.{id_operand}
 use Rattle.spv_types.specs.Types.{Types}
 use Rattle.spv_types.specs.Build.{types_of}
 use Rattle.spv_types.specs.Blocks.{layout_of, nothing}
+use Rattle.spv_cfg.specs.Calls.{calls_in}
 use Rattle.spv_cfg.specs.Flow.{Flow, flow_of}
 use Rattle.spv_sections.specs.Sections.{sections_of}
 use Rattle.spv_sections.specs.Ids.{ids_of}
@@ -20,7 +21,8 @@ use Rattle.spv_valid.specs.declared.entry.Entry.{Entry}
 use Rattle.spv_valid.specs.Entry.{Size, entry_in, entry_of, entry_point, entry_with, required, size_of}
 use Rattle.spv_valid.specs.Stack.{stack_cells}
 use Rattle.spv_base.specs.Answers.{after}
-use Rattle.spv_valid.specs.Acceptance.{Accepted, IsAccepted, Passes, acceptance, accepted, code_of, decoded_in, front_of, known_of}
+use Rattle.spv_valid.specs.Acceptance.{Accepted, IsAccepted, Passes, acceptance, accepted, flow_with_bodies, decoded_in, front_of, known_of}
+use Rattle.spv_valid.proofs.PassLemmas.{flow_is}
 
 after-after : {T U V : Type 0} (due : Result T Refusal) (next : T → Result U Refusal) (last : U → Result V Refusal)
     → after (after due next) last ≡ after due (λ x. after (next x) last)
@@ -29,7 +31,7 @@ after-after (Err r) next last = refl
 
 -- the passes, some of them together
 pub in_parts : (m : Decoded) (name : Option (List ℕ)) (over : List (ℕ × ℤ)) → acceptance m name over ≡
-    after (front_of m) (λ _. after (known_of m.insts over) (λ known. after (code_of known m.insts) (λ flow.
+    after (front_of m) (λ _. after (known_of m.insts over) (λ known. after (flow_with_bodies known m.insts) (λ flow.
     after (entry_of known.0 known.1 flow m.insts name) (λ entry. Ok (accepted m known flow entry)))))
 unfolding acceptance
 in_parts m name over = simp after-after
@@ -39,8 +41,19 @@ pub after_ok : {T U : Type 0} (due : Result T Refusal) (next : T → Result U Re
 after_ok (Ok x) next y is = (x, refl, is)
 after_ok (Err r) next y is = absurd (cc)
 
+-- the calls of a control flow whose bodies keep the rules are those of the module
+pub flow_calls : (known : Types × Constants) (insts : List Inst) (flow : Flow) → flow_with_bodies known insts ≡ Ok flow → flow.calls ≡ calls_in insts
+flow_calls known insts flow is =
+    let read = after_ok (flow_of insts) _ flow is in
+    let bodies = after_ok (bodies_of known.0 known.1 insts) _ flow read.2 in
+    let same : read.0 ≡ flow = ok_same read.0 flow bodies.2 in
+    ap (λ (f : Flow). f.calls) (sym same ∙ flow_is insts read.0 read.1)
+  where
+    ok_same : (x y : Flow) → Path (Result Flow Refusal) (Ok x) (Ok y) → x ≡ y
+    ok_same x y same = cc
+
 pub none_refused : (m : Decoded) (name : Option (List ℕ)) (over : List (ℕ × ℤ)) (known : Types × Constants) (flow : Flow) (entry : Entry) (cells : ℕ)
-    → front_of m ≡ Ok tt → known_of m.insts over ≡ Ok known → code_of known m.insts ≡ Ok flow → entry_of known.0 known.1 flow m.insts name ≡ Ok entry
+    → front_of m ≡ Ok tt → known_of m.insts over ≡ Ok known → flow_with_bodies known m.insts ≡ Ok flow → entry_of known.0 known.1 flow m.insts name ≡ Ok entry
     → cells ≡ stack_cells known.0 m.insts entry.function
     → acceptance m name over ≡ Ok (record (accepted m known flow entry) { stack_cells = cells })
 none_refused m name over known flow entry cells front known_is code entry_is cells_are = rw (in_parts, front, known_is, code, entry_is, cells_are) refl
@@ -80,7 +93,7 @@ pub accepted_depth : (a : Accepted) → IsAccepted a → reads a.entry a.flow.de
 accepted_depth a h =
     let front = after_ok (front_of (decoded_in a)) _ a (rw in_parts at h.is) in
     let known = after_ok (known_of a.insts h.over) _ a front.2 in
-    let flow = after_ok (code_of known.0 a.insts) _ a known.2 in
+    let flow = after_ok (flow_with_bodies known.0 a.insts) _ a known.2 in
     let entry = after_ok (entry_of known.0.0 known.0.1 flow.0 a.insts h.name) _ a flow.2 in
     depth-carried (accepted (decoded_in a) known.0 flow.0 entry.0) a (cc) (entry_depth known.0.0 known.0.1 flow.0 a.insts h.name entry.0 entry.1)
 
@@ -132,7 +145,7 @@ pub accepted_module : (m : Decoded) (name : Option (List ℕ)) (over : List (ℕ
 accepted_module m name over a is =
     let front = after_ok (front_of m) _ a (rw in_parts at is) in
     let known = after_ok (known_of m.insts over) _ a front.2 in
-    let flow = after_ok (code_of known.0 m.insts) _ a known.2 in
+    let flow = after_ok (flow_with_bodies known.0 m.insts) _ a known.2 in
     let entry = after_ok (entry_of known.0.0 known.0.1 flow.0 m.insts name) _ a flow.2 in
     module_is (accepted m known.0 flow.0 entry.0) a entry.2
   where

@@ -165,7 +165,7 @@ types_are insts types is = by_list (type_breaches insts [] (before_functions ins
     by_list [] e = cc
     by_list (r ∷ rs) e = absurd (cc)
 
-flow_is : (insts : List Inst) (flow : Flow) → flow_of insts ≡ Ok flow → flow ≡ flow_in insts
+pub flow_is : (insts : List Inst) (flow : Flow) → flow_of insts ≡ Ok flow → flow ≡ flow_in insts
 unfolding flow_of
 flow_is insts flow is = by_refusal (refusal (lowest (block_breaches insts)) (lowest (call_breaches insts))) is
   where

@@ -6,11 +6,10 @@ use Rattle.std.proofs.lemmas.List.Elements.{All-nil, All-append, All-head, All-t
 use Rattle.std.proofs.lemmas.List.{get_or_read}
 use Rattle.spv_base.specs.Entries.{reads}
 use Rattle.spv_base.specs.declared.instructions.Inst.{Inst}
-use Rattle.spv_index.specs.Classes.{sets_of}
 use Rattle.spv_types.specs.Cuts.{cut}
 use Rattle.spv_types.specs.Types.{Types}
-use Rattle.spv_index.specs.Positions.{Stand, in_function}
-use Rattle.spv_cfg.specs.Calls.{IsChain, calls_in, functions_of, limit, longest, most, numbered}
+use Rattle.spv_index.specs.Positions.{Stand, in_function, stands_of}
+use Rattle.spv_cfg.specs.Calls.{Calls, IsChain, calls_in, calls_of, functions_of, limit, longest, most, numbered}
 use Rattle.spv_cfg.proofs.Backwards.{drop_back}
 use Rattle.spv_cfg.proofs.Chains.{Within, most-le}
 use Rattle.spv_cfg.proofs.LongestChains.{long_is_refused, most-comes, most-ge}
@@ -122,17 +121,17 @@ heavier calls weigh weights xs called ys k len within weights_are so_far called_
 pub read_below : (o : Option ℕ) (k n : ℕ) → o ≡ Some k → IfSome o (λ m. m < n) → k < n
 read_below o k n is small = rw is at small
 
-pub stack_cells-some : (ts : Types) (insts : List Inst) (id k v : ℕ) (xs : List ℕ) (n : ℕ) (sets : List (ℕ × Bool)) (numbers : List (ℕ × ℕ))
-    → sets ≡ sets_of insts → numbers ≡ numbered 0 (functions_of insts) → reads id numbers ≡ Some k → k < n → length xs ≡ n
-    → ((f : ℕ) → f < n → get_or xs f 0 ≡ cut (heaviest limit (weight (kept ts sets numbers insts)) (calls_in sets numbers insts) f))
+pub stack_cells-some : (ts : Types) (insts : List Inst) (id k v : ℕ) (xs : List ℕ) (calls : Calls)
+    → calls ≡ calls_in insts → reads id (numbered 0 calls.functions) ≡ Some k → k < length calls.functions → length xs ≡ length calls.functions
+    → ((f : ℕ) → f < length calls.functions → get_or xs f 0 ≡ cut (heaviest limit (weight (kept ts calls (stands_of insts))) calls.list f))
     → v ≡ get_or xs k v → v ≡ stack_cells ts insts id
 unfolding stack_cells
-stack_cells-some ts insts id k v xs n sets numbers sets_are numbers_are read lt len heaviest_are is =
+stack_cells-some ts insts id k v xs calls calls_are read lt len heaviest_are is =
     let inside : k < length xs = rw len lt in
     let at : v ≡ get_or xs k 0 = get_or_read xs k v inside is 0 in
-    let read_here : reads id (numbered 0 (functions_of insts)) ≡ Some k = rw numbers_are at read in
-    let here : get_or xs k 0 ≡ cut (heaviest limit (weight (kept ts (sets_of insts) (numbered 0 (functions_of insts)) insts)) (calls_in (sets_of insts) (numbered 0 (functions_of insts)) insts) k)
-    = heaviest_are k lt ∙ rw (sets_are, numbers_are) refl in
+    let read_here : reads id (numbered 0 (functions_of insts)) ≡ Some k = rw calls_are at read in
+    let here : get_or xs k 0 ≡ cut (heaviest limit (weight (kept ts (calls_in insts) (stands_of insts))) (calls_of insts) k)
+    = heaviest_are k lt ∙ rw calls_are refl in
     at ∙ here ∙ rw read_here refl
 
 -- ---- the heaviest chains are chains, and no chain is heavier

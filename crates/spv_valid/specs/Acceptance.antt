@@ -96,6 +96,6 @@ front_of m = after (sections_of m.insts) (λ _. after (ids_of m) (λ _. capabili
 abbrev pub known_of : List Inst → List (ℕ × ℤ) → Result (Types × Constants) Refusal
 known_of insts over = after (types_of insts) (λ types. after (constants_of types insts over) (λ known. after (layout_of known.0 insts) (λ _. Ok known)))
 
--- the functions and their blocks, where their bodies keep the rules
-abbrev pub code_of : Types × Constants → List Inst → Result Flow Refusal
-code_of known insts = after (flow_of insts) (λ flow. after (bodies_of known.0 known.1 insts) (λ _. Ok flow))
+-- the control flow, where the bodies keep the rules
+abbrev pub flow_with_bodies : Types × Constants → List Inst → Result Flow Refusal
+flow_with_bodies known insts = after (flow_of insts) (λ flow. after (bodies_of known.0 known.1 insts) (λ _. Ok flow))

@@ -1,25 +1,39 @@
 -- How many cells the frames of an invocation have at most: those of the registers and variables of each function in a chain
 -- of calls (this project's profile). A pointer is one cell. Numbers stop at the greatest of 64 bits.
-use Rattle.std.specs.Prelude.{◌≡◌, ◌≤◌, ℕ, zero, suc, ◌+◌, ◌==◌, if◌then◌else◌, Bool, List, [], ◌∷◌, Option, Some, None, unwrap_or}
-use Rattle.std.specs.Option.{option_map, option_map_or}
+use Rattle.std.specs.Prelude.{◌≡◌, ◌≤◌, ℕ, zero, suc, ◌+◌, ◌==◌, if◌then◌else◌, List, [], ◌∷◌, Option, Some, None, unwrap_or}
+use Rattle.std.specs.Option.{option_and_then, option_map, option_map_or}
 use Rattle.std.specs.List.{flat_map}
 use Rattle.spv_base.specs.Entries.{reads}
 use Rattle.spv_base.specs.declared.instructions.Inst.{Inst}
 use Rattle.spv_types.specs.Types.{Types, form_of}
 use Rattle.spv_types.specs.Cells.{cells_of}
 use Rattle.spv_types.specs.Cuts.{cut}
-use Rattle.spv_types.specs.Blocks.{target_of}
-use Rattle.spv_index.specs.Classes.{sets_of}
-use Rattle.spv_index.specs.Positions.{Stand, stands, outside, in_function}
-use Rattle.spv_cfg.specs.Calls.{IsChain, calls_of, functions_of, limit, most, numbered}
+use Rattle.spv_types.specs.declared.forms.Form.{Form}
+use Rattle.spv_types.specs.declared.forms.Form.TheVariants.{Void, Bool as Boolean, Int, Vector, Array, Runtime, Struct, Pointer, Function}
+use Rattle.spv_index.specs.Definitions.{type_in}
+use Rattle.spv_index.specs.Positions.{Stand, in_function, stands_of}
+use Rattle.spv_cfg.specs.Calls.{Calls, IsChain, calls_in, calls_of, functions_of, limit, most, numbered}
 
--- what a variable (OpVariable, 59) keeps has the target of its pointer type; any other result has its own type, and without one there is none
-abbrev pub kept_type : Types → Inst → ℕ
-kept_type ts i = if i.op == 59 then target_of (form_of ts i.ty) else i.ty
+-- the type that a pointer type points to
+abbrev pub target_in : Option Form → Option ℕ
+target_in None = None
+target_in (Some Void) = None
+target_in (Some Boolean) = None
+target_in (Some (Int width sign)) = None
+target_in (Some (Vector component count)) = None
+target_in (Some (Array element n stride)) = None
+target_in (Some (Runtime element stride)) = None
+target_in (Some (Struct members block)) = None
+target_in (Some (Pointer class target)) = Some target
+target_in (Some (Function returns parameters)) = None
 
--- the cells of an instruction's register or variable
+-- what a variable (OpVariable, 59) keeps has the target of its pointer type; any other result has its own type, where it has one
+abbrev pub kept_type : Types → Inst → Option ℕ
+kept_type ts i = if i.op == 59 then target_in (form_of ts i.ty) else type_in i
+
+-- the cells of an instruction's register or variable; one that keeps nothing has none
 abbrev pub kept_cells : Types → Inst → ℕ
-kept_cells ts i = unwrap_or (option_map cut (cells_of ts (kept_type ts i))) 0
+kept_cells ts i = unwrap_or (option_map cut (option_and_then (cells_of ts) (kept_type ts i))) 0
 
 -- a function's number with some cells of it
 abbrev pub kept_by : Option ℕ → ℕ → List (ℕ × ℕ)
@@ -30,8 +44,8 @@ kept_by (Some f) cells = (f, cells) ∷ []
 abbrev pub kept_in : Types → List (ℕ × ℕ) → Stand → List (ℕ × ℕ)
 kept_in ts numbers s = if in_function s.position.stage then kept_by (reads s.position.function numbers) (kept_cells ts s.inst) else []
 
-abbrev pub kept : Types → List (ℕ × Bool) → List (ℕ × ℕ) → List Inst → List (ℕ × ℕ)
-kept ts sets numbers insts = flat_map (kept_in ts numbers) (stands sets outside insts)
+abbrev pub kept : Types → Calls → List Stand → List (ℕ × ℕ)
+kept ts calls stood = flat_map (kept_in ts (numbered 0 calls.functions)) stood
 
 -- the cells of the function with a number
 unfoldable pub weight : List (ℕ × ℕ) → ℕ → ℕ
@@ -45,7 +59,7 @@ heaviest (suc k) weigh calls f = weigh f + most (λ g. heaviest k weigh calls g)
 
 -- the cells of each function of a module
 abbrev pub weights_of : Types → List Inst → ℕ → ℕ
-weights_of ts insts = weight (kept ts (sets_of insts) (numbered 0 (functions_of insts)) insts)
+weights_of ts insts = weight (kept ts (calls_in insts) (stands_of insts))
 
 -- the most cells of a chain of calls from the function with an id; where a module is accepted no chain is longer than that
 unfoldable pub stack_cells : Types → List Inst → ℕ → ℕ

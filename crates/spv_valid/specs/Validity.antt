@@ -8,6 +8,7 @@ use Rattle.spv_types.specs.Laws.{AreComplete, AreNamed, AreSound}
 use Rattle.spv_cfg.specs.Laws.{BlocksAreEntered, FunctionsAreEntered, FunctionsHaveDepths, RunsGoOn, TargetsAreEntered}
 use Rattle.spv_sections.specs.Laws.{AreInOrder}
 use Rattle.spv_consts.specs.Laws.{HaveShapes, HaveValues}
+use Rattle.spv_consts.specs.Limits.{KeepLimits}
 use Rattle.spv_bodies.specs.Laws.{KeepRules}
 use Rattle.spv_bodies.specs.Context.{known_of}
 use Rattle.spv_index.specs.Definitions.{before_functions}
@@ -40,10 +41,11 @@ pub record IsValid (a : Accepted) : Type 0 where
   pub lengths : AreComplete a.types (length a.types)
   -- no rule of types, of module variables or of undefined values is broken (SPIR-V 1.6 section 2.16.1)
   pub declared : type_breaches a.insts [] (before_functions a.insts) ≡ []
-  -- no rule of constants is broken, nor a limit: types are nested at most 32 deep, and have at most 4,194,304 cells, as all constants
-  -- together (this project's profile)
+  -- no rule of constants is broken
   pub over : List (ℕ × ℤ)
-  pub limits : constant_breaches (types_read a.insts) a.insts over ≡ []
+  pub constants : constant_breaches (types_read a.insts) a.insts over ≡ []
+  -- types are nested at most 32 deep and have at most 4,194,304 cells, as all constants together (this project's profile)
+  pub limits : KeepLimits a.types a.constants
   -- blocks are laid out (SPIR-V 1.6 section 2.16.2)
   pub layout : layout_breaches a.types a.insts ≡ []
   -- each constant has a value, of the shape of its type; none has pointers in it

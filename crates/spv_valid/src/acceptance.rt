@@ -1,7 +1,8 @@
 //! Which modules are accepted.
 ghost use Rattle.std.specs.Prelude.{◌≡◌, ◌↔◌, ℕ, ℤ, IfOk, List, Option, Ok, option_copied};
 ghost use Rattle.spv_base.specs.Answers.{Answers};
-ghost use Rattle.spv_valid.specs.Acceptance.{Accepted, Passes, acceptance, code_of, decoded_in, front_of, known_of};
+ghost use Rattle.spv_ops.specs.Module.{IsDecoded};
+ghost use Rattle.spv_valid.specs.Acceptance.{Accepted, Passes, acceptance, decoded_in, flow_with_bodies, front_of, known_of};
 ghost use Rattle.spv_valid.specs.Validity.{IsValid};
 
 use crate::entry::entry_of;
@@ -10,13 +11,20 @@ use crate::stack::stack_cells;
 use crate::validity::accepted_modules_are_valid;
 use spv_base::{Fail, Inst, Overrides, Refusal};
 use spv_bodies::check_bodies;
-use spv_cfg::Code;
+use spv_cfg::Flow;
 use spv_consts::ConstTable;
 use spv_index::Index;
 use spv_ops::DecodedModule;
 use spv_sections::{check_capabilities, check_ids, check_sections};
 use spv_types::TypeTable;
 use std::alloc::Global;
+
+/// A fact, with nothing to run: an index is of a decoded module.
+fn is_decoded(index: &Index)
+    ensures { IsDecoded index.now }
+{
+    let _insts = index.insts();
+}
 
 /// Checks the order of the sections, the ids and what a module declares.
 fn check_front(index: &Index) -> Result<(), Refusal>
@@ -42,18 +50,18 @@ fn read_types(
     Ok((types, consts))
 }
 
-/// The functions and their blocks, where the bodies keep the rules.
-fn read_code(
+/// The control flow, where the bodies keep the rules.
+fn read_flow(
     alloc: Global,
     types: &TypeTable,
     consts: &ConstTable,
     index: &Index,
-) -> Result<Code, Fail<Refusal>>
-    ensures { Answers (code_of (types.now, consts.now) index.now.insts) result }
+) -> Result<Flow, Fail<Refusal>>
+    ensures { Answers (flow_with_bodies (types.now, consts.now) index.now.insts) result }
 {
-    let code = Code::build(alloc, index)?;
+    let flow = Flow::build(alloc, index)?;
     check_bodies(alloc, types, consts, index)?;
-    Ok(code)
+    Ok(flow)
 }
 
 /// A module, where no rule is broken.
@@ -74,16 +82,17 @@ pub fn accept(
 {
     accepted_modules_are_valid();
     let index = Index::of(alloc, decoded)?;
+    is_decoded(&index);
     check_front(&index)?;
     let (types, consts) = read_types(alloc, &index, over)?;
-    let code = read_code(alloc, &types, &consts, &index)?;
-    let entry = entry_of(&types, &consts, &code, &index, name)?;
-    let stack_cells = stack_cells(alloc, &types, index.sets(), index.insts(), entry.function)?;
+    let flow = read_flow(alloc, &types, &consts, &index)?;
+    let entry = entry_of(&types, &consts, &flow, &index, name)?;
+    let stack_cells = stack_cells(alloc, &types, flow.calls(), &index, entry.function)?;
     Ok(Module {
         index,
         types,
         consts,
-        code,
+        flow,
         entry,
         stack_cells,
     })

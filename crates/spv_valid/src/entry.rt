@@ -4,7 +4,7 @@ ghost use Rattle.spv_base.specs.Entries.{reads};
 ghost use Rattle.spv_valid.specs.Entry as spec;
 
 use spv_base::{Cell, Inst, Refusal};
-use spv_cfg::Code;
+use spv_cfg::Flow;
 use spv_consts::ConstTable;
 use spv_index::{Index, id_operand, literal_operand, text_operand};
 use spv_ops::{built_in, decoration, execution_mode, execution_model, op};
@@ -298,11 +298,11 @@ pub fn allowed_size(size: (u64, u64, u64)) -> Option<(u32, u32, u32)>
 }
 
 /// How many functions the longest chain of calls from a function has, where there is such a function.
-fn depth_of(code: &Code, function: u32) -> Option<u32>
-    ensures { result ≡ reads function code.now.depths }
+fn depth_of(flow: &Flow, function: u32) -> Option<u32>
+    ensures { result ≡ reads function flow.now.depths }
 {
-    if code.is_function(function) {
-        Some(code.depth(function))
+    if flow.is_function(function) {
+        Some(flow.depth(function))
     } else {
         None
     }
@@ -312,13 +312,13 @@ fn depth_of(code: &Code, function: u32) -> Option<u32>
 fn entry_in(
     types: &TypeTable,
     consts: &ConstTable,
-    code: &Code,
+    flow: &Flow,
     index: &Index,
     function: u32,
 ) -> Option<Entry>
-    ensures { result ≡ spec.entry_in types.now consts.now code.now index.now.insts function }
+    ensures { result ≡ spec.entry_in types.now consts.now flow.now index.now.insts function }
 {
-    let depth = depth_of(code, function)?;
+    let depth = depth_of(flow, function)?;
     let size = size_of(types, consts, index, function)?;
     if !is_plain_function(types, index, function) {
         return None;
@@ -335,14 +335,14 @@ fn entry_in(
 fn entry_named(
     types: &TypeTable,
     consts: &ConstTable,
-    code: &Code,
+    flow: &Flow,
     index: &Index,
     name: Option<&[u8]>,
 ) -> Option<Entry>
-    ensures { result ≡ spec.entry_named types.now consts.now code.now index.now.insts (option_copied name.entry) }
+    ensures { result ≡ spec.entry_named types.now consts.now flow.now index.now.insts (option_copied name.entry) }
 {
     let function = id_operand(entry_point(index.insts(), name)?, 1)?;
-    entry_in(types, consts, code, index, function)
+    entry_in(types, consts, flow, index, function)
 }
 
 /// The entry of a name, or the first one.
@@ -354,13 +354,13 @@ fn entry_named(
 pub fn entry_of(
     types: &TypeTable,
     consts: &ConstTable,
-    code: &Code,
+    flow: &Flow,
     index: &Index,
     name: Option<&[u8]>,
 ) -> Result<Entry, Refusal>
-    ensures { result ≡ spec.entry_of types.now consts.now code.now index.now.insts (option_copied name.entry) }
+    ensures { result ≡ spec.entry_of types.now consts.now flow.now index.now.insts (option_copied name.entry) }
 {
-    match entry_named(types, consts, code, index, name) {
+    match entry_named(types, consts, flow, index, name) {
         Some(entry) => Ok(entry),
         None => Err(ENTRY_BREACH),
     }

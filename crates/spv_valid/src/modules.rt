@@ -1,6 +1,7 @@
 //! Modules that broke no rule.
-ghost use Rattle.std.specs.Prelude.{◌≡◌, Some};
+ghost use Rattle.std.specs.Prelude.{◌≡◌, IsSome, Some, option_copied, option_map};
 ghost use Rattle.spv_base.specs.Entries.{reads};
+ghost use Rattle.spv_index.specs.Definitions as definitions;
 ghost use Rattle.spv_valid.specs.Acceptance.{IsAccepted};
 ghost use Rattle.spv_valid.specs.Meanings.{meaning_of};
 ghost use Rattle.spv_valid.specs.Validity.{IsValid};
@@ -9,8 +10,9 @@ use crate::entry::Entry;
 use crate::meanings::{Meaning, meaning_of};
 use crate::validity::accepted_modules_are_valid;
 use spv_base::Inst;
-use spv_cfg::Code;
+use spv_cfg::Flow;
 use spv_consts::ConstTable;
+use spv_consts::table::Row;
 use spv_index::Index;
 use spv_types::TypeTable;
 use std::marker::Model;
@@ -21,7 +23,7 @@ pub struct Module {
     pub(crate) index: Index,
     pub(crate) types: TypeTable,
     pub(crate) consts: ConstTable,
-    pub(crate) code: Code,
+    pub(crate) flow: Flow,
     pub(crate) entry: Entry,
     pub(crate) stack_cells: u64,
 }
@@ -70,6 +72,27 @@ impl Module {
         self.index.bound()
     }
 
+    /// The instruction that defines an id. In constant time.
+    pub fn defining(&self, id: u32) -> Option<&Inst>
+        ensures { option_copied result ≡ definitions.defining self.now.insts id }
+    {
+        self.index.defining(id)
+    }
+
+    /// The type of the result with an id, where it has one. In constant time.
+    pub fn type_of_id(&self, id: u32) -> Option<u32>
+        ensures { result ≡ definitions.result_type self.now.insts id }
+    {
+        self.index.result_type(id)
+    }
+
+    /// The instruction that begins at a word. In constant time.
+    pub fn at(&self, word: u32) -> Option<&Inst>
+        ensures { option_copied result ≡ definitions.at self.now.insts word }
+    {
+        self.index.at(word)
+    }
+
     /// What an id stands for, where an instruction defines it. In constant time.
     pub fn meaning(&self, id: u32) -> Option<Meaning>
         ensures { result ≡ meaning_of self.now.insts id }
@@ -91,11 +114,34 @@ impl Module {
         &self.consts
     }
 
-    /// The functions and blocks.
-    pub fn code(&self) -> &Code
+    /// The row of the constant with an id: its type, and its cells in order. In constant time.
+    pub fn constant(&self, id: u32) -> Option<Row<'_>>
+        ensures { option_map (λ r. record { ty = r.ty; cells = r.cells.now }) result ≡ reads id self.now.constants }
+    {
+        self.consts.value(id)
+    }
+
+    /// The executable behind the one at a word, in its block; none where it is the block's last. In constant time.
+    pub fn next(&self, pc: u32) -> Option<u32>
+        requires { IsSome (reads pc self.now.flow.nexts) }
+        ensures { reads pc self.now.flow.nexts ≡ Some result }
+    {
+        self.flow.next(pc)
+    }
+
+    /// The first executable of the block with a label. In constant time.
+    pub fn first(&self, label: u32) -> u32
+        requires { IsSome (reads label self.now.flow.blocks) }
+        ensures { reads label self.now.flow.blocks ≡ Some result }
+    {
+        self.flow.first(label)
+    }
+
+    /// The control flow: the functions, blocks and calls.
+    pub fn flow(&self) -> &Flow
         ensures { result.now ≡ self.now.flow }
     {
-        &self.code
+        &self.flow
     }
 
     /// The id of the entry point's function.

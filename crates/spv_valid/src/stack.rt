@@ -1,64 +1,80 @@
 //! How many cells the frames of an invocation have at most.
-ghost use Rattle.std.specs.Prelude.{◌≡◌, ◌<◌, ◌≤◌, ◌+◌, ℕ, List, IfOk, IfSome, length, slice_index};
+ghost use Rattle.std.specs.Prelude.{◌≡◌, ◌<◌, ◌≤◌, ◌+◌, ℕ, List, IfOk, length, option_copied, slice_index};
 ghost use Rattle.std.specs.List.{All};
-ghost use Rattle.spv_base.specs.Entries.{reads};
+ghost use Rattle.std.specs.Option.{option_and_then, option_map};
+ghost use Rattle.spv_types.specs.Cells.{cells_of};
 ghost use Rattle.spv_types.specs.Cuts.{cut};
-ghost use Rattle.spv_types.specs.Types.{form_of};
-ghost use Rattle.spv_types.specs.Blocks.{target_of};
+ghost use Rattle.spv_index.specs.Definitions.{type_in};
 ghost use Rattle.spv_cfg.specs.Calls.{calls_in, limit, longest, most};
-ghost use Rattle.spv_index.specs.Classes.{sets_of};
 ghost use Rattle.spv_valid.specs.Stack as spec;
 
 use spv_base::{Inst, NoMemory};
-use spv_cfg::calls::{calls_of, functions_of, numbers_by_id};
-use spv_index::Table;
-use spv_index::classes::class_of;
-use spv_index::positions::Position;
+use spv_cfg::Calls;
+use spv_index::Index;
+use spv_index::stands::Stands;
 use spv_ops::op;
 use spv_types::{Form, TypeTable};
 use std::alloc::Global;
 
-/// The target of a pointer type, or 0.
-fn target_of(types: &TypeTable, ty: u32) -> u32
-    ensures { result ≡ target_of (form_of types.now ty) }
+/// The type that a pointer type points to.
+fn target_of(form: Option<&Form>) -> Option<u32>
+    ensures { result ≡ spec.target_in (option_copied form.entry) }
 {
-    match types.form(ty) {
-        Some(Form::Pointer { target, .. }) => *target,
-        _ => 0,
+    match form {
+        Some(Form::Pointer { target, .. }) => Some(*target),
+        _ => None,
     }
+}
+
+/// The type of an instruction's result, where it has one.
+fn result_type(inst: &Inst) -> Option<u32>
+    ensures { result ≡ type_in inst.now }
+{
+    if inst.ty == 0 { None } else { Some(inst.ty) }
+}
+
+/// The type of what an instruction's register or variable keeps.
+fn kept_type(types: &TypeTable, inst: &Inst) -> Option<u32>
+    ensures { result ≡ spec.kept_type types.now inst.now }
+{
+    if inst.op == op::VARIABLE {
+        target_of(types.form(inst.ty))
+    } else {
+        result_type(inst)
+    }
+}
+
+/// The cells of a type.
+fn cells_of(types: &TypeTable, ty: Option<u32>) -> Option<u64>
+    ensures { result ≡ option_map cut (option_and_then (cells_of types.now) ty) }
+{
+    types.cells(ty?)
 }
 
 /// The cells of an instruction's register or variable.
 pub fn kept_cells(types: &TypeTable, inst: &Inst) -> u64
     ensures { result ≡ spec.kept_cells types.now inst.now }
 {
-    let ty = if inst.op == op::VARIABLE {
-        target_of(types, inst.ty)
-    } else {
-        inst.ty
-    };
-    types.cells(ty).unwrap_or(0)
+    cells_of(types, kept_type(types, inst)).unwrap_or(0)
 }
 
 /// The cells of each instruction in a function, with the number of the function.
 fn kept(
     alloc: Global,
     types: &TypeTable,
-    sets: &Table<bool>,
-    numbers: &Table<usize>,
-    insts: &[Inst],
+    calls: &Calls,
+    stands: &Stands,
 ) -> Result<Vec<(usize, u64)>, NoMemory>
-    ensures { IfOk result (λ kept. kept.items ≡ spec.kept types.now sets.now numbers.now insts.now) }
+    ensures { IfOk result (λ kept. kept.items ≡ spec.kept types.now calls.now stands.now) }
 {
     let mut kept = Vec::new(alloc);
-    let mut position = Position::outside();
-    for inst in insts {
-        if position.stage.in_function() {
-            if let Some(function) = numbers.get(position.function) {
-                kept.push((function, kept_cells(types, inst)))?;
+    for n in 0..stands.len() {
+        let stand = stands.at(n);
+        if stand.position.stage.in_function() {
+            if let Some(function) = calls.number(stand.position.function) {
+                kept.push((function, kept_cells(types, stand.inst)))?;
             }
         }
-        position = position.after(class_of(sets, inst), inst);
     }
     Ok(kept)
 }
@@ -136,44 +152,37 @@ pub fn heaviest_chains(
     Ok(heaviest)
 }
 
-/// By the number of a function, the most cells of a chain of calls from it, where `numbers` has the numbers of the functions
-/// by their ids, each below `count`.
+/// By the number of a function, the most cells of a chain of calls from it.
 fn chains_of(
     alloc: Global,
     types: &TypeTable,
-    sets: &Table<bool>,
-    numbers: &Table<usize>,
-    insts: &[Inst],
-    count: usize,
+    calls: &Calls,
+    stands: &Stands,
 ) -> Result<Vec<u64>, NoMemory>
-    requires { (id : ℕ) → IfSome (reads id numbers.now) (λ number. number < count) }
-    ensures len { IfOk result (λ heaviest. length heaviest.items ≡ count) }
-    ensures heaviest { IfOk result (λ heaviest. (f : ℕ) → f < count
-        → slice_index heaviest.items f ≡ cut (spec.heaviest limit (spec.weight (spec.kept types.now sets.now numbers.now insts.now)) (calls_in sets.now numbers.now insts.now) f)) }
+    ensures len { IfOk result (λ heaviest. length heaviest.items ≡ length calls.now.functions) }
+    ensures heaviest { IfOk result (λ heaviest. (f : ℕ) → f < length calls.now.functions
+        → slice_index heaviest.items f ≡ cut (spec.heaviest limit (spec.weight (spec.kept types.now calls.now stands.now)) calls.now.list f)) }
 {
-    let calls = calls_of(alloc, sets, numbers, insts)?;
-    let kept = kept(alloc, types, sets, numbers, insts)?;
-    let weights = weights_of(alloc, kept.as_slice(), count)?;
-    heaviest_chains(alloc, calls.as_slice(), weights.as_slice())
+    let kept = kept(alloc, types, calls, stands)?;
+    let weights = weights_of(alloc, kept.as_slice(), calls.count())?;
+    heaviest_chains(alloc, calls.list(), weights.as_slice())
 }
 
 /// The most cells that the frames of an invocation have together, where its first frame is of the function with this id, and
-/// `sets` has the imported sets.
+/// `calls` are those of the module.
 #[tactic(auto, unfolding(crate::specs::Stack::stack_cells))]
 pub fn stack_cells(
     alloc: Global,
     types: &TypeTable,
-    sets: &Table<bool>,
-    insts: &[Inst],
+    calls: &Calls,
+    index: &Index,
     function: u32,
 ) -> Result<u64, NoMemory>
-    requires { sets.now ≡ sets_of insts.now }
-    ensures { IfOk result (λ cells. cells ≡ spec.stack_cells types.now insts.now function) }
+    requires { calls.now ≡ calls_in index.now.insts }
+    ensures { IfOk result (λ cells. cells ≡ spec.stack_cells types.now index.now.insts function) }
 {
-    let functions = functions_of(alloc, insts)?;
-    let numbers = numbers_by_id(alloc, functions.as_slice())?;
-    let heaviest = chains_of(alloc, types, sets, &numbers, insts, functions.len())?;
-    match numbers.get(function) {
+    let heaviest = chains_of(alloc, types, calls, &index.stands())?;
+    match calls.number(function) {
         Some(number) => Ok(heaviest[number]),
         None => Ok(0),
     }

@@ -1,13 +1,13 @@
-//! The functions and blocks of a module, for a debugger that goes through them.
+//! The control flow of a module: its functions and blocks, for a debugger that goes through them.
 ghost use Rattle.std.specs.Prelude.{◌≡◌, ◌↔◌, Some, IsSome, IsTrue, IfOk, length};
 ghost use Rattle.spv_base.specs.Answers.{Answers};
 ghost use Rattle.spv_base.specs.Entries.{reads};
 ghost use Rattle.spv_cfg.specs.Lowest.{lowest};
 ghost use Rattle.spv_cfg.specs.Flow as spec;
-ghost use Rattle.spv_cfg.specs.Calls.{functions_of as functions_in};
+ghost use Rattle.spv_cfg.specs.Calls.{calls_in};
 
 use crate::branches::branch_breach;
-use crate::calls::{call_breach, depths_of, functions_of, lengths_of};
+use crate::calls::{Calls, call_breach, depths_of};
 use crate::edges::edges_of;
 use crate::executables::{executables_of, followed};
 use crate::layout::layout_breach;
@@ -18,23 +18,25 @@ use spv_index::{Index, Table};
 use std::alloc::Global;
 use std::marker::Model;
 
-/// The executables of each block, which one comes after which, and the depth of each function.
+/// The control flow of a module: the executables of each block, which one comes after which, the depth of each function, and
+/// the calls.
 ///
 /// A pc is the word number of an executable: an instruction in a block that is no label, phi, variable, line, merge or
 /// OpNop and that has a meaning at run time.
 #[derive(Drop)]
-pub struct Code {
+pub struct Flow {
     blocks: Table<u32>,
     nexts: Table<Option<u32>>,
     depths: Table<u32>,
+    calls: Calls,
 }
 
-impl Model for Code {
-    ghost use Rattle.spv_cfg.specs.Flow.{Flow};
+impl Model for Flow {
+    ghost use Rattle.spv_cfg.specs.Flow as spec;
 
-    ghost Value = { Flow };
+    ghost Value = { spec.Flow };
 
-    ghost view = { λ c. record { blocks = c.blocks; nexts = c.nexts; depths = c.depths } };
+    ghost view = { λ c. record { blocks = c.blocks; nexts = c.nexts; depths = c.depths; calls = c.calls } };
 }
 
 /// The lowest word where a rule of blocks, terminators or phis is broken.
@@ -50,23 +52,22 @@ fn block_breach(alloc: Global, index: &Index) -> Result<Option<u32>, NoMemory>
 }
 
 /// For each function the length of the longest chain of calls from it.
-fn chains_of(alloc: Global, index: &Index, functions: &[(u32, u32)]) -> Result<Vec<u32>, NoMemory>
-    requires { functions.now ≡ functions_in index.now.insts }
+fn chains_of(alloc: Global, index: &Index, calls: &Calls) -> Result<Vec<u32>, NoMemory>
+    requires { calls.now ≡ calls_in index.now.insts }
     ensures lengths { IfOk result (λ lengths. lengths.items ≡ spec.lengths_of index.now.insts) }
-    ensures len { IfOk result (λ lengths. length lengths.items ≡ length functions.now) }
+    ensures len { IfOk result (λ lengths. length lengths.items ≡ length calls.now.functions) }
 {
-    let stands = index.stands();
-    lengths_of(alloc, functions, &stands)
+    calls.lengths(alloc)
 }
 
 /// The lowest word of a function from which a chain of calls is too long.
-fn chain_breach(index: &Index, functions: &[(u32, u32)], lengths: &[u32]) -> Option<u32>
-    requires functions { functions.now ≡ functions_in index.now.insts }
+fn chain_breach(index: &Index, calls: &Calls, lengths: &[u32]) -> Option<u32>
+    requires calls { calls.now ≡ calls_in index.now.insts }
     requires lengths { lengths.now ≡ spec.lengths_of index.now.insts }
-    requires len { length lengths.now ≡ length functions.now }
+    requires len { length lengths.now ≡ length calls.now.functions }
     ensures { result ≡ lowest (spec.call_breaches index.now.insts) }
 {
-    call_breach(functions, lengths)
+    call_breach(calls.functions(), lengths)
 }
 
 /// The lower of two breaches, and at one word the one of blocks.
@@ -91,45 +92,48 @@ fn refusal_of(block: Option<u32>, call: Option<u32>) -> Option<Refusal>
     }
 }
 
-impl Code {
-    /// The functions and blocks of a module, unless a rule of theirs is broken: the lowest breach is
+impl Flow {
+    /// The control flow of a module, unless a rule of its functions and blocks is broken: the lowest breach is
     /// refused, with code 15 for blocks, terminators and phis (SPIR-V 1.6 sections 2.4 and 2.16.1), and with code 16
     /// for calls, where a chain of more than 64 functions or a cycle begins at a function.
     #[tactic(auto, unfolding(crate::specs::Flow::flow_of))]
-    pub fn build(alloc: Global, index: &Index) -> Result<Code, Fail<Refusal>>
+    pub fn build(alloc: Global, index: &Index) -> Result<Flow, Fail<Refusal>>
         ensures { Answers (spec.flow_of index.now.insts) result }
     {
         let block = block_breach(alloc, index)?;
-        let functions = functions_of(alloc, index.insts())?;
-        let lengths = chains_of(alloc, index, functions.as_slice())?;
-        let call = chain_breach(index, functions.as_slice(), lengths.as_slice());
+        let calls = Calls::of(alloc, index)?;
+        let lengths = chains_of(alloc, index, &calls)?;
+        let call = chain_breach(index, &calls, lengths.as_slice());
         match refusal_of(block, call) {
             Some(refusal) => Err(Fail::Refused(refusal)),
-            None => Ok(Code::new(alloc, index, functions.as_slice(), lengths.as_slice())?),
+            None => Ok(Flow::new(alloc, index, calls, lengths.as_slice())?),
         }
     }
 
-    /// The functions and blocks of these instructions.
-    fn new(
-        alloc: Global,
-        index: &Index,
-        functions: &[(u32, u32)],
-        lengths: &[u32],
-    ) -> Result<Code, NoMemory>
-        requires functions { functions.now ≡ functions_in index.now.insts }
+    /// The control flow of a module whose calls are known.
+    fn new(alloc: Global, index: &Index, calls: Calls, lengths: &[u32]) -> Result<Flow, NoMemory>
+        requires calls { calls ≡ calls_in index.now.insts }
         requires lengths { lengths.now ≡ spec.lengths_of index.now.insts }
-        requires len { length lengths.now ≡ length functions.now }
-        ensures { IfOk result (λ code. code ≡ spec.flow_in index.now.insts) }
+        requires len { length lengths.now ≡ length calls.functions }
+        ensures { IfOk result (λ flow. flow ≡ spec.flow_in index.now.insts) }
     {
-        let depths = depths_of(alloc, functions, lengths)?;
+        let depths = depths_of(alloc, calls.functions(), lengths)?;
         let executables = executables_of(alloc, &index.stands())?;
         let nexts = followed(alloc, executables.as_slice())?;
         let blocks = Table::new(alloc, executables)?;
-        Ok(Code {
+        Ok(Flow {
             blocks,
             nexts,
             depths,
+            calls,
         })
+    }
+
+    /// The functions, and the calls among them.
+    pub fn calls(&self) -> &Calls
+        ensures { result.now ≡ self.now.calls }
+    {
+        &self.calls
     }
 
     /// Whether this is the word number of an executable.

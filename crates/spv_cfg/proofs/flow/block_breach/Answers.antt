@@ -6,7 +6,7 @@ use Rattle.spv_cfg.specs.Phis.{phi_breaches}
 use Rattle.spv_cfg.specs.Layout.{layout_breaches}
 use Rattle.spv_cfg.proofs.LowestLemmas.{lowest-append}
 use Rattle.spv_cfg.proofs.Walks.{behind_stands}
-use Rattle.spv_cfg.proofs.code.block_breach.Goals as goal
+use Rattle.spv_cfg.proofs.flow.block_breach.Goals as goal
 
 pub returns : goal.returns
 returns c =

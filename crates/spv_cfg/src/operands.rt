@@ -1,0 +1,78 @@
+//! The ids and the literal words among some operands.
+ghost use Rattle.std.specs.Prelude.{◌≡◌, IfOk};
+ghost use Rattle.std.specs.List.{list_all};
+ghost use Rattle.spv_index.specs.Operands as operands;
+ghost use Rattle.spv_cfg.specs.Operands as spec;
+
+use spv_base::{NoMemory, Operand};
+use std::alloc::Global;
+
+/// The id that an operand is.
+fn id_in(operand: &Operand) -> Option<u32>
+    ensures { result ≡ operands.id_in operand.now }
+{
+    match operand {
+        Operand::Id(id) => Some(*id),
+        Operand::Lit(_) | Operand::Text(_) => None,
+    }
+}
+
+/// The literal word that an operand is.
+fn literal_in(operand: &Operand) -> Option<u32>
+    ensures { result ≡ operands.literal_in operand.now }
+{
+    match operand {
+        Operand::Lit(word) => Some(*word),
+        Operand::Id(_) | Operand::Text(_) => None,
+    }
+}
+
+/// Whether all are ids.
+pub fn are_ids(operands: &[Operand]) -> bool
+    ensures { result ≡ list_all spec.is_name operands.now }
+{
+    for operand in operands {
+        if id_in(operand).is_none() {
+            return false;
+        }
+    }
+    true
+}
+
+/// Whether all are literal words.
+pub fn are_literals(operands: &[Operand]) -> bool
+    ensures { result ≡ list_all spec.is_literal operands.now }
+{
+    for operand in operands {
+        if literal_in(operand).is_none() {
+            return false;
+        }
+    }
+    true
+}
+
+/// The ids among them.
+pub fn ids_in(alloc: Global, operands: &[Operand]) -> Result<Vec<u32>, NoMemory>
+    ensures { IfOk result (λ ids. ids.items ≡ spec.ids_in operands.now) }
+{
+    let mut ids = Vec::new(alloc);
+    for operand in operands {
+        if let Some(id) = id_in(operand) {
+            ids.push(id)?;
+        }
+    }
+    Ok(ids)
+}
+
+/// The literal words among them.
+pub fn literals_in(alloc: Global, operands: &[Operand]) -> Result<Vec<u32>, NoMemory>
+    ensures { IfOk result (λ words. words.items ≡ spec.literals_in operands.now) }
+{
+    let mut words = Vec::new(alloc);
+    for operand in operands {
+        if let Some(word) = literal_in(operand) {
+            words.push(word)?;
+        }
+    }
+    Ok(words)
+}
