@@ -1,7 +1,7 @@
-pub mod Number_lemmas
 pub mod Elements
-pub mod Words
+pub mod Request_lemmas
 pub mod Entries
 pub mod Registers
+pub mod Shown_lemmas
 pub mod Positions_lemmas
 pub mod Runs

@@ -1,15 +1,15 @@
 -- How many steps the motions of a group and the commands take. A step is a call of the machine's `step`; nothing else counts one.
 use Rattle.std.specs.Prelude.{◌≡◌, ℕ, ◌+◌, ◌-◌, ◌≤◌, min, max, nat_lt, if◌then◌else◌, List, Result, Ok, Err}
 use Rattle.spv_base.specs.declared.causes.NoMemory.{NoMemory}
+use Rattle.spv_base.specs.declared.causes.CmdRefusal.{CmdRefusal}
 use Rattle.spv_base.specs.declared.happenings.EndCause.TheVariants as end
-use Rattle.spv_session.specs.declared.line.Command.{Command}
-use Rattle.spv_session.specs.declared.line.Command.TheVariants.{Nothing, Goto, Regs, Quit}
-use Rattle.spv_session.specs.declared.line.Refused.{Refused}
+use Rattle.spv_session.specs.declared.request.Request.{Request}
+use Rattle.spv_session.specs.declared.request.Request.TheVariants.{Nothing, Goto, Regs, Quit}
 use Rattle.spv_session.specs.declared.motion.Forth.{Forth}
 use Rattle.spv_session.specs.declared.motion.Forth.TheVariants as forth
 use Rattle.spv_session.specs.declared.motion.Back.{Back}
 use Rattle.spv_session.specs.declared.motion.Back.TheVariants as back
-use Rattle.spv_session.specs.Line.{command_of}
+use Rattle.spv_session.specs.Requests.{request_of}
 use Rattle.spv_session.specs.View.{View, end_in}
 
 -- One event forth is one step, also where it faults or memory runs out in it. The other ends take none.
@@ -35,13 +35,13 @@ run_cost end from target = (max from (min target end) - from) + (if nat_lt end t
 abbrev pub goto_cost : View → ℕ → ℕ
 goto_cost v n = if nat_lt n v.position then n else run_cost (end_in v) v.position n
 
--- the most steps of a command; only motions take any
-abbrev pub command_cost : View → Result Command Refused → ℕ
-command_cost v (Err refused) = 0
-command_cost v (Ok Nothing) = 0
-command_cost v (Ok Quit) = 0
-command_cost v (Ok Regs) = 0
-command_cost v (Ok (Goto n)) = goto_cost v n
+-- the most steps of a request; only motions take any
+abbrev pub request_cost : View → Result Request CmdRefusal → ℕ
+request_cost v (Err refusal) = 0
+request_cost v (Ok Nothing) = 0
+request_cost v (Ok Quit) = 0
+request_cost v (Ok Regs) = 0
+request_cost v (Ok (Goto n)) = goto_cost v n
 
 unfoldable pub line_cost : View → List ℕ → ℕ
-line_cost v line = command_cost v (command_of line)
+line_cost v line = request_cost v (request_of line)

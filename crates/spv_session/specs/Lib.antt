@@ -1,9 +1,8 @@
-pub mod Numbers
 pub mod Settings
 pub mod Positions
 pub mod Run
 pub mod View
-pub mod Line
+pub mod Requests
 pub mod Texts
 pub mod Reply
 pub mod Motion

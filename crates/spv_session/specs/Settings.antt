@@ -5,7 +5,7 @@
 use Rattle.std.specs.Prelude.{ℕ, ◌-◌, nat_le, ◌==◌, if◌then◌else◌, List, length, slice_index, take, drop, codes, Option, Some, None, Result, Ok, Err}
 use Rattle.std.specs.Str.{bytes_eq}
 use Rattle.spv_base.specs.declared.causes.SetupRefusal.{SetupRefusal}
-use Rattle.spv_session.specs.Numbers.{number_of}
+use Rattle.spv_cmd.specs.Numbers.{number_of}
 
 -- each invocation once in a round, in ascending order
 pub record Settings : Type 0 where
@@ -21,9 +21,13 @@ setup_head = codes "spvdbg-setup 1\nrounds "
 abbrev pub without_line_feed : List ℕ → List ℕ
 without_line_feed text = if slice_index text (length text - 1) == 10 then take (length text - 1) text else text
 
+abbrev pub at_most : ℕ → Option ℕ → Option ℕ
+at_most limit None = None
+at_most limit (Some n) = if nat_le n limit then Some n else None
+
 -- the number of rounds
 abbrev pub rounds_in : List ℕ → Option ℕ
-rounds_in digits = if nat_le (length digits) 20 then number_of most_rounds digits else None
+rounds_in digits = if nat_le (length digits) 20 then at_most most_rounds (number_of digits) else None
 
 abbrev pub rounds_of : List ℕ → Option ℕ
 rounds_of text = if bytes_eq (take (length setup_head) text) setup_head then rounds_in (without_line_feed (drop (length setup_head) text)) else None

@@ -1,5 +1,5 @@
 -- The texts of replies. Each line ends with a line feed.
-use Rattle.std.specs.Prelude.{ℕ, ◌-◌, Bool, if◌then◌else◌, List, [], ◌∷◌, ◌++◌, codes, decimal, Option, Some, None, fold, map, slice_index_or}
+use Rattle.std.specs.Prelude.{ℕ, Bool, if◌then◌else◌, List, [], ◌∷◌, ◌++◌, codes, decimal, Option, Some, None, fold, map, slice_index_or}
 use Rattle.std.specs.List.{flat_map, join_by}
 use Rattle.std.specs.BTreeMap.{insert_entry}
 use Rattle.std.specs.Ordering.{nat_cmp}
@@ -9,26 +9,19 @@ use Rattle.spv_base.specs.declared.values.Value.{Value, out-Value}
 use Rattle.spv_base.specs.declared.values.Value.TheOpen.{Value-F}
 use Rattle.spv_base.specs.declared.happenings.EndCause.{EndCause}
 use Rattle.spv_base.specs.declared.happenings.EndCause.TheVariants as end
-use Rattle.spv_session.specs.declared.line.Refused.{Refused}
-use Rattle.spv_session.specs.declared.line.Refused.TheVariants.{UnknownCommand, Arguments, FocusFinished}
 
 -- ---- refusals
 
--- the refusals of commands, by their numbers from 1 on
+-- the refusals of commands, by their numbers from 1 on; no refusal has the number 0
 abbrev pub refusals : List (List ℕ)
 refusals =
-    codes "C1 unknown command" ∷ codes "C2 arguments" ∷ codes "C3 no such invocation" ∷ codes "C4 no such frame"
+    [] ∷ codes "C1 unknown command" ∷ codes "C2 arguments" ∷ codes "C3 no such invocation" ∷ codes "C4 no such frame"
     ∷ codes "C5 no such name" ∷ codes "C6 no such part" ∷ codes "C7 no such number" ∷ codes "C8 no code at that line"
     ∷ codes "C9 list full" ∷ codes "C10 no source text" ∷ codes "C11 line too long" ∷ codes "C12 focus finished"
     ∷ codes "C13 past the end" ∷ []
 
-abbrev pub code_of : Refused → ℕ
-code_of UnknownCommand = 1
-code_of Arguments = 2
-code_of FocusFinished = 12
-
 abbrev pub refusal_line : ℕ → List ℕ
-refusal_line code = codes "refused: " ++ slice_index_or refusals (code - 1) [] ++ codes "\n"
+refusal_line code = codes "refused: " ++ slice_index_or refusals code [] ++ codes "\n"
 
 -- ---- values and registers
 

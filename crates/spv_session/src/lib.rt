@@ -3,9 +3,8 @@
 
 mod ends;
 mod group;
-mod line;
 mod motion;
-mod numbers;
+mod request;
 mod run;
 mod session;
 mod setup;
@@ -16,5 +15,7 @@ mod texts;
 pub use ends::{end_is_least, entries_take_turns};
 pub use group::Group;
 pub use motion::{Back, Forth};
+pub use request::{Request, requests_are_commands};
 pub use session::{Next, Session};
 pub use setup::Setup;
+pub use texts::shown_registers_ascend;

@@ -1,19 +1,22 @@
 //! A group and the replies to lines of input.
 ghost use Rattle.std.specs.Prelude.{◌≡◌, ℕ, ◌≤◌, ◌+◌, ◌++◌, false, List, All, IfOk, OnOk, OnErr, vec_len, if◌then◌else◌};
 ghost use Rattle.spv_base.specs.Prefix.{IsPrefixOf};
-ghost use Rattle.spv_session.specs.Costs.{command_cost, line_cost};
-ghost use Rattle.spv_session.specs.Reply.{reply, reply_to, is_quit, is_quit_command, is_motion, IsRefused, focus_frame, registers_reply, stop_reply};
+ghost use Rattle.spv_session.specs.Costs.{request_cost, line_cost};
+ghost use Rattle.spv_session.specs.Reply.{reply, reply_to, is_quit, is_quit_request, is_motion, IsRefused, focus_frame, registers_reply, stop_reply};
 ghost use Rattle.spv_session.specs.Texts.{refusal_line};
 ghost use Rattle.spv_session.specs.View.{view_at, end_in};
 ghost use Rattle.spv_session.specs.declared.session.Next.TheVariants as answers;
 
 use crate::group::Group;
-use crate::line::{Command, Refused, parse};
+use crate::request::Request;
 use crate::texts::{push_position, push_registers, push_stop, refusal_line};
-use spv_base::{NoMemory, Probe, Steps};
+use spv_base::{CmdRefusal, Fail, NoMemory, Probe, Steps};
 use std::alloc::Global;
 use std::marker::Model;
 use std::sync::ledger::Ledger;
+
+/// The command asks for the frame of a finished invocation.
+const FOCUS_FINISHED: CmdRefusal = CmdRefusal { code: 12 };
 
 /// Whether the session goes on after a line.
 #[derive(Clone, Copy, Debug, PartialEq, Eq)]
@@ -74,33 +77,38 @@ impl Session {
         ensures cost { steps.new ≤ steps.old + line_cost self.old line.now }
     {
         let mut text = Vec::new(self.alloc);
-        let next = self.answer(parse(line), &mut text, steps)?;
+        let request = match Request::read(self.alloc, line) {
+            Ok(request) => Ok(request),
+            Err(Fail::Refused(refusal)) => Err(refusal),
+            Err(Fail::NoMemory) => return Err(NoMemory),
+        };
+        let next = self.answer(request, &mut text, steps)?;
         out.extend_from_slice(&text)?;
         Ok(next)
     }
 
-    /// Carries a command out, and makes the text of its reply.
+    /// Carries a request out, and makes the text of its reply.
     fn answer<L: Ledger>(
         &mut self,
-        command: Result<Command, Refused>,
+        request: Result<Request, CmdRefusal>,
         text: &mut Vec<u8>,
         steps: &mut Steps<L>,
     ) -> Result<Next, NoMemory>
-        ensures text { OnOk result (text.new.items ≡ text.old.items ++ (reply_to self.old command).0) }
-        ensures view { OnOk result (self.new ≡ (reply_to self.old command).1) }
-        ensures next { IfOk result (λ next. next ≡ (if is_quit_command command then answers.Quit else answers.Go)) }
+        ensures text { OnOk result (text.new.items ≡ text.old.items ++ (reply_to self.old request).0) }
+        ensures view { OnOk result (self.new ≡ (reply_to self.old request).1) }
+        ensures next { IfOk result (λ next. next ≡ (if is_quit_request request then answers.Quit else answers.Go)) }
         ensures kept { self.new ≡ view_at self.new.position self.old }
         ensures within { self.new.position ≤ end_in self.old }
-        ensures still { is_motion command ≡ false → self.new ≡ self.old }
+        ensures still { is_motion request ≡ false → self.new ≡ self.old }
         ensures counted { steps.old ≤ steps.new }
-        ensures cost { steps.new ≤ steps.old + command_cost self.old command }
+        ensures cost { steps.new ≤ steps.old + request_cost self.old request }
     {
-        match command {
-            Err(refused) => text.extend_from_slice(refusal_line(refused))?,
-            Ok(Command::Nothing) => {}
-            Ok(Command::Quit) => return Ok(Next::Quit),
-            Ok(Command::Regs) => self.push_registers(text)?,
-            Ok(Command::Goto(asked)) => {
+        match request {
+            Err(refusal) => text.extend_from_slice(refusal_line(refusal))?,
+            Ok(Request::Nothing) => {}
+            Ok(Request::Quit) => return Ok(Next::Quit),
+            Ok(Request::Regs) => self.push_registers(text)?,
+            Ok(Request::Goto(asked)) => {
                 self.group.goto(asked as u64, steps)?;
                 self.push_stop(text, asked as u64)?;
             }
@@ -113,7 +121,7 @@ impl Session {
         ensures { OnOk result (text.new.items ≡ text.old.items ++ registers_reply (focus_frame self.now)) }
     {
         match self.group.world().stack(0).top() {
-            None => text.extend_from_slice(refusal_line(Refused::FocusFinished))?,
+            None => text.extend_from_slice(refusal_line(FOCUS_FINISHED))?,
             Some(frame) => push_registers(self.alloc, text, frame.registers())?,
         }
         Ok(())

@@ -4,8 +4,8 @@ ghost use Rattle.spv_base.specs.Answers.{Answers};
 ghost use Rattle.spv_session.specs.Run.{rounds_over};
 ghost use Rattle.spv_session.specs.Settings.{settings_of, rounds_of, rounds_in, without_line_feed, most_rounds};
 
-use crate::numbers::number;
 use spv_base::{Fail, SetupRefusal};
+use spv_cmd::number;
 use std::alloc::Global;
 use std::marker::Model;
 
@@ -87,8 +87,12 @@ fn rounds(text: &[u8]) -> Option<u32>
     ensures most { IfSome result (λ n. n ≤ most_rounds) }
 {
     let digits = without_line_feed(text.strip_prefix(HEAD)?);
-    if digits.len() <= MOST_DIGITS {
-        number(digits, MOST_ROUNDS)
+    if digits.len() > MOST_DIGITS {
+        return None;
+    }
+    let rounds = number(digits)?;
+    if rounds <= MOST_ROUNDS {
+        Some(rounds)
     } else {
         None
     }

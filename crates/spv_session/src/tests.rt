@@ -140,8 +140,8 @@ fn answers_lines(rt: HostRuntime) -> Result<(), Fail> {
         ),
         (
             "spvdbg-setup 1\nrounds 10",
-            &["goto 4", "regs", "goto 0", "where"],
-            "stop: done, all finished\n@4 i=0 finished\nrefused: C12 focus finished\nstop: done, start\n@0 i=0 %7 word 53\nrefused: C1 unknown command\n",
+            &["goto 4", "regs", "goto 0", "where", "where 5"],
+            "stop: done, all finished\n@4 i=0 finished\nrefused: C12 focus finished\nstop: done, start\n@0 i=0 %7 word 53\nrefused: C1 unknown command\nrefused: C1 unknown command\n",
         ),
         (
             "spvdbg-setup 1\nrounds 2",

@@ -1,24 +1,38 @@
 //! The texts of replies.
-ghost use Rattle.std.specs.Prelude.{◌≡◌, ◌++◌, [], ◌∷◌, OnOk, IfOk, MatchOption, map, codes, decimal, option_copied};
-ghost use Rattle.std.specs.List.{flat_map};
+ghost use Rattle.std.specs.Prelude.{◌≡◌, ℕ, ◌++◌, [], ◌∷◌, Some, OnOk, IfOk, MatchOption, map, codes, decimal, option_copied};
+ghost use Rattle.std.specs.List.{flat_map, Contains};
+ghost use Rattle.std.specs.List.Sorted.{IsStrictlyIncreasing};
+ghost use Rattle.std.specs.Map.{keys_of};
 ghost use Rattle.std.specs.BTreeMap.{insert_entry};
 ghost use Rattle.std.specs.Ordering.{nat_cmp};
-ghost use Rattle.spv_session.specs.Texts.{code_of, refusal_line, text_of, scalar_text, ascending, shown_text, shown_line, registers_text, place_text, position_line, cause_text, stop_line};
+ghost use Rattle.spv_base.specs.State.{Registers};
+ghost use Rattle.spv_base.specs.declared.values.Value.{Value as AnyValue};
+ghost use Rattle.spv_session.specs.Texts.{refusal_line, text_of, scalar_text, ascending, shown_text, shown_line, registers_text, place_text, position_line, cause_text, stop_line};
 
-use crate::line::Refused;
-use spv_base::{Cell, EndCause, NoMemory, Text, Value};
+use spv_base::{Cell, CmdRefusal, EndCause, NoMemory, Text, Value};
 use spv_machine::{Frame, Stack};
 use std::alloc::Global;
 use std::collections::BTreeMap;
 
-/// The line of a refusal.
-pub fn refusal_line(refused: Refused) -> &'static [u8]
-    ensures { result.now ≡ refusal_line (code_of refused) }
+/// The line of a refusal. Its code is 1 to 13.
+pub fn refusal_line(refusal: CmdRefusal) -> &'static [u8]
+    ensures { result.now ≡ refusal_line refusal.code }
 {
-    match refused {
-        Refused::UnknownCommand => b"refused: C1 unknown command\n",
-        Refused::Arguments => b"refused: C2 arguments\n",
-        Refused::FocusFinished => b"refused: C12 focus finished\n",
+    match refusal.code {
+        1 => b"refused: C1 unknown command\n",
+        2 => b"refused: C2 arguments\n",
+        3 => b"refused: C3 no such invocation\n",
+        4 => b"refused: C4 no such frame\n",
+        5 => b"refused: C5 no such name\n",
+        6 => b"refused: C6 no such part\n",
+        7 => b"refused: C7 no such number\n",
+        8 => b"refused: C8 no code at that line\n",
+        9 => b"refused: C9 list full\n",
+        10 => b"refused: C10 no source text\n",
+        11 => b"refused: C11 line too long\n",
+        12 => b"refused: C12 focus finished\n",
+        13 => b"refused: C13 past the end\n",
+        _ => b"refused: \n",
     }
 }
 
@@ -72,7 +86,6 @@ fn show(
 }
 
 /// The texts of the registers that have a value, by their ids.
-
 fn shown_registers(
     alloc: Global,
     registers: &[(u32, Option<Value>)],
@@ -204,3 +217,10 @@ pub fn push_stop(
     text.extend_from_slice(b"\n")?;
     Ok(())
 }
+
+/// The registers that are shown ascend by their ids, each with a value that it has, and all are shown that have one.
+pub fn shown_registers_ascend()
+    ensures ascending { (registers : Registers) → IsStrictlyIncreasing (keys_of (ascending registers)) }
+    ensures values { (registers : Registers) (id : ℕ) (value : AnyValue) → Contains (ascending registers) (id, value) → Contains registers (id, Some value) }
+    ensures all { (registers : Registers) (id : ℕ) (value : AnyValue) → Contains registers (id, Some value) → Contains (keys_of (ascending registers)) id }
+{}

@@ -3,7 +3,7 @@ ghost use Rattle.std.specs.Prelude.{◌≡◌, map, filter, IfOk};
 ghost use Rattle.spv_stops.specs.Stops.{number_of};
 ghost use Rattle.spv_stops.specs.Breaks.{has_head};
 
-use crate::numbers::{LIST_FULL, NO_SUCH_NUMBER, place_of};
+use crate::stops::Stops;
 use spv_base::{Bytes, CmdRefusal, Fail, NoMemory, Places};
 use std::alloc::Global;
 use std::marker::Model;
@@ -19,35 +19,26 @@ pub struct Breakpoint {
 /// The line has no head.
 const NO_CODE: Fail<CmdRefusal> = Fail::Refused(CmdRefusal { code: 8 });
 
-/// How many breaks are kept at most.
-const MOST_BREAKS: usize = 64;
-
 /// At most 64 breaks.
 #[derive(Drop)]
 pub struct Breaks {
     alloc: Global,
-    breaks: Vec<(u32, Breakpoint)>,
-    given: u32,
+    stops: Stops<Breakpoint, 64>,
 }
 
 impl Model for Breaks {
-    ghost use Rattle.std.specs.Prelude.{ℕ, List};
+    ghost use Rattle.spv_stops.specs.Stops.{Stops as AnyStops};
     ghost use Rattle.spv_stops.specs.declared.breaks.Breakpoint.{Breakpoint};
 
-    ghost Value = { List (ℕ × Breakpoint) × ℕ };
+    ghost Value = { AnyStops Breakpoint };
 
-    ghost use Rattle.spv_stops.specs.Stops.{AreStops};
-
-    ghost view = { λ b. (b.breaks.items, b.given) };
-
-    ghost invariant = { λ b. AreStops 64 (b.breaks.items, b.given) };
+    ghost view = { λ b. b.stops };
 }
 
 impl Breaks {
-    ghost use Rattle.std.specs.Prelude.{◌≡◌, ◌<◌, ◌≤◌, [], ℕ, length, Ok, Err, IfOk, OnOk, OnErr, Result, if◌then◌else◌};
+    ghost use Rattle.std.specs.Prelude.{◌≡◌, [], Ok, Err, IfOk, OnOk, OnErr, if◌then◌else◌};
     ghost use Rattle.spv_base.specs.Answers.{Answers};
-    ghost use Rattle.spv_base.specs.declared.causes.CmdRefusal.{CmdRefusal};
-    ghost use Rattle.spv_stops.specs.Stops.{AreStops, Ascend, is_kept, with_stop, without_stop};
+    ghost use Rattle.spv_stops.specs.Stops.{AreStops, is_kept, with_stop, without_stop};
     ghost use Rattle.spv_stops.specs.Breaks.{break_number, hits_at};
 
     /// No breaks; the first number is 1. Takes no memory.
@@ -56,8 +47,7 @@ impl Breaks {
     {
         Breaks {
             alloc,
-            breaks: Vec::new(alloc),
-            given: 0,
+            stops: Stops::new(alloc),
         }
     }
 
@@ -71,15 +61,8 @@ impl Breaks {
         if heads.len() == 0 {
             return Err(NO_CODE);
         }
-        if self.breaks.len() >= MOST_BREAKS || self.given == u32::MAX {
-            return Err(LIST_FULL);
-        }
         let file = Bytes::from_slice(self.alloc, file)?;
-        let number = self.given + 1;
-        self.breaks
-            .push((number, Breakpoint { file, line, heads }))?;
-        self.given = number;
-        Ok(number)
+        self.stops.add(Breakpoint { file, line, heads })
     }
 
     /// Removes the break with this number, which isn't used again. Where there is none it is refused (C7).
@@ -88,13 +71,7 @@ impl Breaks {
         ensures ok { OnOk result (self.new ≡ without_stop number self.old) }
         ensures err { OnErr result (self.new ≡ self.old) }
     {
-        match place_of(&self.breaks, number) {
-            None => Err(NO_SUCH_NUMBER),
-            Some(place) => {
-                self.breaks.remove(place);
-                Ok(())
-            }
-        }
+        self.stops.remove(number)
     }
 
     /// The numbers of the breaks with this head, ascending.
@@ -102,7 +79,7 @@ impl Breaks {
         ensures hits { IfOk result (λ numbers. numbers ≡ hits_at pc self.now) }
         ensures ascending { AreStops 64 self.now }
     {
-        hits(alloc, &self.breaks, pc)
+        hits(alloc, self.stops.kept(), pc)
     }
 }
 

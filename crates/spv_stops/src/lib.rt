@@ -2,7 +2,7 @@
 #![tactic(auto)]
 
 mod breaks;
-mod numbers;
+mod stops;
 #[cfg(test)]
 mod tests;
 mod watches;

@@ -1,5 +1,5 @@
 //! Watches of variables.
-use crate::numbers::{LIST_FULL, NO_SUCH_NUMBER, numbers, place_of};
+use crate::stops::Stops;
 use spv_base::{CmdRefusal, Fail, NoMemory, Places, find_entry};
 use std::alloc::Global;
 use std::marker::Model;
@@ -20,28 +20,19 @@ pub struct WatchKey {
     pub count: u64,
 }
 
-/// How many watches are kept at most.
-const MOST_WATCHES: usize = 32;
-
 /// At most 32 watches.
 #[derive(Drop)]
 pub struct Watches {
-    alloc: Global,
-    watches: Vec<(u32, WatchKey)>,
-    given: u32,
+    stops: Stops<WatchKey, 32>,
 }
 
 impl Model for Watches {
-    ghost use Rattle.std.specs.Prelude.{ℕ, List};
+    ghost use Rattle.spv_stops.specs.Stops.{Stops as AnyStops};
     ghost use Rattle.spv_stops.specs.declared.watches.WatchKey.{WatchKey};
 
-    ghost Value = { List (ℕ × WatchKey) × ℕ };
+    ghost Value = { AnyStops WatchKey };
 
-    ghost use Rattle.spv_stops.specs.Stops.{AreStops};
-
-    ghost view = { λ w. (w.watches.items, w.given) };
-
-    ghost invariant = { λ w. AreStops 32 (w.watches.items, w.given) };
+    ghost view = { λ w. w.stops };
 }
 
 impl Watches {
@@ -55,9 +46,7 @@ impl Watches {
         ensures { result ≡ ([], 0) }
     {
         Watches {
-            alloc,
-            watches: Vec::new(alloc),
-            given: 0,
+            stops: Stops::new(alloc),
         }
     }
 
@@ -67,13 +56,7 @@ impl Watches {
         ensures ok { OnOk result (self.new ≡ with_stop key self.old) }
         ensures err { OnErr result (self.new ≡ self.old) }
     {
-        if self.watches.len() >= MOST_WATCHES || self.given == u32::MAX {
-            return Err(LIST_FULL);
-        }
-        let number = self.given + 1;
-        self.watches.push((number, key))?;
-        self.given = number;
-        Ok(number)
+        self.stops.add(key)
     }
 
     /// Removes the watch with this number, which isn't used again. Where there is none it is refused (C7).
@@ -82,20 +65,14 @@ impl Watches {
         ensures ok { OnOk result (self.new ≡ without_stop number self.old) }
         ensures err { OnErr result (self.new ≡ self.old) }
     {
-        match place_of(&self.watches, number) {
-            None => Err(NO_SUCH_NUMBER),
-            Some(place) => {
-                self.watches.remove(place);
-                Ok(())
-            }
-        }
+        self.stops.remove(number)
     }
 
     /// The key of the watch with this number.
     pub fn key(&self, number: u32) -> Option<&WatchKey>
         ensures { option_copied result ≡ key_of number self.now }
     {
-        find_entry(&self.watches, number)
+        find_entry(self.stops.kept(), number)
     }
 
     /// The numbers of the watches, ascending.
@@ -103,7 +80,8 @@ impl Watches {
         ensures numbers { IfOk result (λ numbers. numbers ≡ map number_of self.now.0) }
         ensures ascending { AreStops 32 self.now }
     {
-        numbers(alloc, &self.watches)
+        let _ascending = self.stops.kept();
+        self.stops.numbers(alloc)
     }
 
     /// Whether the bits of the watch with this number differ. Each byte is a bit of its range: 0, 1, 2 for undefined or 3 for
