@@ -1,0 +1,4 @@
+pub mod PlaceLemmas
+pub mod OperandLemmas
+pub mod MeasureLemmas
+pub mod InlinedLemmas

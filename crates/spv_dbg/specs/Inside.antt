@@ -1,0 +1,14 @@
+-- What stored tables are.
+use Rattle.std.specs.Prelude.{◌≡◌, map}
+use Rattle.spv_dbg.specs.declared.tables.DebugTables.TheInside.{Inside}
+use Rattle.spv_dbg.specs.Places.{places_from}
+use Rattle.spv_dbg.specs.Seen.{seen}
+use Rattle.spv_dbg.specs.Tables.{Tables}
+
+abbrev pub view_of : Inside → Tables
+view_of x = record { insts = x.insts.items; ignored = x.ignored; strings = x.strings; constants = x.constants; inlined = x.inlined; sources = map (seen x.strings) x.sources.items }
+
+-- the numbers of the debug instructions stand under their ids and their words
+pub record AreTables (x : Inside) : Type 0 where
+  pub ids_are : x.by_id ≡ places_from 0 (map (λ d. d.id) x.insts.items)
+  pub words_are : x.by_word ≡ places_from 0 (map (λ d. d.word) x.insts.items)

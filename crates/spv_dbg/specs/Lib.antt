@@ -1,0 +1,10 @@
+pub mod Kinds
+pub mod Literals
+pub mod Marks
+pub mod Cuts
+pub mod Forming
+pub mod Places
+pub mod Sources
+pub mod Seen
+pub mod Tables
+pub mod Inside

@@ -1,0 +1,90 @@
+-- The debug instructions of a module, what is kept of each well-formed one, and how many bits the values of types have.
+use Rattle.std.specs.Prelude.{ℕ, suc, ◌+◌, ◌*◌, ◌==◌, ◌&&◌, Bool, false, if◌then◌else◌, List, [], ◌∷◌, length, map, drop, max, codes, slice_get, slice_index, unwrap_or, Option, Some, None}
+use Rattle.std.specs.Option.{option_and_then, option_map_or}
+use Rattle.std.specs.List.{list_any}
+use Rattle.std.specs.Str.{bytes_eq}
+use Rattle.spv_base.specs.declared.instructions.Inst.{Inst}
+use Rattle.spv_index.specs.Classes.{name_of, number_in, number_at}
+use Rattle.spv_index.specs.Definitions.{defining, number_of}
+use Rattle.spv_valid.specs.Acceptance.{Accepted}
+use Rattle.spv_dbg.specs.declared.insts.DebugInst.{DebugInst}
+use Rattle.spv_dbg.specs.declared.marks.Mark.{Mark}
+use Rattle.spv_dbg.specs.declared.measures.Measure.{Measure}
+use Rattle.spv_dbg.specs.Literals.{literal_of}
+
+-- OpExtInstImport (11) of the set
+abbrev pub is_set : Inst → Bool
+is_set i = i.op == 11 && bytes_eq (name_of i) (codes "NonSemantic.Shader.DebugInfo.100")
+
+-- an OpExtInst (12) of the set
+unfoldable pub is_debug : List Inst → Inst → Bool
+is_debug insts i = i.op == 12 && option_map_or is_set (defining insts (number_at i 0)) false
+
+-- its number and what stands behind it, which is ids alone
+abbrev pub debug_inst : Inst → DebugInst
+debug_inst i = record { word = i.word; number = number_at i 1; id = i.id; operands = map number_in (drop 2 i.operands) }
+
+-- ---- earlier debug instructions, where each instruction of the module so far has a mark if it is a well-formed one
+
+abbrev pub Marks : Type 0
+Marks = List (Option Mark)
+
+-- the mark of the instruction that defines an id, where it is among these
+unfoldable pub known : Accepted → Marks → ℕ → Option Mark
+known m marks id = option_and_then (λ n. unwrap_or (slice_get marks n) None) (number_of m.insts id)
+
+abbrev pub is_one_of : List ℕ → ℕ → Bool
+is_one_of numbers n = list_any (λ k. k == n) numbers
+
+-- ---- bits and nesting
+
+abbrev pub nothing : Measure
+nothing = record { bits = 0; nesting = 0 }
+
+abbrev pub measured : Mark → Measure
+measured k = record { bits = k.bits; nesting = k.nesting }
+
+-- those of an earlier type
+abbrev pub part : Accepted → Marks → ℕ → Measure
+part m marks id = option_map_or measured (known m marks id) nothing
+
+abbrev pub count_of : Accepted → ℕ → ℕ
+count_of m id = unwrap_or (literal_of m id) 0
+
+-- the product of some Counts
+abbrev pub product : Accepted → List ℕ → ℕ
+product m [] = 1
+product m (id ∷ ids) = count_of m id * product m ids
+
+-- what a Member has; one that is no TypeMember (11) is skipped
+abbrev pub member_in : Mark → Measure
+member_in k = if k.number == 11 then measured k else nothing
+
+abbrev pub member : Accepted → Marks → ℕ → Measure
+member m marks id = option_map_or member_in (known m marks id) nothing
+
+-- the sum of the bits of some Members, and the greatest of their nestings
+abbrev pub members : Accepted → Marks → List ℕ → Measure
+members m marks [] = nothing
+members m marks (id ∷ ids) = record {
+  bits = (member m marks id).bits + (members m marks ids).bits;
+  nesting = max (member m marks id).nesting (members m marks ids).nesting;
+}
+
+-- a type over another one, so many times
+abbrev pub over : ℕ → ℕ → Measure → Measure
+over times deeper base = record { bits = base.bits * times; nesting = base.nesting + deeper }
+
+-- By the numbers of the instructions: TypeBasic (2), TypePointer (3), TypeQualifier (4), TypeArray (5), TypeVector (6), Typedef (7), TypeFunction (8),
+-- TypeEnum (9), TypeComposite (10), TypeMember (11, that of its Type), TypeMatrix (108) and InfoNone (0). No other is a type.
+unfoldable pub measure_of : Accepted → Marks → ℕ → List ℕ → Measure
+measure_of m marks number ids =
+    if number == 2 then record { bits = count_of m (slice_index ids 1); nesting = 1 }
+    else if is_one_of (0 ∷ 3 ∷ 8 ∷ []) number then record { bits = 0; nesting = 1 }
+    else if number == 4 then over 1 1 (part m marks (slice_index ids 0))
+    else if number == 5 then over (product m (drop 1 ids)) (length (drop 1 ids)) (part m marks (slice_index ids 0))
+    else if is_one_of (6 ∷ 108 ∷ []) number then over (count_of m (slice_index ids 1)) 1 (part m marks (slice_index ids 0))
+    else if is_one_of (7 ∷ 9 ∷ []) number then over 1 1 (part m marks (slice_index ids 1))
+    else if number == 10 then over 1 1 (members m marks (drop 9 ids))
+    else if number == 11 then part m marks (slice_index ids 1)
+    else nothing

@@ -1,0 +1,22 @@
+//! The debug records of a module: the instructions of the set NonSemantic.Shader.DebugInfo.100.
+#![tactic(auto)]
+
+mod constants;
+mod forming;
+mod frames;
+mod inlined;
+mod insts;
+mod keyed;
+mod kinds;
+mod literals;
+mod marks;
+mod measures;
+pub mod number;
+mod records;
+mod sources;
+mod strings;
+mod tables;
+
+pub use frames::{Bit, ShownFrame};
+pub use insts::DebugInst;
+pub use tables::DebugTables;

@@ -1,0 +1,178 @@
+//! The tables of a module's debug instructions.
+ghost use Rattle.std.specs.Prelude.{◌≡◌, IfOk, map, option_copied, option_map, slice_get};
+ghost use Rattle.std.specs.Option.{option_and_then};
+ghost use Rattle.spv_base.specs.Entries.{reads};
+ghost use Rattle.spv_dbg.specs.Places.{places_from};
+ghost use Rattle.spv_dbg.specs.Tables as spec;
+
+use crate::constants::{Constant, constants_of};
+use crate::inlined::inlined_of;
+use crate::insts::DebugInst;
+use crate::keyed::{Keyed, places_of};
+use crate::records::{Records, records_of};
+use crate::sources::{Source, source_in, sources_of};
+use crate::strings::strings_of;
+use spv_base::{Bytes, NoMemory};
+use spv_consts::table::Row;
+use spv_index::Table;
+use spv_valid::Module;
+use std::alloc::Global;
+use std::marker::Model;
+
+/// The well-formed debug instructions of a module, and what their operands stand for. Contracts see lists.
+#[derive(Drop)]
+pub struct DebugTables {
+    insts: Vec<DebugInst>,
+    /// By id and by word, the number of the debug instruction.
+    by_id: Table<usize>,
+    by_word: Table<usize>,
+    ignored: u64,
+    strings: Keyed<Bytes>,
+    constants: Keyed<Constant>,
+    /// By word, the InlinedAt that holds at the instruction there, or 0.
+    inlined: Table<u32>,
+    sources: Vec<Source>,
+}
+
+impl Model for DebugTables {
+    ghost use Rattle.spv_dbg.specs.Tables.{Tables};
+    ghost use Rattle.spv_dbg.specs.Inside.{AreTables, view_of};
+
+    ghost Value = { Tables };
+
+    ghost view = { view_of };
+
+    ghost invariant = { AreTables };
+}
+
+fn ids_of(alloc: Global, insts: &[DebugInst]) -> Result<Vec<u32>, NoMemory>
+    ensures { IfOk result (λ ids. ids.items ≡ map (λ d. d.id) insts.now) }
+{
+    Ok(insts.iter().map(|debug| debug.id).collect(alloc)?)
+}
+
+fn words_of(alloc: Global, insts: &[DebugInst]) -> Result<Vec<u32>, NoMemory>
+    ensures { IfOk result (λ words. words.items ≡ map (λ d. d.word) insts.now) }
+{
+    Ok(insts.iter().map(|debug| debug.word).collect(alloc)?)
+}
+
+/// The numbers of these debug instructions by their ids.
+fn numbers_by_id(alloc: Global, insts: &[DebugInst]) -> Result<Table<usize>, NoMemory>
+    ensures { IfOk result (λ table. table ≡ places_from 0 (map (λ d. d.id) insts.now)) }
+{
+    places_of(alloc, ids_of(alloc, insts)?.as_slice())
+}
+
+/// The numbers of these debug instructions by their words.
+fn numbers_by_word(alloc: Global, insts: &[DebugInst]) -> Result<Table<usize>, NoMemory>
+    ensures { IfOk result (λ table. table ≡ places_from 0 (map (λ d. d.word) insts.now)) }
+{
+    places_of(alloc, words_of(alloc, insts)?.as_slice())
+}
+
+/// The debug instruction with a number.
+fn inst_with(insts: &[DebugInst], number: Option<usize>) -> Option<&DebugInst>
+    ensures { option_copied result ≡ option_and_then (slice_get insts.now) number }
+{
+    insts.get(number?)
+}
+
+impl DebugTables {
+    /// The tables of a module. In time n log n.
+    #[tactic(auto, unfolding(crate::specs::Tables::tables_of))]
+    pub fn build(alloc: Global, module: &Module) -> Result<DebugTables, NoMemory>
+        ensures { IfOk result (λ tables. tables ≡ spec.tables_of module.now) }
+    {
+        let Records {
+            marks,
+            insts,
+            ignored,
+        } = records_of(alloc, module)?;
+        let inlined = inlined_of(alloc, module, marks.as_slice())?;
+        let by_id = numbers_by_id(alloc, insts.as_slice())?;
+        let by_word = numbers_by_word(alloc, insts.as_slice())?;
+        let strings = strings_of(alloc, module.insts())?;
+        let constants = constants_of(alloc, module)?;
+        let sources = sources_of(alloc, &strings, insts.as_slice(), module.insts())?;
+        Ok(DebugTables {
+            insts,
+            by_id,
+            by_word,
+            ignored,
+            strings,
+            constants,
+            inlined,
+            sources,
+        })
+    }
+
+    /// How many debug instructions are malformed.
+    pub fn ignored(&self) -> u64
+        ensures { result ≡ self.now.ignored }
+    {
+        self.ignored
+    }
+
+    /// The well-formed debug instructions, in the order of the module.
+    pub fn insts(&self) -> &[DebugInst]
+        ensures { result.now ≡ self.now.insts }
+    {
+        self.insts.as_slice()
+    }
+
+    /// The well-formed debug instruction with an id. In constant time.
+    pub fn get(&self, id: u32) -> Option<&DebugInst>
+        ensures { option_copied result ≡ spec.with_id self.now id }
+    {
+        inst_with(self.insts.as_slice(), self.by_id.get(id))
+    }
+
+    /// The well-formed debug instruction at a word. In constant time.
+    pub fn at(&self, word: u32) -> Option<&DebugInst>
+        ensures { option_copied result ≡ spec.at_word self.now word }
+    {
+        inst_with(self.insts.as_slice(), self.by_word.get(word))
+    }
+
+    /// The bytes of the OpString with an id. In constant time.
+    pub fn string(&self, id: u32) -> Option<&[u8]>
+        ensures { option_copied result ≡ reads id self.now.strings }
+    {
+        Some(self.strings.get(id)?.as_slice())
+    }
+
+    /// The row of the constant with an id: its type, and the leaves of its value in order. In constant time.
+    pub fn constant(&self, id: u32) -> Option<Row<'_>>
+        ensures { option_map (λ r. record { ty = r.ty; cells = r.cells.now }) result ≡ option_map spec.row_in (reads id self.now.constants) }
+    {
+        let constant = self.constants.get(id)?;
+        Some(Row {
+            ty: constant.ty,
+            cells: constant.cells.as_slice(),
+        })
+    }
+
+    /// The number of the 32-bit integer constant with an id, read as unsigned. It is 0 where the constant is undefined. In
+    /// constant time.
+    pub fn number_of(&self, id: u32) -> Option<u32>
+        ensures { result ≡ spec.number_of self.now id }
+    {
+        self.constants.get(id)?.number
+    }
+
+    /// The InlinedAt that holds at the instruction at a word, and 0 where there is none. In constant time.
+    pub fn inlined_at(&self, word: u32) -> u32
+        ensures { result ≡ spec.inlined_at self.now word }
+    {
+        self.inlined.get(word).unwrap_or(0)
+    }
+
+    /// The text of the file with a name: that of the first Source with this name and a Text, with what its SourceContinued add,
+    /// and where there is none the same of OpSource and OpSourceContinued.
+    pub fn source(&self, file: &[u8]) -> Option<&[u8]>
+        ensures { option_copied result ≡ spec.text_of_file self.now file.now }
+    {
+        source_in(&self.strings, self.sources.as_slice(), file)
+    }
+}
