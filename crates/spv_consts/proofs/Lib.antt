@@ -28,3 +28,4 @@ pub mod ConstantRows
 pub mod ConstantWalk
 pub mod OperationResults
 pub mod WalkLimits
+pub mod BreachLemmas

@@ -14,6 +14,7 @@ pub mod Rules
 pub mod Evaluation
 pub mod Steps
 pub mod Build
+pub mod Breaches
 pub mod Constants
 pub mod Laws
 pub mod Limits

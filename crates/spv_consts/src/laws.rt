@@ -1,4 +1,5 @@
-//! What the constants of an accepted module give.
+//! What the constants of an accepted module give, and what breaches of their rules are.
+pub mod breaches;
 pub mod constants;
 pub mod limits;
 pub mod values;
