@@ -1,7 +1,10 @@
 -- What an operation of OpSpecConstantOp gives is the operation of its opcode on each lane: the widths of the lanes are those that
 -- the operation takes.
+use Rattle.std.proofs.lemmas.Bool.{eq-eqb}
+use Rattle.spv_alu.specs.Select.{select_of}
+use Rattle.spv_consts.specs.Values.{leaf_widths}
 use Rattle.spv_index.specs.Operands.{id_operand}
-use Rattle.std.proofs.Common.{◌≡◌, ◌∙◌, ℕ, zero, suc, ◌+◌, ◌<◌, ◌==◌, Bool, true, false, List, [], ◌∷◌, map, replicate, Option, Some, None, refl, sym, ap, arith}
+use Rattle.std.proofs.Common.{Bool, List, None, Option, Some, [], ap, arith, false, map, refl, replicate, suc, sym, true, zero, ℕ, ◌+◌, ◌<◌, ◌==◌, ◌∙◌, ◌∷◌, ◌≡◌}
 use Rattle.std.specs.Prelude.{◌&&◌, if◌then◌else◌, not, unwrap_or}
 use Rattle.std.specs.Option.{is_some, option_and_then, option_map, option_map_or}
 use Rattle.spv_base.specs.Lane.{Lane, undefined_lane}
@@ -23,12 +26,12 @@ use Rattle.spv_typing.specs.Lanes.{lanes_at, lanes_of, repeated}
 use Rattle.spv_typing.specs.Laws.{IsTyped}
 use Rattle.spv_typing.specs.Rules.{is_constant_rule, rule_count}
 use Rattle.spv_typing.proofs.LawLemmas.{parts}
-use Rattle.spv_consts.specs.Constants.{Known, leaves_if, leaves_of, operand, result_of}
+use Rattle.spv_consts.specs.Constants.{Known, chosen, leaves_if, leaves_of, operand, result_of}
 use Rattle.spv_consts.specs.Context.{Context}
 use Rattle.spv_consts.specs.Evaluation.{binary_cells, computed_cells, operand_at, select_cells, unary_cells}
-use Rattle.spv_consts.specs.Lanes.{binary_lane, is_lane_width, pair_takes, row_takes, takes_one, unary_lane}
+use Rattle.spv_consts.specs.Lanes.{binary_lane, is_lane_width, pair_takes, row_takes, select_lane, takes_one, unary_lane}
 use Rattle.spv_consts.specs.Laws.{FillType, HasWidth}
-use Rattle.spv_consts.specs.Operations.{by_two, lane_width, selected}
+use Rattle.spv_consts.specs.Operations.{by_three, by_two, lane_width, selected}
 use Rattle.spv_consts.specs.Rules.{keeps_opcode, operand_type}
 use Rattle.spv_consts.specs.State.{State, given_cells, is_given, is_operand, operand_cells}
 use Rattle.spv_consts.proofs.FillLemmas.{Fill}
@@ -76,6 +79,32 @@ pairs_agree f g v w n agree (c ∷ cs) [] h k = refl
 pairs_agree f g v w zero agree (c ∷ cs) (d ∷ ds) h k = absurd h
 pairs_agree f g v w (suc n) agree (c ∷ cs) (d ∷ ds) h k = rw (agree c d h.0 k.0, pairs_agree f g v w n agree cs ds h.1 k.1) refl
 
+-- ---- Select
+
+selects : (c a b : Lane) (w : ℕ) → HasWidth w a → HasWidth w b → select_of c a b ≡ select_lane c a b
+selects c a b w h g = let same : (b.width == a.width) ≡ true = rw (h.0, g.0) (eq-eqb w w refl) in rw same refl
+
+both_same : (a b : Lane) (xs ys : List Lane) → a ≡ b → xs ≡ ys → a ∷ xs ≡ b ∷ ys
+both_same a b xs ys e f = rw (e, f) refl
+
+pairs_selected : (c : Lane) (ws : List ℕ) (xs ys : List Lane) → Fill ws xs → Fill ws ys → by_two (select_of c) xs ys ≡ by_two (select_lane c) xs ys
+pairs_selected c ws [] ys h g = refl
+pairs_selected c ws (x ∷ xs) [] h g = refl
+pairs_selected c [] (x ∷ xs) (y ∷ ys) h g = absurd h
+pairs_selected c (w ∷ ws) (x ∷ xs) (y ∷ ys) h g = both_same (select_of c x y) (select_lane c x y) _ _ (selects c x y w h.0 g.0) (pairs_selected c ws xs ys h.1 g.1)
+
+each_selected : (cs : List Lane) (ws : List ℕ) (xs ys : List Lane) → Fill ws xs → Fill ws ys → by_three select_of cs xs ys ≡ by_three select_lane cs xs ys
+each_selected [] ws xs ys h g = refl
+each_selected (c ∷ cs) ws [] ys h g = refl
+each_selected (c ∷ cs) ws (x ∷ xs) [] h g = refl
+each_selected (c ∷ cs) [] (x ∷ xs) (y ∷ ys) h g = absurd h
+each_selected (c ∷ cs) (w ∷ ws) (x ∷ xs) (y ∷ ys) h g = both_same (select_of c x y) (select_lane c x y) _ _ (selects c x y w h.0 g.0) (each_selected cs ws xs ys h.1 g.1)
+
+rows_selected : (cs : List Lane) (ws : List ℕ) (xs ys : List Lane) → Fill ws xs → Fill ws ys → chosen cs xs ys ≡ selected cs xs ys
+rows_selected [] ws xs ys h g = refl
+rows_selected (c ∷ []) ws xs ys h g = pairs_selected c ws xs ys h g
+rows_selected (c ∷ d ∷ cs) ws xs ys h g = each_selected (c ∷ d ∷ cs) ws xs ys h g
+
 -- ---- opcodes
 
 no_test : (b : Bool) → not b ≡ true → b ≡ false
@@ -109,7 +138,7 @@ module _ (m : Context) (s : State) (i : Inst) (op : ℕ) (sound : AreSound s.typ
     two_result : (u : BinaryOp) (cells : List Lane) → (op == 169) ≡ false → unary_op op ≡ None → binary_op op ≡ Some u → by_two (binary.binary_lane u) (operand m k i 1) (operand m k i 2) ≡ cells → result_of m k i op ≡ Some cells
     two_result u cells other none e h = rw (other, none, e) (ap Some h)
 
-    select_result : (cells : List Lane) → (op == 169) ≡ true → selected (operand m k i 1) (operand m k i 2) (operand m k i 3) ≡ cells → result_of m k i op ≡ Some cells
+    select_result : (cells : List Lane) → (op == 169) ≡ true → chosen (operand m k i 1) (operand m k i 2) (operand m k i 3) ≡ cells → result_of m k i op ≡ Some cells
     select_result cells e h = rw e (ap Some h)
 
     one_given : (test : UnaryRow → Bool) → computes_one test op ≡ true → (n : ℕ) (e f : Element) → lanes_of s.types i.ty ≡ Some (repeated n e) → lanes_at s.types (given 0) ≡ Some (repeated n f)
@@ -170,12 +199,14 @@ module _ (m : Context) (s : State) (i : Inst) (op : ℕ) (sound : AreSound s.typ
             ∙ sym (pairs_agree (binary_lane op) (binary.binary_lane u) (width_of f) (width_of g) n (agree u is) (operand_at m s i 1) (operand_at m s i 2)
             (lanes_fill m s i op sound at.0 n f at.2 (operand_at m s i 1) (good.0 at.0 at.1)) (lanes_fill m s i op sound behind.0 n g behind.2 (operand_at m s i 2) (next.0 behind.0 behind.1)))
 
-    chosen : (op == 169) ≡ true → operand_at m s i 1 ≡ operand m k i 1 → operand_at m s i 2 ≡ operand m k i 2 → operand_at m s i 3 ≡ operand m k i 3 → result_of m k i op ≡ Some (select_cells m s i)
-    chosen is a b c =
+    select_given : (op == 169) ≡ true → FillType s.types i.ty (operand_at m s i 2) → FillType s.types i.ty (operand_at m s i 3)
+        → operand_at m s i 1 ≡ operand m k i 1 → operand_at m s i 2 ≡ operand m k i 2 → operand_at m s i 3 ≡ operand m k i 3 → result_of m k i op ≡ Some (select_cells m s i)
+    select_given is h g a b c =
         select_result (select_cells m s i) is
-        (ap (λ (cs : List Lane). selected cs (operand m k i 2) (operand m k i 3)) (sym a)
-        ∙ ap (λ (cs : List Lane). selected (operand_at m s i 1) cs (operand m k i 3)) (sym b)
-        ∙ ap (λ (cs : List Lane). selected (operand_at m s i 1) (operand_at m s i 2) cs) (sym c))
+        (ap (λ (cs : List Lane). chosen cs (operand m k i 2) (operand m k i 3)) (sym a)
+        ∙ ap (λ (cs : List Lane). chosen (operand_at m s i 1) cs (operand m k i 3)) (sym b)
+        ∙ ap (λ (cs : List Lane). chosen (operand_at m s i 1) (operand_at m s i 2) cs) (sym c)
+        ∙ rows_selected (operand_at m s i 1) (leaf_widths s.types i.ty) (operand_at m s i 2) (operand_at m s i 3) h g)
 
     -- ---- by the rule
 
@@ -212,7 +243,7 @@ module _ (m : Context) (s : State) (i : Inst) (op : ℕ) (sound : AreSound s.typ
         let a = good 3 0 refl (omega arith) in
         let b = good 3 1 refl (omega arith) in
         let c = good 3 2 refl (omega arith) in
-        rw (select_computed m s i op suit) (chosen suit a.1 b.1 c.1)
+        rw (select_computed m s i op suit) (select_given suit (b.0 i.ty t.1) (c.0 i.ty t.2) a.1 b.1 c.1)
     by_rule InsertField is suit t good = impossible is
     by_rule ExtractField is suit t good = impossible is
 
