@@ -11,12 +11,13 @@ use Rattle.spv_types.specs.declared.forms.Form.{Form}
 use Rattle.spv_types.specs.declared.limits.Limit.{Limit}
 use Rattle.spv_types.specs.Build.{type_breaches, types_of, unless_refused}
 use Rattle.spv_types.specs.Cuts.{cut}
-use Rattle.spv_types.specs.Facts.{is_constant}
+use Rattle.spv_types.specs.Constants.{is_constant}
 use Rattle.spv_types.specs.Laws.{AreNamed, IsAmong}
 use Rattle.spv_types.specs.Limits.{limit_among, limit_of, limit_step, no_limit}
 use Rattle.spv_types.specs.Rules.{is_data, is_sized_data}
 use Rattle.spv_types.specs.Types.{IsUnset, Types, form_of, number_of, with_length}
-use Rattle.spv_types.specs.Typing.{before_functions, defined_form, types_in}
+use Rattle.spv_index.specs.Definitions.{before_functions}
+use Rattle.spv_types.specs.Typing.{defined_form, types_in}
 use Rattle.spv_types.specs.Cells.{cells_of}
 use Rattle.spv_types.proofs.LimitLemmas.{limit_unknown}
 use Rattle.spv_types.proofs.TypeLemmas.{in_first-found, number_lt}
@@ -34,7 +35,7 @@ use Rattle.spv_consts.specs.Steps.{breaches_at, breaches_from, cells_with, enter
 use Rattle.spv_consts.proofs.LengthLemmas.{in_first_kept}
 use Rattle.spv_consts.proofs.WalkIds.{before_is_front, each_push, each_weaker}
 use Rattle.spv_consts.proofs.WalkTypes.{no_breach, number_of_form, same_number, types_joined}
-use Rattle.spv_consts.proofs.WalkStates.{array_form, array_length, constant_no_array, constant_no_type, no_length, passed}
+use Rattle.spv_consts.proofs.WalkStates.{array_length, constant_no_array, constant_no_type, no_length, passed}
 use Rattle.spv_consts.proofs.WalkPlaces.{IsPlaced, declared, placed, wider}
 
 -- ---- one type
@@ -312,7 +313,7 @@ module _
         subst (λ (t : State). Limited m.all (front ++ i ∷ []) (entered m t i)) (sym same) (by_kind (cases_Bool (is_constant i.op)))
       where
         same : u ≡ s
-        same = no_length m s u i (array_form m.all i form) lengthens
+        same = no_length m s u i (place.no_array form) lengthens
 
         none_here : passes_limit s i ≡ false
         none_here = subst (λ (t : State). passes_limit t i ≡ false) same none

@@ -11,12 +11,12 @@ use crate::context::Context;
 use crate::literals::literal_lane;
 use crate::operations::{PairOp, by_one, by_two, lane_width, selected};
 use crate::overrides::overridden;
-use crate::rules::{id_in, opcode_of};
+use crate::rules::opcode_of;
 use crate::values::append_blank;
 use crate::walk::Walk;
 use spv_alu::{UnaryOp, results};
 use spv_base::{Cell, Inst, NoMemory, Operand};
-use spv_index::id_operand;
+use spv_index::{id_in, id_operand};
 use spv_ops::op;
 use std::alloc::Global;
 

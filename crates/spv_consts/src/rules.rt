@@ -1,7 +1,6 @@
 //! The rules of constants and of array lengths.
 ghost use Rattle.std.specs.Prelude.{◌≡◌, ◌+◌, drop};
 ghost use Rattle.spv_typing.specs.Operands.{types_by};
-ghost use Rattle.spv_index.specs.Operands.{id_in};
 ghost use Rattle.spv_types.specs.Types.{form_of};
 ghost use Rattle.spv_consts.specs.Rules as spec;
 
@@ -9,7 +8,7 @@ use crate::context::Context;
 use crate::literals::{integer_width, keeps_literal};
 use crate::walk::Walk;
 use spv_base::{Inst, Operand};
-use spv_index::{id_operand, literal_operand};
+use spv_index::{id_in, id_operand, literal_operand};
 use spv_ops::op;
 use spv_types::constants::is_constant;
 use spv_types::views::is_boolean;
@@ -53,16 +52,6 @@ fn has_type(context: &Context, part: Option<u32>, id: u32) -> bool
     match context.index.result_type(id) {
         Some(ty) => part == Some(ty),
         None => false,
-    }
-}
-
-/// The id that an operand is.
-pub(crate) fn id_in(operand: &Operand) -> Option<u32>
-    ensures { result ≡ id_in operand.now }
-{
-    match operand {
-        Operand::Id(id) => Some(*id),
-        Operand::Lit(_) | Operand::Text(_) => None,
     }
 }
 
