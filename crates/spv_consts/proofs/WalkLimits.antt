@@ -1,7 +1,7 @@
 -- The limits on types and constants, from the first instruction before the functions to the last.
-use Rattle.std.proofs.Common.{◌≡◌, ◌⊎◌, ◌∙◌, ℕ, zero, ◌+◌, ◌-◌, ◌^◌, ◌<◌, ◌≤◌, ◌==◌, Bool, true, false, List, [], ◌∷◌, ◌++◌, length, length-append, append-nil, append_assoc, min, Option, Some, None, Ok, Err, Result, inl, inr, refl, sym, ap, subst, arith}
+use Rattle.std.proofs.Common.{◌≡◌, ◌⊎◌, ◌∙◌, ℕ, ◌+◌, ◌-◌, ◌^◌, ◌<◌, ◌≤◌, ◌==◌, Bool, true, false, List, [], ◌∷◌, ◌++◌, length, length-append, append-nil, append_assoc, min, Option, Some, None, Ok, Err, inl, inr, refl, sym, ap, subst, arith}
 use Rattle.std.proofs.lemmas.Bool.{and_parts, cases_Bool, cases_lt, eq-eqb, ltb-false}
-use Rattle.std.specs.Prelude.{nat_le, nat_lt, not, ◌&&◌, ◌||◌, if◌then◌else◌}
+use Rattle.std.specs.Prelude.{nat_le, nat_lt, ◌&&◌, ◌||◌, if◌then◌else◌}
 use Rattle.std.specs.List.{AllByRecursion}
 use Rattle.std.specs.Option.{option_map_or}
 use Rattle.spv_base.specs.Order.{Ascend}
@@ -10,7 +10,6 @@ use Rattle.spv_base.specs.declared.instructions.Inst.{Inst}
 use Rattle.spv_types.specs.declared.forms.Form.{Form}
 use Rattle.spv_types.specs.declared.limits.Limit.{Limit}
 use Rattle.spv_types.specs.Build.{type_breaches, types_of, unless_refused}
-use Rattle.spv_types.specs.Cuts.{cut}
 use Rattle.spv_types.specs.Constants.{is_constant}
 use Rattle.spv_types.specs.Laws.{AreNamed, IsAmong}
 use Rattle.spv_types.specs.Limits.{limit_among, limit_of, limit_step, no_limit}
@@ -35,7 +34,7 @@ use Rattle.spv_consts.specs.Steps.{breaches_at, breaches_from, cells_with, enter
 use Rattle.spv_consts.proofs.LengthLemmas.{in_first_kept}
 use Rattle.spv_consts.proofs.WalkIds.{before_is_front, each_push, each_weaker}
 use Rattle.spv_consts.proofs.WalkTypes.{no_breach, number_of_form, same_number, types_joined}
-use Rattle.spv_consts.proofs.WalkStates.{array_length, constant_no_array, constant_no_type, no_length, passed}
+use Rattle.spv_consts.proofs.WalkStates.{array_length, constant_no_array, no_length, passed}
 use Rattle.spv_consts.proofs.WalkPlaces.{IsPlaced, declared, placed, wider}
 
 -- ---- one type

@@ -1,6 +1,6 @@
 -- The limits that the types and the constants of an accepted module keep (this project's profile): a type is nested at most 32
 -- deep and has at most 4,194,304 cells, and all constants together have at most as many.
-use Rattle.std.specs.Prelude.{◌≡◌, ◌≤◌, ℕ, ◌+◌, List, [], ◌∷◌, Some}
+use Rattle.std.specs.Prelude.{◌≡◌, ◌≤◌, ℕ, ◌+◌, [], ◌∷◌, Some}
 use Rattle.spv_types.specs.declared.limits.Limit.{Limit}
 use Rattle.spv_types.specs.Cells.{cells_of}
 use Rattle.spv_types.specs.Types.{Types}
