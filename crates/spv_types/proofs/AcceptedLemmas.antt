@@ -1,20 +1,17 @@
 -- The types of a module that keeps the rules of types are sound, one instruction after another.
-use Rattle.std.proofs.Common.{◌≡◌, ◌∙◌, ℕ, ◌<◌, ◌==◌, Bool, true, false, List, [], ◌∷◌, ◌++◌, append_assoc, append-nil, Option, Some, None, Ok, refl, sym, subst, arith}
-use Rattle.std.specs.Prelude.{◌||◌, if◌then◌else◌}
-use Rattle.std.specs.Option.{is_some, option_or}
-use Rattle.std.specs.List.{AllByRecursion}
+use Rattle.std.proofs.Common.{◌≡◌, Bool, true, false, List, [], ◌∷◌, ◌++◌, append_assoc, append-nil, Option, Some, None, Ok, refl, subst}
+use Rattle.std.specs.Prelude.{if◌then◌else◌}
 use Rattle.spv_base.specs.declared.instructions.Inst.{Inst}
 use Rattle.spv_base.specs.declared.causes.Refusal.{Refusal}
 use Rattle.spv_types.specs.declared.forms.Form.{Form}
-use Rattle.spv_types.specs.Types.{Types, form_of}
+use Rattle.spv_types.specs.Types.{Types}
 use Rattle.spv_index.specs.Definitions.{before_functions}
 use Rattle.spv_types.specs.Typing.{defined_form, types_in, with_form}
-use Rattle.spv_types.specs.Constants.{is_constant}
 use Rattle.spv_types.specs.Rules.{keeps_other, keeps_rules}
 use Rattle.spv_types.specs.Build.{type_breaches, types_of, unless_refused}
-use Rattle.spv_types.specs.Laws.{AreSound, HasResult}
+use Rattle.spv_types.specs.Laws.{AreSound}
 use Rattle.spv_types.proofs.BuildLemmas.{types_push}
-use Rattle.spv_types.proofs.GrowthLemmas.{form_append, sound_push}
+use Rattle.spv_types.proofs.GrowthLemmas.{sound_push}
 
 -- ---- no breach
 

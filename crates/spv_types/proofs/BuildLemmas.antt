@@ -1,5 +1,5 @@
 -- The types and the refusals, one instruction after another.
-use Rattle.std.proofs.Common.{◌≡◌, ◌∙◌, ℕ, ◌+◌, ◌<◌, ◌≤◌, ◌==◌, Bool, true, false, List, [], ◌∷◌, ◌++◌, length, get_or, take, drop, drop-cons, drop_of_length-le, take-append-drop, append_assoc, append-nil, add-one, refl, sym, ap, arith, ◌≢◌, Ok, Err, Option, Some, None}
+use Rattle.std.proofs.Common.{◌≡◌, ◌∙◌, ℕ, ◌+◌, ◌<◌, ◌≤◌, Bool, true, false, List, [], ◌∷◌, ◌++◌, length, get_or, take, drop, drop-cons, drop_of_length-le, take-append-drop, append_assoc, append-nil, add-one, refl, sym, ap, Ok, Err, Option, Some, None}
 use Rattle.std.specs.Prelude.{if◌then◌else◌}
 use Rattle.std.proofs.lemmas.List.{take_more}
 use Rattle.spv_base.specs.declared.instructions.Inst.{Inst}

@@ -13,20 +13,18 @@ use std::alloc::Global;
 pub fn defined_form(alloc: Global, index: &Index, inst: &Inst) -> Result<Option<Form>, NoMemory>
     ensures { IfOk result (λ form. form ≡ spec.defined_form index.now.insts inst.now) }
 {
-    Ok(
-        match inst.op {
-            op::TYPE_VOID => Some(Form::Void),
-            op::TYPE_BOOL => Some(Form::Bool),
-            op::TYPE_INT => integer_form(inst),
-            op::TYPE_VECTOR => vector_form(inst),
-            op::TYPE_ARRAY => array_form(index, inst),
-            op::TYPE_RUNTIME_ARRAY => runtime_form(index, inst),
-            op::TYPE_STRUCT => struct_form(alloc, index, inst)?,
-            op::TYPE_POINTER => pointer_form(inst),
-            op::TYPE_FUNCTION => function_form(alloc, inst)?,
-            _ => None,
-        },
-    )
+    Ok(match inst.op {
+        op::TYPE_VOID => Some(Form::Void),
+        op::TYPE_BOOL => Some(Form::Bool),
+        op::TYPE_INT => integer_form(inst),
+        op::TYPE_VECTOR => vector_form(inst),
+        op::TYPE_ARRAY => array_form(index, inst),
+        op::TYPE_RUNTIME_ARRAY => runtime_form(index, inst),
+        op::TYPE_STRUCT => struct_form(alloc, index, inst)?,
+        op::TYPE_POINTER => pointer_form(inst),
+        op::TYPE_FUNCTION => function_form(alloc, inst)?,
+        _ => None,
+    })
 }
 
 fn integer_form(inst: &Inst) -> Option<Form>

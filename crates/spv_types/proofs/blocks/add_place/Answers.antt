@@ -1,5 +1,3 @@
-use Rattle.std.specs.BTreeSet.{contains}
-use Rattle.spv_index.specs.Keys.{pair_cmp}
 use Rattle.spv_types.proofs.BlockLemmas.{place_put}
 use Rattle.spv_types.proofs.blocks.add_place.Goals as goal
 
