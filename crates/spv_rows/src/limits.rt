@@ -51,9 +51,10 @@ impl Sink for Offers {
     }
 }
 
-/// The first commands, the byte that follows them without end, how the call ends, and how many bytes it took.
+/// The first commands, the byte that follows them without end, how the call ends, and how many bytes it took. Spaces are
+/// parted into lines.
 const ENDLESS: [(&str, u8, Status, &str, usize); 3] = [
-    ("", b'\n', Status::InputTooLong, "", TOO_LONG),
+    ("", b' ', Status::InputTooLong, "", TOO_LONG),
     (
         "goto 3\n",
         b'x',
@@ -70,6 +71,13 @@ fn long_input_ends_the_call(rt: HostRuntime) -> Result<(), Fail> {
     let words = words(alloc, DEBUG)?;
     for (first, rest, status, written, taken) in ENDLESS {
         let mut commands = vec![in alloc; rest; TOO_LONG]?;
+        if rest == b' ' {
+            for line in commands.chunks_exact_mut(256) {
+                if let Some(last) = line.last_mut() {
+                    *last = b'\n';
+                }
+            }
+        }
         for (i, byte) in first.bytes().enumerate() {
             if i < commands.len() {
                 commands[i] = byte;

@@ -8,7 +8,7 @@ const UNKNOWN: &str = "refused: C1 unknown command\n";
 const ARGUMENTS: &str = "refused: C2 arguments\n";
 
 /// The commands to the shader under ten rounds, and all that is written.
-const COMMANDS: [(&str, &str); 18] = [
+const COMMANDS: [(&str, &str); 19] = [
     (
         "goto 3\nregs\ngoto 9\nquit\n",
         "stop: done\n@3 i=0 %7 word 65\n%10 = 40\n%11 = 42\nstop: all finished\n@4 i=0 finished\n",
@@ -16,6 +16,10 @@ const COMMANDS: [(&str, &str); 18] = [
     (
         "goto 4\nregs\ngoto 0\nwhere\n",
         "stop: done, all finished\n@4 i=0 finished\nrefused: C12 focus finished\nstop: done, start\n@0 i=0 %7 word 53\nrefused: C1 unknown command\n",
+    ),
+    (
+        "where 5\njump\nGoto 1\n",
+        "refused: C1 unknown command\nrefused: C1 unknown command\nrefused: C1 unknown command\n",
     ),
     ("", ""),
     ("\n\n   \n", ""),
@@ -160,6 +164,24 @@ fn commands_are_answered(rt: HostRuntime) -> Result<(), Fail> {
         bytes.as_slice(),
         b"stop: schedule ended\n@2 i=0 %7 word 60\n".as_slice()
     );
+    Ok(())
+}
+
+#[test]
+fn lines_have_4096_bytes_at_most(rt: HostRuntime) -> Result<(), Fail> {
+    let alloc = rt.alloc();
+    let rows: [(u8, usize, &str); 4] = [
+        (b' ', 4096, ""),
+        (b' ', 4097, "refused: C11 line too long\n"),
+        (b'x', 4096, UNKNOWN),
+        (b'x', 4097, "refused: C11 line too long\n"),
+    ];
+    for (byte, length, written) in rows {
+        let commands = vec![in alloc; byte; length]?;
+        let (status, bytes) = outcome(alloc, DEBUG, sum(alloc)?, TEN_ROUNDS, &commands)?;
+        assert_eq!(rt; status, Status::Done, "{length}");
+        assert_eq!(rt; bytes.as_slice(), written.as_bytes(), "{length}");
+    }
     Ok(())
 }
 
