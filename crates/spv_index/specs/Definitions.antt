@@ -1,5 +1,5 @@
 -- What the instructions of a module say of ids and words. Where several do, the first counts.
-use Rattle.std.specs.Prelude.{ℕ, suc, ◌==◌, ◌&&◌, nat_lt, if◌then◌else◌, Bool, false, List, [], ◌∷◌, Option, Some, None, find, option_map, unwrap_or}
+use Rattle.std.specs.Prelude.{ℕ, suc, ◌==◌, ◌&&◌, nat_lt, if◌then◌else◌, Bool, false, List, [], ◌∷◌, Option, Some, None, find}
 use Rattle.std.specs.Option.{option_and_then}
 use Rattle.spv_base.specs.declared.instructions.Inst.{Inst}
 use Rattle.spv_index.specs.Operands.{id_operand, literal_operand, text_operand}
@@ -16,10 +16,6 @@ has_result id i = i.id == id
 -- the instruction that defines an id
 unfoldable pub defining : List Inst → ℕ → Option Inst
 defining insts id = if is_id id then find (has_result id) insts else None
-
--- the type that an id's instruction has, or 0 where there is none
-abbrev pub type_of : List Inst → ℕ → ℕ
-type_of insts id = unwrap_or (option_map (λ (i : Inst). i.ty) (defining insts id)) 0
 
 -- the type of an instruction's result; 0 stands where it has none
 abbrev pub type_in : Inst → Option ℕ

@@ -29,11 +29,6 @@ is_block_class class = is_buffer_class class || class == 9
 abbrev pub is_block_variable : Inst → Bool
 is_block_variable i = i.op == 59 && option_map_or is_block_class (literal_operand i 0) false
 
--- the target of a pointer type, or 0
-abbrev pub target_of : Option Form → ℕ
-target_of (Some (Pointer class target)) = target
-target_of _ = 0
-
 -- a buffer variable with a DescriptorSet and a Binding
 abbrev pub is_at : List Inst → ℕ → ℕ → Inst → Bool
 is_at all set binding i = (i.op == 59 && option_map_or is_buffer_class (literal_operand i 0) false) && (holds set (decoration all i.id 34) && holds binding (decoration all i.id 33))

@@ -3,7 +3,6 @@ pub mod Cells
 pub mod Cuts
 pub mod Leaves
 pub mod Places
-pub mod Operands
 pub mod Constants
 pub mod Typing
 pub mod Rules

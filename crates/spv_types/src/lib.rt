@@ -13,7 +13,6 @@ mod layout;
 pub mod leaves;
 pub mod limits;
 mod numbers;
-pub mod operands;
 pub mod places;
 pub mod rows;
 pub mod rules;
@@ -26,5 +25,4 @@ pub mod views;
 
 pub use forms::{Form, Member};
 pub use limits::Limit;
-pub use operands::{id_at, id_of, lit_at};
 pub use table::TypeTable;
