@@ -5,3 +5,5 @@ pub mod String_lemmas
 pub mod Part_lemmas
 pub mod Line_lemmas
 pub mod Name_lemmas
+pub mod Inst_lemmas
+pub mod Reading_lemmas

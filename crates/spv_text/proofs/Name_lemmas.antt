@@ -1,5 +1,5 @@
 -- The names of the opcodes are apart, and of letters and digits.
-use Rattle.std.proofs.Common.{Bor, ◌≡◌, ◌≢◌, ℕ, nat_eq, Bool, true, false, not, cond, ◌&&◌, List, [], ◌∷◌, ◌++◌, Option, Some, None, unwrap_or, codes, zero, suc, ◌+◌, add-one, get_or, length, map, take, drop, ◌<◌, ◌≤◌, refl, sym, ap, ◌∙◌, subst, ◌⊎◌, inl, inr, arith}
+use Rattle.std.proofs.Common.{Bor, ◌≡◌, ◌≢◌, ℕ, nat_eq, Bool, true, false, not, cond, ◌&&◌, List, [], ◌∷◌, ◌++◌, Option, Some, None, unwrap_or, codes, zero, suc, ◌+◌, add-one, get_or, length, map, take, drop, ◌<◌, ◌≤◌, refl, sym, ap, ◌∙◌, subst, inl, inr, arith}
 use Rattle.std.specs.Prelude.{IsSome, MatchOption}
 use Rattle.spv_ops.specs.declared.forms.Head.{Head}
 use Rattle.spv_ops.specs.declared.forms.Part.{Part}

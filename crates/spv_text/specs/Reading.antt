@@ -1,9 +1,10 @@
 -- Which texts are listings, and why a text is none: its lowest line that is wrong, and what is wrong with it.
 use Rattle.std.specs.Prelude.{◌≡◌, ◌≢◌, ℕ, ◌+◌, ◌<◌, ◌⊎◌, IsSome, List, [], ◌∷◌, ◌++◌, length, Result, Ok, Err}
-use Rattle.std.specs.List.{AllByRecursion}
+use Rattle.spv_base.specs.declared.causes.Fail.{Fail}
+use Rattle.spv_base.specs.declared.causes.Fail.TheVariants.{Refused, NoMemory}
 use Rattle.spv_base.specs.declared.causes.Refusal.{Refusal}
 use Rattle.spv_base.specs.declared.instructions.Inst.{Inst}
-use Rattle.spv_ops.specs.Encoding.{encoding, IsFormed, IsInst}
+use Rattle.spv_ops.specs.Encoding.{encoding, head_of, HasHead, IsFormed, IsInst}
 use Rattle.spv_ops.specs.Forms.{row_of}
 use Rattle.spv_text.specs.declared.lines.Line.{Line}
 use Rattle.spv_text.specs.declared.lines.Wrong.{Wrong}
@@ -27,6 +28,11 @@ StandsAt word inst = IsInst inst × (inst.word ≡ word) × IsLine (line_of inst
 abbrev pub AreInsts : ℕ → List Inst → Type 0
 AreInsts word [] = Unit {0}
 AreInsts word (inst ∷ insts) = StandsAt word inst × AreInsts (word + length (encoding inst)) insts
+
+-- an instruction whose opcode is in the table, and whose result type and id are 0 where the form has none
+pub record HasPlace (inst : Inst) : Type 0 where
+  pub opcode : IsSome (row_of inst.op)
+  pub head : HasHead (head_of (row_of inst.op)) inst.ty inst.id
 
 -- ---- what is wrong with a line
 
@@ -76,3 +82,9 @@ pub record StopsAt (text : List ℕ) (refusal : Refusal) : Type 0 where
 abbrev pub IsRead : List ℕ → Result (List Inst) Refusal → Type 0
 IsRead text (Ok insts) = AreInsts 5 insts × (text ≡ listing insts)
 IsRead text (Err refusal) = StopsAt text refusal
+
+-- what was answered, where memory may run out
+abbrev pub IsAnswer : List ℕ → Result (List Inst) (Fail Refusal) → Type 0
+IsAnswer text (Ok insts) = IsRead text (Ok insts)
+IsAnswer text (Err (Refused refusal)) = IsRead text (Err refusal)
+IsAnswer text (Err NoMemory) = Unit {0}

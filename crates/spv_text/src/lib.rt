@@ -2,17 +2,18 @@
 #![tactic(auto)]
 
 mod fronts;
+mod inst_reading;
 mod line_reading;
 mod lines;
 mod naming;
 mod numbers;
 mod parts;
+mod reading;
 mod strings;
 mod writing;
 
-pub use line_reading::line_at;
 pub use lines::{Line, Part, Wrong};
-pub use naming::opcode_named;
+pub use reading::read_listing;
 pub use writing::listing;
 
 #[cfg(test)]

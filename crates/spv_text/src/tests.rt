@@ -1,6 +1,6 @@
-//! Listings of known instructions.
-use crate::listing;
-use spv_base::{Inst, NoMemory, Operand, Operands, Text};
+//! Listings of known instructions, and texts that are none.
+use crate::{listing, read_listing};
+use spv_base::{Fail, Inst, NoMemory, Operand, Operands, Refusal, Text};
 use std::alloc::Global;
 
 /// An instruction of one or two operands.
@@ -69,5 +69,61 @@ fn lines_of_instructions(rt: HostRuntime) -> Result<(), NoMemory> {
     let insts = samples(alloc)?;
     let text = listing(alloc, &insts)?;
     assert_eq!(rt; text.as_slice(), LINES);
+    Ok(())
+}
+
+/// The code and the line of a refusal, or zeros.
+fn refusal(alloc: Global, text: &[u8]) -> Result<(u8, u32), NoMemory> {
+    if text.len() > 200 {
+        return Ok((0, 0));
+    }
+    match read_listing(alloc, text) {
+        Ok(_) => Ok((0, 0)),
+        Err(Fail::Refused(Refusal { code, word })) => Ok((code, word)),
+        Err(Fail::NoMemory) => Err(NoMemory),
+    }
+}
+
+/// Texts with the code and the line of their refusal.
+const REFUSED: &[(&[u8], u8, u32)] = &[
+    (b"5: OpFAdd type=%1 id=%2 %3 %4\n", 2, 1),
+    (b"5: OpCapability\n", 3, 1),
+    (b"6: OpCapability 1\n", 4, 1),
+    (b"5: OpCapability 01\n", 1, 1),
+    (b"5: OpCapability 1", 1, 1),
+    (b"5: OpCapability 1\n7: OpTypeVoid type=%2 id=%1\n", 3, 2),
+    (b"5: OpCapability 1\n8: OpTypeVoid id=%1\n", 4, 2),
+    (b"5: OpName %1 \"\\x1F\"\n", 1, 1),
+    (b"5: OpName %1 \"\\x41\"\n", 1, 1),
+    (b"5: OpName %1  \"a\"\n", 1, 1),
+    (b"5: OpCapability 4294967296\n", 1, 1),
+    (b"", 0, 0),
+];
+
+#[test]
+fn texts_that_are_refused(rt: HostRuntime) -> Result<(), NoMemory> {
+    let alloc = rt.alloc();
+    for (text, code, line) in REFUSED.iter() {
+        assert_eq!(rt; refusal(alloc, text)?, (*code, *line));
+    }
+    Ok(())
+}
+
+/// A listing from word 5 on.
+const LISTING: &[u8; 111] = b"5: OpCapability 1
+7: OpMemoryModel 0 1
+10: OpName %7 \"a \\\"\\x01\"
+14: OpTypeVoid id=%1
+16: OpUndef type=%1 id=%9
+";
+
+#[test]
+fn listings_are_read(rt: HostRuntime) -> Result<(), NoMemory> {
+    let alloc = rt.alloc();
+    let Ok(insts) = read_listing(alloc, LISTING) else {
+        return Err(NoMemory);
+    };
+    let text = listing(alloc, &insts)?;
+    assert_eq!(rt; text.as_slice(), LISTING.as_slice());
     Ok(())
 }
