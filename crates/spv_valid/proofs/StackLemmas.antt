@@ -34,9 +34,10 @@ heaviest-suc k weigh calls f = refl
 
 -- ---- the cells of functions
 
-kept_by-within : (n : ℕ) (function : Option ℕ) (cells : ℕ) → IfSome function (λ k. k < n) → All (λ c. c.0 < n) (kept_by function cells)
+kept_by-within : (n : ℕ) (function cells : Option ℕ) → IfSome function (λ k. k < n) → All (λ c. c.0 < n) (kept_by function cells)
 kept_by-within n None cells small = λ k d lt. absurd (omega arith)
-kept_by-within n (Some f) cells small = search rules
+kept_by-within n (Some f) None small = λ k d lt. absurd (omega arith)
+kept_by-within n (Some f) (Some c) small = search rules
 
 -- all cells are of functions
 pub kept_within : (ts : Types) (numbers : List (ℕ × ℕ)) (n : ℕ) → ((id : ℕ) → IfSome (reads id numbers) (λ k. k < n)) → (stood : List Stand)

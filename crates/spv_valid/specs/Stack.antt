@@ -1,6 +1,6 @@
 -- How many cells the frames of an invocation have at most: those of the registers and variables of each function in a chain
 -- of calls (this project's profile). A pointer is one cell. Numbers stop at the greatest of 64 bits.
-use Rattle.std.specs.Prelude.{◌≡◌, ◌≤◌, ℕ, zero, suc, ◌+◌, ◌==◌, if◌then◌else◌, List, [], ◌∷◌, Option, Some, None, unwrap_or}
+use Rattle.std.specs.Prelude.{◌≡◌, ◌≤◌, ℕ, zero, suc, ◌+◌, ◌==◌, if◌then◌else◌, List, [], ◌∷◌, Option, Some, None}
 use Rattle.std.specs.Option.{option_and_then, option_map, option_map_or}
 use Rattle.std.specs.List.{flat_map}
 use Rattle.spv_base.specs.Entries.{reads}
@@ -31,14 +31,15 @@ target_in (Some (Function returns parameters)) = None
 abbrev pub kept_type : Types → Inst → Option ℕ
 kept_type ts i = if i.op == 59 then target_in (form_of ts i.ty) else type_in i
 
--- the cells of an instruction's register or variable; one that keeps nothing has none
-abbrev pub kept_cells : Types → Inst → ℕ
-kept_cells ts i = unwrap_or (option_map cut (option_and_then (cells_of ts) (kept_type ts i))) 0
+-- the cells of an instruction's register or variable, where it keeps one of a type that has a number of cells
+abbrev pub kept_cells : Types → Inst → Option ℕ
+kept_cells ts i = option_map cut (option_and_then (cells_of ts) (kept_type ts i))
 
 -- a function's number with some cells of it
-abbrev pub kept_by : Option ℕ → ℕ → List (ℕ × ℕ)
+abbrev pub kept_by : Option ℕ → Option ℕ → List (ℕ × ℕ)
 kept_by None cells = []
-kept_by (Some f) cells = (f, cells) ∷ []
+kept_by (Some f) None = []
+kept_by (Some f) (Some n) = (f, n) ∷ []
 
 -- the cells of each instruction in a function, with the number of the function
 abbrev pub kept_in : Types → List (ℕ × ℕ) → Stand → List (ℕ × ℕ)

@@ -51,11 +51,11 @@ fn cells_of(types: &TypeTable, ty: Option<u32>) -> Option<u64>
     types.cells(ty?)
 }
 
-/// The cells of an instruction's register or variable.
-pub fn kept_cells(types: &TypeTable, inst: &Inst) -> u64
+/// The cells of an instruction's register or variable, where it keeps one.
+pub fn kept_cells(types: &TypeTable, inst: &Inst) -> Option<u64>
     ensures { result ≡ spec.kept_cells types.now inst.now }
 {
-    cells_of(types, kept_type(types, inst)).unwrap_or(0)
+    cells_of(types, kept_type(types, inst))
 }
 
 /// The cells of each instruction in a function, with the number of the function.
@@ -71,8 +71,10 @@ fn kept(
     for n in 0..stands.len() {
         let stand = stands.at(n);
         if stand.position.stage.in_function() {
-            if let Some(function) = calls.number(stand.position.function) {
-                kept.push((function, kept_cells(types, stand.inst)))?;
+            let function = calls.number(stand.position.function);
+            let cells = kept_cells(types, stand.inst);
+            if let (Some(function), Some(cells)) = (function, cells) {
+                kept.push((function, cells))?;
             }
         }
     }
