@@ -59,9 +59,9 @@ with_roots_keep m i r ys h all = go r
   where
     each : (r : Root) (j : ℕ) (q : Root) (xs : Roots) → roots_in (with_roots i r ys m) j q ≡ Some xs → AreVariables m.types m.targets xs
     each r j q xs k = elim (with_roots_in m i j r q ys xs k) [
-        | inl was ↦ h.variables j q xs was
-        | inr is ↦ subst (AreVariables m.types m.targets) (sym is) all
-      ]
+      | inl was ↦ h.variables j q xs was
+      | inr is ↦ subst (AreVariables m.types m.targets) (sym is) all
+    ]
 
     go : (r : Root) → IsMemory (with_roots i r ys m)
     go (Shared id) = record { sound = h.sound; targets = h.targets; variables = each (Shared id) }
@@ -76,20 +76,20 @@ pushed (Err e) x y z ok err = inr err
 pub shared_kept : (m now : Held) (id : ℕ) (v : Value) (y : Roots) (result : Result (Unit {0}) NoMemory) → m ≡ now → ∥ IsMemory m ∥₁ → ∥ IsVariable now.types now.targets id v ∥₁
     → OnOk result (y ≡ m.shared ++ (id, v) ∷ []) → OnErr result (y ≡ m.shared) → ∥ IsMemory (record m { shared = y }) ∥₁
 shared_kept m now id v y result view is may ok err = elim (pushed result m.shared y (m.shared ++ (id, v) ∷ []) ok err) [
-    | inl new ↦ subst (λ (es : Roots). ∥ IsMemory (record m { shared = es }) ∥₁) (sym new)
-        (∥∥₁_elim is (hlevel props) (λ (h : IsMemory m). ∥∥₁_map (subst (λ (x : Held). ∥ IsVariable x.types x.targets id v ∥₁) (sym view) may)
-          (λ (w : IsVariable m.types m.targets id v). with_roots_keep m 0 (Shared id) (m.shared ++ (id, v) ∷ []) h (snoc_variables m.types m.targets m.shared id v (h.variables 0 (Shared id) m.shared refl) w))))
-    | inr old ↦ subst (λ (es : Roots). ∥ IsMemory (record m { shared = es }) ∥₁) (sym old) is
-  ]
+  | inl new ↦ subst (λ (es : Roots). ∥ IsMemory (record m { shared = es }) ∥₁) (sym new)
+      (∥∥₁_elim is (hlevel props) (λ (h : IsMemory m). ∥∥₁_map (subst (λ (x : Held). ∥ IsVariable x.types x.targets id v ∥₁) (sym view) may)
+      (λ (w : IsVariable m.types m.targets id v). with_roots_keep m 0 (Shared id) (m.shared ++ (id, v) ∷ []) h (snoc_variables m.types m.targets m.shared id v (h.variables 0 (Shared id) m.shared refl) w))))
+  | inr old ↦ subst (λ (es : Roots). ∥ IsMemory (record m { shared = es }) ∥₁) (sym old) is
+]
 
 pub private_kept : (m now : Held) (i id : ℕ) (v : Value) (x y : Roots) (result : Result (Unit {0}) NoMemory) → m ≡ now → slice_get m.privates i ≡ Some x → ∥ IsMemory m ∥₁ → ∥ IsVariable now.types now.targets id v ∥₁
     → OnOk result (y ≡ x ++ (id, v) ∷ []) → OnErr result (y ≡ x) → ∥ IsMemory (record m { privates = slice_set m.privates i y }) ∥₁
 private_kept m now i id v x y result view at is may ok err = elim (pushed result x y (x ++ (id, v) ∷ []) ok err) [
-    | inl new ↦ subst (λ (es : Roots). ∥ IsMemory (record m { privates = slice_set m.privates i es }) ∥₁) (sym new)
-        (∥∥₁_elim is (hlevel props) (λ (h : IsMemory m). ∥∥₁_map (subst (λ (k : Held). ∥ IsVariable k.types k.targets id v ∥₁) (sym view) may)
-          (λ (w : IsVariable m.types m.targets id v). with_roots_keep m i (Private id) (x ++ (id, v) ∷ []) h (snoc_variables m.types m.targets x id v (h.variables i (Private id) x at) w))))
-    | inr old ↦ subst (λ (ls : List Roots). ∥ IsMemory (record m { privates = ls }) ∥₁) (sym (ap (slice_set m.privates i) old ∙ set_same m.privates i x at)) is
-  ]
+  | inl new ↦ subst (λ (es : Roots). ∥ IsMemory (record m { privates = slice_set m.privates i es }) ∥₁) (sym new)
+      (∥∥₁_elim is (hlevel props) (λ (h : IsMemory m). ∥∥₁_map (subst (λ (k : Held). ∥ IsVariable k.types k.targets id v ∥₁) (sym view) may)
+      (λ (w : IsVariable m.types m.targets id v). with_roots_keep m i (Private id) (x ++ (id, v) ∷ []) h (snoc_variables m.types m.targets x id v (h.variables i (Private id) x at) w))))
+  | inr old ↦ subst (λ (ls : List Roots). ∥ IsMemory (record m { privates = ls }) ∥₁) (sym (ap (slice_set m.privates i) old ∙ set_same m.privates i x at)) is
+]
 
 pub private_is : (m now : Held) (i id : ℕ) (v : Value) (x y : Roots) → m ≡ now → slice_get m.privates i ≡ Some x → y ≡ x ++ (id, v) ∷ [] → record m { privates = slice_set m.privates i y } ≡ with_private i id v now
 private_is m now i id v x y view at new =
@@ -105,9 +105,9 @@ levels_keep m i l new h at all = record { sound = h.sound; targets = h.targets; 
     level : (j d k : ℕ) (xs : Roots) → (o : Option Levels) → slice_get (slice_set m.locals i new) j ≡ o → option_and_then (λ (x : Levels). slice_get x.list d) o ≡ Some xs → AreVariables m.types m.targets xs
     level j d k xs None e g = absurd cc
     level j d k xs (Some y) e g = elim (get_set m.locals i j new y e) [
-        | inl old ↦ h.variables j (Local d k) xs (rw old g)
-        | inr is ↦ all d xs (ap (λ (x : Levels). slice_get x.list d) (sym is.1) ∙ g)
-      ]
+      | inl old ↦ h.variables j (Local d k) xs (rw old g)
+      | inr is ↦ all d xs (ap (λ (x : Levels). slice_get x.list d) (sym is.1) ∙ g)
+    ]
 
     each : (j : ℕ) (r : Root) (xs : Roots) → roots_in (record m { locals = slice_set m.locals i new }) j r ≡ Some xs → AreVariables m.types m.targets xs
     each j (Shared id) xs k = h.variables j (Shared id) xs k
@@ -135,15 +135,15 @@ entered_keeps m i es l h at new = levels_keep m i l (record l { list = l.list ++
   where
     all : (d : ℕ) (xs : Roots) → slice_get (l.list ++ es ∷ []) d ≡ Some xs → AreVariables m.types m.targets xs
     all d xs k = elim (snoc_get l.list es xs d k) [
-        | inl old ↦ h.variables i (Local d 0) xs (rw at old)
-        | inr is ↦ subst (AreVariables m.types m.targets) (sym is) new
-      ]
+      | inl old ↦ h.variables i (Local d 0) xs (rw at old)
+      | inr is ↦ subst (AreVariables m.types m.targets) (sym is) new
+    ]
 
 pub entered_kept : (m now : Held) (i : ℕ) (es : Roots) (l y : Levels) → m ≡ now → slice_get m.locals i ≡ Some l → ∥ IsMemory m ∥₁ → ∥ AreVariables now.types now.targets es ∥₁
     → y ≡ record l { list = l.list ++ es ∷ [] } → ∥ IsMemory (record m { locals = slice_set m.locals i y }) ∥₁
 entered_kept m now i es l y view at is may new =
     subst (λ (x : Levels). ∥ IsMemory (record m { locals = slice_set m.locals i x }) ∥₁) (sym new)
-      (∥∥₁_elim is (hlevel props) (λ (h : IsMemory m). ∥∥₁_map (subst (λ (k : Held). ∥ AreVariables k.types k.targets es ∥₁) (sym view) may) (λ (w : AreVariables m.types m.targets es). entered_keeps m i es l h at w)))
+    (∥∥₁_elim is (hlevel props) (λ (h : IsMemory m). ∥∥₁_map (subst (λ (k : Held). ∥ AreVariables k.types k.targets es ∥₁) (sym view) may) (λ (w : AreVariables m.types m.targets es). entered_keeps m i es l h at w)))
 
 pub entered_is : (m now : Held) (i : ℕ) (es : Roots) (l y : Levels) → m ≡ now → slice_get m.locals i ≡ Some l → y ≡ record l { list = l.list ++ es ∷ [] } → record m { locals = slice_set m.locals i y } ≡ entered i es now
 entered_is m now i es l y view at new =
@@ -152,9 +152,9 @@ entered_is m now i es l y view at new =
 pub maybe_entered_kept : (m now : Held) (i : ℕ) (es : Roots) (l y : Levels) (result : Result (Unit {0}) NoMemory) → m ≡ now → slice_get m.locals i ≡ Some l → ∥ IsMemory m ∥₁ → ∥ AreVariables now.types now.targets es ∥₁
     → OnOk result (y ≡ record l { list = l.list ++ es ∷ [] }) → OnErr result (y ≡ l) → ∥ IsMemory (record m { locals = slice_set m.locals i y }) ∥₁
 maybe_entered_kept m now i es l y result view at is may ok err = elim (pushed result l y (record l { list = l.list ++ es ∷ [] }) ok err) [
-    | inl new ↦ entered_kept m now i es l y view at is may new
-    | inr old ↦ subst (λ (ls : List Levels). ∥ IsMemory (record m { locals = ls }) ∥₁) (sym (ap (slice_set m.locals i) old ∙ set_same m.locals i l at)) is
-  ]
+  | inl new ↦ entered_kept m now i es l y view at is may new
+  | inr old ↦ subst (λ (ls : List Levels). ∥ IsMemory (record m { locals = ls }) ∥₁) (sym (ap (slice_set m.locals i) old ∙ set_same m.locals i l at)) is
+]
 
 -- the last locals that are taken away
 abbrev pub Popped : Levels → Levels → Option Roots → Type 0
@@ -182,14 +182,15 @@ set_set (z ∷ xs) (suc k) x y = ap (λ zs. z ∷ zs) (set_set xs k x y)
 
 pub leaves_is : (m now : Held) (i : ℕ) (l y : Levels) (result : Option Roots) → m ≡ now → slice_get m.locals i ≡ Some l → Popped l y result → Leaves now i (record m { locals = slice_set m.locals i y }) result
 leaves_is m now i l y None view at p =
-    let same : y ≡ l = ap (λ (n : ℕ). record { list = y.list; room = n }) p.0 ∙ ap (λ (ls : List Roots). record { list = ls; room = l.room }) (p.1.1 ∙ sym p.1.0) in
-    (ap (λ (ls : List Levels). record m { locals = ls }) (ap (slice_set m.locals i) same ∙ set_same m.locals i l at) ∙ view,
-     λ k e. (let is : Some l ≡ Some k = sym at ∙ ap (λ (x : Held). slice_get x.locals i) view ∙ e in let g : l ≡ k = cc in ap (λ (x : Levels). x.list) (sym g) ∙ p.1.0))
+    let same : y ≡ l = ap (λ (n : ℕ). record { list = y.list; room = n }) p.0 ∙ ap (λ (ls : List Roots). record { list = ls; room = l.room }) (p.1.1 ∙ sym p.1.0) in (
+      ap (λ (ls : List Levels). record m { locals = ls }) (ap (slice_set m.locals i) same ∙ set_same m.locals i l at) ∙ view,
+      λ k e. (let is : Some l ≡ Some k = sym at ∙ ap (λ (x : Held). slice_get x.locals i) view ∙ e in let g : l ≡ k = cc in ap (λ (x : Levels). x.list) (sym g) ∙ p.1.0),
+    )
 leaves_is m now i l y (Some last) view at p =
     let whole : record y { list = y.list ++ last ∷ [] } ≡ l = ap (λ (n : ℕ). record { list = y.list ++ last ∷ []; room = n }) p.0 ∙ ap (λ (ls : List Roots). record { list = ls; room = l.room }) (sym p.1) in
     let back : change i (λ (x : Levels). record x { list = x.list ++ last ∷ [] }) (slice_set m.locals i y) ≡ m.locals =
-      change_set i (λ (x : Levels). record x { list = x.list ++ last ∷ [] }) (slice_set m.locals i y) y (get_set_here m.locals i l y at)
-        ∙ ap (slice_set (slice_set m.locals i y) i) whole ∙ set_set m.locals i y l ∙ set_same m.locals i l at in
+    change_set i (λ (x : Levels). record x { list = x.list ++ last ∷ [] }) (slice_set m.locals i y) y (get_set_here m.locals i l y at)
+    ∙ ap (slice_set (slice_set m.locals i y) i) whole ∙ set_set m.locals i y l ∙ set_same m.locals i l at in
     sym (ap (λ (ls : List Levels). record m { locals = ls }) back ∙ view)
 
 pub left_variables : (m now : Held) (i : ℕ) (l y : Levels) (result : Option Roots) → m ≡ now → slice_get m.locals i ≡ Some l → ∥ IsMemory m ∥₁ → Popped l y result

@@ -39,9 +39,9 @@ get_set (z ∷ xs) zero zero x y h = let e : x ≡ y = cc in inr (refl, sym e)
 get_set (z ∷ xs) zero (suc j) x y h = inl h
 get_set (z ∷ xs) (suc k) zero x y h = inl h
 get_set (z ∷ xs) (suc k) (suc j) x y h = elim (get_set xs k j x y h) [
-    | inl old ↦ inl old
-    | inr new ↦ inr (ap suc new.0, new.1)
-  ]
+  | inl old ↦ inl old
+  | inr new ↦ inr (ap suc new.0, new.1)
+]
 
 pub change_set : {A : Type 0} (i : ℕ) (f : A → A) (xs : List A) (x : A) → slice_get xs i ≡ Some x → change i f xs ≡ slice_set xs i (f x)
 change_set i f [] x h = absurd cc
@@ -110,8 +110,8 @@ private_stores m i id path u after handed there h = go (slice_get m.privates i) 
     go None at k = gone_in m i (record { root = Private id; path = path }) u handed (record m { privates = after }) there at k.0 (ap (λ (ls : List Roots). record m { privates = ls }) k.1) k.2
     go (Some es) at k =
         in_list m (record m { privates = after }) i (record { root = Private id; path = path }) u es k.after handed there at
-          (λ same. ap (λ (ls : List Roots). record m { privates = ls }) (k.put ∙ ap (slice_set m.privates i) same ∙ set_same m.privates i es at))
-          (ap (λ (ls : List Roots). record m { privates = ls }) k.put) k.within
+        (λ same. ap (λ (ls : List Roots). record m { privates = ls }) (k.put ∙ ap (slice_set m.privates i) same ∙ set_same m.privates i es at))
+        (ap (λ (ls : List Roots). record m { privates = ls }) k.put) k.within
 
 pub local_stores : (m : Held) (i depth id : ℕ) (path : List ℕ) (u : Value) (after : List Levels) (handed : Value) (there : Bool) → ExchangesLevel m.locals i depth id path u after handed there
     → Stores m i (record { root = Local depth id; path = path }) u (record m { locals = after }) handed (answer there)
@@ -128,8 +128,8 @@ local_stores m i depth id path u after handed there h = outer (slice_get m.local
         gone_in m i p u handed (record m { locals = after }) there (rw at e) k.0 (ap (λ (ls : List Levels). record m { locals = ls }) same) k.2
     inner l at lists put (Some es) e k =
         in_list m (record m { locals = after }) i p u es k.after handed there (rw at e)
-          (λ same. ap (λ (ls : List Levels). record m { locals = ls }) (put ∙ ap (λ (ls : List Roots). slice_set m.locals i (record l { list = ls })) (k.put ∙ ap (slice_set l.list depth) same ∙ set_same l.list depth es e) ∙ set_same m.locals i l at))
-          (ap (λ (ls : List Levels). record m { locals = ls }) (put ∙ ap (λ (ls : List Roots). slice_set m.locals i (record l { list = ls })) k.put ∙ sym (change_set i (with_level depth k.after) m.locals l at))) k.within
+        (λ same. ap (λ (ls : List Levels). record m { locals = ls }) (put ∙ ap (λ (ls : List Roots). slice_set m.locals i (record l { list = ls })) (k.put ∙ ap (slice_set l.list depth) same ∙ set_same l.list depth es e) ∙ set_same m.locals i l at))
+        (ap (λ (ls : List Levels). record m { locals = ls }) (put ∙ ap (λ (ls : List Roots). slice_set m.locals i (record l { list = ls })) k.put ∙ sym (change_set i (with_level depth k.after) m.locals l at))) k.within
 
     outer : (o : Option Levels) → slice_get m.locals i ≡ o → MatchOption o ((there ≡ false) × (after ≡ m.locals) × (handed ≡ u)) (ExchangedLevel m.locals i depth id path u after handed there)
         → Stores m i p u (record m { locals = after }) handed (answer there)
@@ -145,9 +145,9 @@ with_roots_in m i j (Shared id) (Private k) es xs h = inl h
 with_roots_in m i j (Shared id) (Local depth k) es xs h = inl h
 with_roots_in m i j (Private id) (Shared k) es xs h = inl h
 with_roots_in m i j (Private id) (Private k) es xs h = elim (get_set m.privates i j es xs h) [
-    | inl old ↦ inl old
-    | inr new ↦ inr new.1
-  ]
+  | inl old ↦ inl old
+  | inr new ↦ inr new.1
+]
 with_roots_in m i j (Private id) (Local depth k) es xs h = inl h
 with_roots_in m i j (Local d id) (Shared k) es xs h = inl h
 with_roots_in m i j (Local d id) (Private k) es xs h = inl h
@@ -157,18 +157,18 @@ with_roots_in m i j (Local d id) (Local depth k) es xs h = outer (slice_get m.lo
         → option_and_then (λ (x : Levels). slice_get x.list depth) o ≡ Some xs → (option_and_then (λ (x : Levels). slice_get x.list depth) (slice_get m.locals j) ≡ Some xs) ⊎ (xs ≡ es)
     level l at None e g = absurd cc
     level l at (Some y) e g = elim (get_set m.locals i j (with_level d es l) y e) [
-        | inl old ↦ inl (rw old g)
-        | inr new ↦ elim (get_set l.list d depth es xs (ap (λ (x : Levels). slice_get x.list depth) (sym new.1) ∙ g)) [
-            | inl old ↦ inl (subst (λ (n : ℕ). option_and_then (λ (x : Levels). slice_get x.list depth) (slice_get m.locals n) ≡ Some xs) (sym new.0) (rw at old))
-            | inr is ↦ inr is.1
-          ]
+      | inl old ↦ inl (rw old g)
+      | inr new ↦ elim (get_set l.list d depth es xs (ap (λ (x : Levels). slice_get x.list depth) (sym new.1) ∙ g)) [
+        | inl old ↦ inl (subst (λ (n : ℕ). option_and_then (λ (x : Levels). slice_get x.list depth) (slice_get m.locals n) ≡ Some xs) (sym new.0) (rw at old))
+        | inr is ↦ inr is.1
       ]
+    ]
 
     outer : (o : Option Levels) → slice_get m.locals i ≡ o → (roots_in m j (Local depth k) ≡ Some xs) ⊎ (xs ≡ es)
     outer None at = inl (ap (λ (ls : List Levels). option_and_then (λ (x : Levels). slice_get x.list depth) (slice_get ls j)) (sym (change_none i (with_level d es) m.locals at)) ∙ h)
     outer (Some l) at =
         let is : option_and_then (λ (x : Levels). slice_get x.list depth) (slice_get (slice_set m.locals i (with_level d es l)) j) ≡ Some xs =
-          ap (λ (ls : List Levels). option_and_then (λ (x : Levels). slice_get x.list depth) (slice_get ls j)) (sym (change_set i (with_level d es) m.locals l at)) ∙ h in
+        ap (λ (ls : List Levels). option_and_then (λ (x : Levels). slice_get x.list depth) (slice_get ls j)) (sym (change_set i (with_level d es) m.locals l at)) ∙ h in
         level l at (slice_get (slice_set m.locals i (with_level d es l)) j) refl is
 
 some_roots : (m : Held) (i : ℕ) (p : Pointer) (w : Value) → load_of m i p ≡ Some w → (es : Roots) × (v : Value) × (roots_in m i p.root ≡ Some es) × (reads (id_in p.root) es ≡ Some v) × (part_at v p.path ≡ Some w)
@@ -223,9 +223,9 @@ stored_keeps m i p u w h may is =
     variables : (es : Roots) (v : Value) → roots_in m i p.root ≡ Some es → IsVariable m.types m.targets (id_in p.root) (with_part v p.path u)
         → AreVariables m.types m.targets (writes (id_in p.root) (with_part v p.path u) es)
     variables es v at new q x k = elim (reads_writes q (id_in p.root) (with_part v p.path u) es x k) [
-        | inl was ↦ h.variables i p.root es at q x was
-        | inr is ↦ subst (λ (n : ℕ). IsVariable m.types m.targets n x) (sym is.0) (subst (IsVariable m.types m.targets (id_in p.root)) (sym is.1) new)
-      ]
+      | inl was ↦ h.variables i p.root es at q x was
+      | inr is ↦ subst (λ (n : ℕ). IsVariable m.types m.targets n x) (sym is.0) (subst (IsVariable m.types m.targets (id_in p.root)) (sym is.1) new)
+    ]
 
     kept : (es : Roots) (v : Value) → roots_in m i p.root ≡ Some es → reads (id_in p.root) es ≡ Some v → IsVariable m.types m.targets (id_in p.root) (with_part v p.path u)
         → IsMemory (with_roots i p.root (writes (id_in p.root) (with_part v p.path u) es) m)
@@ -233,9 +233,9 @@ stored_keeps m i p u w h may is =
       where
         each : (r : Root) (ys : Roots) → AreVariables m.types m.targets ys → (j : ℕ) (q : Root) (xs : Roots) → roots_in (with_roots i r ys m) j q ≡ Some xs → AreVariables m.types m.targets xs
         each r ys all j q xs k = elim (with_roots_in m i j r q ys xs k) [
-            | inl was ↦ h.variables j q xs was
-            | inr is ↦ subst (AreVariables m.types m.targets) (sym is) all
-          ]
+          | inl was ↦ h.variables j q xs was
+          | inr is ↦ subst (AreVariables m.types m.targets) (sym is) all
+        ]
 
         go : (r : Root) (ys : Roots) → AreVariables m.types m.targets ys → IsMemory (with_roots i r ys m)
         go (Shared id) ys all = record { sound = h.sound; targets = h.targets; variables = each (Shared id) ys all }
@@ -249,7 +249,7 @@ stores_keep m i p u new handed result is may did = go (load_of m i p) refl did
     go None e k = subst (λ (x : Held). ∥ IsMemory x ∥₁) (sym k.1) is
     go (Some w) e k =
         subst (λ (x : Held). ∥ IsMemory x ∥₁) (sym k.1)
-          (∥∥₁_elim is (hlevel props) (λ (h : IsMemory m). ∥∥₁_map may (λ (a : MayStore m i p u). stored_keeps m i p u w h a e)))
+        (∥∥₁_elim is (hlevel props) (λ (h : IsMemory m). ∥∥₁_map may (λ (a : MayStore m i p u). stored_keeps m i p u w h a e)))
 
 -- there is no variable where none is named
 pub unnamed : (m : Held) (i : ℕ) (p : Pointer) → ∥ IsMemory m ∥₁ → reads (id_in p.root) m.targets ≡ None → load_of m i p ≡ None
@@ -315,8 +315,8 @@ pub stores_at : (m now : Held) (i : ℕ) (p : Pointer) (r : Root) (u : Value) (n
     → Stores m i (at_root r p) u new handed (answer there) → Stores now i p u new handed result
 stores_at m now i p r u new handed result there v h a did =
     subst (λ (x : Held). Stores x i p u new handed result) v
-      (subst (λ (q : Pointer). Stores m i q u new handed result) (sym (root_is p r h))
-        (subst (λ (x : Result (Unit {0}) MemErr). Stores m i (at_root r p) u new handed x) (sym a) did))
+    (subst (λ (q : Pointer). Stores m i q u new handed result) (sym (root_is p r h))
+    (subst (λ (x : Result (Unit {0}) MemErr). Stores m i (at_root r p) u new handed x) (sym a) did))
 
 pub kept_at : (m now : Held) (i : ℕ) (p : Pointer) (u : Value) (new : Held) (handed : Value) (result : Result (Unit {0}) MemErr) → m ≡ now → ∥ IsMemory m ∥₁ → ∥ MayStore now i p u ∥₁
     → Stores now i p u new handed result → ∥ IsMemory new ∥₁

@@ -78,8 +78,12 @@ at_first id [] k v none h = absurd cc
 at_first id (e ∷ es) zero v none h =
     let same : e ≡ (id, v) = cc in
     let key : e.0 ≡ id = ap (λ (p : ℕ × Value). p.0) same in
-    record { value = e.1; is = reads_here id e es key; at = ap Some (same ∙ ap (λ (x : Value). (id, x)) (ap (λ (p : ℕ × Value). p.1) (sym same)));
-      written = λ u. writes_here id u e es key ∙ ap (λ (i : ℕ). (i, u) ∷ es) key }
+    record {
+      value = e.1;
+      is = reads_here id e es key;
+      at = ap Some (same ∙ ap (λ (x : Value). (id, x)) (ap (λ (p : ℕ × Value). p.1) (sym same)));
+      written = λ u. writes_here id u e es key ∙ ap (λ (i : ℕ). (i, u) ∷ es) key;
+    }
 at_first id (e ∷ es) (suc k) v none h = go (λ n. at_first id es k v n h) (e.0 == id) refl none
   where
     go : (reads id (take k es) ≡ None → IsAt id k es) → (b : Bool) → (e.0 == id) ≡ b → (if e.0 == id then Some e.1 else reads id (take k es)) ≡ None → IsAt id (suc k) (e ∷ es)

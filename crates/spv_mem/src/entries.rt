@@ -95,7 +95,13 @@ impl Roots {
     }
 
     /// The part that a path names in the variable with an id.
-    pub(crate) fn load(&self, types: &TypeTable, target: Target, id: u32, path: &Path) -> Option<Part<'_>>
+    pub(crate) fn load(
+        &self,
+        types: &TypeTable,
+        target: Target,
+        id: u32,
+        path: &Path,
+    ) -> Option<Part<'_>>
         requires { ∥ AreFit types.now target.ty id self.now ∥₁ }
         ensures { result ≡ option_and_then (λ v. part_at v path.now) (reads id self.now) }
     {
@@ -104,7 +110,14 @@ impl Roots {
     }
 
     /// Exchanges the part that a path names in the variable with an id, and says whether there is such a part.
-    pub(crate) fn exchange(&mut self, types: &TypeTable, target: Target, id: u32, path: &Path, other: &mut Row) -> bool
+    pub(crate) fn exchange(
+        &mut self,
+        types: &TypeTable,
+        target: Target,
+        id: u32,
+        path: &Path,
+        other: &mut Row,
+    ) -> bool
         requires fit { ∥ AreFit types.now target.ty id self.old ∥₁ }
         requires may { ∥ MayBePutIn types.now target.ty id self.old path.now other.old ∥₁ }
         ensures { ExchangesIn self.old id path.now other.old self.new other.new result }

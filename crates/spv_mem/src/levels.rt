@@ -76,13 +76,29 @@ impl Levels {
     }
 
     /// Exchanges the part that a path names in the variable with an id of a depth, and says whether there is such a part.
-    pub(crate) fn exchange(&mut self, types: &TypeTable, target: Target, depth: u32, id: u32, path: &Path, other: &mut Row) -> bool
+    pub(crate) fn exchange(
+        &mut self,
+        types: &TypeTable,
+        target: Target,
+        depth: u32,
+        id: u32,
+        path: &Path,
+        other: &mut Row,
+    ) -> bool
         requires fit { ∥ FitAt types.now target.ty id self.old.list depth ∥₁ }
         requires may { ∥ MayBePutAt types.now target.ty id self.old.list depth path.now other.old ∥₁ }
         ensures room { self.new.room ≡ self.old.room }
         ensures list { ExchangesAt self.old.list depth id path.now other.old self.new.list other.new result }
     {
-        exchange_at(&mut self.list, depth as usize, types, target, id, path, other)
+        exchange_at(
+            &mut self.list,
+            depth as usize,
+            types,
+            target,
+            id,
+            path,
+            other,
+        )
     }
 }
 

@@ -150,8 +150,25 @@ impl Memory {
         let k = inv as usize;
         match p.root {
             Root::Shared(id) => answer(self.shared.exchange(types, target, id, &p.path, row)),
-            Root::Private(id) => answer(exchange_at(&mut self.privates, k, types, target, id, &p.path, row)),
-            Root::Local { depth, id } => answer(exchange_level(&mut self.locals, k, types, target, depth, id, &p.path, row)),
+            Root::Private(id) => answer(exchange_at(
+                &mut self.privates,
+                k,
+                types,
+                target,
+                id,
+                &p.path,
+                row,
+            )),
+            Root::Local { depth, id } => answer(exchange_level(
+                &mut self.locals,
+                k,
+                types,
+                target,
+                depth,
+                id,
+                &p.path,
+                row,
+            )),
         }
     }
 }

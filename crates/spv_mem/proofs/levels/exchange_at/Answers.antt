@@ -15,7 +15,7 @@ exchange-requires-clause-may c =
 pub returns-then-k-lists : goal.returns-then-k-lists
 returns-then-k-lists c =
     exchanged_list c.args.lists.now c.args.k c.args.id c.args.path.now c.args.other.now c.exchange.new.self c.exchange.new.other c.exchange.result _
-      (slice_get-get_or c.args.lists.now c.args.k c.index-lists-k.result c.if-k-lists.true) c.exchange.ensures
+    (slice_get-get_or c.args.lists.now c.args.k c.index-lists-k.result c.if-k-lists.true) c.exchange.ensures
 
 pub returns-else-k-lists : goal.returns-else-k-lists
 returns-else-k-lists c = list_gone c.args.lists.now c.args.k c.args.id c.args.path.now c.args.other.now (slice_get_past c.args.lists.now c.args.k c.if-k-lists.false)

@@ -15,7 +15,7 @@ exchange-requires-clause-may c =
 pub returns-then-k-levels : goal.returns-then-k-levels
 returns-then-k-levels c =
     exchanged_level c.args.levels.now c.args.k c.args.depth c.args.id c.args.path.now c.args.other.now c.exchange.new.self c.exchange.new.other c.exchange.result _
-      (slice_get-get_or c.args.levels.now c.args.k c.index-levels-k.result c.if-k-levels.true) c.exchange.ensures.room c.exchange.ensures.list
+    (slice_get-get_or c.args.levels.now c.args.k c.index-levels-k.result c.if-k-levels.true) c.exchange.ensures.room c.exchange.ensures.list
 
 pub returns-else-k-levels : goal.returns-else-k-levels
 returns-else-k-levels c = level_gone c.args.levels.now c.args.k c.args.depth c.args.id c.args.path.now c.args.other.now (slice_get_past c.args.levels.now c.args.k c.if-k-levels.false)

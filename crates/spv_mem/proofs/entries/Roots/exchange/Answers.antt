@@ -27,7 +27,7 @@ invariant_of-self c =
     let same = item_is c.args.id c.args.self.now c.in-Some.k c.index_mut.result.now c.index_mut.result.now a here in
     let apart = distinct_set c.args.id c.args.self.now c.in-Some.k c.exchange.new.self a (sym (ap distinct c.self.view_is) ∙ c.self.invariant) in
     ap (λ (es : Roots). distinct (slice_set es c.in-Some.k (c.index_mut.result.now.0, c.exchange.new.self))) c.self.view_is
-      ∙ ap (λ (p : ℕ × Value). distinct (slice_set c.args.self.now c.in-Some.k (p.0, c.exchange.new.self))) same ∙ apart
+    ∙ ap (λ (p : ℕ × Value). distinct (slice_set c.args.self.now c.in-Some.k (p.0, c.exchange.new.self))) same ∙ apart
 
 pub returns : goal.returns
 returns c =
@@ -37,5 +37,5 @@ returns c =
     let did = subst (λ (p : ℕ × Value). Exchanges p.1 c.args.path.now c.args.other.now c.exchange.new.self c.exchange.new.other c.exchange.result) same c.exchange.ensures in
     let all = exchanged_at c.args.id c.args.self.now c.in-Some.k c.args.path.now c.args.other.now c.exchange.new.self c.exchange.new.other c.exchange.result a did in
     subst (λ (es : Roots). ExchangesIn c.args.self.now c.args.id c.args.path.now c.args.other.now es c.exchange.new.other c.exchange.result)
-      (sym (ap (λ (es : Roots). slice_set es c.in-Some.k (c.index_mut.result.now.0, c.exchange.new.self)) c.self.view_is
-        ∙ ap (λ (p : ℕ × Value). slice_set c.args.self.now c.in-Some.k (p.0, c.exchange.new.self)) same)) all
+    (sym (ap (λ (es : Roots). slice_set es c.in-Some.k (c.index_mut.result.now.0, c.exchange.new.self)) c.self.view_is
+    ∙ ap (λ (p : ℕ × Value). slice_set c.args.self.now c.in-Some.k (p.0, c.exchange.new.self)) same)) all

@@ -10,4 +10,4 @@ returns-in-Some c =
     let same = c.deref.ensures.value ∙ c.self.view_is in
     let at = slice_get_read c.deref.result.now (length c.deref.result.now) c.args.place c.in-Some.entry.now refl (c.in-Some.ensures.lookup.3.0) (c.in-Some.ensures.lookup.1) in
     at_place c.args.id c.args.self.now c.args.place c.in-Some.entry.now.1 (sym (ap distinct c.self.view_is) ∙ c.self.invariant)
-      (subst (λ (es : Roots). slice_get es c.args.place ≡ Some c.in-Some.entry.now) same at ∙ ap (λ (i : ℕ). Some (i, c.in-Some.entry.now.1)) c.if-entry-id.true)
+    (subst (λ (es : Roots). slice_get es c.args.place ≡ Some c.in-Some.entry.now) same at ∙ ap (λ (i : ℕ). Some (i, c.in-Some.entry.now.1)) c.if-entry-id.true)

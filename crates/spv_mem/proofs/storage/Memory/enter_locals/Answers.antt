@@ -10,7 +10,7 @@ invariant_of-self c =
     let inside : c.args.inv < length c.self.inside.locals.items = subst (λ (m : Held). c.args.inv < length m.locals) (sym c.self.view_is) c.requires.inside in
     let at = slice_get_read c.self.inside.locals.items (length c.self.inside.locals.items) c.args.inv c.index_mut.result.now refl inside c.index_mut.ensures.value in
     subst (λ (ts : List (ℕ × ℕ)). ∥ IsMemory (record { types = c.self.inside.types.value; targets = ts; shared = c.self.inside.shared; privates = c.self.inside.privates.items; locals = slice_set c.self.inside.locals.items c.args.inv c.push.new.self }) ∥₁) (sym c.note_places.ensures)
-      (maybe_entered_kept _ c.args.self.now c.args.inv c.args.locals c.index_mut.result.now c.push.new.self c.push.result c.self.view_is at c.self.invariant c.requires.may c.push.ensures.ok c.push.ensures.err)
+    (maybe_entered_kept _ c.args.self.now c.args.inv c.args.locals c.index_mut.result.now c.push.new.self c.push.result c.self.view_is at c.self.invariant c.requires.may c.push.ensures.ok c.push.ensures.err)
 
 on_ok : {P Q : Type 0} (result : Result (Unit {0}) NoMemory) → (P → Q) → OnOk result P → OnOk result Q
 on_ok (Ok u) f h = f h
@@ -21,4 +21,4 @@ returns-clause-ok c =
     let inside : c.args.inv < length c.self.inside.locals.items = subst (λ (m : Held). c.args.inv < length m.locals) (sym c.self.view_is) c.requires.inside in
     let at = slice_get_read c.self.inside.locals.items (length c.self.inside.locals.items) c.args.inv c.index_mut.result.now refl inside c.index_mut.ensures.value in
     on_ok c.push.result (λ new. ap (λ (ts : List (ℕ × ℕ)). record { types = c.self.inside.types.value; targets = ts; shared = c.self.inside.shared; privates = c.self.inside.privates.items; locals = slice_set c.self.inside.locals.items c.args.inv c.push.new.self }) c.note_places.ensures
-      ∙ entered_is _ c.args.self.now c.args.inv c.args.locals c.index_mut.result.now c.push.new.self c.self.view_is at new) c.push.ensures.ok
+    ∙ entered_is _ c.args.self.now c.args.inv c.args.locals c.index_mut.result.now c.push.new.self c.self.view_is at new) c.push.ensures.ok
