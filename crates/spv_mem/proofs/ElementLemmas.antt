@@ -206,14 +206,14 @@ module _ (ts : Types) (roots : Root → Option ℕ) (sound : AreSound ts) where
 -- ---- what is put in a variable
 
 -- the part that is there, with its type, and what is put in its place
-record Put (ts : Types) (id : ℕ) (v : Value) (path : List ℕ) (w u : Value) : Type 0 where
-  type : ℕ
-  typed : reached ts id path ≡ Some type
-  counted : is_counted ts type ≡ true
-  old : HasShape ts no_roots type w
-  new : HasShape ts no_roots type u
+pub record Put (ts : Types) (id : ℕ) (v : Value) (path : List ℕ) (w u : Value) : Type 0 where
+  pub type : ℕ
+  pub typed : reached ts id path ≡ Some type
+  pub counted : is_counted ts type ≡ true
+  pub old : HasShape ts no_roots type w
+  pub new : HasShape ts no_roots type u
 
-put_is : (ts : Types) (id : ℕ) (v : Value) (path : List ℕ) (w u : Value) → Fits ts id v → MayBePut ts id v path u → part_at v path ≡ Some w → Put ts id v path w u
+pub put_is : (ts : Types) (id : ℕ) (v : Value) (path : List ℕ) (w u : Value) → Fits ts id v → MayBePut ts id v path u → part_at v path ≡ Some w → Put ts id v path w u
 put_is ts id v path w u f may is = go (is_past ts (elements_in v) id path) refl
   where
     found : NotFound ts id path v ⊎ Found ts id path v → Put ts id v path w u

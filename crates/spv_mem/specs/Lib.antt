@@ -1,2 +1,5 @@
 pub mod Chains
 pub mod Targets
+pub mod Roots
+pub mod Memory
+pub mod Levels

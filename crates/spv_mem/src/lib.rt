@@ -2,9 +2,17 @@
 //! 3.42.8 and 3.7).
 #![tactic(auto)]
 
+mod cells;
 pub mod chains;
+mod changes;
+pub mod entries;
+pub mod levels;
 pub mod places;
+pub mod storage;
+pub mod targets;
 pub mod variables;
 
 pub use chains::chain;
+pub use entries::{Locals, Roots};
+pub use storage::Memory;
 pub use variables::Variable;

@@ -1,0 +1,44 @@
+//! Memory: scalars, and the cells of whole variables.
+ghost use Rattle.std.specs.Prelude.{◌≡◌, IsSome, option_map};
+ghost use Rattle.spv_base.specs.declared.values.Value.{Scalar, out-Value};
+ghost use Rattle.spv_mem.specs.Memory.{IsScalarAt, LoadsCell, root_value};
+ghost use Rattle.spv_types.specs.Rows.{leaves};
+ghost use Rattle.spv_types.specs.Shapes.{scalar_in};
+
+use crate::storage::{Memory, id_in};
+use spv_base::{Cell, MemErr, Pointer, Root};
+use spv_values::Part;
+
+/// The cell of a scalar.
+#[tactic(auto, using(crate::proofs::CellLemmas::one_leaf, crate::proofs::CellLemmas::is_scalar))]
+fn cell_of(part: &Part) -> Cell
+    requires { IsSome (scalar_in (out-Value part.now)) }
+    ensures { part.now ≡ Scalar result }
+{
+    let cells = part.cells();
+    cells[0]
+}
+
+impl Memory {
+    /// The scalar that a pointer of an invocation names. It takes no memory.
+    ///
+    /// `OutOfBounds` exactly where there is no such variable or part.
+    pub fn load_cell(&self, inv: u32, p: &Pointer) -> Result<Cell, MemErr>
+        requires { IsScalarAt self.now inv p.now }
+        ensures { LoadsCell self.now inv p.now result }
+    {
+        match self.part(inv, p) {
+            Some(part) => Ok(cell_of(&part)),
+            None => Err(MemErr::OutOfBounds),
+        }
+    }
+
+    /// The cells of a variable, in its order. None exactly where there is no such variable. It takes no memory.
+    pub fn root_cells(&self, inv: u32, root: &Root) -> Option<&[Cell]>
+        ensures { option_map (λ cells. cells.now) result ≡ option_map leaves (root_value self.now inv root.now) }
+    {
+        let id = id_in(*root);
+        let roots = self.roots(inv, *root)?;
+        roots.cells(id, self.targets.place(id))
+    }
+}

@@ -1,0 +1,147 @@
+//! The variables of the frames of an invocation, by depth.
+ghost use Rattle.std.specs.Prelude.{◌≡◌, ◌<◌, ◌≤◌, ◌++◌, [], ◌∷◌, IfOk, OnOk, OnErr, length, slice_get, slice_set, option_copied, MatchOption};
+ghost use Rattle.spv_mem.specs.Levels.{ExchangesAt, ExchangesLevel, FitAt, FitLevel, MayBePutAt, MayBePutLevel};
+
+use crate::entries::Locals;
+use crate::targets::Target;
+use spv_base::{NoMemory, Path};
+use spv_types::TypeTable;
+use spv_values::Row;
+use std::alloc::Global;
+use std::marker::Model;
+
+/// The locals of an invocation. Contracts see their list, by depth, and how many there is room for.
+#[derive(Drop)]
+pub(crate) struct Levels {
+    list: Vec<Locals>,
+    room: u32,
+}
+
+impl Model for Levels {
+    ghost use Rattle.std.specs.Prelude.{◌≤◌, vec_capacity};
+    ghost use Rattle.std.specs.Coded.{codes};
+    ghost use Rattle.spv_base.specs.contracts.values.Value as value;
+    ghost use Rattle.spv_mem.specs.Memory.{Levels as Listed};
+
+    ghost Value = { Listed };
+
+    ghost coded = { Prim.hlevel (codes, value.the_row.coded) };
+
+    ghost view = { λ l. record { list = l.list.items; room = l.room } };
+
+    ghost invariant = { λ l. l.room ≤ vec_capacity l.list };
+}
+
+impl Levels {
+    /// No locals, with room for so many.
+    pub(crate) fn new(alloc: Global, room: u32) -> Result<Levels, NoMemory>
+        ensures { IfOk result (λ levels. levels ≡ record { list = []; room = room }) }
+    {
+        Ok(Levels {
+            list: Vec::with_capacity(alloc, room as usize)?,
+            room,
+        })
+    }
+
+    /// The locals of a depth.
+    pub(crate) fn get(&self, depth: u32) -> Option<&Locals>
+        ensures { option_copied result ≡ slice_get self.now.list depth }
+    {
+        self.list.get(depth as usize)
+    }
+
+    /// Adds locals at the end.
+    pub(crate) fn push(&mut self, locals: Locals) -> Result<(), NoMemory>
+        ensures ok { OnOk result (self.new ≡ record self.old { list = self.old.list ++ locals ∷ [] }) }
+        ensures err { OnErr result (self.new ≡ self.old) }
+    {
+        self.list.push(locals)?;
+        Ok(())
+    }
+
+    /// Adds locals at the end, where there is room. It takes no memory.
+    pub(crate) fn give_back(&mut self, locals: Locals)
+        requires { length self.old.list < self.old.room }
+        ensures { self.new ≡ record self.old { list = self.old.list ++ locals ∷ [] } }
+    {
+        self.list.push_reserved(locals);
+    }
+
+    /// Takes the last locals away.
+    pub(crate) fn pop(&mut self) -> Option<Locals>
+        ensures room { self.new.room ≡ self.old.room }
+        ensures list { MatchOption result ((self.old.list ≡ []) × (self.new.list ≡ [])) (λ last. self.old.list ≡ self.new.list ++ last ∷ []) }
+    {
+        self.list.pop()
+    }
+
+    /// Exchanges the part that a path names in the variable with an id of a depth, and says whether there is such a part.
+    pub(crate) fn exchange(
+        &mut self,
+        types: &TypeTable,
+        target: Target,
+        depth: u32,
+        id: u32,
+        path: &Path,
+        other: &mut Row,
+    ) -> bool
+        requires fit { ∥ FitAt types.now target.ty id self.old.list depth ∥₁ }
+        requires may { ∥ MayBePutAt types.now target.ty id self.old.list depth path.now other.old ∥₁ }
+        ensures room { self.new.room ≡ self.old.room }
+        ensures list { ExchangesAt self.old.list depth id path.now other.old self.new.list other.new result }
+    {
+        exchange_at(
+            &mut self.list,
+            depth as usize,
+            types,
+            target,
+            id,
+            path,
+            other,
+        )
+    }
+}
+
+/// Exchanges the part that a path names in the variable with an id of one of some lists, and says whether there is such a part.
+pub(crate) fn exchange_at(
+    lists: &mut [Locals],
+    k: usize,
+    types: &TypeTable,
+    target: Target,
+    id: u32,
+    path: &Path,
+    other: &mut Row,
+) -> bool
+    requires fit { ∥ FitAt types.now target.ty id lists.old k ∥₁ }
+    requires may { ∥ MayBePutAt types.now target.ty id lists.old k path.now other.old ∥₁ }
+    ensures { ExchangesAt lists.old k id path.now other.old lists.new other.new result }
+{
+    if k < lists.len() {
+        lists[k].exchange(types, target, id, path, other)
+    } else {
+        false
+    }
+}
+
+/// Exchanges the part that a path names in the variable with an id of a depth of an invocation, and says whether there is such
+/// a part.
+pub(crate) fn exchange_level(
+    levels: &mut [Levels],
+    k: usize,
+    types: &TypeTable,
+    target: Target,
+    depth: u32,
+    id: u32,
+    path: &Path,
+    other: &mut Row,
+) -> bool
+    requires fit { ∥ FitLevel types.now target.ty id levels.old k depth ∥₁ }
+    requires may { ∥ MayBePutLevel types.now target.ty id levels.old k depth path.now other.old ∥₁ }
+    ensures { ExchangesLevel levels.old k depth id path.now other.old levels.new other.new result }
+{
+    if k < levels.len() {
+        levels[k].exchange(types, target, depth, id, path, other)
+    } else {
+        false
+    }
+}
