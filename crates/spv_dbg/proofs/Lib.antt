@@ -2,3 +2,4 @@ pub mod PlaceLemmas
 pub mod OperandLemmas
 pub mod MeasureLemmas
 pub mod InlinedLemmas
+pub mod WellformedLemmas

@@ -6,5 +6,6 @@ pub mod Forming
 pub mod Places
 pub mod Sources
 pub mod Seen
+pub mod Wellformed
 pub mod Tables
 pub mod Inside

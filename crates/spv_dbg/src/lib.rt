@@ -8,6 +8,7 @@ mod inlined;
 mod insts;
 mod keyed;
 mod kinds;
+mod laws;
 mod literals;
 mod marks;
 mod measures;
@@ -19,4 +20,5 @@ mod tables;
 
 pub use frames::{Bit, ShownFrame};
 pub use insts::DebugInst;
+pub use laws::well_formed_records_are_those_of_the_table;
 pub use tables::DebugTables;
