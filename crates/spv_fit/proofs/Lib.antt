@@ -1,1 +1,2 @@
 pub mod Number_lemmas
+pub mod Given_lemmas

@@ -1,5 +1,5 @@
 -- Numbers for SpecIds that no constant has, or that don't fit the type of one that has it.
-use Rattle.std.specs.Prelude.{ℕ, ℤ, not, ◌&&◌, ◌||◌, Bool, if◌then◌else◌, List, [], ◌∷◌, Option, Some, None, Result, Ok, Err}
+use Rattle.std.specs.Prelude.{ℕ, not, ◌||◌, Bool, if◌then◌else◌, List, [], ◌∷◌, Option, Some, None, Result, Ok, Err}
 use Rattle.std.specs.List.{list_any}
 use Rattle.spv_base.specs.declared.causes.SetupRefusal.{SetupRefusal}
 use Rattle.spv_base.specs.declared.instructions.Inst.{Inst}

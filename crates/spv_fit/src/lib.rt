@@ -1,6 +1,9 @@
 //! The fit of a setup to a module: what a run over both starts with.
 #![tactic(auto)]
 
+mod bytes;
+mod fitting;
+mod given;
 mod numbers;
 
-pub use numbers::check_numbers;
+pub use fitting::fit;

@@ -143,7 +143,15 @@ pub fn check_numbers(
     let table = Table::new(alloc, over.copy(alloc)?.into_vec())?;
     let misfits = misfits(alloc, index, types, &table, index.insts())?;
     let known = known(alloc, index, index.insts())?;
-    match unfit_line(index, types, &table, &known, &misfits, over.as_slice(), lines) {
+    match unfit_line(
+        index,
+        types,
+        &table,
+        &known,
+        &misfits,
+        over.as_slice(),
+        lines,
+    ) {
         None => Ok(()),
         Some(line) => Err(Fail::Refused(SetupRefusal { code: 8, line })),
     }

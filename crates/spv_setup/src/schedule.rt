@@ -18,7 +18,8 @@ const TOO_MANY_ENTRIES: Fail<SetupRefusal> = Fail::Refused(SetupRefusal { code: 
 
 /// Whether each `move` names an invocation that exists. Else S5 at the lowest line that doesn't.
 pub fn check_moves(invocations: u32, runs: &[Run]) -> Result<(), SetupRefusal>
-    ensures { result ≡ check_moves invocations runs.now }
+    ensures due { result ≡ check_moves invocations runs.now }
+    ensures exist { OnOk result (stray_line invocations runs.now ≡ None) }
 {
     for run in runs {
         if let Run::Move {

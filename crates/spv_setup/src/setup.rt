@@ -1,5 +1,5 @@
 //! The setup of a run, as its text sets it.
-ghost use Rattle.std.specs.Prelude.{◌≡◌, ◌≤◌, ◌<◌, None, length, option_copied};
+ghost use Rattle.std.specs.Prelude.{◌≡◌, ◌≤◌, ◌<◌, None, OnOk, length, option_copied};
 ghost use Rattle.spv_base.specs.Answers.{Answers};
 ghost use Rattle.spv_line.specs.Words.{words_in};
 ghost use Rattle.spv_setup.specs.Settings.{is_head, settings_of, group_of};
@@ -116,7 +116,8 @@ impl Setup {
 
     /// Looks whether each `move` names an invocation that exists. Else S5 at the lowest line that doesn't.
     pub fn check_moves(&self, invocations: u32) -> Result<(), SetupRefusal>
-        ensures { result ≡ check_moves invocations self.now.runs }
+        ensures due { result ≡ check_moves invocations self.now.runs }
+        ensures exist { OnOk result (stray_line invocations self.now.runs ≡ None) }
     {
         check_moves(invocations, self.settings.runs.as_slice())
     }

@@ -146,6 +146,9 @@ fn schedule_is_written_out(rt: HostRuntime) -> Result<(), test::Fail> {
         rt.alloc(),
         b"spvdbg-setup 1\nmove 2 2\nmove 1 0\nrounds 2\n",
     )?;
+    if setup.check_moves(3).is_err() {
+        return Err("no invocation 2".into());
+    }
     let schedule = setup.schedule(rt.alloc(), 3)?;
     assert_eq!(rt; schedule.len(), 8);
     assert_eq!(rt;

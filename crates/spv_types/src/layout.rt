@@ -42,7 +42,7 @@ impl TypeTable {
 
     /// The bytes of a type, where all sizes are known.
     #[tactic(auto, unfolding(crate::specs::Layout::size_of))]
-    fn whole_size(&self, sizes: &[u64], ty: u32) -> u64
+    pub fn whole_size(&self, sizes: &[u64], ty: u32) -> u64
         requires sizes { AreSizes self.now sizes.now }
         requires all { length sizes.now ≡ length self.now }
         ensures { result ≡ size_of self.now ty }
@@ -83,7 +83,7 @@ impl TypeTable {
     }
 
     /// The bytes of each type, by its number.
-    pub(crate) fn sizes(&self, alloc: Global) -> Result<Vec<u64>, NoMemory>
+    pub fn sizes(&self, alloc: Global) -> Result<Vec<u64>, NoMemory>
         ensures sizes { IfOk result (λ sizes. AreSizes self.now sizes.items) }
         ensures all { IfOk result (λ sizes. length sizes.items ≡ length self.now) }
     {

@@ -1,0 +1,185 @@
+//! The bytes of the blocks of variables, which a setup gives.
+ghost use Rattle.std.specs.Prelude.{◌≡◌, ℕ, length, option_copied};
+ghost use Rattle.std.specs.BTreeMap.{get};
+ghost use Rattle.spv_base.specs.Answers.{Answers};
+ghost use Rattle.spv_index.specs.Keys.{pair_cmp};
+ghost use Rattle.spv_types.specs.Types.{form_of};
+ghost use Rattle.spv_types.specs.Blocks.{is_block_variable, target_of};
+ghost use Rattle.spv_types.specs.Measured.{AreSizes};
+ghost use Rattle.spv_fit.specs.Given as due;
+
+use crate::given::{Given, given_by_pairs};
+use spv_base::{Fail, Inst, SetupRefusal};
+use spv_index::Index;
+use spv_ops::{decoration, op, storage_class};
+use spv_setup::Setup;
+use spv_types::{Form, TypeTable, lit_at};
+use std::alloc::Global;
+use std::collections::BTreeMap;
+
+/// A variable of a block has no bytes.
+const NO_BYTES: Fail<SetupRefusal> = Fail::Refused(SetupRefusal { code: 6, line: 0 });
+
+/// Whether an instruction is a variable of a class whose variables point to blocks.
+fn is_block_variable(inst: &Inst) -> bool
+    ensures { result ≡ is_block_variable inst.now }
+{
+    let class = lit_at(inst, 0);
+    inst.op == op::VARIABLE
+        && (class == storage_class::UNIFORM
+            || class == storage_class::STORAGE_BUFFER
+            || class == storage_class::PUSH_CONSTANT)
+}
+
+/// The target of a pointer type, or 0.
+fn target(types: &TypeTable, ty: u32) -> u32
+    ensures { result ≡ target_of (form_of types.now ty) }
+{
+    match types.form(ty) {
+        Some(Form::Pointer { target, .. }) => *target,
+        _ => 0,
+    }
+}
+
+/// The bytes of a variable of a block.
+fn given_to(
+    index: &Index,
+    setup: &Setup,
+    pairs: &BTreeMap<(u32, u32), Given>,
+    inst: &Inst,
+) -> Option<Given>
+    requires { (set binding : ℕ) → get pair_cmp pairs.now (set, binding) ≡ due.given_at setup.now.buffers set binding }
+    ensures { result ≡ due.given_to index.now.insts setup.now inst.now }
+{
+    if lit_at(inst, 0) == storage_class::PUSH_CONSTANT {
+        return match setup.push() {
+            None => None,
+            Some(push) => Some(Given::of_push(push)),
+        };
+    }
+    let set = index.decoration(inst.id, decoration::DESCRIPTOR_SET)?;
+    let binding = index.decoration(inst.id, decoration::BINDING)?;
+    pairs.get(&(set, binding)).copied()
+}
+
+/// Whether a variable of a block has no bytes.
+fn lacks_bytes(
+    index: &Index,
+    setup: &Setup,
+    pairs: &BTreeMap<(u32, u32), Given>,
+    inst: &Inst,
+) -> bool
+    requires { (set binding : ℕ) → get pair_cmp pairs.now (set, binding) ≡ due.given_at setup.now.buffers set binding }
+    ensures { result ≡ due.lacks_bytes index.now.insts setup.now inst.now }
+{
+    is_block_variable(inst) && given_to(index, setup, pairs, inst).is_none()
+}
+
+/// Whether one of some instructions is a variable of a block that has no bytes.
+fn some_lack(
+    index: &Index,
+    setup: &Setup,
+    pairs: &BTreeMap<(u32, u32), Given>,
+    insts: &[Inst],
+) -> bool
+    requires { (set binding : ℕ) → get pair_cmp pairs.now (set, binding) ≡ due.given_at setup.now.buffers set binding }
+    ensures { result ≡ due.some_lack index.now.insts setup.now insts.now }
+{
+    for inst in insts {
+        if lacks_bytes(index, setup, pairs, inst) {
+            return true;
+        }
+    }
+    false
+}
+
+/// The lower of two lines.
+fn lower(a: Option<u32>, b: Option<u32>) -> Option<u32>
+    ensures { result ≡ due.lower a b }
+{
+    match (a, b) {
+        (Some(a), Some(b)) => Some(a.min(b)),
+        (Some(a), None) => Some(a),
+        (None, b) => b,
+    }
+}
+
+/// The line of bytes that are fewer than a size.
+fn short_line(size: u64, given: Option<Given>) -> Option<u32>
+    ensures { result ≡ due.short_line size given }
+{
+    let given = given?;
+    if given.bytes < size {
+        Some(given.line)
+    } else {
+        None
+    }
+}
+
+/// The line of bytes that are fewer than the fixed part of a variable's block.
+fn short_for(
+    index: &Index,
+    types: &TypeTable,
+    sizes: &[u64],
+    setup: &Setup,
+    pairs: &BTreeMap<(u32, u32), Given>,
+    inst: &Inst,
+) -> Option<u32>
+    requires pairs { (set binding : ℕ) → get pair_cmp pairs.now (set, binding) ≡ due.given_at setup.now.buffers set binding }
+    requires sizes { AreSizes types.now sizes.now }
+    requires all { length sizes.now ≡ length types.now }
+    ensures { result ≡ due.short_for index.now.insts types.now setup.now inst.now }
+{
+    if !is_block_variable(inst) {
+        return None;
+    }
+    let size = types.whole_size(sizes, target(types, inst.ty));
+    short_line(size, given_to(index, setup, pairs, inst))
+}
+
+/// The lowest line of bytes that are too few for one of some instructions.
+fn lowest_short(
+    index: &Index,
+    types: &TypeTable,
+    sizes: &[u64],
+    setup: &Setup,
+    pairs: &BTreeMap<(u32, u32), Given>,
+    insts: &[Inst],
+) -> Option<u32>
+    requires pairs { (set binding : ℕ) → get pair_cmp pairs.now (set, binding) ≡ due.given_at setup.now.buffers set binding }
+    requires sizes { AreSizes types.now sizes.now }
+    requires all { length sizes.now ≡ length types.now }
+    ensures { result ≡ due.lowest_short index.now.insts types.now setup.now insts.now }
+{
+    let mut lowest = None;
+    let mut n = insts.len();
+    'back: while n > 0 {
+        n -= 1;
+        lowest = lower(
+            short_for(index, types, sizes, setup, pairs, &insts[n]),
+            lowest,
+        );
+    }
+    lowest
+}
+
+/// Looks whether each variable of a block has bytes, and no fewer than the fixed part of its block. Else S6 at line 0 where one
+/// has none, or S7 at the lowest line of bytes that are too few.
+pub fn check_bytes(
+    alloc: Global,
+    index: &Index,
+    types: &TypeTable,
+    setup: &Setup,
+) -> Result<(), Fail<SetupRefusal>>
+    ensures { Answers (due.check_bytes index.now.insts types.now setup.now) result }
+{
+    let pairs = given_by_pairs(alloc, setup.buffers().as_slice())?;
+    if some_lack(index, setup, &pairs, index.insts()) {
+        return Err(NO_BYTES);
+    }
+    let sizes = types.sizes(alloc)?;
+    match lowest_short(index, types, &sizes, setup, &pairs, index.insts()) {
+        None => Ok(()),
+        Some(line) => Err(Fail::Refused(SetupRefusal { code: 7, line })),
+    }
+}
