@@ -9,7 +9,7 @@ import os
 import sys
 import tempfile
 
-from spirv import BOOL, FIRST_FREE, FUNCTION_TYPE, MAIN, ONE, TRUE, UINT, VOID
+from spirv import BOOL, FIRST_FREE, FUNCTION_TYPE, MAIN, ONE, PATIENCE, TRUE, UINT, VOID
 from spirv import inst, main_of, measure, module, text, write_section
 
 MOST_WORDS = 65_535
@@ -253,9 +253,10 @@ def main():
                 file.write(data)
             small = len(data) < SMALL
             ours, theirs, memory = measure(program, path, small)
-            val = "%.1f ms" % (theirs * 1000) if theirs is not None else ""
+            val = "%.1f ms" % (theirs * 1000) if theirs is not None else "over %d s" % PATIENCE if small else ""
+            slower = small and theirs is not None and ours > theirs
             lines.append("| %s | %s | %.1f ms | %s | %.1f MiB |" % (name, format(len(data), ","), ours * 1000, val, memory))
-            if small and (ours > theirs or memory > SMALL_MEMORY) or ours > MOST_SECONDS or memory > MOST_MEMORY:
+            if slower or small and memory > SMALL_MEMORY or ours > MOST_SECONDS or memory > MOST_MEMORY:
                 over.append(name)
                 lines[-1] += " over"
             print(lines[-1], flush=True)
