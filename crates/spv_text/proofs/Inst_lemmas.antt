@@ -2,6 +2,7 @@
 use Rattle.std.proofs.Common.{◌≡◌, ℕ, zero, suc, ◌<◌, ◌≤◌, List, [], ◌∷◌, ◌++◌, Option, Some, Result, Err, length, map, get_or, refl, sym, ap, ◌∙◌, subst, arith, ◌⊎◌, inl, inr}
 use Rattle.std.specs.Prelude.{IsSome}
 use Rattle.std.proofs.lemmas.Bool.{cases_lt}
+use Rattle.std.specs.List.{AllByRecursion}
 use Rattle.spv_base.specs.declared.instructions.Inst.{Inst}
 use Rattle.spv_base.specs.declared.instructions.Operand.{Operand}
 use Rattle.spv_ops.specs.declared.forms.Head.{Head}
@@ -16,9 +17,10 @@ use Rattle.spv_base.specs.declared.causes.Fail.{Fail}
 use Rattle.spv_base.specs.declared.causes.Fail.TheVariants.{Refused}
 use Rattle.spv_text.specs.declared.lines.Wrong.{Wrong}
 use Rattle.spv_text.specs.declared.lines.Wrong.TheVariants.{WrongForm}
+use Rattle.spv_text.specs.Lines.{IsLine, IsNumber, IsOperand, IsPart}
 use Rattle.spv_text.specs.Listing.{head_parts, line_of, name_of, parts_of}
-use Rattle.spv_text.specs.Reading.{HasPlace, IsOpcode, IsWrongLine}
-use Rattle.spv_text.proofs.Name_lemmas.{one_opcode}
+use Rattle.spv_text.specs.Reading.{HasLineAt, HasPlace, IsOpcode, IsWrongLine, StandsAt}
+use Rattle.spv_text.proofs.Name_lemmas.{one_opcode, opcode_name}
 
 -- ---- operands
 
@@ -154,3 +156,38 @@ pub split_wrong : (row : Row) (op word : ℕ) (line : Line) → row_of op ≡ So
     → ((ty id : ℕ) (operands : List Operand) → HasHead row.2 ty id → line.parts ≡ head_parts row.2 ty id ++ map part.Operand operands → ⊥) → IsWrongLine WrongForm word line
 split_wrong row op word line e named none =
     parts_wrong op word line named (subst (λ (r : Option Row). (ty id : ℕ) (operands : List Operand) → HasHead (head_of r) ty id → line.parts ≡ head_parts (head_of r) ty id ++ map part.Operand operands → ⊥) (sym e) none)
+
+-- ---- the range of an instruction's numbers and bytes, and its line
+
+operands_written : (operands : List Operand) → AllByRecursion IsOperand operands → AllByRecursion IsPart (map part.Operand operands)
+operands_written [] h = tt
+operands_written (x ∷ operands) h = (h.0, operands_written operands h.1)
+
+written_operands : (operands : List Operand) → AllByRecursion IsPart (map part.Operand operands) → AllByRecursion IsOperand operands
+written_operands [] h = tt
+written_operands (x ∷ operands) h = (h.0, written_operands operands h.1)
+
+head_written : (h : Head) (ty id : ℕ) (parts : List Part) → IsNumber ty → IsNumber id → AllByRecursion IsPart parts → AllByRecursion IsPart (head_parts h ty id ++ parts)
+head_written head.Plain ty id parts a b k = k
+head_written head.Result ty id parts a b k = (b, k)
+head_written head.TypedResult ty id parts a b k = (a, (b, k))
+
+zero_fits : (n : ℕ) → n ≡ 0 → IsNumber n
+zero_fits n e = omega arith
+
+written_head : (h : Head) (ty id : ℕ) (parts : List Part) → HasHead h ty id → AllByRecursion IsPart (head_parts h ty id ++ parts) → IsNumber ty × IsNumber id × AllByRecursion IsPart parts
+written_head head.Plain ty id parts h k = (zero_fits ty h.0, zero_fits id h.1, k)
+written_head head.Result ty id parts h k = (zero_fits ty h, k.0, k.1)
+written_head head.TypedResult ty id parts h k = (k.0, k.1.0, k.1.1)
+
+pub range_line : (word : ℕ) (inst : Inst) → StandsAt word inst → IsLine (line_of inst)
+range_line word inst h =
+    let place = formed_place inst (inst_formed inst h.0) in
+    let range = h.2 in
+    (range.0, opcode_name inst.op place.opcode, head_written (head_of (row_of inst.op)) inst.ty inst.id (map part.Operand inst.operands) range.1 range.2 (operands_written inst.operands range.3))
+
+pub line_range : (word : ℕ) (inst : Inst) → HasLineAt word inst → StandsAt word inst
+line_range word inst h =
+    let place = formed_place inst (inst_formed inst h.0) in
+    let it = written_head (head_of (row_of inst.op)) inst.ty inst.id (map part.Operand inst.operands) place.head h.2.2 in
+    (h.0, h.1, (h.2.0, it.0, it.1, written_operands inst.operands it.2))

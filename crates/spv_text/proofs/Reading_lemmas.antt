@@ -18,7 +18,7 @@ use Rattle.spv_text.specs.Lines.{Any, IsLine, Lacks, Stands}
 use Rattle.spv_text.specs.Listing.{line_of, listing}
 use Rattle.spv_text.specs.Reading.{code_of, word_behind, IsAnswer, AreInsts, IsOpcode, IsRead, IsWrong, IsWrongLine, StandsAt, StopsAt}
 use Rattle.spv_text.proofs.Line_lemmas.{line_split, one_line}
-use Rattle.spv_text.proofs.Inst_lemmas.{formed_place, inst_formed, one_inst}
+use Rattle.spv_text.proofs.Inst_lemmas.{formed_place, inst_formed, one_inst, range_line}
 
 -- ---- one more instruction
 
@@ -83,10 +83,10 @@ Blocked : ℕ → List ℕ → Type 0
 Blocked word rest = (rest ≡ []) ⊎ ((wrong : Wrong) × IsWrong wrong word rest)
 
 wrong_not : (wrong : Wrong) (word : ℕ) (text rest : List ℕ) (inst : Inst) → IsWrong wrong word text → StandsAt word inst → text ≡ line_text (line_of inst) ++ rest → ⊥
-wrong_not NoLine word text rest inst h k e = h (line_of inst) rest k.2 e tt
-wrong_not UnknownName word text rest inst h k e = right UnknownName word h.0 inst k (stands_once text h.1 rest h.0 (line_of inst) h.2 (k.2, e, tt)).0 h.3
-wrong_not WrongForm word text rest inst h k e = right WrongForm word h.0 inst k (stands_once text h.1 rest h.0 (line_of inst) h.2 (k.2, e, tt)).0 h.3
-wrong_not Misplaced word text rest inst h k e = right Misplaced word h.0 inst k (stands_once text h.1 rest h.0 (line_of inst) h.2 (k.2, e, tt)).0 h.3
+wrong_not NoLine word text rest inst h k e = h (line_of inst) rest (range_line word inst k) e tt
+wrong_not UnknownName word text rest inst h k e = right UnknownName word h.0 inst k (stands_once text h.1 rest h.0 (line_of inst) h.2 (range_line word inst k, e, tt)).0 h.3
+wrong_not WrongForm word text rest inst h k e = right WrongForm word h.0 inst k (stands_once text h.1 rest h.0 (line_of inst) h.2 (range_line word inst k, e, tt)).0 h.3
+wrong_not Misplaced word text rest inst h k e = right Misplaced word h.0 inst k (stands_once text h.1 rest h.0 (line_of inst) h.2 (range_line word inst k, e, tt)).0 h.3
 
 line_some : (line : Line) (rest : List ℕ) → [] ≡ line_text line ++ rest → ⊥
 line_some line rest e = by (decimal line.word) (e ∙ line_split line rest)
@@ -104,7 +104,7 @@ no_inst word text rest inst (inr h) k f = wrong_not h.0 word text rest inst h.1 
 
 same_first : (word : ℕ) (x y : Inst) (r s : List ℕ) → StandsAt word x → StandsAt word y → line_text (line_of x) ++ r ≡ line_text (line_of y) ++ s → (x ≡ y) × (r ≡ s)
 same_first word x y r s h k e =
-    let one = one_line (line_of x) (line_of y) r s h.2 k.2 e in
+    let one = one_line (line_of x) (line_of y) r s (range_line word x h) (range_line word y k) e in
     (one_inst x y (formed_place x (inst_formed x h.0)) (formed_place y (inst_formed y k.0)) one.0, one.1)
 
 compare : (word : ℕ) (xs ys : List Inst) (r s : List ℕ) → AreInsts word xs → AreInsts word ys → Blocked (word_behind word xs) r → Blocked (word_behind word ys) s

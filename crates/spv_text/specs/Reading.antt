@@ -1,5 +1,6 @@
 -- Which texts are listings, and why a text is none: its lowest line that is wrong, and what is wrong with it.
 use Rattle.std.specs.Prelude.{◌≡◌, ◌≢◌, ℕ, ◌+◌, ◌<◌, ◌⊎◌, IsSome, List, [], ◌∷◌, ◌++◌, length, Result, Ok, Err}
+use Rattle.std.specs.List.{AllByRecursion}
 use Rattle.spv_base.specs.declared.causes.Fail.{Fail}
 use Rattle.spv_base.specs.declared.causes.Fail.TheVariants.{Refused, NoMemory}
 use Rattle.spv_base.specs.declared.causes.Refusal.{Refusal}
@@ -10,7 +11,7 @@ use Rattle.spv_text.specs.declared.lines.Line.{Line}
 use Rattle.spv_text.specs.declared.lines.Wrong.{Wrong}
 use Rattle.spv_text.specs.declared.lines.Wrong.TheVariants.{NoLine, UnknownName, WrongForm, Misplaced}
 use Rattle.spv_text.specs.Spelling.{line_text}
-use Rattle.spv_text.specs.Lines.{Any, IsLine, Lacks, Stands}
+use Rattle.spv_text.specs.Lines.{Any, IsLine, IsNumber, IsOperand, Lacks, Stands}
 use Rattle.spv_text.specs.Listing.{line_of, listing, name_of}
 
 -- ---- modules
@@ -20,9 +21,17 @@ abbrev pub word_behind : ℕ → List Inst → ℕ
 word_behind word [] = word
 word_behind word (inst ∷ insts) = word_behind (word + length (encoding inst)) insts
 
--- an instruction that stands at this word, with numbers of 32 bits and strings of bytes, as all are that the program has
+-- numbers of 32 bits and strings of bytes, as all are that the program has
+abbrev pub HasRange : Inst → Type 0
+HasRange inst = IsNumber inst.word × IsNumber inst.ty × IsNumber inst.id × AllByRecursion IsOperand inst.operands
+
+-- an instruction that stands at this word
 abbrev pub StandsAt : ℕ → Inst → Type 0
-StandsAt word inst = IsInst inst × (inst.word ≡ word) × IsLine (line_of inst)
+StandsAt word inst = IsInst inst × (inst.word ≡ word) × HasRange inst
+
+-- the same, by its line
+abbrev pub HasLineAt : ℕ → Inst → Type 0
+HasLineAt word inst = IsInst inst × (inst.word ≡ word) × IsLine (line_of inst)
 
 -- the instructions of a module: the first stands at this word, each other behind the words of the one before
 abbrev pub AreInsts : ℕ → List Inst → Type 0

@@ -9,7 +9,7 @@ ghost use Rattle.spv_ops.specs.Steps.{seen};
 ghost use Rattle.spv_text.specs.declared.lines.Wrong.{Wrong};
 ghost use Rattle.spv_text.specs.Spelling.{line_text};
 ghost use Rattle.spv_text.specs.Listing.{line_of};
-ghost use Rattle.spv_text.specs.Reading.{code_of, IsAnswer, IsRead, IsWrong, StandsAt};
+ghost use Rattle.spv_text.specs.Reading.{code_of, IsAnswer, IsRead, IsWrong, HasLineAt};
 
 use crate::inst_reading::inst_of;
 use crate::line_reading::line_at;
@@ -37,7 +37,7 @@ impl Wrong {
 /// The instruction of the first line of a text, which is to stand at this word, the number of its words, and what follows
 /// the line.
 fn next_inst(alloc: Global, text: &[u8], word: u64) -> Result<(Inst, u64, &[u8]), Fail<Wrong>>
-    ensures ok { IfOk result (λ it. StandsAt word it.0 × (text.now ≡ line_text (line_of it.0) ++ it.2.now) × (it.1 ≡ length (encoding it.0))) }
+    ensures ok { IfOk result (λ it. HasLineAt word it.0 × (text.now ≡ line_text (line_of it.0) ++ it.2.now) × (it.1 ≡ length (encoding it.0))) }
     ensures few { IfOk result (λ it. it.1 ≤ 65535) }
     ensures err { (wrong : Wrong) → result ≡ Err (Refused wrong) → IsWrong wrong word text.now }
 {

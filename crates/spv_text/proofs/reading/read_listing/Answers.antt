@@ -2,6 +2,7 @@ use Rattle.std.proofs.Common.{◌≡◌, ◌+◌, ◌<◌, ◌++◌, [], ◌∷�
 use Rattle.std.proofs.lemmas.List.{append-nil}
 use Rattle.spv_text.specs.Listing.{listing}
 use Rattle.spv_text.specs.Reading.{code_of, AreInsts, IsWrong, StandsAt, word_behind}
+use Rattle.spv_text.proofs.Inst_lemmas.{line_range}
 use Rattle.spv_text.proofs.Reading_lemmas.{behind_more, empty_when, some_when, init_stand, init_whole, next_short, next_whole, one_more, one_reading, stand_more}
 use Rattle.spv_text.proofs.reading.read_listing.Goals as goal
 
@@ -46,7 +47,7 @@ loop-rest-preserved c =
     let short : length more < length rest = next_short rest more inst it.1 in
     record {
       whole = next_whole text rest more insts inst i.whole it.1 ∙ ap (λ is. listing is ++ more) (sym pushed);
-      stand = subst (λ is. AreInsts 5 is) (sym pushed) (stand_more 5 insts inst i.stand (subst (λ w. StandsAt w inst) i.word it.0));
+      stand = subst (λ is. AreInsts 5 is) (sym pushed) (stand_more 5 insts inst i.stand (subst (λ w. StandsAt w inst) i.word (line_range c.loop-rest.word inst it.0)));
       word = ap (λ w. w + c.in-Ok.next.1) i.word ∙ ap (λ n. word_behind 5 insts + n) it.2 ∙ sym (behind_more 5 insts inst) ∙ ap (λ is. word_behind 5 is) (sym pushed);
       fits = omega (arith, count, c.in-Ok.ensures.few);
       lines = omega (arith, count, short);
