@@ -1,14 +1,13 @@
 -- Sums and products that stop at the greatest of 64 bits.
-use Rattle.std.proofs.Common.{◌≡◌, ◌∙◌, Bool, true, false, ◌&&◌, nat_le, Option, Some, None, ℕ, suc, ◌+◌, ◌-◌, ◌*◌, ◌^◌, ◌<◌, ◌≤◌, List, [], ◌∷◌, length, get_or, drop, drop-cons, add-one, refl, sym, ap, arith}
-use Rattle.std.specs.Prelude.{min, max, if◌then◌else◌}
+use Rattle.std.proofs.Common.{◌≡◌, ◌∙◌, Bool, true, false, ◌&&◌, nat_le, Some, None, ℕ, ◌+◌, ◌-◌, ◌*◌, ◌^◌, ◌<◌, ◌≤◌, List, [], ◌∷◌, length, get_or, drop, drop-cons, add-one, refl, sym, ap, arith}
+use Rattle.std.specs.Prelude.{max, if◌then◌else◌}
 use Rattle.std.proofs.Math.ListN.{drop_of_length-le}
 use Rattle.std.proofs.Math.Nat.{mul_assoc}
 use Rattle.spv_types.specs.Cuts.{cut}
-use Rattle.spv_types.proofs.Cuts.{cut-add, cut-mul}
+use Rattle.spv_types.proofs.Cuts.{cut-mul}
 use Rattle.spv_valid.specs.Acceptance.{Accepted}
 use Rattle.spv_dbg.specs.declared.measures.Measure.{Measure}
 use Rattle.spv_dbg.specs.Cuts.{cut_measure}
-use Rattle.spv_dbg.specs.declared.marks.Mark.{Mark}
 use Rattle.spv_dbg.specs.Forming.{is_within, marked}
 use Rattle.spv_dbg.specs.Marks.{Marks, count_of, members, product}
 

@@ -1,6 +1,5 @@
 -- The operands behind the first two, as numbers.
-use Rattle.std.proofs.Common.{◌≡◌, ◌∙◌, ℕ, zero, suc, ◌+◌, List, [], ◌∷◌, map, drop, get_or, Option, slice_get, unwrap_or, option_map, refl, ap, arith}
-use Rattle.std.proofs.lemmas.Grind.{common_steps}
+use Rattle.std.proofs.Common.{◌≡◌, ℕ, zero, suc, ◌+◌, List, [], ◌∷◌, map, drop, get_or, slice_get, unwrap_or, option_map, refl, arith}
 use Rattle.spv_base.specs.declared.instructions.Operand.{Operand}
 use Rattle.spv_index.specs.Classes.{number_in}
 

@@ -1,8 +1,8 @@
 -- Which debug instructions are well-formed: by the table of their kinds, where they stand, and the limits on types. This is this project's profile
 -- of NonSemantic.Shader.DebugInfo.100.
-use Rattle.std.specs.Prelude.{ℕ, suc, ◌+◌, ◌==◌, ◌&&◌, ◌||◌, not, nat_le, Bool, true, false, if◌then◌else◌, List, [], ◌∷◌, ◌++◌, length, drop, slice_index, Option, Some, None}
+use Rattle.std.specs.Prelude.{ℕ, ◌+◌, ◌==◌, ◌&&◌, ◌||◌, not, nat_le, Bool, true, false, if◌then◌else◌, List, [], ◌∷◌, ◌++◌, length, drop, Option, Some, None}
 use Rattle.std.specs.Option.{is_some, option_and_then, option_map_or}
-use Rattle.std.specs.List.{list_all, list_any}
+use Rattle.std.specs.List.{list_all}
 use Rattle.spv_base.specs.Entries.{reads}
 use Rattle.spv_base.specs.declared.instructions.Inst.{Inst}
 use Rattle.spv_index.specs.Classes.{number_at}
@@ -18,7 +18,7 @@ use Rattle.spv_dbg.specs.declared.kinds.More.{More}
 use Rattle.spv_dbg.specs.declared.kinds.More.TheVariants.{Nothing, Optional, Many, Pairs}
 use Rattle.spv_dbg.specs.declared.marks.Mark.{Mark}
 use Rattle.spv_dbg.specs.declared.measures.Measure.{Measure}
-use Rattle.spv_dbg.specs.Kinds.{Kind, in_blocks_alone, kinds, numbers_for, operations}
+use Rattle.spv_dbg.specs.Kinds.{in_blocks_alone, kinds, numbers_for, operations}
 use Rattle.spv_dbg.specs.Literals.{literal_of, string_of}
 use Rattle.spv_dbg.specs.Marks.{Marks, debug_inst, is_debug, is_one_of, known, measure_of}
 

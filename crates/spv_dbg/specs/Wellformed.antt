@@ -1,5 +1,5 @@
 -- Well-formed debug instructions as a relation of instruction and module: by the row of their kind, where they stand, and the limits on types.
-use Rattle.std.specs.Prelude.{◌≡◌, ◌≢◌, ℕ, ◌≤◌, Bool, true, List, [], ◌∷◌, length, drop, Option, Some, None}
+use Rattle.std.specs.Prelude.{◌≡◌, ◌≢◌, ℕ, ◌≤◌, Bool, true, List, [], ◌∷◌, length, drop, Some}
 use Rattle.std.specs.Option.{option_and_then}
 use Rattle.spv_base.specs.Entries.{reads}
 use Rattle.spv_valid.specs.Acceptance.{Accepted}
