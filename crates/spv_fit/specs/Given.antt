@@ -1,14 +1,15 @@
 -- The bytes that a setup gives to the variables of blocks: those of the classes Uniform and StorageBuffer by their descriptor
 -- set and binding, and those of PushConstant all the same ones.
-use Rattle.std.specs.Prelude.{ℕ, ◌==◌, ◌&&◌, not, nat_lt, min, Bool, if◌then◌else◌, List, [], ◌∷◌, length, Option, Some, None, Result, Ok, Err}
+use Rattle.std.specs.Prelude.{ℕ, ◌==◌, ◌&&◌, ◌||◌, not, nat_lt, min, Bool, false, if◌then◌else◌, List, [], ◌∷◌, length, Option, Some, None, Result, Ok, Err}
 use Rattle.std.specs.List.{find, list_any}
-use Rattle.std.specs.Option.{is_some, option_map}
+use Rattle.std.specs.Option.{is_some, option_map, option_map_or}
 use Rattle.spv_base.specs.declared.causes.SetupRefusal.{SetupRefusal}
 use Rattle.spv_base.specs.declared.instructions.Inst.{Inst}
-use Rattle.spv_index.specs.Definitions.{decoration}
-use Rattle.spv_types.specs.Operands.{lit_at}
+use Rattle.spv_index.specs.Definitions.{decoration, holds}
+use Rattle.spv_index.specs.Operands.{literal_operand}
+use Rattle.spv_types.specs.declared.forms.Form.{Form}
+use Rattle.spv_types.specs.declared.forms.Form.TheVariants.{Pointer}
 use Rattle.spv_types.specs.Types.{Types, form_of}
-use Rattle.spv_types.specs.Blocks.{is_block_variable, target_of}
 use Rattle.spv_types.specs.Layout.{size_of}
 use Rattle.spv_setup.specs.declared.line.Content.{Content}
 use Rattle.spv_setup.specs.declared.line.Content.TheVariants.{Hex, Zero}
@@ -16,6 +17,20 @@ use Rattle.spv_setup.specs.declared.settings.Buffer.{Buffer}
 use Rattle.spv_setup.specs.declared.settings.Push.{Push}
 use Rattle.spv_setup.specs.declared.settings.Settings.{Settings}
 use Rattle.spv_fit.specs.declared.given.Given.{Given}
+
+-- a storage class whose variables point to blocks: Uniform, StorageBuffer and PushConstant
+abbrev pub is_block_class : ℕ → Bool
+is_block_class class = (class == 2 || class == 12) || class == 9
+
+-- an OpVariable of such a class
+abbrev pub is_block_variable : Inst → Bool
+is_block_variable i = i.op == 59 && option_map_or is_block_class (literal_operand i 0) false
+
+-- The size of the block that a pointer type points to: its fixed part, the greatest of the ends of its members, where a runtime
+-- array ends where it begins.
+abbrev pub block_size : Types → Option Form → ℕ
+block_size ts (Some (Pointer class target)) = size_of ts target
+block_size ts _ = 0
 
 -- how many bytes a line gives
 abbrev pub bytes_in : Content → ℕ
@@ -42,21 +57,20 @@ given_by buffers (Some set) (Some binding) = given_at buffers set binding
 
 -- the bytes of a variable: PushConstant is the class 9, and DescriptorSet and Binding are the decorations 34 and 33
 abbrev pub given_to : List Inst → Settings → Inst → Option Given
-given_to all s i = if lit_at i.operands 0 == 9 then option_map push_given s.push else given_by s.buffers (decoration all i.id 34) (decoration all i.id 33)
+given_to all s i = if holds 9 (literal_operand i 0) then option_map push_given s.push else given_by s.buffers (decoration all i.id 34) (decoration all i.id 33)
 
 -- a variable of a block has no bytes
 abbrev pub lacks_bytes : List Inst → Settings → Inst → Bool
 lacks_bytes all s i = is_block_variable i && not (is_some (given_to all s i))
 
--- The line of bytes that are fewer than a size. A block's size is its fixed part: the greatest of the ends of its members,
--- where a runtime array ends where it begins.
+-- the line of bytes that are fewer than a size
 abbrev pub short_line : ℕ → Option Given → Option ℕ
 short_line size None = None
 short_line size (Some given) = if nat_lt given.bytes size then Some given.line else None
 
 -- the line of bytes that are fewer than the fixed part of a variable's block
 abbrev pub short_for : List Inst → Types → Settings → Inst → Option ℕ
-short_for all ts s i = if is_block_variable i then short_line (size_of ts (target_of (form_of ts i.ty))) (given_to all s i) else None
+short_for all ts s i = if is_block_variable i then short_line (block_size ts (form_of ts i.ty)) (given_to all s i) else None
 
 abbrev pub lower : Option ℕ → Option ℕ → Option ℕ
 lower None b = b

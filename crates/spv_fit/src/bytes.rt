@@ -1,42 +1,63 @@
 //! The bytes of the blocks of variables, which a setup gives.
-ghost use Rattle.std.specs.Prelude.{◌≡◌, ℕ, length, option_copied};
+ghost use Rattle.std.specs.Prelude.{◌≡◌, ℕ, false, length};
 ghost use Rattle.std.specs.BTreeMap.{get};
 ghost use Rattle.spv_base.specs.Answers.{Answers};
 ghost use Rattle.spv_index.specs.Keys.{pair_cmp};
 ghost use Rattle.spv_types.specs.Types.{form_of};
-ghost use Rattle.spv_types.specs.Blocks.{is_block_variable, target_of};
+ghost use Rattle.std.specs.Option.{option_map_or};
+ghost use Rattle.spv_index.specs.Definitions.{holds};
+ghost use Rattle.spv_index.specs.Operands.{literal_operand};
 ghost use Rattle.spv_types.specs.Measured.{AreSizes};
 ghost use Rattle.spv_fit.specs.Given as due;
 
 use crate::given::{Given, given_by_pairs};
 use spv_base::{Fail, Inst, SetupRefusal};
-use spv_index::Index;
+use spv_index::{Index, literal_operand};
 use spv_ops::{decoration, op, storage_class};
 use spv_setup::Setup;
-use spv_types::{Form, TypeTable, lit_at};
+use spv_types::{Form, TypeTable};
 use std::alloc::Global;
 use std::collections::BTreeMap;
 
 /// A variable of a block has no bytes.
 const NO_BYTES: Fail<SetupRefusal> = Fail::Refused(SetupRefusal { code: 6, line: 0 });
 
-/// Whether an instruction is a variable of a class whose variables point to blocks.
-fn is_block_variable(inst: &Inst) -> bool
-    ensures { result ≡ is_block_variable inst.now }
+/// Whether there is a storage class, and its variables point to blocks.
+fn has_block_class(class: Option<u32>) -> bool
+    ensures { result ≡ option_map_or due.is_block_class class false }
 {
-    let class = lit_at(inst, 0);
-    inst.op == op::VARIABLE
-        && (class == storage_class::UNIFORM
-            || class == storage_class::STORAGE_BUFFER
-            || class == storage_class::PUSH_CONSTANT)
+    match class {
+        Some(class) => {
+            class == storage_class::UNIFORM
+                || class == storage_class::STORAGE_BUFFER
+                || class == storage_class::PUSH_CONSTANT
+        }
+        None => false,
+    }
 }
 
-/// The target of a pointer type, or 0.
-fn target(types: &TypeTable, ty: u32) -> u32
-    ensures { result ≡ target_of (form_of types.now ty) }
+/// Whether an instruction is a variable of such a class.
+fn is_block_variable(inst: &Inst) -> bool
+    ensures { result ≡ due.is_block_variable inst.now }
+{
+    inst.op == op::VARIABLE && has_block_class(literal_operand(inst, 0))
+}
+
+/// Whether an instruction has the storage class PushConstant as its first operand.
+fn is_push(inst: &Inst) -> bool
+    ensures { result ≡ holds 9 (literal_operand inst.now 0) }
+{
+    literal_operand(inst, 0) == Some(storage_class::PUSH_CONSTANT)
+}
+
+/// The size of the block that a pointer type points to.
+fn block_size(types: &TypeTable, sizes: &[u64], ty: u32) -> u64
+    requires sizes { AreSizes types.now sizes.now }
+    requires all { length sizes.now ≡ length types.now }
+    ensures { result ≡ due.block_size types.now (form_of types.now ty) }
 {
     match types.form(ty) {
-        Some(Form::Pointer { target, .. }) => *target,
+        Some(Form::Pointer { target, .. }) => types.whole_size(sizes, *target),
         _ => 0,
     }
 }
@@ -51,7 +72,7 @@ fn given_to(
     requires { (set binding : ℕ) → get pair_cmp pairs.now (set, binding) ≡ due.given_at setup.now.buffers set binding }
     ensures { result ≡ due.given_to index.now.insts setup.now inst.now }
 {
-    if lit_at(inst, 0) == storage_class::PUSH_CONSTANT {
+    if is_push(inst) {
         return match setup.push() {
             None => None,
             Some(push) => Some(Given::of_push(push)),
@@ -133,7 +154,7 @@ fn short_for(
     if !is_block_variable(inst) {
         return None;
     }
-    let size = types.whole_size(sizes, target(types, inst.ty));
+    let size = block_size(types, sizes, inst.ty);
     short_line(size, given_to(index, setup, pairs, inst))
 }
 
