@@ -1,11 +1,12 @@
 -- Registers by their ids, and by their numbers.
-use Rattle.std.proofs.Common.{◌≡◌, ◌∙◌, ◌⊎◌, ◌==◌, ℕ, zero, suc, ◌+◌, ◌<◌, ◌≤◌, Bool, true, false, List, [], ◌∷◌, ◌++◌, Option, Some, None, map, length, length-append, refl, sym, ap, subst, inl, inr, arith, take, drop, slice_get, slice_set}
+use Rattle.std.proofs.Common.{◌≡◌, ◌∙◌, ◌⊎◌, ◌==◌, ℕ, zero, suc, ◌+◌, ◌<◌, ◌≤◌, Bool, true, false, List, [], ◌∷◌, ◌++◌, Option, Some, None, map, length, length-append, refl, sym, ap, subst, inl, inr, arith, take, drop, unwrap_or, slice_get, slice_set}
 use Rattle.std.specs.Prelude.{if◌then◌else◌}
 use Rattle.std.specs.Option.{option_map}
 use Rattle.std.specs.List.{flat_map, zip}
 use Rattle.spv_base.specs.Entries.{reads, writes}
 use Rattle.spv_base.specs.Parts.{part_at, with_part}
 use Rattle.spv_base.specs.declared.values.Value.{Value, List as Many}
+use Rattle.spv_base.proofs.EntryLemmas.{writes_back}
 use Rattle.spv_base.proofs.PartLemmas.{out_many, slice_get-set_same}
 use Rattle.spv_types.specs.Rows.{HasRow, leaves}
 use Rattle.spv_types.proofs.RowChanges.{slot_has_row}
@@ -156,3 +157,7 @@ lies rs row s many sized slot =
 
 pub trees_many : (vs : List Value) → trees (Many vs) ≡ vs
 trees_many vs = rw (out_many vs) refl
+
+-- the old entry put back
+pub put_back : {X : Type 0} (id : ℕ) (x y : X) (es : List (ℕ × X)) → reads id es ≡ Some y → writes id y (writes id x es) ≡ es
+put_back {X} id x y es h = writes_back id x y es (ap (λ (o : Option X). unwrap_or o y) h)

@@ -118,4 +118,23 @@ impl Stack {
         let top = self.frames.len() - 1;
         self.frames[top].set_pc(pc)
     }
+
+    /// Appends a debug event to those that the top frame passed.
+    pub fn append(&mut self, event: PassedEvent) -> Result<(), NoMemory>
+        requires { self.old.frames ≢ [] }
+        ensures ok { OnOk result (self.new ≡ record self.old { frames = on_top (λ f. record f { events = f.events ++ event ∷ [] }) self.old.frames }) }
+        ensures err { OnErr result (self.new ≡ self.old) }
+    {
+        let top = self.frames.len() - 1;
+        self.frames[top].append(event)
+    }
+
+    /// Takes the last debug event of the top frame away, and gives it. It takes no memory, and undoes `append`.
+    pub fn drop_event(&mut self) -> PassedEvent
+        requires { IsSomeAnd (top self.old.frames) (λ f. f.events ≢ []) }
+        ensures { self.old ≡ record self.new { frames = on_top (λ f. record f { events = f.events ++ result ∷ [] }) self.new.frames } }
+    {
+        let top = self.frames.len() - 1;
+        self.frames[top].drop_event()
+    }
 }
