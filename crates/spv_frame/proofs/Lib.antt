@@ -1,0 +1,4 @@
+pub mod RegisterLemmas
+pub mod FrameLemmas
+pub mod PlanLemmas
+pub mod StackLemmas

@@ -1,0 +1,4 @@
+pub mod Registers
+pub mod Frames
+pub mod Plans
+pub mod Stacks

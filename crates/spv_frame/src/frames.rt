@@ -1,0 +1,169 @@
+//! Frames: the registers of a call in one row, each with a mark whether it has a value.
+ghost use Rattle.std.specs.Prelude.{◌≡◌, ◌≢◌, ◌++◌, [], ◌∷◌, IfOk, OnOk, OnErr, None, Some, false, length, option_copied, replicate};
+ghost use Rattle.spv_base.specs.Entries.{reads, writes};
+ghost use Rattle.spv_frame.specs.Frames.{Held, fresh};
+ghost use Rattle.spv_frame.specs.Registers.{IsPointerSlotOf, IsSlotOf, marked};
+ghost use Rattle.spv_types.specs.Rows.{leaves};
+
+use crate::plans::Plan;
+use crate::slots::{PointerSlot, Slot};
+use spv_base::{NoMemory, PassedEvent, Pointer};
+use spv_values::{Part, Row};
+use std::alloc::Global;
+use std::marker::Model;
+use std::mem;
+use std::rc::Rc;
+
+/// A call: where it stands, its registers, and the debug events that it passed. Its variables lie in the memory.
+#[derive(Drop)]
+pub struct Frame {
+    plan: Rc<Plan>,
+    pc: u32,
+    row: Row,
+    has: Vec<bool>,
+    pointers: Vec<Option<Pointer>>,
+    events: Vec<PassedEvent>,
+}
+
+impl Model for Frame {
+    ghost use Rattle.std.specs.Coded.{codes};
+    ghost use Rattle.spv_base.specs.contracts.values.Value as value;
+    ghost use Rattle.spv_frame.specs.Frames.{Fits, Held, shown};
+
+    ghost Value = { Held };
+
+    ghost coded = { Prim.hlevel (codes, value.the_row.coded) };
+
+    ghost view = { λ f. shown f.plan.value f.pc f.row f.has.items f.pointers.items f.events.items };
+
+    ghost invariant = { λ f. Fits f.plan.value f.row f.has.items f.pointers.items };
+}
+
+impl Frame {
+    /// A frame as it begins: at the function's first executable, with no value in any register, and no event passed.
+    pub fn new(alloc: Global, plan: &Rc<Plan>) -> Result<Frame, NoMemory>
+        ensures { IfOk result (λ frame. frame ≡ fresh plan.now.value) }
+    {
+        Ok(Frame {
+            plan: plan.clone()?,
+            pc: plan.first,
+            row: Row::of_part(alloc, &plan.blank.as_part())?,
+            has: no_marks(alloc, plan.values.len())?,
+            pointers: no_pointers(alloc, plan.pointers.len())?,
+            events: Vec::new(alloc),
+        })
+    }
+
+    /// The id of the function that runs in it.
+    pub fn function(&self) -> u32
+        ensures { result ≡ self.now.plan.function }
+    {
+        self.plan.function()
+    }
+
+    /// The word number of the next instruction.
+    pub fn pc(&self) -> u32
+        ensures { result ≡ self.now.pc }
+    {
+        self.pc
+    }
+
+    /// The debug events that were passed, the oldest first.
+    pub fn events(&self) -> &[PassedEvent]
+        ensures { result.now ≡ self.now.events }
+    {
+        self.events.as_slice()
+    }
+
+    /// The value of a register, if it has one.
+    pub fn value(&self, slot: &Slot) -> Option<Part<'_>>
+        requires { IsSlotOf self.now.plan.values slot.now }
+        ensures { reads slot.now.id self.now.values ≡ Some result }
+    {
+        if self.has[slot.number] {
+            Some(self.row.part(&slot.path, slot.start, slot.len))
+        } else {
+            None
+        }
+    }
+
+    /// The pointer of a register, if it has one.
+    pub fn pointer(&self, slot: PointerSlot) -> Option<&Pointer>
+        requires { IsPointerSlotOf self.now.plan.pointers slot }
+        ensures { reads slot.id self.now.pointers ≡ Some (option_copied result) }
+    {
+        self.pointers[slot.number].as_ref()
+    }
+
+    /// Exchanges the value of a register and its mark. It takes no memory, and the same call undoes it.
+    pub fn exchange(&mut self, slot: &Slot, value: &mut Row, has: &mut bool)
+        requires slot { IsSlotOf self.old.plan.values slot.now }
+        requires room { length (leaves value.old) ≡ slot.now.len }
+        ensures after { self.new ≡ record self.old { values = writes slot.now.id (marked value.old has.old) self.old.values } }
+        ensures handed { reads slot.now.id self.old.values ≡ Some (marked value.new has.new) }
+        ensures room { length (leaves value.new) ≡ slot.now.len }
+    {
+        self.row.exchange(&slot.path, slot.start, value);
+        mem::swap(&mut self.has[slot.number], has);
+    }
+
+    /// Exchanges the pointer of a register. It takes no memory, and the same call undoes it.
+    pub fn exchange_pointer(&mut self, slot: PointerSlot, pointer: &mut Option<Pointer>)
+        requires { IsPointerSlotOf self.old.plan.pointers slot }
+        ensures after { self.new ≡ record self.old { pointers = writes slot.id pointer.old self.old.pointers } }
+        ensures handed { reads slot.id self.old.pointers ≡ Some pointer.new }
+    {
+        mem::swap(&mut self.pointers[slot.number], pointer);
+    }
+
+    /// Goes to an instruction, and gives the word number of the one before.
+    pub fn set_pc(&mut self, pc: u32) -> u32
+        ensures after { self.new ≡ record self.old { pc = pc } }
+        ensures handed { result ≡ self.old.pc }
+    {
+        mem::replace(&mut self.pc, pc)
+    }
+
+    /// Appends a debug event that was passed.
+    pub fn append(&mut self, event: PassedEvent) -> Result<(), NoMemory>
+        ensures ok { OnOk result (self.new ≡ record self.old { events = self.old.events ++ event ∷ [] }) }
+        ensures err { OnErr result (self.new ≡ self.old) }
+    {
+        self.events.push(event)?;
+        Ok(())
+    }
+
+    /// Takes the last debug event away. It takes no memory.
+    pub fn drop_event(&mut self) -> PassedEvent
+        requires { self.old.events ≢ [] }
+        ensures after { self.new ≡ record self.old { events = self.new.events } }
+        ensures handed { self.old.events ≡ self.new.events ++ result ∷ [] }
+    {
+        match self.events.pop() {
+            Some(event) => event,
+            None => unreachable!(),
+        }
+    }
+}
+
+/// So many marks of registers without a value.
+fn no_marks(alloc: Global, count: usize) -> Result<Vec<bool>, NoMemory>
+    ensures { IfOk result (λ marks. marks.items ≡ replicate count false) }
+{
+    let mut marks = Vec::with_capacity(alloc, count)?;
+    for _number in 0..count {
+        marks.push(false)?;
+    }
+    Ok(marks)
+}
+
+/// So many places of registers without a pointer.
+fn no_pointers(alloc: Global, count: usize) -> Result<Vec<Option<Pointer>>, NoMemory>
+    ensures { IfOk result (λ places. places.items ≡ replicate count None) }
+{
+    let mut places = Vec::with_capacity(alloc, count)?;
+    for _number in 0..count {
+        places.push(None)?;
+    }
+    Ok(places)
+}

@@ -1,0 +1,178 @@
+//! What the frames of a function have: their registers, and where these lie.
+ghost use Rattle.std.specs.Prelude.{◌≡◌, ◌<◌, [], ◌∷◌, IfOk, IfSome, length};
+ghost use Rattle.spv_frame.specs.Plans.{AreApart, blank_of, slots_of, total};
+ghost use Rattle.spv_frame.specs.Registers.{IsPointerSlotOf, IsSlotOf, ids};
+
+use crate::slots::{PointerSlot, Slot};
+use spv_base::{Cell, Ghost, NoMemory, Path, Value};
+use spv_values::{Part, Row};
+use std::alloc::Global;
+use std::marker::Model;
+
+/// What the frames of a function have. Contracts see its registers.
+#[derive(Drop)]
+pub struct Plan {
+    pub(crate) function: u32,
+    pub(crate) first: u32,
+    pub(crate) parameters: Vec<u32>,
+    pub(crate) values: Vec<Slot>,
+    pub(crate) pointers: Vec<u32>,
+    /// The row of a frame in which no register has a value.
+    pub(crate) blank: Row,
+}
+
+impl Model for Plan {
+    ghost use Rattle.spv_frame.specs.Registers.{Planned};
+    ghost use Rattle.spv_frame.specs.Plans.{Keeps, rooms};
+
+    ghost Value = { Planned };
+
+    ghost view = { λ p. record { function = p.function; first = p.first; parameters = p.parameters.items; values = rooms p.values.items; pointers = p.pointers.items } };
+
+    ghost invariant = { λ p. Keeps p.values.items p.blank p.pointers.items };
+}
+
+impl Plan {
+    /// The plan of a function: the word number of its first executable, the ids of its parameters, and its registers in the order
+    /// of the module: those of values, each with the number of cells of its type, and those of pointers. It fails where memory
+    /// runs out, as it does where a row has more cells than can be counted.
+    pub fn new(
+        alloc: Global,
+        function: u32,
+        first: u32,
+        parameters: &[u32],
+        values: &[(u32, u32)],
+        pointers: &[u32],
+    ) -> Result<Plan, NoMemory>
+        requires values { AreApart (ids values.now) }
+        requires pointers { AreApart pointers.now }
+        ensures { IfOk result (λ plan. plan ≡ record { function = function; first = first; parameters = parameters.now; values = values.now; pointers = pointers.now }) }
+    {
+        Ok(Plan {
+            function,
+            first,
+            parameters: Vec::from_slice(alloc, parameters)?,
+            values: slots_of(alloc, values)?,
+            pointers: Vec::from_slice(alloc, pointers)?,
+            blank: blank_of(alloc, values)?,
+        })
+    }
+
+    /// The id of the function.
+    pub fn function(&self) -> u32
+        ensures { result ≡ self.now.function }
+    {
+        self.function
+    }
+
+    /// The word number of the function's first executable.
+    pub fn first(&self) -> u32
+        ensures { result ≡ self.now.first }
+    {
+        self.first
+    }
+
+    /// The ids of the parameters, in their order.
+    pub fn parameters(&self) -> &[u32]
+        ensures { result.now ≡ self.now.parameters }
+    {
+        self.parameters.as_slice()
+    }
+
+    /// Where the register of a value with a number lies. In constant time.
+    pub fn slot(&self, number: usize) -> &Slot
+        requires { number < length self.now.values }
+        ensures slot { IsSlotOf self.now.values result.now }
+        ensures number { result.now.number ≡ number }
+    {
+        &self.values[number]
+    }
+
+    /// Where the register of a pointer with a number lies. In constant time.
+    pub fn pointer_slot(&self, number: usize) -> PointerSlot
+        requires { number < length self.now.pointers }
+        ensures slot { IsPointerSlotOf self.now.pointers result }
+        ensures number { result.number ≡ number }
+    {
+        PointerSlot {
+            id: self.pointers[number],
+            number,
+        }
+    }
+}
+
+/// Where some registers lie.
+fn slots_of(alloc: Global, values: &[(u32, u32)]) -> Result<Vec<Slot>, NoMemory>
+    ensures { IfOk result (λ slots. slots.items ≡ slots_of values.now) }
+{
+    let mut slots = Vec::with_capacity(alloc, values.len())?;
+    let mut start: usize = 0;
+    for (number, register) in values.iter().enumerate() {
+        let len = register.1 as usize;
+        slots.push(slot_of(alloc, register.0, number, start, len)?)?;
+        start = start.checked_add(len).ok_or(NoMemory)?;
+    }
+    Ok(slots)
+}
+
+/// A slot, with the path that leads to it.
+fn slot_of(
+    alloc: Global,
+    id: u32,
+    number: usize,
+    start: usize,
+    len: usize,
+) -> Result<Slot, NoMemory>
+    ensures { IfOk result (λ slot. slot ≡ record { id = id; number = number; start = start; len = len; path = number ∷ [] }) }
+{
+    let mut path = Path::new(alloc);
+    path.push(number as u64)?;
+    Ok(Slot {
+        id,
+        number,
+        start,
+        len,
+        path,
+    })
+}
+
+/// How many cells some registers have together; none where they can't be counted.
+fn count_of(values: &[(u32, u32)]) -> Option<usize>
+    ensures { IfSome result (λ count. count ≡ total values.now) }
+{
+    let mut count: usize = 0;
+    for register in values {
+        count = count.checked_add(register.1 as usize)?;
+    }
+    Some(count)
+}
+
+/// A row for some registers, of undefined cells.
+#[tactic(auto, using(crate::proofs::PlanLemmas::blank_cells))]
+fn blank_of(alloc: Global, values: &[(u32, u32)]) -> Result<Row, NoMemory>
+    ensures { IfOk result (λ row. row ≡ blank_of values.now) }
+{
+    let count = count_of(values).ok_or(NoMemory)?;
+    let blank = Cell {
+        bits: 0,
+        width: 1,
+        defined: false,
+    };
+    let cells = vec![in alloc; blank; count]?;
+    let tree = blank_tree(values);
+    Ok(Row::of_part(alloc, &Part::with_tree(cells.as_slice(), tree))?)
+}
+
+/// The tree of a row of undefined cells.
+fn blank_tree(values: &[(u32, u32)]) -> Ghost<Value>
+    ensures { result.value ≡ blank_of values.now }
+{
+    let tree = Ghost::of();
+    blank_by(&tree, values)
+}
+
+fn blank_by(tree: &Ghost<Value>, values: &[(u32, u32)]) -> Ghost<Value>
+    ensures { result.value ≡ blank_of values.now }
+{
+    tree.by(&values, &values)
+}

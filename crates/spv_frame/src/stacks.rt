@@ -1,0 +1,140 @@
+//! Stacks: the calls of an invocation, by depth.
+ghost use Rattle.std.specs.Prelude.{◌≡◌, ◌≢◌, ◌<◌, ◌++◌, [], ◌∷◌, IfOk, OnOk, OnErr, Some, length, slice_get, option_copied, option_map, MatchOption};
+ghost use Rattle.std.specs.Option.{IsSomeAnd};
+ghost use Rattle.spv_base.specs.Entries.{reads, writes};
+ghost use Rattle.spv_frame.specs.Frames.{Held};
+ghost use Rattle.spv_frame.specs.Registers.{IsPointerSlotOf, IsSlotOf, marked};
+ghost use Rattle.spv_frame.specs.Stacks.{Stacked, on_top, top};
+ghost use Rattle.spv_types.specs.Rows.{leaves};
+
+use crate::frames::Frame;
+use crate::slots::{PointerSlot, Slot};
+use spv_base::{NoMemory, PassedEvent, Pointer};
+use spv_values::Row;
+use std::alloc::Global;
+use std::marker::Model;
+
+/// The calls of an invocation. Contracts see their frames by depth, and how many there is room for.
+#[derive(Drop)]
+pub struct Stack {
+    frames: Vec<Frame>,
+    room: u32,
+}
+
+impl Model for Stack {
+    ghost use Rattle.std.specs.Prelude.{◌≤◌, vec_capacity};
+    ghost use Rattle.std.specs.Coded.{codes};
+    ghost use Rattle.spv_base.specs.contracts.values.Value as value;
+    ghost use Rattle.spv_frame.specs.Stacks.{Stacked};
+
+    ghost Value = { Stacked };
+
+    ghost coded = { Prim.hlevel (codes, value.the_row.coded) };
+
+    ghost view = { λ s. record { frames = s.frames.items; room = s.room } };
+
+    ghost invariant = { λ s. s.room ≤ vec_capacity s.frames };
+}
+
+impl Stack {
+    /// No frames, with room for so many.
+    pub fn new(alloc: Global, room: u32) -> Result<Stack, NoMemory>
+        ensures { IfOk result (λ stack. stack ≡ record { frames = []; room = room }) }
+    {
+        Ok(Stack {
+            frames: Vec::with_capacity(alloc, room as usize)?,
+            room,
+        })
+    }
+
+    /// Makes a frame the top one, where there is room. It takes no memory, and `leave` undoes it.
+    pub fn give_back(&mut self, frame: Frame)
+        requires { length self.old.frames < self.old.room }
+        ensures { self.new ≡ record self.old { frames = self.old.frames ++ frame ∷ [] } }
+    {
+        self.frames.push_reserved(frame);
+    }
+
+    /// Takes the top frame away, if there is one. `give_back` undoes it.
+    pub fn leave(&mut self) -> Option<Frame>
+        ensures room { self.new.room ≡ self.old.room }
+        ensures frames { MatchOption result ((self.old.frames ≡ []) × (self.new.frames ≡ [])) (λ f. self.old.frames ≡ self.new.frames ++ f ∷ []) }
+    {
+        self.frames.pop()
+    }
+
+    /// How many frames there are.
+    pub fn depth(&self) -> usize
+        ensures { result ≡ length self.now.frames }
+    {
+        self.frames.len()
+    }
+
+    /// The frame of a depth, if there is one; the entry point's has depth 0.
+    pub fn frame(&self, depth: u32) -> Option<&Frame>
+        ensures { option_copied result ≡ slice_get self.now.frames depth }
+    {
+        self.frames.get(depth as usize)
+    }
+
+    /// The word number of the top frame's next instruction, if there is a frame.
+    pub fn pc(&self) -> Option<u32>
+        ensures { result ≡ option_map (λ f. f.pc) (top self.now.frames) }
+    {
+        match self.frames.last() {
+            Some(frame) => Some(frame.pc()),
+            None => None,
+        }
+    }
+
+    /// Exchanges the value of a register of the top frame and its mark. It takes no memory, and the same call undoes it.
+    pub fn exchange(&mut self, slot: &Slot, value: &mut Row, has: &mut bool)
+        requires slot { IsSomeAnd (top self.old.frames) (λ f. IsSlotOf f.plan.values slot.now) }
+        requires room { length (leaves value.old) ≡ slot.now.len }
+        ensures after { self.new ≡ record self.old { frames = on_top (λ f. record f { values = writes slot.now.id (marked value.old has.old) f.values }) self.old.frames } }
+        ensures handed { IsSomeAnd (top self.old.frames) (λ f. reads slot.now.id f.values ≡ Some (marked value.new has.new)) }
+        ensures room { length (leaves value.new) ≡ slot.now.len }
+    {
+        let top = self.frames.len() - 1;
+        self.frames[top].exchange(slot, value, has);
+    }
+
+    /// Exchanges the pointer of a register of the top frame. It takes no memory, and the same call undoes it.
+    pub fn exchange_pointer(&mut self, slot: PointerSlot, pointer: &mut Option<Pointer>)
+        requires { IsSomeAnd (top self.old.frames) (λ f. IsPointerSlotOf f.plan.pointers slot) }
+        ensures after { self.new ≡ record self.old { frames = on_top (λ f. record f { pointers = writes slot.id pointer.old f.pointers }) self.old.frames } }
+        ensures handed { IsSomeAnd (top self.old.frames) (λ f. reads slot.id f.pointers ≡ Some pointer.new) }
+    {
+        let top = self.frames.len() - 1;
+        self.frames[top].exchange_pointer(slot, pointer);
+    }
+
+    /// Goes to an instruction in the top frame, and gives the word number of the one before.
+    pub fn set_pc(&mut self, pc: u32) -> u32
+        requires { self.old.frames ≢ [] }
+        ensures after { self.new ≡ record self.old { frames = on_top (λ f. record f { pc = pc }) self.old.frames } }
+        ensures handed { option_map (λ f. f.pc) (top self.old.frames) ≡ Some result }
+    {
+        let top = self.frames.len() - 1;
+        self.frames[top].set_pc(pc)
+    }
+
+    /// Appends a debug event to those that the top frame passed.
+    pub fn append(&mut self, event: PassedEvent) -> Result<(), NoMemory>
+        requires { self.old.frames ≢ [] }
+        ensures ok { OnOk result (self.new ≡ record self.old { frames = on_top (λ f. record f { events = f.events ++ event ∷ [] }) self.old.frames }) }
+        ensures err { OnErr result (self.new ≡ self.old) }
+    {
+        let top = self.frames.len() - 1;
+        self.frames[top].append(event)
+    }
+
+    /// Takes the last debug event of the top frame away, and gives it. It takes no memory, and undoes `append`.
+    pub fn drop_event(&mut self) -> PassedEvent
+        requires { IsSomeAnd (top self.old.frames) (λ f. f.events ≢ []) }
+        ensures { self.old ≡ record self.new { frames = on_top (λ f. record f { events = f.events ++ result ∷ [] }) self.new.frames } }
+    {
+        let top = self.frames.len() - 1;
+        self.frames[top].drop_event()
+    }
+}
