@@ -1,5 +1,5 @@
--- What is due of `check` where nothing fails, from what each status says.
-use Rattle.std.proofs.Common.{Bool, ◌≡◌, ◌≢◌, ◌↔◌, true, if◌then◌else◌, ◌∷◌, get_or, String, string_bytes, codes, inl, inr, ℕ, ◌≤◌, ◌<◌, List, [], ◌++◌, length, sym, ap, ◌∙◌, subst, Option, Some, None, Result, Err, refl, arith}
+-- What is due of `check` and `text` where nothing fails, from what each status says.
+use Rattle.std.proofs.Common.{Bool, ◌≡◌, ◌≢◌, ◌↔◌, true, if◌then◌else◌, ◌∷◌, get_or, String, string_bytes, inl, inr, ℕ, ◌≤◌, ◌<◌, List, [], ◌++◌, length, sym, ap, ◌∙◌, subst, Option, Some, None, Err, refl, arith}
 use Rattle.std.specs.Str.{bytes_eq}
 use Rattle.std.specs.declared.alloc.Global.{Global}
 use Rattle.std.specs.Io.KnownBytes.{Appends}
@@ -7,25 +7,23 @@ use Rattle.spv_base.specs.Outside.{Told, Asked, Holds, HoldsMore, Asks, Reads, C
 use Rattle.spv_base.specs.declared.causes.FileErr.{FileErr}
 use Rattle.spv_base.specs.declared.causes.FileErr.TheVariants.{Failed, TooLong}
 use Rattle.spv_base.specs.declared.causes.FileErr.TheVariants as error
-use Rattle.spv_base.specs.declared.causes.Refusal.{Refusal}
-use Rattle.spv_app.specs.declared.checking.Report.{Report}
 use Rattle.spv_app.specs.declared.status.Status.{Status}
 use Rattle.spv_app.specs.declared.status.Status.TheVariants.{FileFault, ReadFault, WriteFault, NoMemory}
-use Rattle.spv_app.specs.Command_line.{check_name}
+use Rattle.spv_app.specs.Command_line.{name_after}
 use Rattle.spv_app.specs.Debug.{SaysLine}
 use Rattle.spv_app.specs.File_status.{status_of_file}
 use Rattle.spv_app.specs.Limits.{binary_limit}
 use Rattle.spv_app.specs.Outside.{Library}
-use Rattle.spv_app.specs.Checking.{Checked, Unread, Read, SaysUnread, checking, check_line, check_status}
+use Rattle.spv_app.specs.Checking.{Answered, Unread, Read, SaysUnread}
 use Rattle.spv_app.proofs.Headlines.{NothingFails, held_now, same_content, not_more, line_whole, not_counted}
 
-module _ (m : List ℕ → Option (List ℕ)) (name : List ℕ) (before after : Library) (held_before held_after : Option (List ℕ)) (held : List ℕ) (status : Status)
+module _ (due : List ℕ → Status) (line : List ℕ → List ℕ) (m : List ℕ → Option (List ℕ)) (name : List ℕ) (before after : Library) (held_before held_after : Option (List ℕ)) (held : List ℕ) (status : Status)
     (told : before.told ≡ Some m) (held_is : held_before ≡ Some held)
     (binary : List ℕ) (binary_is : m name ≡ Some binary) (few : length binary ≤ binary_limit) (ok : NothingFails status) where
-  abbrev Due : Result Report Refusal → Type 0
-  Due due = (held_after ≡ Some (held ++ check_line due)) × (status ≡ check_status due)
+  abbrev Due : List ℕ → Type 0
+  Due bytes = (held_after ≡ Some (held ++ line bytes)) × (status ≡ due bytes)
 
-  due_of : Checked name before after held_before held_after status → Due (checking binary)
+  due_of : Answered due line name before after held_before held_after status → Due binary
   due_of (Unread status says kept) =
       elim says [
         | inl fault ↦ absurd (ok.file fault.0)
@@ -33,9 +31,9 @@ module _ (m : List ℕ → Option (List ℕ)) (name : List ℕ) (before after : 
         | inr (inr memory) ↦ absurd (ok.memory memory.0)
       ]
   due_of (Read status b put asks read wrote says) =
-      let whole = line_whole (check_status (checking b)) status (check_line (checking b)) put ok says in
+      let whole = line_whole (due b) status (line b) put ok says in
       let now = held_now held put held_after (subst (λ h. Appends h held_after put) held_is wrote) in
-      subst (λ bytes. Due (checking bytes)) (same_content m name b binary (subst (λ t. Holds t name b) told read.content) binary_is) (now ∙ ap (λ l. Some (held ++ l)) whole.1, whole.0)
+      subst (λ bytes. Due bytes) (same_content m name b binary (subst (λ t. Holds t name b) told read.content) binary_is) (now ∙ ap (λ l. Some (held ++ l)) whole.1, whole.0)
 
 pub nothing_fails : (status : Status) (files_old files_new writes_old writes_new : ℕ)
     → (status ≡ FileFault) ↔ (files_old < files_new) → status ≢ ReadFault → (status ≡ WriteFault) ↔ (writes_old < writes_new)
@@ -47,43 +45,43 @@ nothing_fails status files_old files_new writes_old writes_new file read write f
   memory = memory;
 }
 
-pub check_headline : (name read_name : List ℕ) (before after : Library) (held_before held_after : Option (List ℕ)) (status : Status)
+pub answered_headline : (due : List ℕ → Status) (line : List ℕ → List ℕ) (name read_name : List ℕ) (before after : Library) (held_before held_after : Option (List ℕ)) (status : Status)
     (m : List ℕ → Option (List ℕ)) (binary held : List ℕ)
-    → read_name ≡ name → Checked read_name before after held_before held_after status → NothingFails status
+    → read_name ≡ name → Answered due line read_name before after held_before held_after status → NothingFails status
     → before.told ≡ Some m → m name ≡ Some binary → length binary ≤ binary_limit → held_before ≡ Some held
-    → (held_after ≡ Some (held ++ check_line (checking binary))) × (status ≡ check_status (checking binary))
-check_headline name read_name before after held_before held_after status m binary held same_name checked ok told binary_is few held_is =
-    due_of m name before after held_before held_after held status told held_is binary binary_is few ok
-    (subst (λ n. Checked n before after held_before held_after status) same_name checked)
+    → (held_after ≡ Some (held ++ line binary)) × (status ≡ due binary)
+answered_headline due line name read_name before after held_before held_after status m binary held same_name answered ok told binary_is few held_is =
+    due_of due line m name before after held_before held_after held status told held_is binary binary_is few ok
+    (subst (λ n. Answered due line n before after held_before held_after status) same_name answered)
 
 -- ---- the words
 
 some_is : (x y : List ℕ) → Some x ≡ Some y → x ≡ y
 some_is x y p = cc
 
--- three words of which the second is `check`
-name_of_three : (words : List (String Global)) (command binary : String Global) (name : List ℕ) → 3 ≤ length words → length words < 4
+-- three words of which the second is this one
+name_of_three : (word : List ℕ) (words : List (String Global)) (command binary : String Global) (name : List ℕ) → 3 ≤ length words → length words < 4
     → command ≡ get_or words 1 command → binary ≡ get_or words 2 binary
-    → bytes_eq (string_bytes command) (codes "check") ≡ true → check_name words ≡ Some name → string_bytes binary ≡ name
-name_of_three [] command binary name low high c b e n = absurd (omega arith)
-name_of_three (w ∷ []) command binary name low high c b e n = absurd (omega arith)
-name_of_three (w ∷ x ∷ []) command binary name low high c b e n = absurd (omega arith)
-name_of_three (w ∷ x ∷ y ∷ []) command binary name low high c b e n =
-    let is : bytes_eq (string_bytes x) (codes "check") ≡ true = ap (λ t. bytes_eq (string_bytes t) (codes "check")) (sym c) ∙ e in
+    → bytes_eq (string_bytes command) word ≡ true → name_after word words ≡ Some name → string_bytes binary ≡ name
+name_of_three word [] command binary name low high c b e n = absurd (omega arith)
+name_of_three word (w ∷ []) command binary name low high c b e n = absurd (omega arith)
+name_of_three word (w ∷ x ∷ []) command binary name low high c b e n = absurd (omega arith)
+name_of_three word (w ∷ x ∷ y ∷ []) command binary name low high c b e n =
+    let is : bytes_eq (string_bytes x) word ≡ true = ap (λ t. bytes_eq (string_bytes t) word) (sym c) ∙ e in
     ap (λ t. string_bytes t) b ∙ some_is _ _ (sym (ap (λ q. if q then Some (string_bytes y) else None) is) ∙ n)
-name_of_three (w ∷ x ∷ y ∷ (v ∷ more)) command binary name low high c b e n = absurd (omega arith)
+name_of_three word (w ∷ x ∷ y ∷ (v ∷ more)) command binary name low high c b e n = absurd (omega arith)
 
 -- the name as it was lent
-pub name_lent : (words : List (String Global)) (command binary : String Global) (name command_text binary_name : List ℕ) (is_check : Bool)
+pub name_lent : (word : List ℕ) (words : List (String Global)) (command binary : String Global) (name command_text binary_name : List ℕ) (is_word : Bool)
     → 3 ≤ length words → length words < 4
     → command ≡ get_or words 1 command → binary ≡ get_or words 2 binary
-    → command_text ≡ string_bytes command → is_check ≡ bytes_eq command_text (codes "check") → is_check ≡ true
+    → command_text ≡ string_bytes command → is_word ≡ bytes_eq command_text word → is_word ≡ true
     → binary_name ≡ string_bytes binary
-    → check_name words ≡ Some name → binary_name ≡ name
-name_lent words command binary name command_text binary_name is_check low high c b text test holds binary_is n =
-    binary_is ∙ name_of_three words command binary name low high c b (ap (λ t. bytes_eq t (codes "check")) (sym text) ∙ sym test ∙ holds) n
+    → name_after word words ≡ Some name → binary_name ≡ name
+name_lent word words command binary name command_text binary_name is_word low high c b text test holds binary_is n =
+    binary_is ∙ name_of_three word words command binary name low high c b (ap (λ t. bytes_eq t word) (sym text) ∙ sym test ∙ holds) n
 
--- ---- the calls of `check`
+-- ---- the calls
 
 -- why the module's name wasn't read
 pub says_unread : (name : List ℕ) (told : Told) (asked asked_after : Asked) (taken_after : ℕ) (failed failed_after : List ℕ) (faults faults_after : ℕ) (error : FileErr)
@@ -93,7 +91,7 @@ says_unread name told asked asked_after taken_after failed failed_after faults f
 says_unread name told asked asked_after taken_after failed failed_after faults faults_after TooLong reads asks counts = inr (inl (refl, reads.0, reads.1, asks))
 says_unread name told asked asked_after taken_after failed failed_after faults faults_after error.NoMemory reads asks counts = inr (inr (refl, asks))
 
--- the line that was written is the one that is due
-pub says_due : (binary bytes put : List ℕ) (due : Result Report Refusal) (status : Status) → bytes ≡ binary → checking bytes ≡ due
-    → SaysLine (check_status due) (check_line due) status put → SaysLine (check_status (checking binary)) (check_line (checking binary)) status put
-says_due binary bytes put due status same is says = subst (λ d. SaysLine (check_status d) (check_line d) status put) (sym is ∙ ap checking same) says
+-- what was written is what is due
+pub says_due : {D : Type 0} (due_of : List ℕ → D) (status_of : D → Status) (line_of : D → List ℕ) (binary bytes put : List ℕ) (due : D) (status : Status) → bytes ≡ binary → due_of bytes ≡ due
+    → SaysLine (status_of due) (line_of due) status put → SaysLine (status_of (due_of binary)) (line_of (due_of binary)) status put
+says_due due_of status_of line_of binary bytes put due status same is says = subst (λ d. SaysLine (status_of d) (line_of d) status put) (sym is ∙ ap due_of same) says

@@ -55,11 +55,16 @@ SaysUnread name before after status =
     ⊎ (((status ≡ FileTooLong) × (binary_limit < after.taken) × HoldsMore before.told name binary_limit × AsksForName name before after)
     ⊎ ((status ≡ NoMemory) × (AsksFor before.asked after.asked [] ⊎ AsksForName name before after)))
 
--- A run of `check`, by what the outside tells before and after it.
-pub data Checked (name : List ℕ) (before after : Library) (held_before held_after : Option (List ℕ)) : Status → Type 0 where
+-- A run about a module, by what the outside tells before and after it, where this status and this line are due for its bytes.
+pub data Answered (due : List ℕ → Status) (line : List ℕ → List ℕ) (name : List ℕ) (before after : Library) (held_before held_after : Option (List ℕ)) : Status → Type 0 where
   -- no module is read, and none is refused: nothing is written
-  Unread : (status : Status) → SaysUnread name before after status → Keeps held_before held_after → Checked name before after held_before held_after status
-  -- the module is read: the line is due that tells whether it is accepted
+  Unread : (status : Status) → SaysUnread name before after status → Keeps held_before held_after → Answered due line name before after held_before held_after status
+  -- the module is read: what is due for it is written
   Read : (status : Status) (binary put : List ℕ) → AsksForName name before after → IsModule before.told name binary → Appends held_before held_after put
-      → SaysLine (check_status (checking binary)) (check_line (checking binary)) status put
-      → Checked name before after held_before held_after status
+      → SaysLine (due binary) (line binary) status put
+      → Answered due line name before after held_before held_after status
+
+-- a run of `check`: the line is due that tells whether the module is accepted
+abbrev pub Checked : List ℕ → Library → Library → Option (List ℕ) → Option (List ℕ) → Status → Type 0
+Checked name before after held_before held_after status =
+    Answered (λ binary. check_status (checking binary)) (λ binary. check_line (checking binary)) name before after held_before held_after status

@@ -17,7 +17,13 @@ debug_names (program ∷ command ∷ binary ∷ setup ∷ []) =
     if bytes_eq (string_bytes command) (codes "debug") then Some (record { binary = string_bytes binary; setup = string_bytes setup }) else None
 debug_names words = None
 
--- the name of a module, where the words are the program's name, `check`, and the name
+-- the name of a module, where the words are the program's name, this word, and the name
+abbrev pub name_after : List ℕ → List (String Global) → Option (List ℕ)
+name_after word (program ∷ command ∷ binary ∷ []) = if bytes_eq (string_bytes command) word then Some (string_bytes binary) else None
+name_after word words = None
+
 abbrev pub check_name : List (String Global) → Option (List ℕ)
-check_name (program ∷ command ∷ binary ∷ []) = if bytes_eq (string_bytes command) (codes "check") then Some (string_bytes binary) else None
-check_name words = None
+check_name words = name_after (codes "check") words
+
+abbrev pub text_name : List (String Global) → Option (List ℕ)
+text_name words = name_after (codes "text") words

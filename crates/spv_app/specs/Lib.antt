@@ -7,6 +7,7 @@ pub mod Stops
 pub mod Acceptance
 pub mod Opening
 pub mod Checking
+pub mod Texting
 pub mod Command_line
 pub mod Debug
 pub mod File_status

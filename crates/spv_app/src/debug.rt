@@ -1,19 +1,21 @@
 //! The top call.
 ghost use Rattle.std.specs.Prelude.{◌≡◌, ◌≢◌, ◌↔◌, ◌⊎◌, ◌<◌, ◌≤◌, ◌-◌, ◌^◌, [], ◌∷◌, ◌++◌, List, ℕ, Option, Some, None, All, vec_len, length, IfOk, IfErr, IsOk, IsErrOf};
 ghost use Rattle.std.specs.Io.KnownBytes.{Appends};
-ghost use Rattle.spv_app.specs.Command_line.{Names, debug_names, check_name, usage_line};
+ghost use Rattle.spv_app.specs.Command_line.{Names, debug_names, check_name, text_name, usage_line};
 ghost use Rattle.spv_app.specs.Opening.{opening, refusal_line};
 ghost use Rattle.spv_app.specs.Debug.{Debugged, IsPair, IsOneOf, SaysLine, SaysUnopened, status_of_refusal, due_text, due_status};
 ghost use Rattle.spv_base.specs.Outside.{AsksFor};
 ghost use Rattle.spv_app.specs.File_status.{status_of_file};
 ghost use Rattle.spv_app.specs.Limits.{binary_limit, setup_limit, input_limit};
 ghost use Rattle.spv_app.specs.Checking.{Checked, checking, check_line, check_status, report_line};
+ghost use Rattle.spv_app.specs.Texting.{Texted, texting, text_line, text_status};
 
 use crate::checking::{Report, check_bytes};
 use crate::command_loop::run;
 use crate::limits::{BINARY_LIMIT, SETUP_LIMIT};
 use crate::opening::{OpeningRefusal, open};
 use crate::status::Status;
+use crate::texting::text_of_bytes;
 use spv_base::{Fail, Failed, FileErr, Files, Probe, Sink, Source, Steps, write_all};
 use spv_session::Session;
 use std::alloc::Global;
@@ -157,6 +159,30 @@ fn check<F: Files, K: Sink>(alloc: Global, binary_name: &str, files: &mut F, out
     }
 }
 
+/// Reads a module, and writes the listing of its instructions, or the line of its refusal.
+fn text<F: Files, K: Sink>(alloc: Global, binary_name: &str, files: &mut F, out: &mut K) -> Status
+    requires files { F.faults files.old < 2 ^ 64 - 1 }
+    requires out { K.faults out.old < 2 ^ 64 - 1 }
+    ensures texted { Texted binary_name.now
+        (record { told = F.contents files.old; asked = F.asked files.old; taken = F.taken files.old; failed = F.failed_name files.old })
+        (record { told = F.contents files.new; asked = F.asked files.new; taken = F.taken files.new; failed = F.failed_name files.new }) (K.taken out.old) (K.taken out.new) result }
+    ensures file_fault { (result ≡ Status.FileFault) ↔ (F.faults files.old < F.faults files.new) }
+    ensures file_name { result ≡ Status.FileFault → F.failed_name files.new ≡ binary_name.now }
+    ensures no_read { result ≢ Status.ReadFault }
+    ensures write_fault { (result ≡ Status.WriteFault) ↔ (K.faults out.old < K.faults out.new) }
+    ensures counted { (F.faults files.old ≤ F.faults files.new) × (K.faults out.old ≤ K.faults out.new) }
+{
+    let binary = match files.read_all(alloc, binary_name, BINARY_LIMIT) {
+        Ok(binary) => binary,
+        Err(error) => return Status::from(error),
+    };
+    match text_of_bytes(alloc, &binary) {
+        Ok(text) => tell(out, text.as_slice(), Status::Done),
+        Err(Fail::Refused(refusal)) => tell_refusal(alloc, OpeningRefusal::Module(refusal), out),
+        Err(Fail::NoMemory) => Status::NoMemory,
+    }
+}
+
 /// Writes the line that says which words there are.
 fn tell_usage<K: Sink>(out: &mut K) -> Status
     requires { K.faults out.old < 2 ^ 64 - 1 }
@@ -169,8 +195,8 @@ fn tell_usage<K: Sink>(out: &mut K) -> Status
 }
 
 /// Does what the words say: `debug MODULE SETUP` reads the module and the setup, opens the pair, and answers the lines of the
-/// input, to its end or to `quit`; `check MODULE` reads the module, and tells whether it is accepted. The first word is the
-/// program's name. Each answer is named by its status.
+/// input, to its end or to `quit`; `check MODULE` reads the module, and tells whether it is accepted; `text MODULE`
+/// reads it, and writes its listing. The first word is the program's name. Each answer is named by its status.
 pub fn debug_main<F: Files, I: Source, K: Sink, L: Ledger>(
     alloc: Global,
     words: &[String],
@@ -202,6 +228,13 @@ pub fn debug_main<F: Files, I: Source, K: Sink, L: Ledger>(
         → F.faults files.new ≡ F.faults files.old → K.faults out.new ≡ K.faults out.old → result ≢ Status.NoMemory
         → (K.taken out.new ≡ Some (before ++ check_line (checking binary))) × (result ≡ check_status (checking binary)) }
 
+    // For `text` it is the listing of the module that is due, or its refusal.
+    ensures text_headline { (name : List ℕ) (m : List ℕ → Option (List ℕ)) (binary before : List ℕ)
+        → text_name words.now ≡ Some name → F.contents files.old ≡ Some m → m name ≡ Some binary → length binary ≤ binary_limit
+        → K.taken out.old ≡ Some before
+        → F.faults files.new ≡ F.faults files.old → K.faults out.new ≡ K.faults out.old → result ≢ Status.NoMemory
+        → (K.taken out.new ≡ Some (before ++ text_line (texting binary))) × (result ≡ text_status (texting binary)) }
+
     // What each status says, whatever was told and whatever failed.
     ensures debugged { (names : Names) → debug_names words.now ≡ Some names
         → Debugged names
@@ -212,13 +245,19 @@ pub fn debug_main<F: Files, I: Source, K: Sink, L: Ledger>(
         × Checked name
         (record { told = F.contents files.old; asked = F.asked files.old; taken = F.taken files.old; failed = F.failed_name files.old })
         (record { told = F.contents files.new; asked = F.asked files.new; taken = F.taken files.new; failed = F.failed_name files.new }) (K.taken out.old) (K.taken out.new) result }
-    ensures usage { debug_names words.now ≡ None → check_name words.now ≡ None
+    ensures texted { (name : List ℕ) → text_name words.now ≡ Some name
+        → (input.new ≡ input.old) × (steps.new ≡ steps.old)
+        × Texted name
+        (record { told = F.contents files.old; asked = F.asked files.old; taken = F.taken files.old; failed = F.failed_name files.old })
+        (record { told = F.contents files.new; asked = F.asked files.new; taken = F.taken files.new; failed = F.failed_name files.new }) (K.taken out.old) (K.taken out.new) result }
+    ensures usage { debug_names words.now ≡ None → check_name words.now ≡ None → text_name words.now ≡ None
         → (files.new ≡ files.old) × (input.new ≡ input.old) × (steps.new ≡ steps.old)
         × ((put : List ℕ) × Appends (K.taken out.old) (K.taken out.new) put × SaysLine Status.Usage usage_line result put) }
 
     // Faults are told exactly where they were counted.
     ensures file_fault { (result ≡ Status.FileFault) ↔ (F.faults files.old < F.faults files.new) }
-    ensures file_name { result ≡ Status.FileFault → IsOneOf (debug_names words.now) (F.failed_name files.new) ⊎ (check_name words.now ≡ Some (F.failed_name files.new)) }
+    ensures file_name { result ≡ Status.FileFault → IsOneOf (debug_names words.now) (F.failed_name files.new)
+        ⊎ ((check_name words.now ≡ Some (F.failed_name files.new)) ⊎ (text_name words.now ≡ Some (F.failed_name files.new))) }
     ensures read_fault { (result ≡ Status.ReadFault) ↔ (I.faults input.old < I.faults input.new) }
     ensures write_fault { (result ≡ Status.WriteFault) ↔ (K.faults out.old < K.faults out.new) }
     ensures counted { (F.faults files.old ≤ F.faults files.new) × (I.faults input.old ≤ I.faults input.new) × (K.faults out.old ≤ K.faults out.new) }
@@ -236,6 +275,9 @@ pub fn debug_main<F: Files, I: Source, K: Sink, L: Ledger>(
         ),
         [_, command, binary] if command.as_str() == "check" => {
             check(alloc, binary.as_str(), files, out)
+        }
+        [_, command, binary] if command.as_str() == "text" => {
+            text(alloc, binary.as_str(), files, out)
         }
         _ => tell_usage(out),
     }

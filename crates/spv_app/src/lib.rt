@@ -10,6 +10,7 @@ pub mod limits;
 pub mod lines;
 pub mod opening;
 pub mod status;
+pub mod texting;
 
 pub use checking::Report;
 pub use debug::debug_main;
