@@ -192,5 +192,6 @@ module _ (m : Accepted) (marks : Marks) where
         bits = p.1.0;
         nesting = p.1.1;
       }
+
       parts : IsWellFormed m marks inside d → Parts inside d
       parts w = ((((w.kind, w.is_kind, (w.operands, w.more)), w.place), (w.operation, w.expression)), (w.bits, w.nesting))
