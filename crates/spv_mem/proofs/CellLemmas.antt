@@ -1,5 +1,5 @@
 -- The one leaf of a scalar.
-use Rattle.std.proofs.Common.{◌≡◌, ◌∙◌, ℕ, ◌<◌, List, [], ◌∷◌, Option, Some, None, get_or, length, refl, sym, ap, subst, arith}
+use Rattle.std.proofs.Common.{◌≡◌, ◌∙◌, ◌<◌, List, get_or, length, refl, sym, ap, arith}
 use Rattle.std.specs.Prelude.{IsSome}
 use Rattle.spv_base.specs.Lane.{Lane}
 use Rattle.spv_base.specs.declared.values.Value.{Value, Scalar, out-Value}

@@ -1,7 +1,8 @@
-//! Memory: scalars, and the cells of whole variables.
-ghost use Rattle.std.specs.Prelude.{◌≡◌, IsSome, option_map};
+//! Memory: scalars, the elements of runtime arrays, and the cells of whole variables.
+ghost use Rattle.std.specs.Prelude.{◌≡◌, ℕ, IsSome, Some, option_map};
 ghost use Rattle.spv_base.specs.declared.values.Value.{Scalar, out-Value};
-ghost use Rattle.spv_mem.specs.Memory.{IsScalarAt, LoadsCell, root_value};
+ghost use Rattle.spv_mem.specs.Memory.{IsScalarAt, LoadsCell, NamesArray, load_of, member_of, root_value};
+ghost use Rattle.spv_mem.specs.Targets.{count_in};
 ghost use Rattle.spv_types.specs.Rows.{leaves};
 ghost use Rattle.spv_types.specs.Shapes.{scalar_in};
 
@@ -31,6 +32,16 @@ impl Memory {
             Some(part) => Ok(cell_of(&part)),
             None => Err(MemErr::OutOfBounds),
         }
+    }
+
+    /// How many elements the runtime array has that is a member of the block that a pointer to a shared variable names
+    /// (OpArrayLength, SPIR-V 1.6 section 3.42.8). It takes no memory.
+    pub fn array_length(&self, p: &Pointer, member: u32) -> u32
+        requires { ∥ NamesArray self.now p.now member ∥₁ }
+        ensures { (i : ℕ) → option_map count_in (load_of self.now i (member_of p.now member)) ≡ Some result }
+    {
+        let id = id_in(p.root);
+        self.shared.elements(id, self.targets.place(id))
     }
 
     /// The cells of a variable, in its order. None exactly where there is no such variable. It takes no memory.
