@@ -152,6 +152,13 @@ LoadsCell m i p (Err UndefinedIndex) = ⊥
 LoadsCell m i p (Err OutOfBounds) = load_of m i p ≡ None
 LoadsCell m i p (Err NoMemory) = ⊥
 
+-- The scalar that a pointer names, which is exchanged with c. Where there is none, the answer is OutOfBounds, and nothing changes.
+abbrev pub StoresCell : Held → ℕ → Pointer → Lane → Held → Result Lane MemErr → Type 0
+StoresCell m i p c new (Ok d) = (load_of m i p ≡ Some (Scalar d)) × (new ≡ stored i p (Scalar c) m)
+StoresCell m i p c new (Err UndefinedIndex) = ⊥
+StoresCell m i p c new (Err OutOfBounds) = (load_of m i p ≡ None) × (new ≡ m)
+StoresCell m i p c new (Err NoMemory) = ⊥
+
 -- ---- runtime arrays
 
 -- a pointer to member k of what a pointer names
