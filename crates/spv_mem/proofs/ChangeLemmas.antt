@@ -1,5 +1,5 @@
 -- Variables that are added, and locals that come and go, keep what a memory keeps.
-use Rattle.std.proofs.Common.{◌≡◌, ◌∙◌, ◌⊎◌, ℕ, zero, suc, ◌+◌, ◌<◌, ◌==◌, Bool, true, false, List, [], ◌∷◌, ◌++◌, length, get_or, replicate, slice_get, slice_set, Option, Some, None, Result, Ok, Err, OnOk, OnErr, inl, inr, refl, sym, ap, subst, arith}
+use Rattle.std.proofs.Common.{◌≡◌, ◌∙◌, ◌⊎◌, ℕ, zero, suc, ◌==◌, Bool, true, false, List, [], ◌∷◌, ◌++◌, length, replicate, slice_get, slice_set, Option, Some, None, Result, Ok, Err, OnOk, OnErr, inl, inr, refl, sym, ap, subst, arith}
 use Rattle.std.specs.Prelude.{if◌then◌else◌}
 use Rattle.std.specs.Option.{IfSome, MatchOption, option_and_then, option_or}
 use Rattle.std.proofs.Math.Logic.{∥∥₁_elim, ∥∥₁_map}
@@ -11,7 +11,7 @@ use Rattle.spv_base.specs.declared.values.Root.{Root}
 use Rattle.spv_base.specs.declared.values.Root.TheVariants.{Shared, Private, Local}
 use Rattle.spv_base.specs.declared.values.Value.{Value}
 use Rattle.spv_types.specs.Types.{Types}
-use Rattle.spv_mem.specs.Memory.{AreTargets, AreVariables, HasRoom, Held, IsMemory, IsVariable, Leaves, Levels, empty, entered, roots_in, with_private, with_roots, with_shared}
+use Rattle.spv_mem.specs.Memory.{AreTargets, AreVariables, Held, IsMemory, IsVariable, Leaves, Levels, empty, entered, roots_in, with_private, with_roots}
 use Rattle.spv_mem.proofs.MemoryLemmas.{change_set, get_set, set_same, with_roots_in}
 use Rattle.spv_mem.proofs.RootLemmas.{reads_snoc}
 
@@ -201,3 +201,8 @@ left_variables m now i l y (Some last) view at is p =
   where
     all : IsMemory m → AreVariables m.types m.targets last
     all h = h.variables i (Local (length y.list) 0) last (let e : slice_get l.list (length y.list) ≡ Some last = ap (λ (ls : List Roots). slice_get ls (length y.list)) p.1 ∙ last_get y.list last in rw at e)
+
+-- ---- copies
+
+pub copied_keeps : (new old : Held) → new ≡ old → ∥ IsMemory old ∥₁ → ∥ IsMemory new ∥₁
+copied_keeps new old same is = subst (λ (m : Held). ∥ IsMemory m ∥₁) (sym same) is

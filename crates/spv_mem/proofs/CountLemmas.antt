@@ -1,12 +1,10 @@
 -- The leaves of types, by their forms, and the parts of values, each with its type.
-use Rattle.std.proofs.Common.{◌≡◌, ◌∙◌, ◌⊎◌, ℕ, zero, suc, ◌+◌, ◌*◌, ◌<◌, ◌≤◌, ◌&&◌, Bool, true, false, List, [], ◌∷◌, ◌++◌, length, length-append, take, slice_get, Option, Some, None, nat_lt, refl, sym, ap, subst, inl, inr, arith}
-use Rattle.std.specs.Prelude.{if◌then◌else◌}
+use Rattle.std.proofs.Common.{◌≡◌, ◌∙◌, ◌⊎◌, ℕ, zero, suc, ◌+◌, ◌*◌, ◌<◌, ◌≤◌, ◌&&◌, Bool, true, false, List, [], ◌∷◌, length, length-append, take, slice_get, Option, Some, None, nat_lt, refl, sym, ap, subst, inl, inr, arith}
 use Rattle.std.specs.Bool.{MatchBool}
-use Rattle.std.specs.Option.{IsSomeAnd, MatchOption, is_some, option_map, option_and_then}
+use Rattle.std.specs.Option.{MatchOption, is_some, option_map, option_and_then}
 use Rattle.std.specs.List.{All, AllZip, flat_map}
 use Rattle.std.proofs.lemmas.List.Elements.{All-head, All-tail}
-use Rattle.std.proofs.lemmas.Option.{slice_get_past, slice_get_within}
-use Rattle.spv_base.specs.Parts.{part_at, parts_in}
+use Rattle.spv_base.specs.Parts.{parts_in}
 use Rattle.spv_base.specs.declared.values.Root.{Root}
 use Rattle.spv_base.specs.declared.values.Value.{Value, out-Value}
 use Rattle.spv_base.specs.declared.values.Value.TheOpen.{Value-F}
@@ -14,15 +12,15 @@ use Rattle.spv_types.specs.declared.forms.Form.{Form}
 use Rattle.spv_types.specs.declared.forms.Form.TheVariants.{Void, Bool as Boolean, Int, Vector, Array, Runtime, Struct, Pointer, Function}
 use Rattle.spv_types.specs.declared.forms.Member.{Member}
 use Rattle.spv_types.specs.Types.{Types, form_at, form_of, is_number, number_of}
-use Rattle.spv_types.specs.Cells.{added, cells_among, cells_of, cells_step, members_cells}
+use Rattle.spv_types.specs.Cells.{cells_among, cells_of, cells_step, members_cells}
 use Rattle.spv_types.specs.Laws.{AreSound, IsAmong}
-use Rattle.spv_types.specs.Leaves.{element_part, leaf_of, member_part, part_of}
+use Rattle.spv_types.specs.Leaves.{element_part, part_of}
 use Rattle.spv_types.specs.Rows.{leaves}
-use Rattle.spv_types.specs.Shapes.{HasShape, HasShapeAmong, part_type, reached, shape_step}
+use Rattle.spv_types.specs.Shapes.{HasShape, HasShapeAmong, part_type, shape_step}
 use Rattle.spv_types.proofs.CellLemmas.{added_is}
 use Rattle.spv_types.proofs.CountedLemmas.{cells_at, cells_whole}
-use Rattle.spv_types.proofs.RowCounts.{many_is, shapes_count, times_is}
-use Rattle.spv_types.proofs.ShapeLemmas.{form_number, shapes_are_by_forms}
+use Rattle.spv_types.proofs.RowCounts.{shapes_count}
+use Rattle.spv_types.proofs.ShapeLemmas.{form_number}
 use Rattle.spv_types.proofs.TypeLemmas.{number_form, number_lt}
 use Rattle.spv_mem.specs.Targets.{end_open, is_counted, is_open_array, last_of}
 

@@ -1,17 +1,16 @@
 -- What is put in the place of a part, of the part's type, has as many leaves, and leaves the number of elements of the runtime array.
-use Rattle.std.proofs.Common.{◌≡◌, ◌∙◌, ◌⊎◌, ℕ, zero, suc, ◌+◌, ◌<◌, ◌≤◌, Bool, true, false, List, [], ◌∷◌, length, length-set, length-take-le, length-drop, inl, inr, Option, Some, None, take, drop, slice_get, slice_set, refl, sym, ap, subst, arith}
+use Rattle.std.proofs.Common.{◌≡◌, ◌∙◌, ◌⊎◌, ℕ, zero, suc, ◌≤◌, Bool, true, false, List, [], ◌∷◌, length, length-set, length-take-le, length-drop, inl, inr, Option, Some, None, drop, slice_get, slice_set, refl, sym, ap, subst, arith}
 use Rattle.std.specs.Prelude.{IsSome}
 use Rattle.std.specs.Option.{IsSomeAnd, option_map_or}
 use Rattle.std.specs.List.{All, AllZip}
 use Rattle.std.proofs.Math.Logic.{∥∥₁_elim}
 use Rattle.std.proofs.Props.{props}
-use Rattle.std.specs.Coded.{codes}
 use Rattle.std.proofs.lemmas.List.Elements.{All-head, All-tail}
 use Rattle.spv_base.specs.Lane.{Lane}
 use Rattle.spv_base.specs.Parts.{part_at, parts_in, with_part}
 use Rattle.spv_base.specs.declared.values.Pointer.{Pointer as Reference}
 use Rattle.spv_base.specs.declared.values.Root.{Root}
-use Rattle.spv_base.specs.declared.values.Value.{Value, List as Many, out-Value}
+use Rattle.spv_base.specs.declared.values.Value.{Value, out-Value}
 use Rattle.spv_base.specs.declared.values.Value.TheOpen.{Value-F}
 use Rattle.spv_base.proofs.PartLemmas.{out_many}
 use Rattle.spv_types.specs.declared.forms.Form.{Form}
@@ -28,7 +27,7 @@ use Rattle.spv_types.proofs.RowPlaces.{changed, has_part}
 use Rattle.spv_types.proofs.RowShapes.{shapes_keep}
 use Rattle.spv_types.proofs.ShapeLemmas.{shapes_are_by_forms}
 use Rattle.spv_values.specs.Places.{IsRowAt}
-use Rattle.spv_mem.specs.Targets.{Fits, MayBePut, count_in, elements_in, is_counted, is_past, last_of, may_be_target}
+use Rattle.spv_mem.specs.Targets.{Fits, MayBePut, count_in, elements_in, is_counted, is_past, last_of}
 use Rattle.spv_mem.proofs.CountLemmas.{cells_by_form, counted_is, is_counted_by, shape_formed}
 use Rattle.spv_mem.proofs.PartLemmas.{Found, NotFound, names}
 

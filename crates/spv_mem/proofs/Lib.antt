@@ -6,3 +6,4 @@ pub mod RootLemmas
 pub mod MemoryLemmas
 pub mod ChangeLemmas
 pub mod CellLemmas
+pub mod ArrayLemmas

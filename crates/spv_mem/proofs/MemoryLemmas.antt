@@ -1,7 +1,7 @@
 -- What an exchange in one variable is to the whole memory, and that it keeps what a memory keeps.
 use Rattle.std.proofs.Common.{◌≡◌, ◌∙◌, ◌⊎◌, ℕ, zero, suc, Bool, true, false, List, [], ◌∷◌, slice_get, slice_set, Option, Some, None, Result, Ok, Err, inl, inr, refl, sym, ap, subst}
 use Rattle.std.specs.Prelude.{if◌then◌else◌}
-use Rattle.std.specs.Option.{MatchOption, option_and_then, option_map_or}
+use Rattle.std.specs.Option.{MatchOption, option_and_then}
 use Rattle.std.proofs.Math.Logic.{∥∥₁_elim, ∥∥₁_map}
 use Rattle.std.proofs.Props.{props}
 use Rattle.std.specs.Coded.{codes}
@@ -17,12 +17,11 @@ use Rattle.spv_base.specs.declared.values.Root.TheVariants.{Shared, Private, Loc
 use Rattle.spv_base.specs.declared.values.Value.{Value}
 use Rattle.spv_types.specs.Rows.{no_roots}
 use Rattle.spv_types.specs.Shapes.{HasShape}
-use Rattle.spv_types.specs.Types.{Types}
 use Rattle.spv_types.proofs.RowShapes.{shapes_keep}
 use Rattle.spv_mem.specs.Levels.{ExchangedAt, ExchangedLevel, ExchangesAt, ExchangesLevel, FitAt, FitLevel, MayBePutAt, MayBePutLevel}
 use Rattle.spv_mem.specs.Memory.{AreVariables, Held, IsMemory, IsVariable, Levels, MayStore, Stores, id_in, load_of, root_value, roots_in, stored, with_level, with_roots}
 use Rattle.spv_mem.specs.Roots.{AreFit, ExchangesIn, MayBePutIn, put_in}
-use Rattle.spv_mem.specs.Targets.{Fits, MayBePut}
+use Rattle.spv_mem.specs.Targets.{Fits}
 use Rattle.spv_mem.proofs.ElementLemmas.{put_is}
 use Rattle.spv_mem.proofs.RootLemmas.{reads_writes}
 

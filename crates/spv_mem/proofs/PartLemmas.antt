@@ -1,7 +1,7 @@
 -- What a path names in a value of a variable: the part, its type and the leaves before it, or nothing.
-use Rattle.std.proofs.Common.{◌≡◌, ◌∙◌, ◌⊎◌, ℕ, zero, suc, ◌+◌, ◌*◌, ◌<◌, ◌≤◌, ◌||◌, nat_le, Bool, true, false, List, [], ◌∷◌, length, take, slice_get, Option, Some, None, nat_lt, refl, sym, ap, subst, inl, inr, arith}
+use Rattle.std.proofs.Common.{◌≡◌, ◌∙◌, ◌⊎◌, ℕ, ◌+◌, ◌*◌, ◌<◌, ◌≤◌, ◌||◌, nat_le, Bool, true, false, List, [], ◌∷◌, length, take, slice_get, Option, Some, None, nat_lt, refl, sym, ap, subst, inl, inr, arith}
 use Rattle.std.specs.Prelude.{if◌then◌else◌}
-use Rattle.std.specs.Option.{IsSomeAnd, is_some, option_map, option_map_or, option_and_then}
+use Rattle.std.specs.Option.{IsSomeAnd, option_map, option_map_or, option_and_then}
 use Rattle.std.specs.List.{All, AllZip, flat_map}
 use Rattle.spv_base.specs.Lane.{Lane}
 use Rattle.spv_base.specs.Parts.{part_at, parts_in}
@@ -22,7 +22,7 @@ use Rattle.spv_types.specs.Shapes.{HasShape, part_type, pointer_in, reached, sca
 use Rattle.spv_types.proofs.RowCounts.{many_is, times_is}
 use Rattle.spv_types.proofs.RowLemmas.{many_row}
 use Rattle.spv_types.proofs.ShapeLemmas.{shapes_are_by_forms}
-use Rattle.spv_mem.specs.Targets.{count_in, element_index, elements_in, end_open, is_array_at, is_counted, is_open_array, is_open_block, is_past, last_of, may_be_target}
+use Rattle.spv_mem.specs.Targets.{element_index, elements_in, end_open, is_array_at, is_counted, is_open_array, is_open_block, is_past, last_of, may_be_target}
 use Rattle.spv_mem.proofs.CountLemmas.{MemberAt, NoMember, NoPart, PartIs, all_at, at_index, below_is, cells_by_form, counted_is, counted_member, is_counted_by, item_at, open_member, past_is, shape_formed}
 
 -- ---- paths, an index at a time
@@ -48,7 +48,7 @@ reached_nil : (ts : Types) (id : ℕ) → reached ts id [] ≡ Some id
 unfolding reached
 reached_nil ts id = refl
 
-part_cons : (v u : Value) (vs : List Value) (i : ℕ) (path : List ℕ) → out-Value v ≡ Value-F.List vs → slice_get vs i ≡ Some u → part_at v (i ∷ path) ≡ part_at u path
+pub part_cons : (v u : Value) (vs : List Value) (i : ℕ) (path : List ℕ) → out-Value v ≡ Value-F.List vs → slice_get vs i ≡ Some u → part_at v (i ∷ path) ≡ part_at u path
 part_cons v u vs i path e g = rw (e, g) refl
 
 part_none : (v : Value) (i : ℕ) (path : List ℕ) → item_at v i ≡ None → part_at v (i ∷ path) ≡ None
@@ -255,13 +255,13 @@ module _ (ts : Types) (roots : Root → Option ℕ) (sound : AreSound ts) where
   }
 
   -- an element of it, and a part of an element
-  record ArrayIs (t : ℕ) : Type 0 where
-    element : ℕ
-    stride : Option ℕ
-    form : form_of ts t ≡ Some (Runtime element stride)
-    counted : is_counted ts element ≡ true
+  pub record ArrayIs (t : ℕ) : Type 0 where
+    pub element : ℕ
+    pub stride : Option ℕ
+    pub form : form_of ts t ≡ Some (Runtime element stride)
+    pub counted : is_counted ts element ≡ true
 
-  array_is : (t : ℕ) → is_open_array ts (form_of ts t) ≡ true → ArrayIs t
+  pub array_is : (t : ℕ) → is_open_array ts (form_of ts t) ≡ true → ArrayIs t
   array_is t h = go (form_of ts t) refl h
     where
       go : (o : Option Form) → form_of ts t ≡ o → is_open_array ts o ≡ true → ArrayIs t
@@ -387,13 +387,13 @@ module _ (ts : Types) (roots : Root → Option ℕ) (sound : AreSound ts) where
   whole_found : (id : ℕ) (path : List ℕ) (v : Value) → FoundWhole ts id path v → Found ts id path v
   whole_found id path v f = record { before = f.before; type = f.type; part = f.part; leaf = f.leaf; typed = f.typed; is = f.is; size = inl f.counted }
 
-  record BlockIs (id : ℕ) : Type 0 where
-    members : List Member
-    block : Bool
-    form : form_of ts id ≡ Some (Struct members block)
-    ended : end_open ts members ≡ true
+  pub record BlockIs (id : ℕ) : Type 0 where
+    pub members : List Member
+    pub block : Bool
+    pub form : form_of ts id ≡ Some (Struct members block)
+    pub ended : end_open ts members ≡ true
 
-  block_is : (id : ℕ) → is_open_block ts (form_of ts id) ≡ true → BlockIs id
+  pub block_is : (id : ℕ) → is_open_block ts (form_of ts id) ≡ true → BlockIs id
   block_is id h = go (form_of ts id) refl h
     where
       go : (o : Option Form) → form_of ts id ≡ o → is_open_block ts o ≡ true → BlockIs id
@@ -414,7 +414,7 @@ module _ (ts : Types) (roots : Root → Option ℕ) (sound : AreSound ts) where
   past_open : (n id : ℕ) (path : List ℕ) → is_counted ts id ≡ false → is_past ts n id path ≡ past_end n id path
   past_open n id path h = rw h refl
 
-  open_target : (id : ℕ) → is_counted ts id ≡ false → may_be_target ts id ≡ true → is_open_block ts (form_of ts id) ≡ true
+  pub open_target : (id : ℕ) → is_counted ts id ≡ false → may_be_target ts id ≡ true → is_open_block ts (form_of ts id) ≡ true
   open_target id not h = go (is_counted ts id) not h
     where
       go : (b : Bool) → b ≡ false → (b || is_open_block ts (form_of ts id)) ≡ true → is_open_block ts (form_of ts id) ≡ true

@@ -1,5 +1,5 @@
 -- Lists of variables, by a number.
-use Rattle.std.specs.Prelude.{◌≡◌, ℕ, Bool, false, List, Option, Some, slice_get, slice_set}
+use Rattle.std.specs.Prelude.{◌≡◌, ℕ, Bool, false, List, Some, slice_get, slice_set}
 use Rattle.std.specs.Option.{MatchOption}
 use Rattle.spv_base.specs.State.{Roots}
 use Rattle.spv_base.specs.declared.values.Value.{Value}

@@ -16,10 +16,10 @@ use Rattle.spv_base.specs.declared.values.Value.{Value, Scalar, out-Value}
 use Rattle.spv_base.specs.Lane.{Lane}
 use Rattle.spv_types.specs.Laws.{AreSound}
 use Rattle.spv_types.specs.Rows.{no_roots}
-use Rattle.spv_types.specs.Shapes.{HasShape, scalar_in}
-use Rattle.spv_types.specs.Types.{Types}
+use Rattle.spv_types.specs.Shapes.{HasShape, reached, scalar_in}
+use Rattle.spv_types.specs.Types.{Types, form_of}
 use Rattle.spv_mem.specs.Roots.{put_in}
-use Rattle.spv_mem.specs.Targets.{MayBePut, may_be_target}
+use Rattle.spv_mem.specs.Targets.{MayBePut, is_array_at, may_be_target}
 
 -- the locals of an invocation by depth, and how many there is room for
 pub record Levels : Type 0 where
@@ -151,3 +151,28 @@ LoadsCell m i p (Ok c) = load_of m i p ≡ Some (Scalar c)
 LoadsCell m i p (Err UndefinedIndex) = ⊥
 LoadsCell m i p (Err OutOfBounds) = load_of m i p ≡ None
 LoadsCell m i p (Err NoMemory) = ⊥
+
+-- The scalar that a pointer names, which is exchanged with c. Where there is none, the answer is OutOfBounds, and nothing changes.
+abbrev pub StoresCell : Held → ℕ → Pointer → Lane → Held → Result Lane MemErr → Type 0
+StoresCell m i p c new (Ok d) = (load_of m i p ≡ Some (Scalar d)) × (new ≡ stored i p (Scalar c) m)
+StoresCell m i p c new (Err UndefinedIndex) = ⊥
+StoresCell m i p c new (Err OutOfBounds) = (load_of m i p ≡ None) × (new ≡ m)
+StoresCell m i p c new (Err NoMemory) = ⊥
+
+-- ---- runtime arrays
+
+-- a pointer to member k of what a pointer names
+abbrev pub member_of : Pointer → ℕ → Pointer
+member_of p k = record p { path = p.path ++ k ∷ [] }
+
+-- a pointer names a block in a shared variable that is there, and member k of the block is a runtime array
+pub record NamesArray (m : Held) (p : Pointer) (k : ℕ) : Type 0 where
+  pub id : ℕ
+  pub shared : p.root ≡ Shared id
+  pub value : Value
+  pub there : reads id m.shared ≡ Some value
+  pub type : ℕ
+  pub named : reads id m.targets ≡ Some type
+  pub block : ℕ
+  pub leads : reached m.types type p.path ≡ Some block
+  pub array : is_array_at m.types (form_of m.types block) k ≡ true

@@ -1,5 +1,5 @@
 -- Variables under their ids, each id once.
-use Rattle.std.specs.Prelude.{◌≡◌, ℕ, ◌&&◌, not, Bool, true, false, List, [], ◌∷◌, Option, Some, None, slice_get, slice_set}
+use Rattle.std.specs.Prelude.{◌≡◌, ℕ, ◌&&◌, not, Bool, true, false, List, [], ◌∷◌, Some, slice_get, slice_set}
 use Rattle.std.specs.Option.{MatchOption, is_some, option_and_then, option_map_or}
 use Rattle.spv_base.specs.Entries.{reads, writes}
 use Rattle.spv_base.specs.Parts.{part_at, with_part}

@@ -4,7 +4,7 @@ use Rattle.std.specs.Option.{MatchOption, is_some, option_map_or}
 use Rattle.spv_base.specs.Parts.{part_at, parts_in, with_part}
 use Rattle.spv_base.specs.declared.values.Value.{Value, out-Value}
 use Rattle.spv_types.specs.declared.forms.Form.{Form}
-use Rattle.spv_types.specs.declared.forms.Form.TheVariants.{Void, Bool as Boolean, Int, Vector, Array, Runtime, Struct, Pointer, Function}
+use Rattle.spv_types.specs.declared.forms.Form.TheVariants.{Runtime, Struct}
 use Rattle.spv_types.specs.declared.forms.Member.{Member}
 use Rattle.spv_types.specs.Cells.{cells_of}
 use Rattle.spv_types.specs.Laws.{AreSound}

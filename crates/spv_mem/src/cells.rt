@@ -1,13 +1,14 @@
-//! Memory: scalars, and the cells of whole variables.
-ghost use Rattle.std.specs.Prelude.{◌≡◌, IsSome, option_map};
+//! Memory: scalars, the elements of runtime arrays, and the cells of whole variables.
+ghost use Rattle.std.specs.Prelude.{◌≡◌, ℕ, IsSome, Some, option_map};
 ghost use Rattle.spv_base.specs.declared.values.Value.{Scalar, out-Value};
-ghost use Rattle.spv_mem.specs.Memory.{IsScalarAt, LoadsCell, root_value};
+ghost use Rattle.spv_mem.specs.Memory.{IsScalarAt, LoadsCell, MayStore, NamesArray, StoresCell, load_of, member_of, root_value};
+ghost use Rattle.spv_mem.specs.Targets.{count_in};
 ghost use Rattle.spv_types.specs.Rows.{leaves};
 ghost use Rattle.spv_types.specs.Shapes.{scalar_in};
 
 use crate::storage::{Memory, id_in};
 use spv_base::{Cell, MemErr, Pointer, Root};
-use spv_values::Part;
+use spv_values::{Part, Row};
 
 /// The cell of a scalar.
 #[tactic(auto, using(crate::proofs::CellLemmas::one_leaf, crate::proofs::CellLemmas::is_scalar))]
@@ -31,6 +32,41 @@ impl Memory {
             Some(part) => Ok(cell_of(&part)),
             None => Err(MemErr::OutOfBounds),
         }
+    }
+
+    /// Exchanges the scalar that a pointer of an invocation names with another of its type, and gives the old one. It takes no
+    /// memory, and the same call undoes it. The row is a scalar that the caller keeps for such calls; what it holds is lost.
+    ///
+    /// `OutOfBounds` exactly where there is no such variable or part; then the memory stays as it was.
+    #[tactic(auto, using(crate::proofs::CellLemmas::handed_scalar, crate::proofs::CellLemmas::cell_stored, crate::proofs::CellLemmas::cell_refused, crate::proofs::CellLemmas::kept_scalar))]
+    pub fn store_cell(
+        &mut self,
+        inv: u32,
+        p: &Pointer,
+        cell: Cell,
+        row: &mut Row,
+    ) -> Result<Cell, MemErr>
+        requires scalar { IsScalarAt self.old inv p.now }
+        requires may { ∥ MayStore self.old inv p.now (Scalar cell) ∥₁ }
+        requires row { IsSome (scalar_in (out-Value row.old)) }
+        ensures stores { StoresCell self.old inv p.now cell self.new result }
+        ensures row { IsSome (scalar_in (out-Value row.new)) }
+    {
+        row.put_cell(cell);
+        match self.store(inv, p, row) {
+            Ok(()) => Ok(cell_of(&row.as_part())),
+            Err(error) => Err(error),
+        }
+    }
+
+    /// How many elements the runtime array has that is a member of the block that a pointer to a shared variable names
+    /// (OpArrayLength, SPIR-V 1.6 section 3.42.8). It takes no memory.
+    pub fn array_length(&self, p: &Pointer, member: u32) -> u32
+        requires { ∥ NamesArray self.now p.now member ∥₁ }
+        ensures { (i : ℕ) → option_map count_in (load_of self.now i (member_of p.now member)) ≡ Some result }
+    {
+        let id = id_in(p.root);
+        self.shared.elements(id, self.targets.place(id))
     }
 
     /// The cells of a variable, in its order. None exactly where there is no such variable. It takes no memory.

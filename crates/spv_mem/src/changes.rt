@@ -1,15 +1,31 @@
 //! Memory: variables that are added, and locals that come and go with frames.
-ghost use Rattle.std.specs.Prelude.{◌≡◌, ◌<◌, None, OnOk, OnErr, IfSome, Some, length, slice_get};
+ghost use Rattle.std.specs.Prelude.{◌≡◌, ◌<◌, IfOk, None, OnOk, OnErr, IfSome, Some, length, slice_get};
 ghost use Rattle.spv_base.specs.Entries.{reads};
 ghost use Rattle.spv_base.specs.State.{Roots};
 ghost use Rattle.spv_mem.specs.Memory.{AreVariables, HasRoom, IsVariable, Leaves, entered, with_private, with_shared};
 
-use crate::entries::Locals;
+use crate::entries::{Locals, lists_copied};
+use crate::levels::levels_copied;
 use crate::storage::Memory;
 use crate::variables::Variable;
 use spv_base::NoMemory;
+use std::alloc::Global;
+use std::rc::Rc;
 
 impl Memory {
+    /// An equal memory, with room for the locals of as many frames.
+    pub fn copy(&self, alloc: Global) -> Result<Memory, NoMemory>
+        ensures { IfOk result (λ m. m ≡ self.now) }
+    {
+        Ok(Memory {
+            types: Rc::clone(&self.types)?,
+            targets: self.targets.copy(alloc)?,
+            shared: self.shared.copy(alloc)?,
+            privates: lists_copied(alloc, self.privates.as_slice())?,
+            locals: levels_copied(alloc, self.locals.as_slice())?,
+        })
+    }
+
     /// Adds a shared variable, which was not there.
     pub fn add_shared(&mut self, id: u32, variable: Variable) -> Result<(), NoMemory>
         requires fresh { reads id self.old.shared ≡ None }

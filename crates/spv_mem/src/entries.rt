@@ -1,10 +1,11 @@
 //! Roots: variables under their ids.
 ghost use Rattle.std.specs.Prelude.{◌≡◌, ◌++◌, [], ◌∷◌, ℕ, length, List, IfOk, IfSome, OnOk, OnErr, None, Some, slice_get, slice_set, option_map, option_and_then, option_copied, true};
-ghost use Rattle.std.specs.Option.{MatchOption};
+ghost use Rattle.std.specs.Option.{MatchOption, option_map_or};
 ghost use Rattle.spv_base.specs.Entries.{reads};
 ghost use Rattle.spv_base.specs.Parts.{part_at};
 ghost use Rattle.spv_base.specs.declared.values.Value.{Value};
 ghost use Rattle.spv_mem.specs.Roots.{AreFit, ExchangesIn, IsAt, MayBePutIn};
+ghost use Rattle.spv_mem.specs.Targets.{elements_in};
 ghost use Rattle.spv_types.specs.Rows.{leaves};
 
 use crate::targets::{Target, Targets};
@@ -50,6 +51,15 @@ impl Roots {
         }
     }
 
+    /// Equal variables.
+    pub fn copy(&self, alloc: Global) -> Result<Roots, NoMemory>
+        ensures { IfOk result (λ roots. roots ≡ self.now) }
+    {
+        Ok(Roots {
+            entries: entries_copied(alloc, self.entries.as_slice())?,
+        })
+    }
+
     /// Adds a variable at the end.
     pub fn push(&mut self, id: u32, variable: Variable) -> Result<(), NoMemory>
         requires { reads id self.old ≡ None }
@@ -82,6 +92,16 @@ impl Roots {
     {
         let k = self.find(id, place)?;
         Some(self.entries[k].1.cells())
+    }
+
+    /// How many elements the last part of the variable with an id has; none where there is no such variable.
+    pub(crate) fn elements(&self, id: u32, place: usize) -> u32
+        ensures { result ≡ option_map_or elements_in (reads id self.now) 0 }
+    {
+        match self.find(id, place) {
+            Some(k) => self.entries[k].1.elements(),
+            None => 0,
+        }
     }
 
     /// Where the variable with an id stands. The place is looked at first; where it is not there, the others are.
@@ -127,6 +147,32 @@ impl Roots {
         };
         self.entries[k].1.exchange(types, target.ty, path, other)
     }
+}
+
+/// Equal entries.
+fn entries_copied(
+    alloc: Global,
+    entries: &[(u32, Variable)],
+) -> Result<Vec<(u32, Variable)>, NoMemory>
+    ensures { IfOk result (λ copies. copies.items ≡ entries.now) }
+{
+    let mut copies = Vec::with_capacity(alloc, entries.len())?;
+    for entry in entries {
+        let variable = entry.1.copy(alloc)?;
+        copies.push((entry.0, variable))?;
+    }
+    Ok(copies)
+}
+
+/// Equal lists of variables.
+pub(crate) fn lists_copied(alloc: Global, lists: &[Roots]) -> Result<Vec<Roots>, NoMemory>
+    ensures { IfOk result (λ copies. copies.items ≡ lists.now) }
+{
+    let mut copies = Vec::with_capacity(alloc, lists.len())?;
+    for roots in lists {
+        copies.push(roots.copy(alloc)?)?;
+    }
+    Ok(copies)
 }
 
 /// The first place where an id stands.

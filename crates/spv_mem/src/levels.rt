@@ -43,6 +43,13 @@ impl Levels {
         })
     }
 
+    /// Equal locals, with room for as many.
+    pub(crate) fn copy(&self, alloc: Global) -> Result<Levels, NoMemory>
+        ensures { IfOk result (λ levels. levels ≡ self.now) }
+    {
+        listed(alloc, self.list.as_slice(), self.room)
+    }
+
     /// The locals of a depth.
     pub(crate) fn get(&self, depth: u32) -> Option<&Locals>
         ensures { option_copied result ≡ slice_get self.now.list depth }
@@ -100,6 +107,28 @@ impl Levels {
             other,
         )
     }
+}
+
+/// Copies of locals, with room for so many.
+fn listed(alloc: Global, lists: &[Locals], room: u32) -> Result<Levels, NoMemory>
+    ensures { IfOk result (λ levels. levels ≡ record { list = lists.now; room = room }) }
+{
+    let mut levels = Levels::new(alloc, room)?;
+    for locals in lists {
+        levels.push(locals.copy(alloc)?)?;
+    }
+    Ok(levels)
+}
+
+/// Equal locals of invocations.
+pub(crate) fn levels_copied(alloc: Global, levels: &[Levels]) -> Result<Vec<Levels>, NoMemory>
+    ensures { IfOk result (λ copies. copies.items ≡ levels.now) }
+{
+    let mut copies = Vec::with_capacity(alloc, levels.len())?;
+    for level in levels {
+        copies.push(level.copy(alloc)?)?;
+    }
+    Ok(copies)
 }
 
 /// Exchanges the part that a path names in the variable with an id of one of some lists, and says whether there is such a part.

@@ -110,10 +110,14 @@ impl Targets {
         }
     }
 
-    /// Equal targets.
+    /// Equal targets, with the same places.
     pub(crate) fn copy(&self, alloc: Global) -> Result<Targets, NoMemory>
         ensures { IfOk result (λ targets. targets ≡ self.now) }
     {
-        Targets::new(alloc, self.list.as_slice())
+        Ok(Targets {
+            list: Vec::from_slice(alloc, self.list.as_slice())?,
+            types: Vec::from_slice(alloc, self.types.as_slice())?,
+            places: Vec::from_slice(alloc, self.places.as_slice())?,
+        })
     }
 }

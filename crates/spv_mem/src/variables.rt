@@ -1,5 +1,5 @@
 //! Variables: a row of cells, and the number of elements of the runtime array at its end.
-ghost use Rattle.std.specs.Prelude.{◌≡◌, ◌≤◌, ◌+◌, ◌-◌, true, false, length, Option, Some, None};
+ghost use Rattle.std.specs.Prelude.{◌≡◌, IfOk, ◌≤◌, ◌+◌, ◌-◌, true, false, length, Option, Some, None};
 ghost use Rattle.std.specs.Option.{MatchOption, option_map_or};
 ghost use Rattle.spv_base.specs.Parts.{part_at, with_part};
 ghost use Rattle.spv_mem.specs.Targets.{Exchanges, Fits, MayBePut, elements_in, is_past};
@@ -9,9 +9,10 @@ ghost use Rattle.spv_types.specs.Rows.{leaves};
 ghost use Rattle.spv_values.specs.Places.{IsRowAt};
 
 use crate::places::{Place, element_index, reached};
-use spv_base::{Cell, Path};
+use spv_base::{Cell, NoMemory, Path};
 use spv_types::TypeTable;
 use spv_values::{Part, Row};
+use std::alloc::Global;
 use std::marker::Model;
 
 /// The value of a variable. Contracts see its tree.
@@ -46,6 +47,16 @@ impl Variable {
         ensures { result ≡ row }
     {
         Variable { row, elements }
+    }
+
+    /// An equal variable.
+    pub fn copy(&self, alloc: Global) -> Result<Variable, NoMemory>
+        ensures { IfOk result (λ variable. variable ≡ self.now) }
+    {
+        Ok(Variable {
+            row: Row::of_part(alloc, &self.row.as_part())?,
+            elements: self.elements,
+        })
     }
 
     /// The cells.

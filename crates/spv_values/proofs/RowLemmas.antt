@@ -1,13 +1,16 @@
 -- Where the row of a part lies, for a slice of a row.
-use Rattle.std.proofs.Common.{◌≡◌, ◌∙◌, ℕ, ◌+◌, ◌≤◌, List, ◌++◌, Some, length, refl, sym, ap, subst, take, drop}
+use Rattle.std.proofs.Common.{◌≡◌, ◌∙◌, ℕ, ◌+◌, ◌<◌, ◌≤◌, List, [], ◌∷◌, ◌++◌, Some, length, slice_set, arith, rules, refl, sym, ap, subst, take, drop}
 use Rattle.std.specs.Prelude.{IsSome}
 use Rattle.std.proofs.Math.Logic.{∥∥₁_elim}
 use Rattle.std.proofs.Props.{props}
 use Rattle.std.specs.Coded.{codes}
 use Rattle.spv_base.specs.Lane.{Lane}
 use Rattle.spv_base.specs.Parts.{part_at, with_part}
-use Rattle.spv_base.specs.declared.values.Value.{Value}
+use Rattle.spv_base.specs.declared.values.Value.{Value, Scalar, out-Value, the_lemmas}
+use Rattle.spv_base.specs.declared.values.Value.TheOpen.{Value-F}
 use Rattle.spv_types.specs.Rows.{HasRow, leaves}
+use Rattle.spv_types.specs.Shapes.{scalar_in}
+use Rattle.spv_types.proofs.RowLemmas.{scalar_row}
 use Rattle.spv_types.proofs.RowPlaces.{lies_at, lies_within, lies_written}
 use Rattle.spv_values.specs.Places.{IsRowAt}
 
@@ -40,3 +43,25 @@ row_at v path n k has = record {
   row = λ w is. ∥∥₁_elim has (hlevel (props, codes)) (λ (h : HasRow v path n k). row v w path n k h is);
   written = λ u. ∥∥₁_elim has (hlevel (props, codes)) (λ (h : HasRow v path n k). written v u path n k h);
 }
+
+-- ---- scalars
+
+pub one_leaf : (v : Value) → IsSome (scalar_in (out-Value v)) → 0 < length (leaves v)
+one_leaf v h = level (out-Value v) refl h
+  where
+    level : (l : Value-F Value) → out-Value v ≡ l → IsSome (scalar_in l) → 0 < length (leaves v)
+    level (Value-F.Scalar c) e h = let n : length (leaves v) ≡ 1 = ap length (scalar_row v c e) in omega (arith, n)
+    level (Value-F.List vs) e h = absurd cc
+    level (Value-F.Ptr p) e h = absurd cc
+
+scalar_leaf : (c : Lane) → leaves (Scalar c) ≡ c ∷ []
+unfolding leaves
+scalar_leaf c = search (rules, the_lemmas)
+
+pub one_row : (v : Value) (c : Lane) → IsSome (scalar_in (out-Value v)) → leaves (Scalar c) ≡ slice_set (leaves v) 0 c
+one_row v c h = level (out-Value v) refl h
+  where
+    level : (l : Value-F Value) → out-Value v ≡ l → IsSome (scalar_in l) → leaves (Scalar c) ≡ slice_set (leaves v) 0 c
+    level (Value-F.Scalar d) e h = scalar_leaf c ∙ ap (λ (ls : List Lane). slice_set ls 0 c) (sym (scalar_row v d e))
+    level (Value-F.List vs) e h = absurd cc
+    level (Value-F.Ptr p) e h = absurd cc

@@ -1,12 +1,13 @@
 //! Rows that own their cells: variables, and the results of instructions.
-ghost use Rattle.std.specs.Prelude.{◌≡◌, ◌+◌, ◌≤◌, IfOk, Some, length};
+ghost use Rattle.std.specs.Prelude.{◌≡◌, ◌+◌, ◌≤◌, IfOk, IsSome, Some, length};
 ghost use Rattle.spv_base.specs.Parts.{part_at, with_part};
-ghost use Rattle.spv_base.specs.declared.values.Value.{Value};
+ghost use Rattle.spv_base.specs.declared.values.Value.{Value, Scalar, out-Value};
 ghost use Rattle.spv_types.specs.Rows.{leaves};
+ghost use Rattle.spv_types.specs.Shapes.{scalar_in};
 ghost use Rattle.spv_values.specs.Places.{IsRowAt};
 
 use crate::parts::Part;
-use crate::trees::{part_of, replaced, same};
+use crate::trees::{part_of, replaced, same, scalar};
 use spv_base::{Cell, Ghost, NoMemory, Path, Value};
 use std::alloc::Global;
 use std::marker::Model;
@@ -84,6 +85,16 @@ impl Row {
         ensures { part_at self.now path.now ≡ Some result }
     {
         Part::with_tree(&self.cells[start..start + len], part_of(&self.tree, path))
+    }
+
+    /// Puts another scalar in the place of a scalar. It takes no memory.
+    #[tactic(auto, using(crate::proofs::RowLemmas::one_leaf, crate::proofs::RowLemmas::one_row))]
+    pub fn put_cell(&mut self, cell: Cell)
+        requires { IsSome (scalar_in (out-Value self.old)) }
+        ensures { self.new ≡ Scalar cell }
+    {
+        self.cells[0] = cell;
+        self.tree = scalar(&self.tree, &cell);
     }
 
     /// Exchanges the part that a path names, which lies behind `start` cells, with a value of as many cells.

@@ -1,8 +1,9 @@
 //! Trees that only proofs read.
 ghost use Rattle.std.specs.Prelude.{◌≡◌, IsSome, Some};
 ghost use Rattle.spv_base.specs.Parts.{part_at, with_part};
+ghost use Rattle.spv_base.specs.declared.values.Value.{Scalar};
 
-use spv_base::{Ghost, Path, Value};
+use spv_base::{Cell, Ghost, Path, Value};
 
 /// The part that a path names.
 pub fn part_of(tree: &Ghost<Value>, path: &Path) -> Ghost<Value>
@@ -17,6 +18,13 @@ pub fn replaced(tree: &Ghost<Value>, path: &Path, part: &Ghost<Value>) -> Ghost<
     ensures { result.value ≡ with_part tree.now.value path.now part.now.value }
 {
     tree.by(path, part)
+}
+
+/// The tree of a scalar.
+pub fn scalar(tree: &Ghost<Value>, cell: &Cell) -> Ghost<Value>
+    ensures { result.value ≡ Scalar cell.now }
+{
+    tree.by(cell, tree)
 }
 
 /// The same tree.

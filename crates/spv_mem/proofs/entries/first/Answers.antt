@@ -1,4 +1,4 @@
-use Rattle.std.proofs.Common.{◌≡◌, ◌∙◌, ℕ, Some, length, slice_get, ap, refl, sym}
+use Rattle.std.proofs.Common.{◌∙◌, ℕ, Some, length, ap, refl}
 use Rattle.std.proofs.lemmas.Option.{slice_get_read}
 use Rattle.spv_mem.proofs.RootLemmas.{at_first, not_yet}
 use Rattle.spv_mem.proofs.entries.first.Goals as goal

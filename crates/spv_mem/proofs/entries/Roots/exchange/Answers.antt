@@ -1,4 +1,4 @@
-use Rattle.std.proofs.Common.{◌≡◌, ◌∙◌, ℕ, get_or, slice_set, true, ap, refl, subst, sym}
+use Rattle.std.proofs.Common.{◌≡◌, ◌∙◌, ℕ, get_or, slice_set, ap, subst, sym}
 use Rattle.spv_base.specs.State.{Roots}
 use Rattle.spv_base.specs.declared.values.Value.{Value}
 use Rattle.spv_mem.specs.Roots.{ExchangesIn, IsAt, distinct}

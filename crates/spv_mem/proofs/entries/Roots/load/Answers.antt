@@ -1,4 +1,4 @@
-use Rattle.std.proofs.Common.{◌≡◌, ◌∙◌, ℕ, get_or, ap, refl, subst, sym}
+use Rattle.std.proofs.Common.{◌≡◌, ◌∙◌, ℕ, get_or, ap, subst, sym}
 use Rattle.std.specs.Option.{option_and_then}
 use Rattle.spv_base.specs.Parts.{part_at}
 use Rattle.spv_base.specs.State.{Roots}

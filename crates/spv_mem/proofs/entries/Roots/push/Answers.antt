@@ -1,4 +1,4 @@
-use Rattle.std.proofs.Common.{◌≡◌, ◌∙◌, None, ap, sym}
+use Rattle.std.proofs.Common.{◌∙◌, ap}
 use Rattle.spv_base.specs.Entries.{reads}
 use Rattle.spv_mem.specs.Roots.{distinct}
 use Rattle.spv_mem.proofs.RootLemmas.{distinct_snoc}

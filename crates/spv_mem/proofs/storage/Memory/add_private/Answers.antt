@@ -1,7 +1,7 @@
-use Rattle.std.proofs.Common.{◌≡◌, ◌∙◌, ◌<◌, List, ℕ, Ok, Err, OnOk, OnErr, Result, Some, ap, length, refl, slice_get, slice_set, subst, sym}
+use Rattle.std.proofs.Common.{◌∙◌, ◌<◌, List, ℕ, Ok, Err, OnOk, Result, ap, length, refl, slice_set, subst, sym}
 use Rattle.std.proofs.lemmas.Option.{slice_get_read}
 use Rattle.spv_base.specs.declared.causes.NoMemory.{NoMemory}
-use Rattle.spv_mem.specs.Memory.{Held, IsMemory, with_private}
+use Rattle.spv_mem.specs.Memory.{Held, IsMemory}
 use Rattle.spv_mem.proofs.ChangeLemmas.{private_is, private_kept}
 use Rattle.spv_mem.proofs.storage.Memory.add_private.Goals as goal
 

@@ -1,5 +1,3 @@
-use Rattle.std.proofs.Common.{subst, sym, ap, ◌∙◌}
-use Rattle.spv_mem.specs.Memory.{Held, IsMemory}
 use Rattle.spv_mem.proofs.ChangeLemmas.{empty_keeps}
 use Rattle.spv_mem.proofs.storage.Memory.new.Goals as goal
 

@@ -1,6 +1,5 @@
-use Rattle.std.proofs.Common.{◌≡◌, ◌∙◌, ℕ, None, Option, Some, ap, subst, sym}
+use Rattle.std.proofs.Common.{◌≡◌, ◌∙◌, None, Some, ap, subst, sym}
 use Rattle.spv_base.specs.Entries.{reads}
-use Rattle.spv_base.specs.State.{Roots}
 use Rattle.spv_types.specs.Types.{Types}
 use Rattle.spv_mem.specs.Memory.{Held, IsMemory, id_in, roots_in}
 use Rattle.spv_mem.specs.Roots.{AreFit}

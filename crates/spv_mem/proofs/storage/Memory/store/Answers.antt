@@ -1,8 +1,8 @@
-use Rattle.std.proofs.Common.{◌≡◌, ◌∙◌, ℕ, List, None, Option, Some, ap, drop, length, subst, sym, take_at}
+use Rattle.std.proofs.Common.{◌≡◌, ◌∙◌, ℕ, List, Some, ap, drop, length, subst, sym, take_at}
 use Rattle.spv_base.specs.Entries.{reads}
 use Rattle.spv_base.specs.State.{Roots}
 use Rattle.spv_types.specs.Types.{Types}
-use Rattle.spv_mem.specs.Memory.{Held, IsMemory, Levels, Stores, id_in}
+use Rattle.spv_mem.specs.Memory.{IsMemory, Levels, Stores, id_in}
 use Rattle.spv_mem.specs.Levels.{ExchangesAt, ExchangesLevel, FitAt, FitLevel, MayBePutAt, MayBePutLevel}
 use Rattle.spv_mem.specs.Roots.{AreFit, MayBePutIn}
 use Rattle.spv_mem.proofs.MemoryLemmas.{kept_at, local_fit, local_may, local_stores, none_stores, private_fit, private_may, private_stores, shared_fit, shared_may, shared_stores, stores_at}

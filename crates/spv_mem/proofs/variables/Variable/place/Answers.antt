@@ -1,13 +1,10 @@
-use Rattle.std.proofs.Common.{◌≡◌, ◌∙◌, ◌-◌, ◌<◌, ◌≤◌, ◌^◌, Bool, true, false, None, Option, Some, ℕ, List, length, sym, ap, arith, subst}
-use Rattle.std.specs.Option.{option_map, option_map_or}
+use Rattle.std.proofs.Common.{◌≡◌, ◌-◌, ◌<◌, ◌≤◌, ◌^◌, ℕ, length, sym, subst}
+use Rattle.std.specs.Option.{option_map_or}
 use Rattle.spv_types.specs.Cells.{cells_of}
 use Rattle.spv_types.specs.Cuts.{cut}
-use Rattle.spv_types.specs.Leaves.{leaf_of}
 use Rattle.spv_types.specs.Rows.{leaves}
-use Rattle.spv_types.specs.Shapes.{reached}
 use Rattle.spv_values.specs.Places.{IsRowAt}
 use Rattle.spv_values.proofs.RowLemmas.{row_at}
-use Rattle.spv_mem.specs.Targets.{elements_in, is_past}
 use Rattle.spv_mem.proofs.PlaceLemmas.{leaf_none, past_none, row_there, start_within, type_none}
 use Rattle.spv_mem.proofs.variables.Variable.place.Goals as goal
 
