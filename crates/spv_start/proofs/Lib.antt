@@ -1,0 +1,2 @@
+pub mod Number_lemmas
+pub mod Block_lemmas
