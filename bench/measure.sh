@@ -3,7 +3,7 @@
 # crates that its first line names, in a scratch folder, runs it, and prints its lines and the most memory that it used.
 set -eu
 top=$(cd "$(dirname "$0")/.." && pwd)
-program=$top/bench/${1:?words, types, blocks, sections or bodies}.program
+program=$top/bench/${1:?a name of bench/, as words, types, blocks, sections, bodies, records, setup or start}.program
 scratch=$(mktemp -d)
 trap 'rm -rf "$scratch"' EXIT
 mkdir -p "$scratch/crates/measure/src"

@@ -24,8 +24,6 @@ pub mod glsl_op;
 pub mod integers;
 pub mod results;
 pub mod shifts;
-#[cfg(test)]
-mod tests;
 pub mod unary_op;
 pub mod vector_op;
 

@@ -57,6 +57,3 @@ pub type Pointers = Items<Pointer>;
 
 /// Pairs of a SpecId and the value for it, from -2^63 to 2^64 - 1.
 pub type Overrides = Items<(u32, i128)>;
-
-#[cfg(test)]
-mod tests;

@@ -13,13 +13,13 @@ use Rattle.spv_consts.specs.Table.{Constants}
 use Rattle.spv_types.specs.declared.forms.Form.{Form}
 use Rattle.spv_types.specs.declared.forms.Form.TheVariants.{Void, Bool as Boolean, Int, Vector, Array, Runtime, Struct, Pointer, Function as FunctionForm}
 use Rattle.spv_types.specs.declared.forms.Member.{Member}
-use Rattle.spv_types.specs.declared.views.Components.{Components}
-use Rattle.spv_types.specs.declared.views.Pointed.{Pointed}
-use Rattle.spv_types.specs.Blocks.{nothing}
+use Rattle.spv_types.specs.declared.queries.Components.{Components}
+use Rattle.spv_types.specs.declared.queries.Pointed.{Pointed}
+use Rattle.spv_types.specs.InterfaceBlocks.{nothing}
 use Rattle.spv_types.specs.Build.{unless_refused}
 use Rattle.spv_types.specs.Rules.{has_runtime, is_runtime, is_sized_data, is_word}
 use Rattle.spv_types.specs.Types.{Types, form_of}
-use Rattle.spv_types.specs.Views.{is_integer, is_pointer, is_void, parameters_in, pointee}
+use Rattle.spv_types.specs.Queries.{is_integer, is_pointer, is_void, parameters_in, pointee}
 use Rattle.spv_index.specs.Classes.{is_debug}
 use Rattle.spv_typing.specs.Fitting.{is_selectable}
 use Rattle.spv_typing.specs.Glsl.{fits_glsl}

@@ -8,10 +8,10 @@ use Rattle.std.specs.Option.{is_some, option_map_or}
 use Rattle.std.specs.Prelude.{◌&&◌, not, nat_le, nat_lt}
 use Rattle.spv_types.specs.declared.forms.Form.{Form}
 use Rattle.spv_types.specs.declared.forms.Form.TheVariants.{Void, Bool as Boolean, Int, Vector, Array, Runtime, Struct, Pointer, Function}
-use Rattle.spv_types.specs.declared.views.Components.{Components}
-use Rattle.spv_types.specs.declared.views.Pointed.{Pointed}
+use Rattle.spv_types.specs.declared.queries.Components.{Components}
+use Rattle.spv_types.specs.declared.queries.Pointed.{Pointed}
 use Rattle.spv_types.specs.Rules.{is_runtime, is_word}
-use Rattle.spv_types.specs.Views.{components_in, is_boolean, is_integer, is_void, parameters_in, pointee, returned}
+use Rattle.spv_types.specs.Queries.{components_in, is_boolean, is_integer, is_void, parameters_in, pointee, returned}
 use Rattle.spv_bodies.specs.Context.{IsInteger, IsPointerTo, IsVectorOf, has}
 
 pub impossible : {A : Type 0} → false ≡ true → A

@@ -5,8 +5,8 @@ use Rattle.std.specs.Option.{option_and_then, option_map_or}
 use Rattle.spv_base.specs.Lane.{Lane}
 use Rattle.spv_base.specs.declared.instructions.Inst.{Inst}
 use Rattle.spv_types.specs.Types.{form_of}
-use Rattle.spv_types.specs.declared.views.Pointed.{Pointed}
-use Rattle.spv_types.specs.Views.{is_integer}
+use Rattle.spv_types.specs.declared.queries.Pointed.{Pointed}
+use Rattle.spv_types.specs.Queries.{is_integer}
 use Rattle.spv_consts.specs.Table.{scalar_of}
 use Rattle.spv_index.specs.Operands.{id_operand}
 use Rattle.spv_bodies.specs.Context.{HasType, IsConstantAt, IsInteger, Known, PointsTo, form_at, has, is_constant_at, is_integer_at, pointee_at, type_at}

@@ -5,7 +5,7 @@ use Rattle.std.specs.List.{flat_map}
 use Rattle.spv_base.specs.declared.causes.Refusal.{Refusal}
 use Rattle.spv_base.specs.declared.instructions.Inst.{Inst}
 use Rattle.spv_consts.specs.Table.{Constants}
-use Rattle.spv_types.specs.Blocks.{nothing}
+use Rattle.spv_types.specs.InterfaceBlocks.{nothing}
 use Rattle.spv_types.specs.Build.{unless_refused}
 use Rattle.spv_types.specs.Rules.{has_runtime}
 use Rattle.spv_types.specs.Types.{Types}

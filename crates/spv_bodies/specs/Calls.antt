@@ -8,7 +8,7 @@ use Rattle.spv_base.specs.declared.instructions.Operand.{Operand}
 use Rattle.spv_types.specs.declared.forms.Form.{Form}
 use Rattle.spv_types.specs.declared.forms.Form.TheVariants.{Function}
 use Rattle.spv_types.specs.Types.{form_of}
-use Rattle.spv_types.specs.Views.{is_pointer, parameters_in, returned}
+use Rattle.spv_types.specs.Queries.{is_pointer, parameters_in, returned}
 use Rattle.spv_index.specs.Definitions.{defining}
 use Rattle.spv_index.specs.Operands.{id_operand}
 use Rattle.spv_bodies.specs.Context.{Known, has, type_in}

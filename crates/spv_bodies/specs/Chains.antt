@@ -8,8 +8,8 @@ use Rattle.spv_types.specs.declared.forms.Form.{Form}
 use Rattle.spv_types.specs.declared.forms.Form.TheVariants.{Void, Bool as Boolean, Int, Vector, Array, Runtime, Struct, Pointer, Function}
 use Rattle.spv_types.specs.Types.{form_of}
 use Rattle.spv_index.specs.Definitions.{defining}
-use Rattle.spv_types.specs.declared.views.Pointed.{Pointed}
-use Rattle.spv_types.specs.Views.{is_integer, member_type, pointee}
+use Rattle.spv_types.specs.declared.queries.Pointed.{Pointed}
+use Rattle.spv_types.specs.Queries.{is_integer, member_type, pointee}
 use Rattle.spv_consts.specs.Table.{scalar_of}
 use Rattle.spv_index.specs.Operands.{id_in}
 use Rattle.spv_bodies.specs.Context.{IsPointerTo, Known, PointsTo, has, pointee_at, type_of}

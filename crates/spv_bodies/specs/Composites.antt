@@ -8,8 +8,8 @@ use Rattle.spv_types.specs.declared.forms.Form.{Form}
 use Rattle.spv_types.specs.declared.forms.Form.TheVariants.{Void, Bool as Boolean, Int, Vector, Array, Runtime, Struct, Pointer, Function}
 use Rattle.spv_types.specs.declared.forms.Member.{Member}
 use Rattle.spv_types.specs.Types.{form_of}
-use Rattle.spv_types.specs.declared.views.Components.{Components}
-use Rattle.spv_types.specs.Views.{components_in, member_type}
+use Rattle.spv_types.specs.declared.queries.Components.{Components}
+use Rattle.spv_types.specs.Queries.{components_in, member_type}
 use Rattle.spv_typing.specs.Fitting.{is_selectable}
 use Rattle.spv_index.specs.Operands.{literal_in}
 use Rattle.spv_bodies.specs.Context.{HasType, IsInteger, IsVectorOf, Known, form_at, has, is_integer_at, type_at, type_in}

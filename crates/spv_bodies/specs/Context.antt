@@ -12,9 +12,9 @@ use Rattle.spv_types.specs.Types.{Types, form_of}
 use Rattle.spv_index.specs.Definitions.{defining, result_type}
 use Rattle.spv_index.specs.Operands.{id_in, id_operand}
 use Rattle.spv_index.specs.Classes.{sets_of}
-use Rattle.spv_types.specs.declared.views.Components.{Components}
-use Rattle.spv_types.specs.declared.views.Pointed.{Pointed}
-use Rattle.spv_types.specs.Views.{is_integer, pointee}
+use Rattle.spv_types.specs.declared.queries.Components.{Components}
+use Rattle.spv_types.specs.declared.queries.Pointed.{Pointed}
+use Rattle.spv_types.specs.Queries.{is_integer, pointee}
 
 pub record Known : Type 0 where
   pub types : Types

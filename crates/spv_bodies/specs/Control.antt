@@ -7,7 +7,7 @@ use Rattle.spv_base.specs.declared.instructions.Inst.{Inst}
 use Rattle.spv_base.specs.declared.instructions.Operand.{Operand}
 use Rattle.spv_types.specs.declared.forms.Form.TheVariants.{Void, Bool as Boolean}
 use Rattle.spv_types.specs.Types.{form_of}
-use Rattle.spv_types.specs.Views.{is_boolean, is_pointer, is_void}
+use Rattle.spv_types.specs.Queries.{is_boolean, is_pointer, is_void}
 use Rattle.spv_bodies.specs.Context.{HasType, IsInteger, Known, form_at, has, is_integer_at, type_at, type_in}
 
 -- the first of each pair

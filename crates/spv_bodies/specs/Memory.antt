@@ -6,8 +6,8 @@ use Rattle.spv_base.specs.declared.instructions.Inst.{Inst}
 use Rattle.spv_types.specs.Rules.{has_runtime, is_runtime, is_sized_data, is_word}
 use Rattle.spv_types.specs.Types.{form_of}
 use Rattle.spv_types.specs.declared.forms.Form.TheVariants.{Int, Runtime}
-use Rattle.spv_types.specs.declared.views.Pointed.{Pointed}
-use Rattle.spv_types.specs.Views.{member_of, pointee}
+use Rattle.spv_types.specs.declared.queries.Pointed.{Pointed}
+use Rattle.spv_types.specs.Queries.{member_of, pointee}
 use Rattle.spv_index.specs.Operands.{literal_operand}
 use Rattle.spv_bodies.specs.Context.{HasType, IsPointerTo, Known, PointsTo, constant_at, has, pointee_at, type_at}
 

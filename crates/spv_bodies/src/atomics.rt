@@ -8,7 +8,7 @@ use spv_base::{Cell, Inst};
 use spv_index::id_operand;
 use spv_ops::scope;
 use spv_ops::storage_class::{STORAGE_BUFFER, WORKGROUP};
-use spv_types::views::{Pointed, is_integer};
+use spv_types::queries::{Pointed, is_integer};
 
 /// Whether a pointer leads to a scalar integer in StorageBuffer or Workgroup.
 fn is_shared(context: &Context, p: Pointed) -> bool

@@ -2,7 +2,7 @@
 ghost use Rattle.std.specs.Prelude.{◌≡◌, IfOk};
 ghost use Rattle.spv_base.specs.Answers.{Answers};
 ghost use Rattle.spv_types.specs.Build.{unless_refused};
-ghost use Rattle.spv_types.specs.Blocks.{nothing};
+ghost use Rattle.spv_types.specs.InterfaceBlocks.{nothing};
 ghost use Rattle.spv_bodies.specs.Bodies as spec;
 ghost use Rattle.spv_bodies.specs.Places.{nowhere, place, placed_from};
 

@@ -8,7 +8,7 @@ use spv_base::{Inst, Operand};
 use spv_index::id_operand;
 use spv_ops::op;
 use spv_types::Form;
-use spv_types::views::{is_pointer, parameters_in, returned};
+use spv_types::queries::{is_pointer, parameters_in, returned};
 
 /// How many parameters stand before the first block.
 fn parameters_ahead(insts: &[Inst]) -> usize

@@ -7,7 +7,7 @@ use crate::operands::{id_in, operands_from};
 use spv_base::{Cell, Inst, Operand};
 use spv_ops::op::CONSTANT;
 use spv_types::Form;
-use spv_types::views::{Pointed, is_integer, member_type, pointee};
+use spv_types::queries::{Pointed, is_integer, member_type, pointee};
 
 /// A scalar's number, where it is defined and not below 0 when it is read as signed.
 fn index_in(cell: Cell) -> Option<u64>

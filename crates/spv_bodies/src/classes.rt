@@ -1,7 +1,7 @@
 //! The classes of types that match logically.
 ghost use Rattle.std.specs.Prelude.{◌≡◌, ◌≤◌, IfOk, Option, length, option_map};
 ghost use Rattle.std.specs.Option.{option_and_then};
-ghost use Rattle.spv_types.specs.Views.{member_type};
+ghost use Rattle.spv_types.specs.Queries.{member_type};
 ghost use Rattle.spv_bodies.specs.Classes.{AreClasses, HaveClasses, class_among, same_class};
 ghost use Rattle.spv_bodies.specs.Matching.{Number, Pair, Term, array_term, form_term, members_term, repeated, same_terms, term_among, term_of};
 ghost use Rattle.spv_bodies.specs.Terms.{Grows, IsClass, Makes};
@@ -9,7 +9,7 @@ ghost use Rattle.spv_bodies.specs.Terms.{Grows, IsClass, Makes};
 use crate::terms::Terms;
 use spv_base::NoMemory;
 use spv_ops::op;
-use spv_types::views::member_type;
+use spv_types::queries::member_type;
 use spv_types::{Form, Member, TypeTable};
 use std::alloc::Global;
 

@@ -9,7 +9,7 @@ use spv_base::{Inst, Operand};
 use spv_consts::ConstTable;
 use spv_index::{Index, Table, id_operand};
 use spv_types::constants::is_constant;
-use spv_types::views::{Pointed, is_integer, pointee};
+use spv_types::queries::{Pointed, is_integer, pointee};
 use spv_types::{Form, TypeTable};
 use std::marker::Model;
 

@@ -4,7 +4,7 @@ ghost use Rattle.spv_bodies.specs.Control as spec;
 
 use crate::context::Context;
 use spv_base::{Inst, Operand};
-use spv_types::views::{is_boolean, is_pointer, is_void};
+use spv_types::queries::{is_boolean, is_pointer, is_void};
 
 /// Whether every second operand, the first among them, is a value of a type.
 fn are_values(context: &Context, ty: u32, operands: &[Operand]) -> bool

@@ -6,8 +6,7 @@ ghost use Rattle.spv_bodies.specs.Lanes as spec;
 
 use crate::context::Context;
 use spv_base::Inst;
-use spv_index::classes::number_at;
-use spv_index::literal_operand;
+use spv_index::{classes, literal_operand};
 use spv_typing::{OperandTypes, fits_glsl_types, fits_types};
 
 /// The types of the first four operands.
@@ -46,7 +45,7 @@ pub fn keeps_lanes(context: &Context, inst: &Inst) -> bool
 fn is_debug(context: &Context, inst: &Inst) -> bool
     ensures { result ≡ is_debug context.now.sets inst.now }
 {
-    context.sets().get(number_at(inst, 0)).unwrap_or(false)
+    classes::is_debug(context.sets(), inst)
 }
 
 /// Whether the operands of an instruction of GLSL.std.450 fit its result.

@@ -4,7 +4,7 @@ ghost use Rattle.std.specs.Bool.{Decides};
 ghost use Rattle.spv_base.specs.declared.instructions.Inst.{Inst};
 ghost use Rattle.spv_consts.specs.Table.{Constants};
 ghost use Rattle.spv_types.specs.Types.{Types};
-ghost use Rattle.spv_types.specs.Blocks.{nothing};
+ghost use Rattle.spv_types.specs.InterfaceBlocks.{nothing};
 ghost use Rattle.spv_bodies.specs.Bodies.{KeepsBody, bodies_of, keeps_body};
 ghost use Rattle.spv_bodies.specs.Context.{Known, known_of};
 ghost use Rattle.spv_bodies.specs.Laws.{KeepRules};

@@ -16,8 +16,6 @@ mod memory;
 mod operands;
 mod rules;
 mod terms;
-#[cfg(test)]
-mod tests;
 mod within;
 
 pub use bodies::check_bodies;

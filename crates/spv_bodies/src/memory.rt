@@ -6,7 +6,7 @@ use crate::context::Context;
 use spv_base::Inst;
 use spv_index::literal_operand;
 use spv_ops::storage_class::{FUNCTION, INPUT, PUSH_CONSTANT, UNIFORM};
-use spv_types::views::{Pointed, member_of, pointee};
+use spv_types::queries::{Pointed, member_of, pointee};
 
 /// Whether functions may write variables of a class.
 fn is_writable(class: u32) -> bool

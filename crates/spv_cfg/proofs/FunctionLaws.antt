@@ -10,7 +10,7 @@ use Rattle.spv_base.specs.declared.instructions.Inst.{Inst}
 use Rattle.spv_index.specs.declared.classes.Class.{Class}
 use Rattle.spv_index.specs.declared.classes.Class.TheVariants.{Function, Executable}
 use Rattle.spv_index.specs.declared.positions.Position.{Position}
-use Rattle.spv_index.specs.Classes.{is_debug, number_at, class_of, classes}
+use Rattle.spv_index.specs.Classes.{is_debug, is_local, class_of, classes}
 use Rattle.spv_index.specs.Positions.{Stand, stands, begins, position_after}
 use Rattle.spv_cfg.specs.Executables.{executable_of}
 use Rattle.spv_cfg.specs.Branches.{Home, label_of}
@@ -66,7 +66,7 @@ classes_of_functions debug local = all_from_test gives_function GivesFunction te
 
 opcode_of_function : (sets : List (ℕ × Bool)) (inst : Inst) → class_of sets inst ≡ Function → inst.op ≡ 54
 opcode_of_function sets inst is =
-    key_of_function inst.op (classes (is_debug sets inst) (number_at inst 0 == 7)) (classes_of_functions (is_debug sets inst) (number_at inst 0 == 7)) is
+    key_of_function inst.op (classes (is_debug sets inst) (is_local inst)) (classes_of_functions (is_debug sets inst) (is_local inst)) is
 
 -- ---- depths
 

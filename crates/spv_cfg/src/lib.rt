@@ -15,8 +15,6 @@ mod lowest;
 mod operands;
 mod phis;
 mod switches;
-#[cfg(test)]
-mod tests;
 
 pub use calls::{Calls, depths_are_longest_chains};
 pub use flow::Flow;

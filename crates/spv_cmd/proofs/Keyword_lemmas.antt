@@ -5,7 +5,7 @@ use Rattle.spv_cmd.specs.declared.keywords.Keyword.TheVariants as the
 use Rattle.spv_cmd.specs.declared.keywords.TheConstants.{KEYWORDS}
 use Rattle.std.specs.List.{find, list_all}
 use Rattle.std.specs.Str.{bytes_eq}
-use Rattle.spv_cmd.specs.Words.{is_other}
+use Rattle.spv_line.specs.Words.{is_other}
 use Rattle.spv_cmd.specs.Grammar.{spelling}
 
 -- the place of a keyword in the list

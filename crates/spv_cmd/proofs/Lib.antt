@@ -1,6 +1,5 @@
 pub mod Bool_lemmas
 pub mod Number_lemmas
-pub mod Words_lemmas
 pub mod Reads_lemmas
 pub mod Part_lemmas
 pub mod Path_lemmas

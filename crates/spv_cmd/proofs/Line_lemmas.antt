@@ -16,7 +16,7 @@ use Rattle.spv_cmd.specs.declared.command.PathText.{PathText}
 use Rattle.spv_cmd.specs.declared.command.PathText.TheVariants.{Name, Id}
 use Rattle.spv_cmd.specs.declared.command.Command.{Command}
 use Rattle.spv_cmd.specs.declared.command.Command.TheVariants as command
-use Rattle.spv_cmd.specs.Words.{is_space, is_other, words_in}
+use Rattle.spv_line.specs.Words.{is_space, is_other, words_in}
 use Rattle.spv_cmd.specs.Numbers.{is_digit}
 use Rattle.spv_cmd.specs.Paths.{is_name, is_name_byte, is_part, is_path, part_text, parts_text, path_text}
 use Rattle.spv_cmd.specs.Places.{is_place, place_text}
@@ -24,7 +24,7 @@ use Rattle.spv_cmd.specs.Grammar.{row, spelling, Means, AreWords, IsLine}
 use Rattle.spv_cmd.specs.Grammar.Arguments.{none, number, count, path, place}
 use Rattle.spv_cmd.specs.Lines.{written, HasForm, line_of}
 use Rattle.spv_cmd.proofs.Bool_lemmas.{both_true, both_are, all_also}
-use Rattle.spv_cmd.proofs.Words_lemmas.{some_word}
+use Rattle.spv_line.proofs.Words_lemmas.{some_word}
 use Rattle.spv_cmd.proofs.Number_lemmas.{number_decimal, decimal_digits, le_true}
 use Rattle.spv_cmd.proofs.Part_lemmas.{name_parts}
 use Rattle.spv_cmd.proofs.Path_lemmas.{path_again}

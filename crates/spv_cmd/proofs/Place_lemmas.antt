@@ -4,7 +4,7 @@ use Rattle.std.specs.List.{list_all}
 use Rattle.std.proofs.lemmas.List.{take-append-drop, length-append, same_from_push}
 use Rattle.std.proofs.lemmas.List.Folds.{list_all-append}
 use Rattle.std.proofs.lemmas.Bool.Decides.{nat_tests}
-use Rattle.spv_cmd.specs.Words.{is_other}
+use Rattle.spv_line.specs.Words.{is_other}
 use Rattle.spv_cmd.specs.Numbers.{number_of, is_digit}
 use Rattle.spv_cmd.specs.Places.{IsPlace, is_place, place_text, is_no_colon, EndsInColon}
 use Rattle.spv_cmd.proofs.Bool_lemmas.{both_true, both_are, all_also, first_are}

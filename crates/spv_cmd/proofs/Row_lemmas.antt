@@ -6,7 +6,7 @@ use Rattle.spv_base.specs.declared.causes.Fail.{Fail}
 use Rattle.spv_base.specs.declared.causes.CmdRefusal.{CmdRefusal}
 use Rattle.spv_cmd.specs.declared.command.PathText.{PathText}
 use Rattle.spv_cmd.specs.declared.command.Command.{Command}
-use Rattle.spv_cmd.specs.Words.{words_in, HasFirstWord}
+use Rattle.spv_line.specs.Words.{words_in, HasFirstWord}
 use Rattle.spv_cmd.specs.Paths.{IsPath}
 use Rattle.spv_cmd.specs.Places.{IsPlace}
 use Rattle.spv_cmd.specs.Grammar.{Arguments, IsOne, IsNumber, IsCount, Means}

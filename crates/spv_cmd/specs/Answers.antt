@@ -5,7 +5,7 @@ use Rattle.spv_base.specs.declared.causes.Fail.TheVariants.{Refused, NoMemory}
 use Rattle.spv_base.specs.declared.causes.CmdRefusal.{CmdRefusal}
 use Rattle.spv_cmd.specs.declared.keywords.Keyword.{Keyword}
 use Rattle.spv_cmd.specs.declared.command.Command.{Command}
-use Rattle.spv_cmd.specs.Words.{words_in}
+use Rattle.spv_line.specs.Words.{words_in}
 use Rattle.spv_cmd.specs.Grammar.{spelling, row, Means, IsLine}
 
 -- what a call gives that reads its text: a value that the text is, or C2 where it is none

@@ -5,7 +5,7 @@ use Rattle.spv_cmd.specs.declared.keywords.Keyword.TheVariants as the
 use Rattle.spv_cmd.specs.declared.command.PathText.{PathText}
 use Rattle.spv_cmd.specs.declared.command.Command.{Command}
 use Rattle.spv_cmd.specs.declared.command.Command.TheVariants as command
-use Rattle.spv_cmd.specs.Words.{words_in}
+use Rattle.spv_line.specs.Words.{words_in}
 use Rattle.spv_cmd.specs.Numbers.{number_of}
 use Rattle.spv_cmd.specs.Paths.{IsPath}
 use Rattle.spv_cmd.specs.Places.{IsPlace}

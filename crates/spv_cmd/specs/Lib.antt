@@ -1,4 +1,3 @@
-pub mod Words
 pub mod Numbers
 pub mod Paths
 pub mod Places

@@ -1,7 +1,7 @@
 -- Lines of source files: `line`, or `file:line`, which the last colon parts.
 use Rattle.std.specs.Prelude.{◌≡◌, ℕ, ◌==◌, ◌<◌, ◌⊎◌, nat_le, not, ◌&&◌, Bool, List, [], ◌++◌, length, codes, decimal, Option, Some, None}
 use Rattle.std.specs.List.{list_all}
-use Rattle.spv_cmd.specs.Words.{is_other}
+use Rattle.spv_line.specs.Words.{is_other}
 use Rattle.spv_cmd.specs.Numbers.{number_of}
 
 -- this line is written so; digits have no colon, so the colon before them is the last

@@ -1,6 +1,6 @@
 //! What stands after a command's word.
 ghost use Rattle.std.specs.Prelude.{◌≡◌, ◌≤◌, length};
-ghost use Rattle.spv_cmd.specs.Words.{words_in};
+ghost use Rattle.spv_line.specs.Words.{words_in};
 ghost use Rattle.spv_cmd.specs.Paths.{IsPath};
 ghost use Rattle.spv_cmd.specs.Places.{IsPlace};
 ghost use Rattle.spv_cmd.specs.Grammar.{IsOne, IsNumber, IsCount, Means};
@@ -9,8 +9,8 @@ ghost use Rattle.spv_cmd.specs.Answers.{Reads};
 
 use crate::command::{BreakPlace, Command, Count, ValuePath};
 use crate::numbers;
-use crate::words::{next_word, only_word};
 use spv_base::{CmdRefusal, Fail};
+use spv_line::{next_word, only_word};
 use std::alloc::Global;
 
 /// The arguments aren't the command's.

@@ -132,7 +132,7 @@ impl Model for BreakPlace {
 impl BreakPlace {
     ghost use Rattle.std.specs.Prelude.{◌≡◌, ◌≤◌, true, length, option_copied};
     ghost use Rattle.std.specs.List.{list_all};
-    ghost use Rattle.spv_cmd.specs.Words.{is_other};
+    ghost use Rattle.spv_line.specs.Words.{is_other};
     ghost use Rattle.spv_cmd.specs.Places.{IsPlace, is_place, place_text};
     ghost use Rattle.spv_cmd.specs.Answers.{Reads};
 

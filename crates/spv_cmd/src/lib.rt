@@ -9,9 +9,6 @@ mod parsing;
 mod paths;
 mod places;
 mod printing;
-#[cfg(test)]
-mod tests;
-mod words;
 
 pub use command::{BreakPlace, Command, Count, PathPart, PathParts, PathText, ValuePath};
 pub use keywords::{Keyword, keywords_differ};

@@ -3,15 +3,15 @@ ghost use Rattle.std.specs.Prelude.{◌≡◌, ◌<◌, ◌≤◌, ◌+◌, List
 ghost use Rattle.spv_base.specs.Answers.{Answers};
 ghost use Rattle.spv_base.specs.declared.causes.CmdRefusal.{CmdRefusal};
 ghost use Rattle.spv_cmd.specs.declared.command.Command.{Command};
-ghost use Rattle.spv_cmd.specs.Words.{words_in};
+ghost use Rattle.spv_line.specs.Words.{words_in};
 ghost use Rattle.spv_cmd.specs.Grammar.{row, spelling, Means};
 ghost use Rattle.spv_cmd.specs.Answers.{Reads, IsDue, IsAnswer, IsFirstRefused, BeginsWith, Begins, IsSplit};
 
 use crate::arguments::{count, none, number, path, place};
 use crate::command::Command;
 use crate::keywords::{Keyword, find_keyword};
-use crate::words::next_word;
 use spv_base::{CmdRefusal, Fail};
+use spv_line::next_word;
 use std::alloc::Global;
 
 /// No command has this word.

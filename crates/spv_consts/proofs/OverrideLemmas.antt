@@ -1,9 +1,9 @@
--- The misfits among some instructions and the overrides that hold, one after another.
+-- The misfits among some instructions, the constants with SpecIds, and the overrides that hold, one after another.
 use Rattle.std.proofs.Common.{◌≡◌, ◌∙◌, ℕ, ◌+◌, ◌<◌, ◌≤◌, Bool, true, false, List, [], ◌∷◌, ◌++◌, ℤ, length, get_or, drop, drop-cons, drop_of_length-le, add-one, append_assoc, append-nil, refl, sym, ap}
 use Rattle.std.specs.Prelude.{◌||◌, if◌then◌else◌}
 use Rattle.spv_base.specs.declared.instructions.Inst.{Inst}
 use Rattle.spv_types.specs.Types.{Types}
-use Rattle.spv_consts.specs.Overrides.{Numbers, has_misfit, held_of, is_misfit}
+use Rattle.spv_consts.specs.Overrides.{Numbers, has_misfit, has_spec_id, held_of, is_known, is_misfit}
 
 pub misfit_at : (all : List Inst) (ts : Types) (over : Numbers) (insts : List Inst) (k : ℕ) (i : Inst) (id : ℕ) → k < length insts → i ≡ get_or insts k i
     → has_misfit all ts over (drop k insts) id ≡ (is_misfit all ts over id i || has_misfit all ts over (drop (k + 1) insts) id)
@@ -41,3 +41,12 @@ unfolding held_of
 held_end all ts over numbers held k l g =
     let none : held_of all ts over (drop k numbers) ≡ [] = rw (drop_of_length-le numbers l) refl in
     sym (append-nil held) ∙ ap (λ (rest : Numbers). held ++ rest) (sym none) ∙ g
+
+pub known_at : (all insts : List Inst) (k : ℕ) (i : Inst) (id : ℕ) → k < length insts → i ≡ get_or insts k i
+    → is_known all (drop k insts) id ≡ (has_spec_id all id i || is_known all (drop (k + 1) insts) id)
+unfolding is_known
+known_at all insts k i id l e = rw (drop-cons insts k i l, ← e, add-one) refl
+
+pub known_none : (all insts : List Inst) (k id : ℕ) → length insts ≤ k → is_known all (drop k insts) id ≡ false
+unfolding is_known
+known_none all insts k id l = rw (drop_of_length-le insts l) refl

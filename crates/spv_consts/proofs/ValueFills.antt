@@ -13,7 +13,7 @@ use Rattle.spv_types.specs.Types.{Types, form_of}
 use Rattle.spv_types.specs.Constants.{is_constant}
 use Rattle.spv_types.specs.Rules.{is_sized_data, is_width}
 use Rattle.spv_types.specs.Laws.{AreSound}
-use Rattle.spv_types.specs.Views.{is_boolean}
+use Rattle.spv_types.specs.Queries.{is_boolean}
 use Rattle.spv_alu.specs.Results.{integer, truth}
 use Rattle.spv_typing.proofs.LawLemmas.{equal, parts}
 use Rattle.spv_consts.specs.Context.{Context}

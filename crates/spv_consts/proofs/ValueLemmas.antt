@@ -1,7 +1,8 @@
 -- The widths of the leaves of a type are made of its form; copies of lists.
-use Rattle.std.proofs.Common.{◌≡◌, ◌∙◌, ℕ, zero, suc, ◌+◌, ◌-◌, ◌≤◌, List, [], ◌∷◌, ◌++◌, length, drop, take, map, replicate, append_assoc, append-nil, add-one, None, Result, Ok, Err, refl, sym, ap, arith}
+use Rattle.std.proofs.Common.{◌≡◌, ◌∙◌, ℕ, zero, suc, ◌+◌, ◌-◌, ◌*◌, ◌≤◌, List, [], ◌∷◌, ◌++◌, length, drop, take, map, replicate, append_assoc, append-nil, add-one, length-append, None, Result, Ok, Err, refl, sym, ap, arith}
 use Rattle.std.proofs.lemmas.List.{drop-append-le, length-drop, map-append}
-use Rattle.std.proofs.Math.Seq.{drop-append_seam, drop-length, take-append_seam}
+use Rattle.std.proofs.Math.Nat.{add_comm, mul-le-mul_right, suc-mul}
+use Rattle.std.proofs.Math.Seq.{drop-append_seam, take-append_seam}
 use Rattle.std.specs.List.{flat_map}
 use Rattle.std.specs.Option.{option_map_or}
 use Rattle.std.specs.Result.{OnOk}
@@ -15,18 +16,22 @@ pub widths_among_is : (ts : Types) (n id : ℕ) → widths_among ts n id ≡ opt
 unfolding widths_among
 widths_among_is ts n id = in_first-is [] widths_step ts n id
 
--- one more copy, at the end
+-- so many copies
 copies_first : {A : Type 0} (n : ℕ) (xs : List A) → copies (suc n) xs ≡ xs ++ copies n xs
 unfolding copies
 copies_first n xs = refl
 
-copies_next : {A : Type 0} (n : ℕ) (xs : List A) → copies (suc n) xs ≡ copies n xs ++ xs
+copies_add : {A : Type 0} (m n : ℕ) (xs : List A) → copies (m + n) xs ≡ copies m xs ++ copies n xs
 unfolding copies
-copies_next zero xs = append-nil xs
-copies_next (suc n) xs = ap (λ (ys : List _). xs ++ ys) (copies_next n xs) ∙ sym (append_assoc xs (copies n xs) xs)
+copies_add zero n xs = let e : zero + n ≡ n = omega arith in rw e refl
+copies_add (suc m) n xs =
+    let e : suc m + n ≡ suc (m + n) = omega arith in
+    rw e (ap (λ (ys : List _). xs ++ ys) (copies_add m n xs) ∙ sym (append_assoc xs (copies m xs) (copies n xs)))
 
-pub copies_more : {A : Type 0} (n : ℕ) (xs : List A) → copies (n + 1) xs ≡ copies n xs ++ xs
-copies_more n xs = rw add-one (copies_next n xs)
+copies_long : {A : Type 0} (n : ℕ) (xs : List A) → length (copies n xs) ≡ n * length xs
+unfolding copies
+copies_long zero xs = let e : zero * length xs ≡ 0 = omega arith in sym e
+copies_long (suc n) xs = length-append xs (copies n xs) ∙ rw (copies_long n xs, suc-mul) (add_comm (length xs) (n * length xs))
 
 -- what equal types give is so many copies
 pub map_repeated : {A B : Type 0} (f : A → B) (g : ℕ → List A) (n t : ℕ) → map f (flat_map g (replicate n t)) ≡ copies n (map f (g t))
@@ -34,26 +39,35 @@ unfolding copies
 map_repeated f g zero t = refl
 map_repeated f g (suc n) t = map-append f (g t) (flat_map g (replicate n t)) ∙ ap (λ (ys : List _). map f (g t) ++ ys) (map_repeated f g n t)
 
-copies_none : {A : Type 0} (n : ℕ) → copies {A = A} n [] ≡ []
-unfolding copies
-copies_none zero = refl
-copies_none (suc n) = copies_none n
-
-pub repeat_none : {A : Type 0} (n start : ℕ) (xs : List A) → start ≡ length xs → xs ≡ xs ++ copies n (drop start xs)
-repeat_none n start xs h = rw (h, drop-length xs, copies_none n) (sym (append-nil xs))
-
 pub repeat_start : {A : Type 0} (start : ℕ) (xs : List A) → xs ≡ xs ++ copies 0 (drop start xs)
 unfolding copies
 repeat_start start xs = sym (append-nil xs)
 
--- one more copy of the items behind the first
-pub repeat_more : {A : Type 0} (n start end : ℕ) (first xs now : List A) → start ≤ length first → end ≡ length first → xs ≡ first ++ copies n (drop start first) → now ≡ xs ++ take (end - start) (drop start xs)
-    → now ≡ first ++ copies (n + 1) (drop start first)
-repeat_more n start end first xs now le ends is more =
-    let back : length (drop start first) ≡ end - start = length-drop start first ∙ ap (λ k. k - start) (sym ends) in
-    let taken : take (end - start) (drop start (first ++ copies n (drop start first))) ≡ drop start first =
-    rw (drop-append-le start first (copies n (drop start first)) le, ← back) (take-append_seam (drop start first) (copies n (drop start first))) in
-    more ∙ rw (is, taken, append_assoc, copies_more) refl
+-- the rows that stand behind the first items lie inside
+pub rows_inside : {A : Type 0} (n count start row : ℕ) (first xs : List A) → start ≤ length first → row ≡ length first - start → xs ≡ first ++ copies n (drop start first) → count ≤ n + 1
+    → start + count * row ≤ length xs
+rows_inside n count start row first xs le long is few =
+    let own : length (drop start first) ≡ row = length-drop start first ∙ sym long in
+    let all : length xs ≡ length first + n * row = ap length is ∙ length-append first (copies n (drop start first)) ∙ ap (λ k. length first + k) (copies_long n (drop start first) ∙ ap (λ k. n * k) own) in
+    let most : count * row ≤ (n + 1) * row = mul-le-mul_right row few in
+    let more : (n + 1) * row ≡ n * row + row = rw add-one (suc-mul n row) in
+    omega (arith, all, most, more, long, le)
+
+-- more of these rows
+pub rows_more : {A : Type 0} (n count start row : ℕ) (first xs now : List A) → start ≤ length first → row ≡ length first - start → xs ≡ first ++ copies n (drop start first) → count ≤ n + 1
+    → now ≡ xs ++ take (count * row) (drop start xs) → now ≡ first ++ copies (n + count) (drop start first)
+rows_more n count start row first xs now le long is few more =
+    let own : length (drop start first) ≡ row = length-drop start first ∙ sym long in
+    let split : count + (suc n - count) ≡ suc n = omega arith in
+    let there : drop start xs ≡ copies count (drop start first) ++ copies (suc n - count) (drop start first) =
+    ap (drop start) is ∙ drop-append-le start first (copies n (drop start first)) le ∙ sym (copies_first n (drop start first))
+    ∙ ap (λ k. copies k (drop start first)) (sym split) ∙ copies_add count (suc n - count) (drop start first) in
+    let size : count * row ≡ length (copies count (drop start first)) = sym (copies_long count (drop start first) ∙ ap (λ k. count * k) own) in
+    let taken : take (count * row) (drop start xs) ≡ copies count (drop start first) =
+    ap (take (count * row)) there ∙ ap (λ k. take k (copies count (drop start first) ++ copies (suc n - count) (drop start first))) size
+    ∙ take-append_seam (copies count (drop start first)) (copies (suc n - count) (drop start first)) in
+    more ∙ ap (λ (ys : List _). xs ++ ys) taken ∙ ap (λ (ys : List _). ys ++ copies count (drop start first)) is
+    ∙ append_assoc first (copies n (drop start first)) (copies count (drop start first)) ∙ ap (λ (ys : List _). first ++ ys) (sym (copies_add n count (drop start first)))
 
 -- ---- what is appended
 

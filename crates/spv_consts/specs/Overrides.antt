@@ -53,6 +53,14 @@ is_misfit all ts over spec i = is_same spec (spec_id_of all i) && option_map_or 
 unfoldable pub has_misfit : List Inst → Types → Numbers → List Inst → ℕ → Bool
 has_misfit all ts over insts spec = list_any (is_misfit all ts over spec) insts
 
+-- a constant has this SpecId
+abbrev pub has_spec_id : List Inst → ℕ → Inst → Bool
+has_spec_id all id i = is_same id (spec_id_of all i)
+
+-- one of some instructions is a constant with this SpecId
+unfoldable pub is_known : List Inst → List Inst → ℕ → Bool
+is_known all insts id = list_any (has_spec_id all id) insts
+
 -- the overrides that hold: those that fit all the constants of their SpecId
 unfoldable pub held_of : List Inst → Types → Numbers → Numbers → Numbers
 held_of all ts over [] = []

@@ -10,7 +10,7 @@ use Rattle.spv_types.specs.Types.{form_of}
 use Rattle.spv_types.specs.Constants.{is_constant}
 use Rattle.spv_types.specs.Rules.{is_sized_data}
 use Rattle.spv_types.specs.Shapes.{part_type}
-use Rattle.spv_types.specs.Views.{is_boolean}
+use Rattle.spv_types.specs.Queries.{is_boolean}
 use Rattle.spv_index.specs.Definitions.{result_type}
 use Rattle.spv_index.specs.Operands.{id_in, id_operand, literal_operand}
 use Rattle.spv_typing.specs.Rules.{is_constant_operation, operand_count}

@@ -1,10 +1,9 @@
 //! The values of constants.
-ghost use Rattle.std.specs.Prelude.{◌≡◌, ◌++◌, IfOk, OnOk};
+ghost use Rattle.std.specs.Prelude.{◌≡◌, ◌≢◌, IfOk};
 ghost use Rattle.std.specs.List.{flat_map};
 ghost use Rattle.spv_base.specs.declared.instructions.Operand.{Operand as Given};
 ghost use Rattle.spv_index.specs.Operands.{id_in};
 ghost use Rattle.spv_consts.specs.State.{given_cells};
-ghost use Rattle.spv_consts.specs.Values.{null_of};
 ghost use Rattle.spv_consts.specs.Evaluation as spec;
 
 use crate::context::Context;
@@ -12,7 +11,6 @@ use crate::literals::literal_lane;
 use crate::operations::{PairOp, by_one, by_two, lane_width, selected};
 use crate::overrides::overridden;
 use crate::rules::opcode_of;
-use crate::values::append_blank;
 use crate::walk::Walk;
 use spv_alu::{UnaryOp, results};
 use spv_base::{Cell, Inst, NoMemory, Operand};
@@ -137,29 +135,20 @@ impl Walk {
         }
     }
 
-    /// The cells of a null constant.
-    fn null(&self, alloc: Global, ty: u32) -> Result<Vec<Cell>, NoMemory>
-        ensures { IfOk result (λ cells. cells.items ≡ null_of self.now.types ty) }
-    {
-        let mut cells = Vec::new(alloc);
-        append_blank(&mut cells, &self.types, true, ty)?;
-        Ok(cells)
-    }
-
-    /// The cells of a constant.
+    /// The cells of a constant other than OpConstantNull.
     pub(crate) fn cells_of(
         &self,
         alloc: Global,
         context: &Context,
         inst: &Inst,
     ) -> Result<Vec<Cell>, NoMemory>
+        requires { inst.now.op ≢ 46 }
         ensures { IfOk result (λ cells. cells.items ≡ spec.cells_of context.now self.now inst.now) }
     {
         match inst.op {
             op::CONSTANT_COMPOSITE | op::SPEC_CONSTANT_COMPOSITE => {
                 self.constituents(alloc, context, inst.operands.as_slice())
             }
-            op::CONSTANT_NULL => self.null(alloc, inst.ty),
             op::SPEC_CONSTANT_OP => self.operation(alloc, context, inst),
             _ => Ok(vec![in alloc; overridden(self.scalar_lane(inst), context.override_of(inst))]?),
         }

@@ -16,9 +16,8 @@ mod rules;
 mod spec_ids;
 mod steps;
 pub mod table;
-#[cfg(test)]
-mod tests;
 mod values;
 mod walk;
 
+pub use overrides::{known_spec_ids, misfits};
 pub use table::{ConstTable, Row, RowPlace};

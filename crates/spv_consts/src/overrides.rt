@@ -81,8 +81,8 @@ fn note(set: &mut BTreeMap<u32, ()>, number: Option<u32>) -> Result<(), NoMemory
     Ok(())
 }
 
-/// The SpecIds whose numbers do not fit some constant.
-fn misfits(
+/// The SpecIds whose numbers do not fit some constant among these instructions (SPIR-V 1.6 section 2.9).
+pub fn misfits(
     alloc: Global,
     index: &Index,
     types: &TypeTable,
@@ -94,6 +94,21 @@ fn misfits(
     let mut set = BTreeMap::new(alloc);
     for inst in insts {
         note(&mut set, misfit(index, types, over, inst))?;
+    }
+    Ok(set)
+}
+
+/// The SpecIds that constants among these instructions have (SPIR-V 1.6 section 2.9).
+pub fn known_spec_ids(
+    alloc: Global,
+    index: &Index,
+    insts: &[Inst],
+) -> Result<BTreeMap<u32, ()>, NoMemory>
+    ensures { IfOk result (λ set. (id : ℕ) → is_some (get nat_cmp set id) ≡ spec.is_known index.now.insts insts.now id) }
+{
+    let mut set = BTreeMap::new(alloc);
+    for inst in insts {
+        note(&mut set, spec_id_of(index, inst))?;
     }
     Ok(set)
 }

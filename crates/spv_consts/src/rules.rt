@@ -11,7 +11,7 @@ use spv_base::{Inst, Operand};
 use spv_index::{id_in, id_operand, literal_operand};
 use spv_ops::op;
 use spv_types::constants::is_constant;
-use spv_types::views::is_boolean;
+use spv_types::queries::is_boolean;
 use spv_types::{Form, TypeTable};
 use spv_typing::{OperandTypes, fits_types, is_constant_operation, operand_count};
 

@@ -1,14 +1,16 @@
 //! One instruction after another.
-ghost use Rattle.std.specs.Prelude.{◌≡◌, IfOk, IsTrue};
+ghost use Rattle.std.specs.Prelude.{◌≡◌, [], ◌∷◌, ◌++◌, IfOk, IsTrue};
 ghost use Rattle.spv_base.specs.Answers.{Answers};
 ghost use Rattle.spv_types.specs.Build.{unless_refused};
 ghost use Rattle.spv_consts.specs.State.{is_next};
 ghost use Rattle.spv_consts.specs.Steps as spec;
+ghost use Rattle.spv_consts.specs.Values.{null_of};
 
 use crate::context::Context;
 use crate::numbers::{LIMITS_CODE, MOST_CELLS, MOST_NESTING, RULES_CODE};
 use crate::walk::Walk;
-use spv_base::{Fail, Inst, NoMemory, Refusal};
+use spv_base::{Cell, Fail, Inst, NoMemory, Refusal};
+use spv_ops::op;
 use spv_types::Limit;
 use spv_types::constants::is_constant;
 use std::alloc::Global;
@@ -71,20 +73,56 @@ impl Walk {
         Ok(self)
     }
 
-    /// Adds a constant.
-    fn with_constant(
-        mut self,
-        alloc: Global,
-        context: &Context,
-        inst: &Inst,
-    ) -> Result<Walk, NoMemory>
-        ensures { IfOk result (λ walk. walk ≡ spec.with_constant context.now self inst.now) }
+    /// Adds a null constant.
+    fn with_null(self, inst: &Inst) -> Result<Walk, NoMemory>
+        ensures { IfOk result (λ walk. walk ≡ record self { values = self.values ++ (inst.now.id, record { ty = inst.now.ty; cells = null_of self.types inst.now.ty }) ∷ []; cells = spec.cells_with self inst.now.ty }) }
     {
         let cells = self.cells_with(inst.ty);
+        let room = cells.saturating_sub(self.cells);
+        let Walk {
+            types,
+            values,
+            limits,
+            ..
+        } = self;
+        let values = values.with_null(&types, inst.id, inst.ty, room)?;
+        Ok(Walk {
+            types,
+            values,
+            limits,
+            cells,
+        })
+    }
+
+    /// Adds a constant of these leaves.
+    fn with_row(self, inst: &Inst, row: &[Cell]) -> Result<Walk, NoMemory>
+        ensures { IfOk result (λ walk. walk ≡ record self { values = self.values ++ (inst.now.id, record { ty = inst.now.ty; cells = row.now }) ∷ []; cells = spec.cells_with self inst.now.ty }) }
+    {
+        let cells = self.cells_with(inst.ty);
+        let Walk {
+            types,
+            values,
+            limits,
+            ..
+        } = self;
+        let values = values.with_row(inst.id, inst.ty, row)?;
+        Ok(Walk {
+            types,
+            values,
+            limits,
+            cells,
+        })
+    }
+
+    /// Adds a constant.
+    fn with_constant(self, alloc: Global, context: &Context, inst: &Inst) -> Result<Walk, NoMemory>
+        ensures { IfOk result (λ walk. walk ≡ spec.with_constant context.now self inst.now) }
+    {
+        if inst.op == op::CONSTANT_NULL {
+            return self.with_null(inst);
+        }
         let row = self.cells_of(alloc, context, inst)?;
-        self.values.add(inst.id, inst.ty, row.as_slice())?;
-        self.cells = cells;
-        Ok(self)
+        self.with_row(inst, row.as_slice())
     }
 
     /// Passes an instruction that breaks nothing.

@@ -1,9 +1,12 @@
 //! The table of the constants of a module.
-ghost use Rattle.std.specs.Prelude.{◌≡◌, ℕ, ◌≤◌, [], ◌∷◌, ◌++◌, length, take, drop, None, OnOk, slice_index_or, option_map};
+ghost use Rattle.std.specs.Prelude.{◌≡◌, ℕ, ◌≤◌, [], ◌∷◌, ◌++◌, length, take, drop, None, IfOk, OnOk, slice_index_or, option_map};
 ghost use Rattle.spv_base.specs.Entries.{reads};
-ghost use Rattle.spv_consts.specs.Table.{only, place_from, place_of, row_at, scalar_of};
+ghost use Rattle.spv_consts.specs.Table.{AreRows, only, place_from, place_of, row_at, rows_of, scalar_of};
+ghost use Rattle.spv_consts.specs.Values.{null_of};
 
+use crate::values::append_blank;
 use spv_base::{Cell, NoMemory};
+use spv_types::TypeTable;
 use std::alloc::Global;
 use std::marker::Model;
 
@@ -86,6 +89,33 @@ fn only(cells: &[Cell]) -> Option<Cell>
     }
 }
 
+/// The table of these entries, and of one more whose cells are those behind the first `start`.
+fn with_entry(
+    cells: Vec<Cell>,
+    mut entries: Vec<Entry>,
+    mut places: Vec<Option<usize>>,
+    start: usize,
+    id: u32,
+    ty: u32,
+) -> Result<ConstTable, NoMemory>
+    requires inside { start ≤ length cells.items }
+    requires rows { AreRows (take start cells.items) entries.items places.items }
+    ensures { IfOk result (λ table. table ≡ rows_of (take start cells.items) entries.items ++ (id, record { ty = ty; cells = drop start cells.items }) ∷ []) }
+{
+    lengthen(&mut places, id as usize + 1)?;
+    let number = entries.len();
+    let len = cells.len() - start;
+    entries.push(Entry { id, ty, start, len })?;
+    if places[id as usize].is_none() {
+        places[id as usize] = Some(number);
+    }
+    Ok(ConstTable {
+        cells,
+        entries,
+        places,
+    })
+}
+
 impl ConstTable {
     /// No constants.
     pub(crate) fn new(alloc: Global) -> ConstTable
@@ -98,25 +128,41 @@ impl ConstTable {
         }
     }
 
-    /// Adds a constant at the end. Where its id has a value already, that one stays the id's.
-    pub(crate) fn add(&mut self, id: u32, ty: u32, cells: &[Cell]) -> Result<(), NoMemory>
-        ensures { OnOk result (self.new ≡ self.old ++ (id, record { ty = ty; cells = cells.now }) ∷ []) }
+    /// The table with one more constant at the end, of these leaves. Where its id has a value already, that one stays the
+    /// id's.
+    pub(crate) fn with_row(self, id: u32, ty: u32, row: &[Cell]) -> Result<ConstTable, NoMemory>
+        ensures { IfOk result (λ table. table ≡ self ++ (id, record { ty = ty; cells = row.now }) ∷ []) }
     {
-        lengthen(&mut self.places, id as usize + 1)?;
-        self.entries.reserve(1)?;
-        let number = self.entries.len();
-        let start = self.cells.len();
-        self.cells.extend_from_slice(cells)?;
-        self.entries.push_reserved(Entry {
-            id,
-            ty,
-            start,
-            len: cells.len(),
-        });
-        if self.places[id as usize].is_none() {
-            self.places[id as usize] = Some(number);
-        }
-        Ok(())
+        let ConstTable {
+            mut cells,
+            entries,
+            places,
+        } = self;
+        let start = cells.len();
+        cells.extend_from_slice(row)?;
+        with_entry(cells, entries, places, start, id, ty)
+    }
+
+    /// The table with one more constant at the end, whose leaves are all 0: they are written where they stay. Room is made
+    /// for so many leaves at once.
+    pub(crate) fn with_null(
+        self,
+        types: &TypeTable,
+        id: u32,
+        ty: u32,
+        room: u64,
+    ) -> Result<ConstTable, NoMemory>
+        ensures { IfOk result (λ table. table ≡ self ++ (id, record { ty = ty; cells = null_of types.now ty }) ∷ []) }
+    {
+        let ConstTable {
+            mut cells,
+            entries,
+            places,
+        } = self;
+        let start = cells.len();
+        cells.reserve(room as usize)?;
+        append_blank(&mut cells, types, true, ty)?;
+        with_entry(cells, entries, places, start, id, ty)
     }
 
     /// The place of the first entry under an id.

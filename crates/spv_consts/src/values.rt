@@ -1,5 +1,5 @@
 //! The null value and the undefined value of a type.
-ghost use Rattle.std.specs.Prelude.{◌≡◌, ◌++◌, ◌≤◌, ◌-◌, IfOk, OnOk, length, map, take, drop};
+ghost use Rattle.std.specs.Prelude.{◌≡◌, ◌++◌, ◌+◌, ◌*◌, ◌≤◌, ◌-◌, IfOk, OnOk, length, map, take, drop};
 ghost use Rattle.std.specs.List.{flat_map};
 ghost use Rattle.spv_types.specs.declared.forms.Member.{Member as Part};
 ghost use Rattle.spv_consts.specs.Copies.{copies};
@@ -20,17 +20,27 @@ fn blank_lane(defined: bool, width: u32) -> Cell
     }
 }
 
-/// Appends the cells behind the first `start` so many times more.
+/// Appends a row of so many cells so many times, of those that stand behind the first `start`.
+fn append_rows(cells: &mut Vec<Cell>, start: usize, row: usize, count: u32) -> Result<(), NoMemory>
+    requires { start + count * row ≤ length cells.old.items }
+    ensures { OnOk result (cells.new.items ≡ cells.old.items ++ take (count * row) (drop start cells.old.items)) }
+{
+    cells.extend_from_within(start..start + count as usize * row)?;
+    Ok(())
+}
+
+/// Appends the cells behind the first `start` so many times more. Each pass appends as many rows as stand there already, so
+/// that there are few passes.
 fn repeat(cells: &mut Vec<Cell>, start: usize, times: u32) -> Result<(), NoMemory>
     requires { start ≤ length cells.old.items }
     ensures { OnOk result (cells.new.items ≡ cells.old.items ++ copies times (drop start cells.old.items)) }
 {
-    let end = cells.len();
-    if start == end {
-        return Ok(());
-    }
-    for _n in 0..times {
-        cells.extend_from_within(start..end)?;
+    let row = cells.len() - start;
+    let mut done = 0;
+    while done < times {
+        let count = (done + 1).min(times - done);
+        append_rows(cells, start, row, count)?;
+        done += count;
     }
     Ok(())
 }

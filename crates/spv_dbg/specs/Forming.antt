@@ -1,12 +1,12 @@
 -- Which debug instructions are well-formed: by the table of their kinds, where they stand, and the limits on types. This is this project's profile
 -- of NonSemantic.Shader.DebugInfo.100.
 use Rattle.std.specs.Prelude.{ℕ, ◌+◌, ◌==◌, ◌&&◌, ◌||◌, not, nat_le, Bool, true, false, if◌then◌else◌, List, [], ◌∷◌, ◌++◌, length, drop, Option, Some, None}
-use Rattle.std.specs.Option.{is_some, option_and_then, option_map_or}
+use Rattle.std.specs.Option.{is_some, option_and_then, option_map, option_map_or}
 use Rattle.std.specs.List.{list_all}
 use Rattle.spv_base.specs.Entries.{reads}
 use Rattle.spv_base.specs.declared.instructions.Inst.{Inst}
-use Rattle.spv_index.specs.Classes.{number_at}
 use Rattle.spv_index.specs.Definitions.{defining}
+use Rattle.spv_index.specs.Operands.{id_operand}
 use Rattle.spv_index.specs.Positions.{Stand, in_block}
 use Rattle.spv_index.specs.declared.classes.Class.{Class}
 use Rattle.spv_index.specs.declared.positions.Position.{Position}
@@ -20,11 +20,11 @@ use Rattle.spv_dbg.specs.declared.marks.Mark.{Mark}
 use Rattle.spv_dbg.specs.declared.measures.Measure.{Measure}
 use Rattle.spv_dbg.specs.Kinds.{in_blocks_alone, kinds, numbers_for, operations}
 use Rattle.spv_dbg.specs.Literals.{literal_of, string_of}
-use Rattle.spv_dbg.specs.Marks.{Marks, debug_inst, is_debug, is_one_of, known, measure_of}
+use Rattle.spv_dbg.specs.Marks.{Marks, debug_inst, is_one_of, known, measure_of, set_number}
 
 -- the OpCode of the Operation with an id
 abbrev pub opcode_of : Accepted → ℕ → Option ℕ
-opcode_of m id = option_and_then (λ i. literal_of m (number_at i 2)) (defining m.insts id)
+opcode_of m id = option_and_then (λ i. option_and_then (literal_of m) (id_operand i 2)) (defining m.insts id)
 
 abbrev pub is_fragment : Option ℕ → Bool
 is_fragment None = false
@@ -112,14 +112,22 @@ module _ (m : Accepted) (marks : Marks) where
   unfoldable pub mark_of : Bool → DebugInst → Option Mark
   mark_of inside d = if is_formed inside d then Some (marked d.number (measure_of m marks d.number d.operands)) else None
 
-  abbrev pub mark_at : Stand → Option Mark
-  mark_at s = if is_debug m.insts s.inst then mark_of (in_block s.position.stage) (debug_inst s.inst) else None
-
 -- ---- all instructions of a module, where those before have these marks
 
 -- an instruction with where it stands
 abbrev pub stood : Position → Class → Inst → Stand
 stood position class inst = record { position = position; class = class; inst = inst }
+
+-- it as an instruction of the set, where it is one
+abbrev pub debug_at : Accepted → Stand → Option DebugInst
+debug_at m s = option_map (λ number. debug_inst number s.inst) (set_number m.insts s.inst)
+
+-- what is kept of an instruction of the set, where it stands
+abbrev pub mark_in : Accepted → Marks → Stand → DebugInst → Option Mark
+mark_in m marks s d = mark_of m marks (in_block s.position.stage) d
+
+abbrev pub mark_at : Accepted → Marks → Stand → Option Mark
+mark_at m marks s = option_and_then (mark_in m marks s) (debug_at m s)
 
 -- their marks
 abbrev pub marks_from : Accepted → Marks → List Stand → Marks
@@ -130,13 +138,13 @@ abbrev pub kept_of : Option Mark → DebugInst → List DebugInst
 kept_of None d = []
 kept_of (Some k) d = d ∷ []
 
-abbrev pub kept : Option Mark → Inst → List DebugInst
-kept mark i = kept_of mark (debug_inst i)
+abbrev pub kept : Accepted → Marks → Stand → List DebugInst
+kept m marks s = option_map_or (λ d. kept_of (mark_in m marks s d) d) (debug_at m s) []
 
 -- the well-formed debug instructions among them
 abbrev pub formed_from : Accepted → Marks → List Stand → List DebugInst
 formed_from m marks [] = []
-formed_from m marks (s ∷ ss) = kept (mark_at m marks s) s.inst ++ formed_from m (marks ++ mark_at m marks s ∷ []) ss
+formed_from m marks (s ∷ ss) = kept m marks s ++ formed_from m (marks ++ mark_at m marks s ∷ []) ss
 
 -- a debug instruction without a mark is malformed
 abbrev pub lost : Option Mark → ℕ
@@ -144,7 +152,7 @@ lost None = 1
 lost (Some k) = 0
 
 abbrev pub malformed : Accepted → Marks → Stand → ℕ
-malformed m marks s = if is_debug m.insts s.inst then lost (mark_at m marks s) else 0
+malformed m marks s = option_map_or (λ d. lost (mark_in m marks s d)) (debug_at m s) 0
 
 -- how many of them are malformed debug instructions
 abbrev pub malformed_from : Accepted → Marks → List Stand → ℕ

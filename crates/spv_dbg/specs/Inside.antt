@@ -1,14 +1,17 @@
 -- What stored tables are.
-use Rattle.std.specs.Prelude.{◌≡◌, map}
+use Rattle.std.specs.Prelude.{◌≡◌, ℕ, List, map}
 use Rattle.spv_dbg.specs.declared.tables.DebugTables.TheInside.{Inside}
-use Rattle.spv_dbg.specs.Places.{places_from}
+use Rattle.spv_dbg.specs.Names.{number_under}
+use Rattle.spv_dbg.specs.Places.{keys_of, number_from, places_from}
 use Rattle.spv_dbg.specs.Seen.{seen}
+use Rattle.spv_dbg.specs.Sources.{has_name}
 use Rattle.spv_dbg.specs.Tables.{Tables}
 
 abbrev pub view_of : Inside → Tables
 view_of x = record { insts = x.insts.items; ignored = x.ignored; strings = x.strings; constants = x.constants; inlined = x.inlined; sources = map (seen x.strings) x.sources.items }
 
--- the numbers of the debug instructions stand under their ids and their words
+-- the numbers of the debug instructions stand under their ids and their words, those of the texts under the names of their files
 pub record AreTables (x : Inside) : Type 0 where
   pub ids_are : x.by_id ≡ places_from 0 (map (λ d. d.id) x.insts.items)
   pub words_are : x.by_word ≡ places_from 0 (map (λ d. d.word) x.insts.items)
+  pub names_are : (file : List ℕ) → number_under x.names file ≡ number_from 0 (has_name x.strings file) (keys_of x.sources.items)

@@ -6,6 +6,7 @@ pub mod Forming
 pub mod Places
 pub mod Sources
 pub mod Seen
+pub mod Names
 pub mod Wellformed
 pub mod Tables
 pub mod Inside

@@ -5,7 +5,7 @@ use Rattle.spv_base.specs.Entries.{reads}
 use Rattle.spv_base.specs.Lane.{Lane}
 use Rattle.spv_base.specs.declared.instructions.Inst.{Inst}
 use Rattle.spv_types.specs.Types.{Types, form_of}
-use Rattle.spv_types.specs.Views.{is_integer}
+use Rattle.spv_types.specs.Queries.{is_integer}
 use Rattle.spv_index.specs.Definitions.{defining}
 use Rattle.spv_index.specs.Operands.{text_operand}
 use Rattle.spv_consts.specs.Table.{Row, only}
@@ -16,12 +16,12 @@ abbrev pub word_in : Lane → Option ℕ
 word_in c = if c.width == 32 then Some c.bits else None
 
 -- the number of a constant, where its type is an integer of 32 bits
-abbrev pub number_in : Types → Row → Option ℕ
-number_in types row = if is_integer (form_of types row.ty) then option_and_then word_in (only row.cells) else None
+abbrev pub number_of_row : Types → Row → Option ℕ
+number_of_row types row = if is_integer (form_of types row.ty) then option_and_then word_in (only row.cells) else None
 
 -- the number of the constant with an id
 unfoldable pub literal_of : Accepted → ℕ → Option ℕ
-literal_of m id = option_and_then (number_in m.types) (reads id m.constants)
+literal_of m id = option_and_then (number_of_row m.types) (reads id m.constants)
 
 -- the bytes of an OpString (7)
 abbrev pub text_in : Inst → Option (List ℕ)

@@ -4,8 +4,9 @@ use Rattle.std.specs.Option.{option_and_then, option_map_or}
 use Rattle.std.specs.List.{list_any}
 use Rattle.std.specs.Str.{bytes_eq}
 use Rattle.spv_base.specs.declared.instructions.Inst.{Inst}
-use Rattle.spv_index.specs.Classes.{name_of, number_in, number_at}
+use Rattle.spv_base.specs.declared.instructions.Operand.{Operand}
 use Rattle.spv_index.specs.Definitions.{defining, number_of}
+use Rattle.spv_index.specs.Operands.{id_in, id_operand, literal_operand, text_operand}
 use Rattle.spv_valid.specs.Acceptance.{Accepted}
 use Rattle.spv_dbg.specs.declared.insts.DebugInst.{DebugInst}
 use Rattle.spv_dbg.specs.declared.marks.Mark.{Mark}
@@ -14,15 +15,27 @@ use Rattle.spv_dbg.specs.Literals.{literal_of}
 
 -- OpExtInstImport (11) of the set
 abbrev pub is_set : Inst → Bool
-is_set i = i.op == 11 && bytes_eq (name_of i) (codes "NonSemantic.Shader.DebugInfo.100")
+is_set i = i.op == 11 && option_map_or (λ name. bytes_eq name (codes "NonSemantic.Shader.DebugInfo.100")) (text_operand i 0) false
 
--- an OpExtInst (12) of the set
-unfoldable pub is_debug : List Inst → Inst → Bool
-is_debug insts i = i.op == 12 && option_map_or is_set (defining insts (number_at i 0)) false
+-- the set that an instruction names is this one
+abbrev pub names_set : List Inst → Inst → Bool
+names_set insts i = option_map_or is_set (option_and_then (defining insts) (id_operand i 0)) false
 
--- its number and what stands behind it, which is ids alone
-abbrev pub debug_inst : Inst → DebugInst
-debug_inst i = record { word = i.word; number = number_at i 1; id = i.id; operands = map number_in (drop 2 i.operands) }
+-- the number in the set of an OpExtInst (12) of the set: Set, Instruction, operands
+unfoldable pub set_number : List Inst → Inst → Option ℕ
+set_number insts i = if i.op == 12 && names_set insts i then literal_operand i 1 else None
+
+-- the id that an operand is; one that is none has the number 0, which is no id
+abbrev pub id_or_0 : Operand → ℕ
+id_or_0 o = unwrap_or (id_in o) 0
+
+-- the ids behind set and number
+abbrev pub ids_behind : Inst → List ℕ
+ids_behind i = map id_or_0 (drop 2 i.operands)
+
+-- an instruction of the set with its number in it
+abbrev pub debug_inst : ℕ → Inst → DebugInst
+debug_inst number i = record { word = i.word; number = number; id = i.id; operands = ids_behind i }
 
 -- ---- earlier debug instructions, where each instruction of the module so far has a mark if it is a well-formed one
 

@@ -1,5 +1,5 @@
 -- Items by their keys, of which the first under a key counts.
-use Rattle.std.specs.Prelude.{ℕ, suc, List, [], ◌∷◌, map}
+use Rattle.std.specs.Prelude.{ℕ, suc, Bool, if◌then◌else◌, List, [], ◌∷◌, map, Option, Some, None}
 
 -- each key with the number of its item, where the first has number n
 abbrev pub places_from : ℕ → List ℕ → List (ℕ × ℕ)
@@ -9,3 +9,8 @@ places_from n (key ∷ keys) = (key, n) ∷ places_from (suc n) keys
 -- the keys of entries
 abbrev pub keys_of : {T : Type 0} → List (ℕ × T) → List ℕ
 keys_of entries = map (λ e. e.0) entries
+
+-- the number of the first of some keys that passes a test, where the first of them has number n
+abbrev pub number_from : ℕ → (ℕ → Bool) → List ℕ → Option ℕ
+number_from n passes [] = None
+number_from n passes (key ∷ keys) = if passes key then Some n else number_from (suc n) passes keys

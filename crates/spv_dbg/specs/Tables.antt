@@ -11,9 +11,9 @@ use Rattle.spv_valid.specs.Acceptance.{Accepted}
 use Rattle.spv_dbg.specs.declared.constants.Constant.{Constant}
 use Rattle.spv_dbg.specs.declared.insts.DebugInst.{DebugInst}
 use Rattle.spv_dbg.specs.declared.marks.Mark.{Mark}
-use Rattle.spv_dbg.specs.Literals.{number_in, text_in}
-use Rattle.spv_dbg.specs.Marks.{Marks, debug_inst}
-use Rattle.spv_dbg.specs.Sources.{op_sources_in, source_of, sources_in}
+use Rattle.spv_dbg.specs.Literals.{number_of_row, text_in}
+use Rattle.spv_dbg.specs.Marks.{Marks, ids_behind}
+use Rattle.spv_dbg.specs.Sources.{debug_sources, op_sources_in, source_of}
 use Rattle.spv_dbg.specs.Forming.{formed_from, malformed_from, marks_from}
 
 pub record Tables : Type 0 where
@@ -34,7 +34,7 @@ strings_of insts = flat_map string_entry insts
 
 -- a constant with its number, where it is an integer of 32 bits
 abbrev pub constant_in : Accepted → Row → Constant
-constant_in m row = record { ty = row.ty; cells = row.cells; number = number_in m.types row }
+constant_in m row = record { ty = row.ty; cells = row.cells; number = number_of_row m.types row }
 
 abbrev pub constant_entry : Accepted → Inst → List (ℕ × Constant)
 constant_entry m i = option_map_or (λ row. (i.id, constant_in m row) ∷ []) (reads i.id m.constants) []
@@ -47,7 +47,7 @@ constants_of m = flat_map (constant_entry m) m.insts
 -- what a well-formed Scope (23) or NoScope (24) sets: the second operand of a Scope, and 0 where there is none
 abbrev pub set_by : Option Mark → Inst → Option ℕ
 set_by None i = None
-set_by (Some k) i = if k.number == 23 then Some (slice_index (debug_inst i).operands 1) else if k.number == 24 then Some 0 else None
+set_by (Some k) i = if k.number == 23 then Some (slice_index (ids_behind i) 1) else if k.number == 24 then Some 0 else None
 
 -- the instructions with their marks
 abbrev pub paired : List Stand → Marks → List (Stand × Option Mark)
@@ -84,7 +84,7 @@ unfoldable pub ignored_of : Accepted → ℕ
 ignored_of m = malformed_from m [] (stands_of m.insts)
 
 abbrev pub sources_of : Accepted → List (ℕ × List ℕ)
-sources_of m = sources_in (strings_of m.insts) (insts_of m) ++ op_sources_in m.insts
+sources_of m = debug_sources (strings_of m.insts) (insts_of m) ++ op_sources_in m.insts
 
 unfoldable pub tables_of : Accepted → Tables
 tables_of m = record {

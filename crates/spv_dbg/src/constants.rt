@@ -3,7 +3,7 @@ ghost use Rattle.std.specs.Prelude.{◌≡◌, ◌++◌, IfOk, OnOk};
 ghost use Rattle.spv_dbg.specs.Tables as spec;
 
 use crate::keyed::Keyed;
-use crate::literals::number_in;
+use crate::literals::number_of_row;
 use spv_base::{Cells, Inst, NoMemory};
 use spv_consts::table::Row;
 use spv_valid::Module;
@@ -24,7 +24,7 @@ fn constant_in(alloc: Global, module: &Module, row: Row<'_>) -> Result<Constant,
     Ok(Constant {
         ty: row.ty,
         cells: Cells::from_slice(alloc, row.cells)?,
-        number: number_in(module.types(), row),
+        number: number_of_row(module.types(), row),
     })
 }
 

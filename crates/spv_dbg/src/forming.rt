@@ -11,7 +11,7 @@ use crate::literals::{literal_of, string_of};
 use crate::marks::{Mark, known};
 use crate::measures::{Measure, measure_of, operands_from};
 use crate::number::{EXPRESSION, OPERATION};
-use spv_index::classes::number_at;
+use spv_index::id_operand;
 use spv_valid::Module;
 
 /// The most bits of a type's values.
@@ -130,7 +130,7 @@ fn opcode_of(module: &Module, id: u32) -> Option<u32>
     ensures { result ≡ spec.opcode_of module.now id }
 {
     let inst = module.index().defining(id)?;
-    literal_of(module, number_at(inst, 2))
+    literal_of(module, id_operand(inst, 2)?)
 }
 
 /// Whether an Operation has what its OpCode asks, and nothing behind it.

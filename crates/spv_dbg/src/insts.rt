@@ -1,12 +1,13 @@
 //! Debug instructions.
-ghost use Rattle.std.specs.Prelude.{◌≡◌, ◌≤◌, drop, map, slice_index, IfOk};
-ghost use Rattle.std.specs.Str.{bytes_eq};
-ghost use Rattle.spv_index.specs.Classes as classes;
+ghost use Rattle.std.specs.Prelude.{◌≡◌, ◌≤◌, drop, slice_index, IfOk};
+ghost use Rattle.std.specs.Prelude.{option_copied};
+ghost use Rattle.std.specs.Option.{option_and_then};
+ghost use Rattle.spv_index.specs.Definitions.{defining};
+ghost use Rattle.spv_index.specs.Operands.{id_operand};
 ghost use Rattle.spv_dbg.specs.Marks as spec;
 
 use spv_base::{Inst, NoMemory, Operand, Places};
-use spv_index::Index;
-use spv_index::classes::{number_at, number_in};
+use spv_index::{Index, id_in, id_operand, literal_operand, text_operand};
 use spv_ops::op;
 use std::alloc::Global;
 
@@ -30,61 +31,80 @@ fn is_set(inst: &Inst) -> bool
     if inst.op != op::EXT_INST_IMPORT {
         return false;
     }
-    match inst.operands.get(0) {
-        Some(Operand::Text(name)) => name.as_slice() == SET,
-        Some(Operand::Id(_)) => false,
-        Some(Operand::Lit(_)) => false,
+    match text_operand(inst, 0) {
+        Some(name) => name == SET,
         None => false,
     }
 }
 
-/// Whether an instruction is one of the set.
-#[tactic(auto, unfolding(crate::specs::Marks::is_debug))]
-pub(crate) fn is_debug(index: &Index, inst: &Inst) -> bool
-    ensures { result ≡ spec.is_debug index.now.insts inst.now }
+/// The import of the set that an instruction names.
+fn set_of<'a>(index: &'a Index, inst: &Inst) -> Option<&'a Inst>
+    ensures { option_copied result ≡ option_and_then (defining index.now.insts) (id_operand inst.now 0) }
 {
-    if inst.op != op::EXT_INST {
-        return false;
-    }
-    match index.defining(number_at(inst, 0)) {
+    index.defining(id_operand(inst, 0)?)
+}
+
+/// Whether the set that an instruction names is this one.
+fn names_set(index: &Index, inst: &Inst) -> bool
+    ensures { result ≡ spec.names_set index.now.insts inst.now }
+{
+    match set_of(index, inst) {
         Some(import) => is_set(import),
         None => false,
     }
 }
 
-/// The operands behind set and number.
-fn ids_of(alloc: Global, inst: &Inst) -> Result<Vec<u32>, NoMemory>
-    ensures { IfOk result (λ ids. ids.items ≡ map classes.number_in (drop 2 inst.now.operands)) }
+/// The number of an instruction of the set, and None for another one.
+#[tactic(auto, unfolding(crate::specs::Marks::set_number))]
+pub(crate) fn set_number(index: &Index, inst: &Inst) -> Option<u32>
+    ensures { result ≡ spec.set_number index.now.insts inst.now }
+{
+    if inst.op != op::EXT_INST || !names_set(index, inst) {
+        return None;
+    }
+    literal_operand(inst, 1)
+}
+
+/// The id that an operand is, and 0, which is no id, where it is none.
+fn id_or_0(operand: &Operand) -> u32
+    ensures { result ≡ spec.id_or_0 operand.now }
+{
+    id_in(operand).unwrap_or(0)
+}
+
+/// The ids behind set and number.
+fn ids_behind(alloc: Global, inst: &Inst) -> Result<Vec<u32>, NoMemory>
+    ensures { IfOk result (λ ids. ids.items ≡ spec.ids_behind inst.now) }
 {
     let operands = inst.operands.as_slice();
     let behind = operands.get(2..).unwrap_or(&[]);
     Ok(
         behind
             .iter()
-            .map(|operand| number_in(operand))
+            .map(|operand| id_or_0(operand))
             .collect(alloc)?,
     )
 }
 
-/// The debug instruction that an instruction of the set is.
-pub(crate) fn debug_inst(alloc: Global, inst: &Inst) -> Result<DebugInst, NoMemory>
-    ensures { IfOk result (λ d. d ≡ spec.debug_inst inst.now) }
+/// An instruction of the set with its number in it.
+pub(crate) fn debug_inst(alloc: Global, number: u32, inst: &Inst) -> Result<DebugInst, NoMemory>
+    ensures { IfOk result (λ d. d ≡ spec.debug_inst number inst.now) }
 {
-    let ids = ids_of(alloc, inst)?;
+    let ids = ids_behind(alloc, inst)?;
     Ok(DebugInst {
         word: inst.word,
-        number: number_at(inst, 1),
+        number,
         id: inst.id,
         operands: Places::from_vec(ids),
     })
 }
 
-/// The operand with a number, counted behind set and number, and 0 where there is none.
+/// The id with a number among those behind set and number, and 0 where there is none.
 pub(crate) fn operand_of(inst: &Inst, n: usize) -> u32
     requires { n ≤ 4 }
-    ensures { result ≡ slice_index (spec.debug_inst inst.now).operands n }
+    ensures { result ≡ slice_index (spec.ids_behind inst.now) n }
 {
-    number_at(inst, n + 2)
+    id_operand(inst, n + 2).unwrap_or(0)
 }
 
 /// The operand with a number, and 0 where there is none.

@@ -40,7 +40,7 @@ pub(crate) fn places_of(alloc: Global, keys: &[u32]) -> Result<Table<usize>, NoM
 }
 
 /// The keys of entries.
-fn keys_of<T>(alloc: Global, entries: &[(u32, T)]) -> Result<Vec<u32>, NoMemory>
+pub(crate) fn keys_of<T>(alloc: Global, entries: &[(u32, T)]) -> Result<Vec<u32>, NoMemory>
     ensures { IfOk result (λ keys. keys.items ≡ keys_of entries.now) }
 {
     Ok(entries.iter().map(|entry| entry.0).collect(alloc)?)

@@ -9,7 +9,7 @@ use spv_consts::table::Row;
 use spv_index::{Index, text_operand};
 use spv_ops::op;
 use spv_types::TypeTable;
-use spv_types::views::is_integer;
+use spv_types::queries::is_integer;
 use spv_valid::Module;
 
 /// The number of a scalar of 32 bits.
@@ -33,8 +33,8 @@ fn only(cells: &[Cell]) -> Option<Cell>
 }
 
 /// The number of a constant, where its type is an integer of 32 bits.
-pub(crate) fn number_in(types: &TypeTable, row: Row<'_>) -> Option<u32>
-    ensures { result ≡ spec.number_in types.now (record { ty = row.entry.ty; cells = row.entry.cells.now }) }
+pub(crate) fn number_of_row(types: &TypeTable, row: Row<'_>) -> Option<u32>
+    ensures { result ≡ spec.number_of_row types.now (record { ty = row.entry.ty; cells = row.entry.cells.now }) }
 {
     if !is_integer(types.form(row.ty)) {
         return None;
@@ -47,7 +47,7 @@ pub(crate) fn number_in(types: &TypeTable, row: Row<'_>) -> Option<u32>
 pub(crate) fn literal_of(module: &Module, id: u32) -> Option<u32>
     ensures { result ≡ spec.literal_of module.now id }
 {
-    number_in(module.types(), module.consts().value(id)?)
+    number_of_row(module.types(), module.consts().value(id)?)
 }
 
 /// The bytes of an OpString.

@@ -4,7 +4,7 @@ ghost use Rattle.spv_dbg.specs.Forming as spec;
 ghost use Rattle.spv_dbg.specs.Tables.{ignored_of, insts_of, marks_of};
 
 use crate::forming::mark_of;
-use crate::insts::{DebugInst, debug_inst, is_debug};
+use crate::insts::{DebugInst, debug_inst, set_number};
 use crate::marks::Mark;
 use spv_base::NoMemory;
 use spv_index::stands::Stand;
@@ -54,15 +54,15 @@ impl Records {
     fn add(&mut self, alloc: Global, module: &Module, stand: &Stand<'_>) -> Result<(), NoMemory>
         requires { self.old.ignored ≤ vec_len self.old.marks }
         ensures marks { OnOk result (self.new.marks.items ≡ self.old.marks.items ++ spec.mark_at module.now self.old.marks.items (spec.stood stand.now.position stand.now.class stand.now.inst.now) ∷ []) }
-        ensures insts { OnOk result (self.new.insts.items ≡ self.old.insts.items ++ spec.kept (spec.mark_at module.now self.old.marks.items (spec.stood stand.now.position stand.now.class stand.now.inst.now)) stand.now.inst.now) }
+        ensures insts { OnOk result (self.new.insts.items ≡ self.old.insts.items ++ spec.kept module.now self.old.marks.items (spec.stood stand.now.position stand.now.class stand.now.inst.now)) }
         ensures ignored { OnOk result (self.new.ignored ≡ self.old.ignored + spec.malformed module.now self.old.marks.items (spec.stood stand.now.position stand.now.class stand.now.inst.now)) }
         ensures few { OnOk result (self.new.ignored ≤ vec_len self.new.marks) }
     {
-        if !is_debug(module.index(), stand.inst) {
+        let Some(number) = set_number(module.index(), stand.inst) else {
             self.marks.push(None)?;
             return Ok(());
-        }
-        let debug = debug_inst(alloc, stand.inst)?;
+        };
+        let debug = debug_inst(alloc, number, stand.inst)?;
         self.add_debug(module, stand.position.stage.in_block(), debug)
     }
 }

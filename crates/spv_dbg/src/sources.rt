@@ -1,14 +1,14 @@
 //! The texts of source files.
-ghost use Rattle.std.specs.Prelude.{◌≡◌, ◌++◌, [], ℕ, List, IfOk, OnOk, false, map, option_copied};
+ghost use Rattle.std.specs.Prelude.{◌≡◌, ◌≤◌, ◌++◌, IfOk, OnOk, length, map};
+ghost use Rattle.spv_types.specs.Cuts.{cut};
 ghost use Rattle.spv_dbg.specs.Seen.{seen, seen_in};
 ghost use Rattle.spv_dbg.specs.Sources as spec;
 
 use crate::insts::{DebugInst, operand};
 use crate::keyed::Keyed;
 use crate::number::{SOURCE, SOURCE_CONTINUED};
+use crate::op_sources::add_op_sources;
 use spv_base::{Bytes, Inst, NoMemory};
-use spv_index::{id_operand, text_operand};
-use spv_ops::op;
 use std::alloc::Global;
 
 /// A text of a source file. Many Sources may name one long OpString, so it isn't copied where nothing continues it.
@@ -23,8 +23,11 @@ pub(crate) enum SourceText {
 /// The id of the OpString with the name of a file, and its text.
 pub(crate) type Source = (u32, SourceText);
 
+/// The most bytes that are joined, as many as a module has at most: only strings that are named again and again lead past it.
+const MOST_JOINED: u64 = 4_194_304;
+
 /// The bytes of an OpString, and none where there is no such string.
-fn text_of(strings: &Keyed<Bytes>, id: u32) -> &[u8]
+pub(crate) fn text_of(strings: &Keyed<Bytes>, id: u32) -> &[u8]
     ensures { result.now ≡ spec.text_of strings.now id }
 {
     match strings.get(id) {
@@ -33,19 +36,32 @@ fn text_of(strings: &Keyed<Bytes>, id: u32) -> &[u8]
     }
 }
 
-/// Whether a SourceContinued stands before the next Source.
-fn is_continued(insts: &[DebugInst]) -> bool
-    ensures { result ≡ false → (strings : List (ℕ × List ℕ)) → spec.continuation strings insts.now ≡ [] }
+/// How many bytes the Texts of each SourceContinued before the next Source have.
+fn continuation_len(strings: &Keyed<Bytes>, insts: &[DebugInst]) -> u64
+    ensures { result ≡ cut (length (spec.continuation strings.now insts.now)) }
 {
+    let mut len = 0u64;
     for debug in insts {
         if debug.number == SOURCE {
-            return false;
+            return len;
         }
         if debug.number == SOURCE_CONTINUED {
-            return true;
+            let more = text_of(strings, operand(debug.operands.as_slice(), 0));
+            len = len.saturating_add(more.len() as u64);
         }
     }
-    false
+    len
+}
+
+/// How many bytes are joined for a text, where these debug instructions stand behind its Source.
+fn joined_len(strings: &Keyed<Bytes>, id: u32, behind: &[DebugInst]) -> u64
+    ensures { result ≡ cut (spec.joined strings.now id behind.now) }
+{
+    let more = continuation_len(strings, behind);
+    if more == 0 {
+        return 0;
+    }
+    more.saturating_add(text_of(strings, id).len() as u64)
 }
 
 /// Adds the Texts of each SourceContinued before the next Source.
@@ -68,38 +84,62 @@ fn push_continuation(
 }
 
 /// The Text of a Source with what continues it.
+fn joined_text(
+    alloc: Global,
+    strings: &Keyed<Bytes>,
+    id: u32,
+    behind: &[DebugInst],
+) -> Result<Bytes, NoMemory>
+    ensures { IfOk result (λ text. text ≡ spec.text_of strings.now id ++ spec.continuation strings.now behind.now) }
+{
+    let mut text = Vec::from_slice(alloc, text_of(strings, id))?;
+    push_continuation(strings, behind, &mut text)?;
+    Ok(Bytes::from_vec(text))
+}
+
+/// The text of a Source that has this Text, for which so many bytes are joined.
 fn source_text(
     alloc: Global,
     strings: &Keyed<Bytes>,
     id: u32,
     behind: &[DebugInst],
+    joined: u64,
 ) -> Result<SourceText, NoMemory>
+    requires { joined ≡ spec.joined strings.now id behind.now }
     ensures { IfOk result (λ text. seen_in strings.now text ≡ spec.text_of strings.now id ++ spec.continuation strings.now behind.now) }
 {
-    if !is_continued(behind) {
+    if joined == 0 {
         return Ok(SourceText::Whole(id));
     }
-    let mut text = Vec::from_slice(alloc, text_of(strings, id))?;
-    push_continuation(strings, behind, &mut text)?;
-    Ok(SourceText::Joined(Bytes::from_vec(text)))
+    Ok(SourceText::Joined(joined_text(alloc, strings, id, behind)?))
 }
 
-/// Adds a Source that has a Text, where these debug instructions stand behind it.
+/// Adds a Source that has a Text, where these debug instructions stand behind it, and so many bytes may be joined. It gives
+/// how many bytes may be joined behind it.
 fn add_source(
     alloc: Global,
     strings: &Keyed<Bytes>,
+    room: u64,
     debug: &DebugInst,
     behind: &[DebugInst],
     sources: &mut Vec<Source>,
-) -> Result<(), NoMemory>
-    ensures { OnOk result (map (seen strings.now) sources.new.items ≡ map (seen strings.now) sources.old.items ++ spec.source_at strings.now debug.now behind.now) }
+) -> Result<u64, NoMemory>
+    requires { room ≤ 4194304 }
+    ensures sources { OnOk result (map (seen strings.now) sources.new.items ≡ map (seen strings.now) sources.old.items ++ spec.source_at strings.now room debug.now behind.now) }
+    ensures room { IfOk result (λ left. left ≡ spec.room_behind strings.now room debug.now behind.now) }
 {
     let ids = debug.operands.as_slice();
-    if debug.number == SOURCE && ids.len() > 1 {
-        let text = source_text(alloc, strings, operand(ids, 1), behind)?;
-        sources.push((operand(ids, 0), text))?;
+    if debug.number != SOURCE || ids.len() < 2 {
+        return Ok(room);
     }
-    Ok(())
+    let id = operand(ids, 1);
+    let joined = joined_len(strings, id, behind);
+    if joined > room {
+        return Ok(room);
+    }
+    let text = source_text(alloc, strings, id, behind, joined)?;
+    sources.push((operand(ids, 0), text))?;
+    Ok(room - joined)
 }
 
 /// Adds the Sources among these debug instructions that have a Text.
@@ -109,64 +149,11 @@ fn add_sources(
     mut insts: &[DebugInst],
     sources: &mut Vec<Source>,
 ) -> Result<(), NoMemory>
-    ensures { OnOk result (map (seen strings.now) sources.new.items ≡ map (seen strings.now) sources.old.items ++ spec.sources_in strings.now insts.entry.now) }
+    ensures { OnOk result (map (seen strings.now) sources.new.items ≡ map (seen strings.now) sources.old.items ++ spec.debug_sources strings.now insts.entry.now) }
 {
+    let mut room = MOST_JOINED;
     while let [debug, behind @ ..] = insts {
-        add_source(alloc, strings, debug, behind, sources)?;
-        insts = behind;
-    }
-    Ok(())
-}
-
-/// Adds the texts of each OpSourceContinued before the next OpSource.
-fn push_op_continuation(insts: &[Inst], text: &mut Vec<u8>) -> Result<(), NoMemory>
-    ensures { OnOk result (text.new.items ≡ text.old.items ++ spec.op_continuation insts.now) }
-{
-    for inst in insts {
-        if inst.op == op::SOURCE {
-            return Ok(());
-        }
-        if inst.op == op::SOURCE_CONTINUED {
-            text.extend_from_slice(text_operand(inst, 0).unwrap_or(&[]))?;
-        }
-    }
-    Ok(())
-}
-
-/// Adds an OpSource that has a text, where these instructions stand behind it.
-fn add_op_source(
-    alloc: Global,
-    inst: &Inst,
-    behind: &[Inst],
-    sources: &mut Vec<Source>,
-) -> Result<(), NoMemory>
-    ensures { OnOk result ((strings : List (ℕ × List ℕ)) → map (seen strings) sources.new.items ≡ map (seen strings) sources.old.items ++ spec.op_source_at inst.now behind.now) }
-{
-    if inst.op != op::SOURCE {
-        return Ok(());
-    }
-    let Some(file) = id_operand(inst, 2) else {
-        return Ok(());
-    };
-    let Some(first) = text_operand(inst, 3) else {
-        return Ok(());
-    };
-    let mut text = Vec::from_slice(alloc, first)?;
-    push_op_continuation(behind, &mut text)?;
-    sources.push((file, SourceText::Joined(Bytes::from_vec(text))))?;
-    Ok(())
-}
-
-/// Adds each OpSource among these instructions that has a text.
-fn add_op_sources(
-    alloc: Global,
-    mut insts: &[Inst],
-    sources: &mut Vec<Source>,
-) -> Result<(), NoMemory>
-    ensures { OnOk result ((strings : List (ℕ × List ℕ)) → map (seen strings) sources.new.items ≡ map (seen strings) sources.old.items ++ spec.op_sources_in insts.entry.now) }
-{
-    while let [inst, behind @ ..] = insts {
-        add_op_source(alloc, inst, behind, sources)?;
+        room = add_source(alloc, strings, room, debug, behind, sources)?;
         insts = behind;
     }
     Ok(())
@@ -179,46 +166,10 @@ pub(crate) fn sources_of(
     debug: &[DebugInst],
     insts: &[Inst],
 ) -> Result<Vec<Source>, NoMemory>
-    ensures { IfOk result (λ sources. map (seen strings.now) sources.items ≡ spec.sources_in strings.now debug.now ++ spec.op_sources_in insts.now) }
+    ensures { IfOk result (λ sources. map (seen strings.now) sources.items ≡ spec.debug_sources strings.now debug.now ++ spec.op_sources_in insts.now) }
 {
     let mut sources = Vec::new(alloc);
     add_sources(alloc, strings, debug, &mut sources)?;
     add_op_sources(alloc, insts, &mut sources)?;
     Ok(sources)
-}
-
-/// Whether an OpString is the name of a file.
-fn has_name(strings: &Keyed<Bytes>, file: &[u8], id: u32) -> bool
-    ensures { result ≡ spec.has_name strings.now file.now id }
-{
-    match strings.get(id) {
-        Some(name) => name.as_slice() == file,
-        None => false,
-    }
-}
-
-/// The bytes of a text.
-fn bytes_of<'a>(strings: &'a Keyed<Bytes>, text: &'a SourceText) -> &'a [u8]
-    ensures { result.now ≡ seen_in strings.now text.now }
-{
-    match text {
-        SourceText::Whole(id) => text_of(strings, *id),
-        SourceText::Joined(bytes) => bytes.as_slice(),
-    }
-}
-
-/// The text of the first of these sources that has a name.
-pub(crate) fn source_in<'a>(
-    strings: &'a Keyed<Bytes>,
-    sources: &'a [Source],
-    file: &[u8],
-) -> Option<&'a [u8]>
-    ensures { option_copied result ≡ spec.source_of strings.now (map (seen strings.now) sources.now) file.now }
-{
-    for source in sources {
-        if has_name(strings, file, source.0) {
-            return Some(bytes_of(strings, &source.1));
-        }
-    }
-    None
 }

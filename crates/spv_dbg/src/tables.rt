@@ -9,8 +9,9 @@ use crate::constants::{Constant, constants_of};
 use crate::inlined::inlined_of;
 use crate::insts::DebugInst;
 use crate::keyed::{Keyed, places_of};
+use crate::names::{Names, names_of, text_with};
 use crate::records::{Records, records_of};
-use crate::sources::{Source, source_in, sources_of};
+use crate::sources::{Source, sources_of};
 use crate::strings::strings_of;
 use spv_base::{Bytes, NoMemory};
 use spv_consts::table::Row;
@@ -32,6 +33,7 @@ pub struct DebugTables {
     /// By word, the InlinedAt that holds at the instruction there, or 0.
     inlined: Table<u32>,
     sources: Vec<Source>,
+    names: Names,
 }
 
 impl Model for DebugTables {
@@ -95,6 +97,7 @@ impl DebugTables {
         let strings = strings_of(alloc, module.insts())?;
         let constants = constants_of(alloc, module)?;
         let sources = sources_of(alloc, &strings, insts.as_slice(), module.insts())?;
+        let names = names_of(alloc, &strings, sources.as_slice())?;
         Ok(DebugTables {
             insts,
             by_id,
@@ -104,6 +107,7 @@ impl DebugTables {
             constants,
             inlined,
             sources,
+            names,
         })
     }
 
@@ -169,10 +173,11 @@ impl DebugTables {
     }
 
     /// The text of the file with a name: that of the first Source with this name and a Text, with what its SourceContinued add,
-    /// and where there is none the same of OpSource and OpSourceContinued.
+    /// and where there is none the same of OpSource and OpSourceContinued. In logarithmic time.
     pub fn source(&self, file: &[u8]) -> Option<&[u8]>
         ensures { option_copied result ≡ spec.text_of_file self.now file.now }
     {
-        source_in(&self.strings, self.sources.as_slice(), file)
+        let number = self.names.get(file).copied();
+        text_with(&self.strings, self.sources.as_slice(), number)
     }
 }

@@ -1,2 +1,3 @@
-pub mod Number_lemmas
 pub mod Given_lemmas
+pub mod Cell_lemmas
+pub mod Fit_lemmas

@@ -1,18 +1,9 @@
 -- Numbers for SpecIds that no constant has, or that don't fit the type of one that has it.
 use Rattle.std.specs.Prelude.{ℕ, not, ◌||◌, Bool, if◌then◌else◌, List, [], ◌∷◌, Option, Some, None, Result, Ok, Err}
-use Rattle.std.specs.List.{list_any}
 use Rattle.spv_base.specs.declared.causes.SetupRefusal.{SetupRefusal}
 use Rattle.spv_base.specs.declared.instructions.Inst.{Inst}
 use Rattle.spv_types.specs.Types.{Types}
-use Rattle.spv_consts.specs.Overrides.{Numbers, has_misfit, is_same, spec_id_of}
-
--- a constant has this SpecId
-abbrev pub has_spec_id : List Inst → ℕ → Inst → Bool
-has_spec_id all id i = is_same id (spec_id_of all i)
-
--- one of some instructions is a constant with this SpecId
-unfoldable pub is_known : List Inst → List Inst → ℕ → Bool
-is_known all insts id = list_any (has_spec_id all id) insts
+use Rattle.spv_consts.specs.Overrides.{Numbers, has_misfit, is_known}
 
 -- the number for a SpecId has no constant, or doesn't fit one
 abbrev pub is_unfit : List Inst → Types → Numbers → ℕ → Bool

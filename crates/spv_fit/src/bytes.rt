@@ -10,7 +10,7 @@ ghost use Rattle.spv_index.specs.Operands.{literal_operand};
 ghost use Rattle.spv_types.specs.Measured.{AreSizes};
 ghost use Rattle.spv_fit.specs.Given as due;
 
-use crate::given::{Given, given_by_pairs};
+use crate::given::Given;
 use spv_base::{Fail, Inst, SetupRefusal};
 use spv_index::{Index, literal_operand};
 use spv_ops::{decoration, op, storage_class};
@@ -37,7 +37,7 @@ fn has_block_class(class: Option<u32>) -> bool
 }
 
 /// Whether an instruction is a variable of such a class.
-fn is_block_variable(inst: &Inst) -> bool
+pub fn is_block_variable(inst: &Inst) -> bool
     ensures { result ≡ due.is_block_variable inst.now }
 {
     inst.op == op::VARIABLE && has_block_class(literal_operand(inst, 0))
@@ -63,7 +63,7 @@ fn block_size(types: &TypeTable, sizes: &[u64], ty: u32) -> u64
 }
 
 /// The bytes of a variable of a block.
-fn given_to(
+pub fn given_to(
     index: &Index,
     setup: &Setup,
     pairs: &BTreeMap<(u32, u32), Given>,
@@ -191,15 +191,16 @@ pub fn check_bytes(
     index: &Index,
     types: &TypeTable,
     setup: &Setup,
+    pairs: &BTreeMap<(u32, u32), Given>,
 ) -> Result<(), Fail<SetupRefusal>>
+    requires { (set binding : ℕ) → get pair_cmp pairs.now (set, binding) ≡ due.given_at setup.now.buffers set binding }
     ensures { Answers (due.check_bytes index.now.insts types.now setup.now) result }
 {
-    let pairs = given_by_pairs(alloc, setup.buffers().as_slice())?;
-    if some_lack(index, setup, &pairs, index.insts()) {
+    if some_lack(index, setup, pairs, index.insts()) {
         return Err(NO_BYTES);
     }
     let sizes = types.sizes(alloc)?;
-    match lowest_short(index, types, &sizes, setup, &pairs, index.insts()) {
+    match lowest_short(index, types, &sizes, setup, pairs, index.insts()) {
         None => Ok(()),
         Some(line) => Err(Fail::Refused(SetupRefusal { code: 7, line })),
     }

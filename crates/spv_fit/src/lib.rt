@@ -2,6 +2,7 @@
 #![tactic(auto)]
 
 mod bytes;
+mod cells;
 mod fitting;
 mod given;
 mod numbers;

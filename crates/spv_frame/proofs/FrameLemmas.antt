@@ -2,7 +2,7 @@
 use Rattle.std.proofs.Common.{◌≡◌, ◌∙◌, ℕ, zero, suc, ◌<◌, Bool, false, List, [], ◌∷◌, Option, Some, None, map, length, length-set, replicate, refl, sym, ap, subst, arith, slice_get, slice_set}
 use Rattle.std.specs.List.{zip}
 use Rattle.spv_base.specs.Entries.{reads, writes}
-use Rattle.spv_base.specs.Parts.{part_at, with_part}
+use Rattle.spv_base.specs.Parts.{with_part}
 use Rattle.spv_base.specs.State.{Registers}
 use Rattle.spv_base.specs.declared.values.PassedEvent.{PassedEvent}
 use Rattle.spv_base.specs.declared.values.Pointer.{Pointer}

@@ -1,5 +1,5 @@
 -- The slots of a plan, and the row of a frame without values.
-use Rattle.std.proofs.Common.{◌≡◌, ◌∙◌, ℕ, zero, suc, ◌+◌, ◌<◌, List, [], ◌∷◌, ◌++◌, Some, None, map, length, replicate, refl, sym, ap, subst, arith, rules, take, slice_get}
+use Rattle.std.proofs.Common.{◌≡◌, ◌∙◌, ℕ, zero, suc, ◌+◌, List, [], ◌∷◌, ◌++◌, Some, map, length, replicate, refl, sym, ap, subst, arith, rules, slice_get}
 use Rattle.std.specs.List.{flat_map}
 use Rattle.std.proofs.lemmas.List.{length-replicate, replicate-append-replicate}
 use Rattle.spv_base.specs.Lane.{Lane, undefined_lane}
@@ -10,6 +10,7 @@ use Rattle.spv_types.proofs.RowLemmas.{leaves_many, scalar_row}
 use Rattle.spv_frame.specs.Registers.{IsSlotOf, Rooms, cells_before, ids, number_of, sizes}
 use Rattle.spv_frame.specs.Frames.{cells_in, trees}
 use Rattle.spv_frame.specs.Plans.{AreApart, Keeps, blank_of, blank_register, planned, rooms, slots_from, slots_of, total}
+use Rattle.spv_frame.specs.declared.slots.Place.{Place}
 use Rattle.spv_frame.specs.declared.slots.Slot.{Slot}
 use Rattle.spv_frame.proofs.RegisterLemmas.{trees_many}
 
@@ -102,7 +103,10 @@ keeps rs slots blank ps e row apart places =
     let same : rooms slots ≡ rs = ap rooms e ∙ rooms_are rs in
     (blank_is rs blank row, blank_sizes rs blank row ∙ ap sizes (sym same), e ∙ ap slots_of (sym same), subst (λ (x : Rooms). AreApart (ids x)) (sym same) apart, places)
 
-pub planned_is : (function first : ℕ) (parameters parameters' : List ℕ) (values values' : Rooms) (pointers pointers' : List ℕ) → parameters ≡ parameters' → values ≡ values' → pointers ≡ pointers'
-    → planned function first parameters values pointers ≡ planned function first parameters' values' pointers'
-planned_is function first parameters parameters' values values' pointers pointers' e g h =
-    ap (λ (x : List ℕ). planned function first x values pointers) e ∙ ap (λ (x : Rooms). planned function first parameters' x pointers) g ∙ ap (λ (x : List ℕ). planned function first parameters' values' x) h
+pub planned_is : (function first : ℕ) (parameters parameters' : List Place) (values values' : Rooms) (pointers pointers' : List ℕ) (types types' : List (ℕ × ℕ)) → parameters ≡ parameters' → values ≡ values' → pointers ≡ pointers' → types ≡ types'
+    → planned function first parameters values pointers types ≡ planned function first parameters' values' pointers' types'
+planned_is function first parameters parameters' values values' pointers pointers' types types' e g h i =
+    ap (λ (x : List Place). planned function first x values pointers types) e
+    ∙ ap (λ (x : Rooms). planned function first parameters' x pointers types) g
+    ∙ ap (λ (x : List ℕ). planned function first parameters' values' x types) h
+    ∙ ap (λ (x : List (ℕ × ℕ)). planned function first parameters' values' pointers' x) i

@@ -1,5 +1,5 @@
 -- Registers by their ids, and by their numbers.
-use Rattle.std.proofs.Common.{◌≡◌, ◌∙◌, ◌⊎◌, ◌==◌, ℕ, zero, suc, ◌+◌, ◌<◌, ◌≤◌, Bool, true, false, List, [], ◌∷◌, ◌++◌, Option, Some, None, map, length, length-append, refl, sym, ap, subst, inl, inr, arith, take, drop, unwrap_or, slice_get, slice_set}
+use Rattle.std.proofs.Common.{◌≡◌, ◌∙◌, ◌⊎◌, ◌==◌, ℕ, zero, suc, ◌+◌, ◌<◌, Bool, true, false, List, [], ◌∷◌, Option, Some, None, map, length, length-append, refl, sym, ap, subst, inl, inr, arith, take, unwrap_or, slice_get, slice_set}
 use Rattle.std.specs.Prelude.{if◌then◌else◌}
 use Rattle.std.specs.Option.{option_map}
 use Rattle.std.specs.List.{flat_map, zip}
@@ -7,12 +7,12 @@ use Rattle.spv_base.specs.Entries.{reads, writes}
 use Rattle.spv_base.specs.Parts.{part_at, with_part}
 use Rattle.spv_base.specs.declared.values.Value.{Value, List as Many}
 use Rattle.spv_base.proofs.EntryLemmas.{writes_back}
-use Rattle.spv_base.proofs.PartLemmas.{out_many, slice_get-set_same}
+use Rattle.spv_base.proofs.PartLemmas.{out_many}
 use Rattle.spv_types.specs.Rows.{HasRow, leaves}
 use Rattle.spv_types.proofs.RowChanges.{slot_has_row}
 use Rattle.spv_values.specs.Places.{IsRowAt}
 use Rattle.spv_values.proofs.RowLemmas.{row_at}
-use Rattle.spv_frame.specs.Registers.{IsSlotOf, Rooms, cells_before, ids, marked, marks, number_of, sizes}
+use Rattle.spv_frame.specs.Registers.{IsSlotOf, Rooms, cells_before, marked, marks, number_of, sizes}
 use Rattle.spv_frame.specs.Frames.{cells_in, trees}
 use Rattle.spv_frame.specs.declared.slots.Slot.{Slot}
 
@@ -23,7 +23,7 @@ pub record Later (id : ℕ) (ks : List ℕ) (n : ℕ) : Type 0 where
   pub is : number_of id ks ≡ Some before
   pub next : n ≡ suc before
 
-number_at : (t : Bool) (id : ℕ) (ks : List ℕ) (n : ℕ) → (if t then Some 0 else option_map suc (number_of id ks)) ≡ Some n
+pub number_at : (t : Bool) (id : ℕ) (ks : List ℕ) (n : ℕ) → (if t then Some 0 else option_map suc (number_of id ks)) ≡ Some n
     → ((t ≡ true) × (n ≡ 0)) ⊎ ((t ≡ false) × Later id ks n)
 number_at true id ks n h = let e : n ≡ 0 = cc in inl (refl, e)
 number_at false id ks n h = inr (refl, later (number_of id ks) refl h)

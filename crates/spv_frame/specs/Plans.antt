@@ -1,7 +1,8 @@
 -- What a plan keeps.
-use Rattle.std.specs.Prelude.{◌≡◌, ◌+◌, ℕ, suc, false, List, [], ◌∷◌, Some, map, replicate, slice_get}
-use Rattle.spv_base.specs.Lane.{Lane, undefined_lane}
+use Rattle.std.specs.Prelude.{◌≡◌, ◌+◌, ℕ, suc, List, [], ◌∷◌, Some, map, replicate, slice_get}
+use Rattle.spv_base.specs.Lane.{undefined_lane}
 use Rattle.spv_base.specs.declared.values.Value.{Value, Scalar, List as Many}
+use Rattle.spv_frame.specs.declared.slots.Place.{Place}
 use Rattle.spv_frame.specs.declared.slots.Slot.{Slot}
 use Rattle.spv_frame.specs.Frames.{cells_in, trees}
 use Rattle.spv_frame.specs.Registers.{Planned, Rooms, ids, number_of, sizes}
@@ -40,5 +41,5 @@ abbrev pub Keeps : List Slot → Value → List ℕ → Type 0
 Keeps slots blank ps = (blank ≡ Many (trees blank)) × (map cells_in (trees blank) ≡ sizes (rooms slots)) × (slots ≡ slots_of (rooms slots)) × AreApart (ids (rooms slots)) × AreApart ps
 
 -- a plan of these parts
-abbrev pub planned : ℕ → ℕ → List ℕ → Rooms → List ℕ → Planned
-planned function first parameters values pointers = record { function = function; first = first; parameters = parameters; values = values; pointers = pointers }
+abbrev pub planned : ℕ → ℕ → List Place → Rooms → List ℕ → List (ℕ × ℕ) → Planned
+planned function first parameters values pointers types = record { function = function; first = first; parameters = parameters; values = values; pointers = pointers; types = types }

@@ -3,6 +3,7 @@
 use Rattle.std.specs.Prelude.{◌≡◌, ◌==◌, ◌+◌, ℕ, zero, suc, Bool, if◌then◌else◌, List, [], ◌∷◌, Option, Some, None, map, slice_get}
 use Rattle.std.specs.Option.{option_map}
 use Rattle.spv_base.specs.declared.values.Value.{Value}
+use Rattle.spv_frame.specs.declared.slots.Place.{Place}
 use Rattle.spv_frame.specs.declared.slots.Slot.{Slot}
 use Rattle.spv_frame.specs.declared.slots.PointerSlot.{PointerSlot}
 
@@ -10,14 +11,15 @@ use Rattle.spv_frame.specs.declared.slots.PointerSlot.{PointerSlot}
 abbrev pub Rooms : Type 0
 Rooms = List (ℕ × ℕ)
 
--- what a frame of a function has: the function, the word number of its first executable, the ids of its parameters, its registers of
--- values, and the ids of its registers of pointers
+-- what a frame of a function has: the function, the word number of its first executable, the places of its parameters in their order,
+-- its registers of values, the ids of its registers of pointers, and the types of registers by their ids
 pub record Planned : Type 0 where
   pub function : ℕ
   pub first : ℕ
-  pub parameters : List ℕ
+  pub parameters : List Place
   pub values : Rooms
   pub pointers : List ℕ
+  pub types : List (ℕ × ℕ)
 
 abbrev pub ids : Rooms → List ℕ
 ids rs = map (λ r. r.0) rs

@@ -5,9 +5,10 @@ ghost use Rattle.spv_frame.specs.Frames.{Held, fresh};
 ghost use Rattle.spv_frame.specs.Registers.{IsPointerSlotOf, IsSlotOf, marked};
 ghost use Rattle.spv_types.specs.Rows.{leaves};
 
+use crate::contents::Content;
 use crate::plans::Plan;
 use crate::slots::{PointerSlot, Slot};
-use spv_base::{NoMemory, PassedEvent, Pointer};
+use spv_base::{NoMemory, PassedEvent, Pointer, Value};
 use spv_values::{Part, Row};
 use std::alloc::Global;
 use std::marker::Model;
@@ -17,12 +18,12 @@ use std::rc::Rc;
 /// A call: where it stands, its registers, and the debug events that it passed. Its variables lie in the memory.
 #[derive(Drop)]
 pub struct Frame {
-    plan: Rc<Plan>,
-    pc: u32,
-    row: Row,
-    has: Vec<bool>,
-    pointers: Vec<Option<Pointer>>,
-    events: Vec<PassedEvent>,
+    pub(crate) plan: Rc<Plan>,
+    pub(crate) pc: u32,
+    pub(crate) row: Row,
+    pub(crate) has: Vec<bool>,
+    pub(crate) pointers: Vec<Option<Pointer>>,
+    pub(crate) events: Vec<PassedEvent>,
 }
 
 impl Model for Frame {
@@ -51,6 +52,20 @@ impl Frame {
             has: no_marks(alloc, plan.values.len())?,
             pointers: no_pointers(alloc, plan.pointers.len())?,
             events: Vec::new(alloc),
+        })
+    }
+
+    /// An equal frame.
+    pub fn copy(&self, alloc: Global) -> Result<Frame, NoMemory>
+        ensures { IfOk result (λ frame. frame ≡ self.now) }
+    {
+        Ok(Frame {
+            plan: self.plan.clone()?,
+            pc: self.pc,
+            row: Row::of_part(alloc, &self.row.as_part())?,
+            has: Vec::from_slice(alloc, self.has.as_slice())?,
+            pointers: pointers_copied(alloc, self.pointers.as_slice())?,
+            events: events_copied(alloc, self.events.as_slice())?,
         })
     }
 
@@ -85,6 +100,19 @@ impl Frame {
         } else {
             None
         }
+    }
+
+    /// What a register of a value holds, copied.
+    pub fn content(&self, alloc: Global, slot: &Slot) -> Result<Content, NoMemory>
+        requires { IsSlotOf self.now.plan.values slot.now }
+        ensures content { IfOk result (λ c. reads slot.now.id self.now.values ≡ Some (marked c.row c.has)) }
+        ensures cells { IfOk result (λ c. length (leaves c.row) ≡ slot.now.len) }
+    {
+        let part = self.row.part(&slot.path, slot.start, slot.len);
+        Ok(Content {
+            row: Row::of_part(alloc, &part)?,
+            has: self.has[slot.number],
+        })
     }
 
     /// The pointer of a register, if it has one.
@@ -166,4 +194,59 @@ fn no_pointers(alloc: Global, count: usize) -> Result<Vec<Option<Pointer>>, NoMe
         places.push(None)?;
     }
     Ok(places)
+}
+
+/// Equal pointers, and none where there is none.
+fn pointers_copied(
+    alloc: Global,
+    pointers: &[Option<Pointer>],
+) -> Result<Vec<Option<Pointer>>, NoMemory>
+    ensures { IfOk result (λ copies. copies.items ≡ pointers.now) }
+{
+    let mut copies = Vec::with_capacity(alloc, pointers.len())?;
+    for pointer in pointers {
+        copies.push(pointer_copied(alloc, pointer)?)?;
+    }
+    Ok(copies)
+}
+
+/// An equal pointer, and none where there is none.
+fn pointer_copied(alloc: Global, pointer: &Option<Pointer>) -> Result<Option<Pointer>, NoMemory>
+    ensures { IfOk result (λ copy. copy ≡ pointer.now) }
+{
+    match pointer {
+        Some(pointer) => Ok(Some(pointer.copy(alloc)?)),
+        None => Ok(None),
+    }
+}
+
+/// Equal events.
+fn events_copied(alloc: Global, events: &[PassedEvent]) -> Result<Vec<PassedEvent>, NoMemory>
+    ensures { IfOk result (λ copies. copies.items ≡ events.now) }
+{
+    let mut copies = Vec::with_capacity(alloc, events.len())?;
+    for event in events {
+        copies.push(event_copied(alloc, event)?)?;
+    }
+    Ok(copies)
+}
+
+/// An equal event.
+fn event_copied(alloc: Global, event: &PassedEvent) -> Result<PassedEvent, NoMemory>
+    ensures { IfOk result (λ copy. copy ≡ event.now) }
+{
+    Ok(PassedEvent {
+        word: event.word,
+        value: value_copied(alloc, &event.value)?,
+    })
+}
+
+/// An equal value, and none where there is none.
+fn value_copied(alloc: Global, value: &Option<Value>) -> Result<Option<Value>, NoMemory>
+    ensures { IfOk result (λ copy. copy ≡ value.now) }
+{
+    match value {
+        Some(value) => Ok(Some(value.copy(alloc)?)),
+        None => Ok(None),
+    }
 }

@@ -1,12 +1,17 @@
 //! Laws of exchanges.
 ghost use Rattle.std.specs.Prelude.{◌≡◌, length};
+ghost use Rattle.std.specs.List.{AllZip};
+ghost use Rattle.spv_frame.specs.Contents.{Differ};
+ghost use Rattle.spv_frame.specs.Phis.{IsPhi};
 ghost use Rattle.spv_frame.specs.Registers.{IsPointerSlotOf, IsSlotOf};
 ghost use Rattle.spv_types.specs.Rows.{leaves};
 
+use crate::contents::Source;
 use crate::frames::Frame;
 use crate::slots::{PointerSlot, Slot};
-use spv_base::Pointer;
+use spv_base::{NoMemory, Pointer};
 use spv_values::Row;
+use std::alloc::Global;
 
 /// An exchange of a value made twice leaves the frame as it was.
 #[tactic(auto, using(crate::proofs::RegisterLemmas::put_back))]
@@ -27,4 +32,20 @@ pub fn exchange_pointer_twice(frame: &mut Frame, slot: PointerSlot, pointer: &mu
 {
     frame.exchange_pointer(slot, pointer);
     frame.exchange_pointer(slot, pointer);
+}
+
+/// Phis that are set and put back leave the frame as it was, and so do phis for which memory runs out.
+pub fn phis_put_back(
+    frame: &mut Frame,
+    alloc: Global,
+    slots: &[Slot],
+    sources: &[Source],
+) -> Result<(), NoMemory>
+    requires differ { Differ slots.now }
+    requires phis { AllZip (IsPhi frame.old.plan.values) slots.now sources.now }
+    ensures { frame.new ≡ frame.old }
+{
+    let olds = frame.phis(alloc, slots, sources)?;
+    frame.put_back_phis(slots, olds);
+    Ok(())
 }

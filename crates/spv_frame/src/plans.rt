@@ -1,9 +1,11 @@
 //! What the frames of a function have: their registers, and where these lie.
-ghost use Rattle.std.specs.Prelude.{◌≡◌, ◌<◌, [], ◌∷◌, IfOk, IfSome, length};
+ghost use Rattle.std.specs.Prelude.{◌≡◌, ◌+◌, ◌<◌, ◌≤◌, [], ◌∷◌, IfOk, IfSome, Some, drop, length, map, slice_get, take};
+ghost use Rattle.std.specs.List.{AllByRecursion, range_with_len};
+ghost use Rattle.spv_frame.specs.Contents.{Differ};
 ghost use Rattle.spv_frame.specs.Plans.{AreApart, blank_of, slots_of, total};
 ghost use Rattle.spv_frame.specs.Registers.{IsPointerSlotOf, IsSlotOf, ids};
 
-use crate::slots::{PointerSlot, Slot};
+use crate::slots::{Place, PointerSlot, Slot};
 use spv_base::{Cell, Ghost, NoMemory, Path, Value};
 use spv_values::{Part, Row};
 use std::alloc::Global;
@@ -14,9 +16,11 @@ use std::marker::Model;
 pub struct Plan {
     pub(crate) function: u32,
     pub(crate) first: u32,
-    pub(crate) parameters: Vec<u32>,
+    pub(crate) parameters: Vec<Place>,
     pub(crate) values: Vec<Slot>,
     pub(crate) pointers: Vec<u32>,
+    /// The types of registers, by their ids.
+    pub(crate) types: Vec<(u32, u32)>,
     /// The row of a frame in which no register has a value.
     pub(crate) blank: Row,
 }
@@ -27,26 +31,27 @@ impl Model for Plan {
 
     ghost Value = { Planned };
 
-    ghost view = { λ p. record { function = p.function; first = p.first; parameters = p.parameters.items; values = rooms p.values.items; pointers = p.pointers.items } };
+    ghost view = { λ p. record { function = p.function; first = p.first; parameters = p.parameters.items; values = rooms p.values.items; pointers = p.pointers.items; types = p.types.items } };
 
     ghost invariant = { λ p. Keeps p.values.items p.blank p.pointers.items };
 }
 
 impl Plan {
-    /// The plan of a function: the word number of its first executable, the ids of its parameters, and its registers in the order
-    /// of the module: those of values, each with the number of cells of its type, and those of pointers. It fails where memory
-    /// runs out, as it does where a row has more cells than can be counted.
+    /// The plan of a function: the word number of its first executable, the places of its parameters, and its registers in the order
+    /// of the module: those of values, each with the number of cells of its type, and those of pointers; and the types of registers,
+    /// by their ids. It fails where memory runs out, as it does where a row has more cells than can be counted.
     pub fn new(
         alloc: Global,
         function: u32,
         first: u32,
-        parameters: &[u32],
+        parameters: &[Place],
         values: &[(u32, u32)],
         pointers: &[u32],
+        types: &[(u32, u32)],
     ) -> Result<Plan, NoMemory>
         requires values { AreApart (ids values.now) }
         requires pointers { AreApart pointers.now }
-        ensures { IfOk result (λ plan. plan ≡ record { function = function; first = first; parameters = parameters.now; values = values.now; pointers = pointers.now }) }
+        ensures { IfOk result (λ plan. plan ≡ record { function = function; first = first; parameters = parameters.now; values = values.now; pointers = pointers.now; types = types.now }) }
     {
         Ok(Plan {
             function,
@@ -54,6 +59,7 @@ impl Plan {
             parameters: Vec::from_slice(alloc, parameters)?,
             values: slots_of(alloc, values)?,
             pointers: Vec::from_slice(alloc, pointers)?,
+            types: Vec::from_slice(alloc, types)?,
             blank: blank_of(alloc, values)?,
         })
     }
@@ -72,8 +78,8 @@ impl Plan {
         self.first
     }
 
-    /// The ids of the parameters, in their order.
-    pub fn parameters(&self) -> &[u32]
+    /// Where the parameters lie, in their order.
+    pub fn parameters(&self) -> &[Place]
         ensures { result.now ≡ self.now.parameters }
     {
         self.parameters.as_slice()
@@ -88,17 +94,37 @@ impl Plan {
         &self.values[number]
     }
 
+    /// Where the registers of values lie from a number on, so many of them: those of the phis of a block, as they stand one behind the
+    /// other in the module.
+    pub fn slots(&self, first: usize, count: usize) -> &[Slot]
+        requires { first + count ≤ length self.now.values }
+        ensures slots { AllByRecursion (IsSlotOf self.now.values) result.now }
+        ensures differ { Differ result.now }
+        ensures numbers { map (λ s. s.number) result.now ≡ range_with_len first count }
+    {
+        slots_between(self.values.as_slice(), first, count)
+    }
+
     /// Where the register of a pointer with a number lies. In constant time.
     pub fn pointer_slot(&self, number: usize) -> PointerSlot
         requires { number < length self.now.pointers }
         ensures slot { IsPointerSlotOf self.now.pointers result }
         ensures number { result.number ≡ number }
+        ensures id { slice_get self.now.pointers number ≡ Some result.id }
     {
         PointerSlot {
             id: self.pointers[number],
             number,
         }
     }
+}
+
+/// So many slots, from a number on.
+fn slots_between(slots: &[Slot], first: usize, count: usize) -> &[Slot]
+    requires { first + count ≤ length slots.now }
+    ensures { result.now ≡ take count (drop first slots.now) }
+{
+    &slots[first..first + count]
 }
 
 /// Where some registers lie.

@@ -18,3 +18,10 @@ pub struct PointerSlot {
     pub id: u32,
     pub number: usize,
 }
+
+/// Where a register lies: its number among the registers of values, or among those of pointers.
+#[derive(Clone, Copy, Debug, PartialEq, Eq)]
+pub enum Place {
+    Value(usize),
+    Pointer(usize),
+}

@@ -1,18 +1,25 @@
 //! Stacks: the calls of an invocation, by depth.
-ghost use Rattle.std.specs.Prelude.{◌≡◌, ◌≢◌, ◌<◌, ◌++◌, [], ◌∷◌, IfOk, OnOk, OnErr, Some, length, slice_get, option_copied, option_map, MatchOption};
+ghost use Rattle.std.specs.Prelude.{◌≡◌, ◌≢◌, ◌<◌, ◌++◌, [], ◌∷◌, IfOk, OnOk, OnErr, Some, length, map, slice_get, option_copied, option_map, MatchOption};
+ghost use Rattle.std.specs.List.{AllZip};
 ghost use Rattle.std.specs.Option.{IsSomeAnd};
 ghost use Rattle.spv_base.specs.Entries.{reads, writes};
+ghost use Rattle.spv_frame.specs.Calls.{AreArguments, entered};
+ghost use Rattle.spv_frame.specs.Contents.{AllSuit, Differ, content, held, puts};
 ghost use Rattle.spv_frame.specs.Frames.{Held};
+ghost use Rattle.spv_frame.specs.Phis.{IsPhi, given};
 ghost use Rattle.spv_frame.specs.Registers.{IsPointerSlotOf, IsSlotOf, marked};
 ghost use Rattle.spv_frame.specs.Stacks.{Stacked, on_top, top};
 ghost use Rattle.spv_types.specs.Rows.{leaves};
 
+use crate::contents::{Argument, Content, Source};
 use crate::frames::Frame;
+use crate::plans::Plan;
 use crate::slots::{PointerSlot, Slot};
 use spv_base::{NoMemory, PassedEvent, Pointer};
 use spv_values::Row;
 use std::alloc::Global;
 use std::marker::Model;
+use std::rc::Rc;
 
 /// The calls of an invocation. Contracts see their frames by depth, and how many there is room for.
 #[derive(Drop)]
@@ -45,6 +52,29 @@ impl Stack {
             frames: Vec::with_capacity(alloc, room as usize)?,
             room,
         })
+    }
+
+    /// Equal frames, with room for as many.
+    pub fn copy(&self, alloc: Global) -> Result<Stack, NoMemory>
+        ensures { IfOk result (λ stack. stack ≡ self.now) }
+    {
+        copied(alloc, self.frames.as_slice(), self.room)
+    }
+
+    /// Makes the frame of a function the top one, as a call begins it. Where memory runs out nothing changes. `leave` undoes it.
+    pub fn enter(
+        &mut self,
+        alloc: Global,
+        plan: &Rc<Plan>,
+        arguments: &[Argument],
+    ) -> Result<(), NoMemory>
+        requires { AreArguments plan.now.value arguments.now }
+        ensures ok { OnOk result (self.new ≡ record self.old { frames = self.old.frames ++ entered plan.now.value arguments.now ∷ [] }) }
+        ensures err { OnErr result (self.new ≡ self.old) }
+    {
+        let frame = Frame::entered(alloc, plan, arguments)?;
+        self.frames.push(frame)?;
+        Ok(())
     }
 
     /// Makes a frame the top one, where there is room. It takes no memory, and `leave` undoes it.
@@ -109,6 +139,35 @@ impl Stack {
         self.frames[top].exchange_pointer(slot, pointer);
     }
 
+    /// Sets the registers of phis in the top frame all at once: each takes what its source gave before, and what they held is handed
+    /// back. `put_back_phis` undoes it. Where memory runs out nothing changes.
+    pub fn phis(
+        &mut self,
+        alloc: Global,
+        slots: &[Slot],
+        sources: &[Source],
+    ) -> Result<Vec<Content>, NoMemory>
+        requires differ { Differ slots.now }
+        requires phis { IsSomeAnd (top self.old.frames) (λ f. AllZip (IsPhi f.plan.values) slots.now sources.now) }
+        ensures ok { OnOk result (self.new ≡ record self.old { frames = on_top (λ f. record f { values = puts slots.now (map (given f) sources.now) f.values }) self.old.frames }) }
+        ensures handed { IfOk result (λ olds. IsSomeAnd (top self.old.frames) (λ f. map content olds.items ≡ map (held f) slots.now)) }
+        ensures suit { IfOk result (λ olds. IsSomeAnd (top self.old.frames) (λ f. AllSuit f.plan.values slots.now olds.items)) }
+        ensures err { OnErr result (self.new ≡ self.old) }
+    {
+        let top = self.frames.len() - 1;
+        self.frames[top].phis(alloc, slots, sources)
+    }
+
+    /// Puts back what the registers of phis held in the top frame. It takes no memory.
+    pub fn put_back_phis(&mut self, slots: &[Slot], olds: Vec<Content>)
+        requires differ { Differ slots.now }
+        requires suit { IsSomeAnd (top self.old.frames) (λ f. AllSuit f.plan.values slots.now olds.items) }
+        ensures { self.new ≡ record self.old { frames = on_top (λ f. record f { values = puts slots.now (map content olds.items) f.values }) self.old.frames } }
+    {
+        let top = self.frames.len() - 1;
+        self.frames[top].put_back_phis(slots, olds);
+    }
+
     /// Goes to an instruction in the top frame, and gives the word number of the one before.
     pub fn set_pc(&mut self, pc: u32) -> u32
         requires { self.old.frames ≢ [] }
@@ -137,4 +196,18 @@ impl Stack {
         let top = self.frames.len() - 1;
         self.frames[top].drop_event()
     }
+}
+
+/// Copies of frames, with room for so many.
+fn copied(alloc: Global, frames: &[Frame], room: u32) -> Result<Stack, NoMemory>
+    ensures { IfOk result (λ stack. stack ≡ record { frames = frames.now; room = room }) }
+{
+    let mut copies = Vec::with_capacity(alloc, room as usize)?;
+    for frame in frames {
+        copies.push(frame.copy(alloc)?)?;
+    }
+    Ok(Stack {
+        frames: copies,
+        room,
+    })
 }

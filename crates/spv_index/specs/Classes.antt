@@ -1,27 +1,14 @@
--- What an instruction is to the functions and blocks of a module (SPIR-V 1.6 section 2.4), and the numbers in its operands.
-use Rattle.std.specs.Prelude.{ℕ, Bool, true, false, List, [], ◌∷◌, ◌==◌, nat_eq, if◌then◌else◌, unwrap_or, map, codes, slice_get}
-use Rattle.std.specs.Option.{option_map}
+-- What an instruction is to the functions and blocks of a module (SPIR-V 1.6 section 2.4).
+use Rattle.std.specs.Prelude.{ℕ, Bool, true, false, List, [], ◌∷◌, ◌==◌, nat_eq, if◌then◌else◌, unwrap_or, codes, Some, slice_get}
+use Rattle.std.specs.Option.{option_and_then, option_eq, option_map}
 use Rattle.std.specs.List.{flat_map, starts_with}
 use Rattle.spv_base.specs.Entries.{reads}
 use Rattle.spv_base.specs.declared.instructions.Inst.{Inst}
 use Rattle.spv_base.specs.declared.instructions.Operand.{Operand}
 use Rattle.spv_base.specs.declared.instructions.Operand.TheVariants.{Id, Lit, Text}
+use Rattle.spv_index.specs.Operands.{id_operand, literal_operand}
 use Rattle.spv_index.specs.declared.classes.Class.{Class}
 use Rattle.spv_index.specs.declared.classes.Class.TheVariants.{Function, Parameter, End, Label, Line, Phi, Variable, Terminator, Passed, Executable}
-
--- the id or the literal word of an operand, and 0 for a string
-abbrev pub number_in : Operand → ℕ
-number_in (Id id) = id
-number_in (Lit word) = word
-number_in (Text _) = 0
-
--- the numbers in the operands, after the result type and the result
-abbrev pub numbers_of : Inst → List ℕ
-numbers_of inst = map number_in inst.operands
-
--- the number at a place of the operands, and 0 past their end
-abbrev pub number_at : Inst → ℕ → ℕ
-number_at inst k = unwrap_or (option_map number_in (slice_get inst.operands k)) 0
 
 -- the bytes of an operand, which only a string has
 abbrev pub text_in : Operand → List ℕ
@@ -42,7 +29,7 @@ sets_of insts = flat_map set_of insts
 
 -- an instruction of the set that its first operand names, where this set has no meaning at run time
 abbrev pub is_debug : List (ℕ × Bool) → Inst → Bool
-is_debug sets inst = unwrap_or (reads (number_at inst 0) sets) false
+is_debug sets inst = unwrap_or (option_and_then (λ set. reads set sets) (id_operand inst 0)) false
 
 -- By opcode: OpExtInst (12) and OpVariable (59) by their set and their storage class too. Every other opcode is an executable.
 abbrev pub classes : Bool → Bool → List (ℕ × Class)
@@ -52,9 +39,12 @@ classes debug local =
     ∷ (249, Terminator) ∷ (250, Terminator) ∷ (251, Terminator) ∷ (253, Terminator) ∷ (254, Terminator) ∷ (255, Terminator)
     ∷ (317, Line) ∷ []
 
--- storage class Function is number 7
+-- a variable of a function has the storage class Function, number 7
+abbrev pub is_local : Inst → Bool
+is_local inst = option_eq nat_eq (literal_operand inst 0) (Some 7)
+
 abbrev pub class_of : List (ℕ × Bool) → Inst → Class
-class_of sets inst = unwrap_or (reads inst.op (classes (is_debug sets inst) (number_at inst 0 == 7))) Executable
+class_of sets inst = unwrap_or (reads inst.op (classes (is_debug sets inst) (is_local inst))) Executable
 
 -- a run stops at it: everything in a block but labels, phis, variables, lines, merges, OpNop and instructions with no meaning
 abbrev pub is_executable : Class → Bool

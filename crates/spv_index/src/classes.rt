@@ -4,6 +4,7 @@ ghost use Rattle.std.specs.List.{starts_with};
 ghost use Rattle.spv_base.specs.Entries.{reads};
 ghost use Rattle.spv_index.specs.Classes as spec;
 
+use crate::operands::{id_operand, literal_operand};
 use crate::table::Table;
 use spv_base::{Inst, NoMemory, Operand};
 use spv_ops::{op, storage_class};
@@ -25,27 +26,6 @@ pub enum Class {
     /// It stands in a block, and a run passes it.
     Passed,
     Executable,
-}
-
-/// The number in an operand: an id or a literal word, and 0 for a string.
-pub fn number_in(operand: &Operand) -> u32
-    ensures { result ≡ spec.number_in operand.now }
-{
-    match operand {
-        Operand::Id(id) => *id,
-        Operand::Lit(word) => *word,
-        Operand::Text(_) => 0,
-    }
-}
-
-/// The number at a place of the operands, and 0 past their end.
-pub fn number_at(inst: &Inst, place: usize) -> u32
-    ensures { result ≡ spec.number_at inst.now place }
-{
-    match inst.operands.get(place) {
-        Some(operand) => number_in(operand),
-        None => 0,
-    }
 }
 
 /// Whether the name of an imported set begins with "NonSemantic.".
@@ -107,13 +87,22 @@ fn class_by(op: u16, debug: bool, local: bool) -> Class
     }
 }
 
+/// Whether an instruction is of the set that its first operand names, and this set has no meaning at run time.
+pub fn is_debug(sets: &Table<bool>, inst: &Inst) -> bool
+    ensures { result ≡ spec.is_debug sets.now inst.now }
+{
+    match id_operand(inst, 0) {
+        Some(set) => sets.get(set).unwrap_or(false),
+        None => false,
+    }
+}
+
 /// What an instruction is.
 pub fn class_of(sets: &Table<bool>, inst: &Inst) -> Class
     ensures { result ≡ spec.class_of sets.now inst.now }
 {
-    let first = number_at(inst, 0);
-    let debug = sets.get(first).unwrap_or(false);
-    class_by(inst.op, debug, first == storage_class::FUNCTION)
+    let local = literal_operand(inst, 0) == Some(storage_class::FUNCTION);
+    class_by(inst.op, is_debug(sets, inst), local)
 }
 
 impl Class {

@@ -9,8 +9,6 @@ mod operands;
 pub mod positions;
 pub mod stands;
 mod table;
-#[cfg(test)]
-mod tests;
 
 pub use index::Index;
 pub use operands::{id_in, id_operand, literal_operand, text_operand};

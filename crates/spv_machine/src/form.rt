@@ -8,6 +8,9 @@ ghost use Rattle.spv_machine.specs.Opcode as numbers;
 use crate::actions::{Action, action_of, id_at, is_value, is_variable};
 use crate::opcodes::{Opcode, defines, opcode_of};
 use spv_base::{Inst, NoMemory, Operand};
+use spv_ops::{
+    addressing_model, capability, execution_mode, execution_model, memory_model, storage_class,
+};
 use std::alloc::Global;
 
 /// What an operand has to be.
@@ -130,13 +133,25 @@ fn is_row(names: &Names, inst: &Inst) -> bool
     let n = *names;
     let id = inst.id;
     match opcode_of(inst.op) {
-        Opcode::Capability => fits(inst, 0, 0, &[Want::Lit(1)]),
-        Opcode::MemoryModel => fits(inst, 0, 0, &[Want::Lit(0), Want::Lit(1)]),
+        Opcode::Capability => fits(inst, 0, 0, &[Want::Lit(capability::SHADER)]),
+        Opcode::MemoryModel => fits(
+            inst,
+            0,
+            0,
+            &[
+                Want::Lit(addressing_model::LOGICAL),
+                Want::Lit(memory_model::GLSL450),
+            ],
+        ),
         Opcode::EntryPoint => fits(
             inst,
             0,
             0,
-            &[Want::Lit(5), Want::Id(n.function), Want::AnyText],
+            &[
+                Want::Lit(execution_model::GL_COMPUTE),
+                Want::Id(n.function),
+                Want::AnyText,
+            ],
         ),
         Opcode::ExecutionMode => fits(
             inst,
@@ -144,7 +159,7 @@ fn is_row(names: &Names, inst: &Inst) -> bool
             0,
             &[
                 Want::Id(n.function),
-                Want::Lit(17),
+                Want::Lit(execution_mode::LOCAL_SIZE),
                 Want::Lit(1),
                 Want::Lit(1),
                 Want::Lit(1),
@@ -153,7 +168,12 @@ fn is_row(names: &Names, inst: &Inst) -> bool
         Opcode::TypeVoid => fits(inst, 0, n.void, &[]),
         Opcode::TypeFunction => fits(inst, 0, n.function_type, &[Want::Id(n.void)]),
         Opcode::TypeInt => fits(inst, 0, n.int, &[Want::Lit(32), Want::Lit(0)]),
-        Opcode::TypePointer => fits(inst, 0, n.pointer, &[Want::Lit(7), Want::Id(n.int)]),
+        Opcode::TypePointer => fits(
+            inst,
+            0,
+            n.pointer,
+            &[Want::Lit(storage_class::FUNCTION), Want::Id(n.int)],
+        ),
         Opcode::Constant => fits(inst, n.int, id, &[Want::AnyLit]),
         Opcode::Function => fits(
             inst,
@@ -162,7 +182,7 @@ fn is_row(names: &Names, inst: &Inst) -> bool
             &[Want::Lit(0), Want::Id(n.function_type)],
         ),
         Opcode::Label => fits(inst, 0, id, &[]),
-        Opcode::Variable => fits(inst, n.pointer, id, &[Want::Lit(7)]),
+        Opcode::Variable => fits(inst, n.pointer, id, &[Want::Lit(storage_class::FUNCTION)]),
         Opcode::Load => fits(inst, n.int, id, &[Want::AnyId]),
         Opcode::Store => fits(inst, 0, 0, &[Want::AnyId, Want::AnyId]),
         Opcode::IAdd => fits(inst, n.int, id, &[Want::AnyId, Want::AnyId]),

@@ -17,5 +17,3 @@ pub use frames::{Frame, Stack};
 pub use runnable::Runnable;
 pub use world::World;
 
-#[cfg(test)]
-mod tests;

@@ -2,6 +2,8 @@
 ghost use Rattle.std.specs.Prelude.{◌≡◌};
 ghost use Rattle.spv_machine.specs.Opcode as spec;
 
+use spv_ops::op;
+
 /// The opcodes that the machine knows.
 #[derive(Clone, Copy, Debug, PartialEq, Eq)]
 pub enum Opcode {
@@ -31,23 +33,23 @@ pub fn opcode_of(number: u16) -> Opcode
     ensures { result ≡ spec.opcode_of number }
 {
     match number {
-        14 => Opcode::MemoryModel,
-        15 => Opcode::EntryPoint,
-        16 => Opcode::ExecutionMode,
-        17 => Opcode::Capability,
-        19 => Opcode::TypeVoid,
-        21 => Opcode::TypeInt,
-        32 => Opcode::TypePointer,
-        33 => Opcode::TypeFunction,
-        43 => Opcode::Constant,
-        54 => Opcode::Function,
-        56 => Opcode::FunctionEnd,
-        59 => Opcode::Variable,
-        61 => Opcode::Load,
-        62 => Opcode::Store,
-        128 => Opcode::IAdd,
-        248 => Opcode::Label,
-        253 => Opcode::Return,
+        op::MEMORY_MODEL => Opcode::MemoryModel,
+        op::ENTRY_POINT => Opcode::EntryPoint,
+        op::EXECUTION_MODE => Opcode::ExecutionMode,
+        op::CAPABILITY => Opcode::Capability,
+        op::TYPE_VOID => Opcode::TypeVoid,
+        op::TYPE_INT => Opcode::TypeInt,
+        op::TYPE_POINTER => Opcode::TypePointer,
+        op::TYPE_FUNCTION => Opcode::TypeFunction,
+        op::CONSTANT => Opcode::Constant,
+        op::FUNCTION => Opcode::Function,
+        op::FUNCTION_END => Opcode::FunctionEnd,
+        op::VARIABLE => Opcode::Variable,
+        op::LOAD => Opcode::Load,
+        op::STORE => Opcode::Store,
+        op::I_ADD => Opcode::IAdd,
+        op::LABEL => Opcode::Label,
+        op::RETURN => Opcode::Return,
         _ => Opcode::Other,
     }
 }

@@ -1,12 +1,12 @@
 -- The one leaf of a scalar.
-use Rattle.std.proofs.Common.{◌≡◌, ◌∙◌, ℕ, ◌<◌, List, [], ◌∷◌, Option, Some, None, Result, Ok, Err, get_or, length, refl, sym, ap, subst, arith, rules}
+use Rattle.std.proofs.Common.{◌≡◌, ◌∙◌, ℕ, ◌<◌, List, Option, Some, None, Result, Ok, Err, get_or, length, refl, sym, ap, subst, arith, rules}
 use Rattle.std.specs.Prelude.{IsSome}
 use Rattle.spv_base.specs.Lane.{Lane}
 use Rattle.spv_base.specs.declared.values.Value.{Value, Scalar, out-Value, the_lemmas}
 use Rattle.spv_base.specs.declared.values.Value.TheOpen.{Value-F}
 use Rattle.std.specs.Option.{MatchOption}
 use Rattle.spv_base.specs.declared.causes.MemErr.{MemErr}
-use Rattle.spv_base.specs.declared.causes.MemErr.TheVariants.{UndefinedIndex, OutOfBounds, NoMemory}
+use Rattle.spv_base.specs.declared.causes.MemErr.TheVariants.{OutOfBounds}
 use Rattle.spv_base.specs.declared.values.Pointer.{Pointer}
 use Rattle.spv_mem.specs.Memory.{Held, IsScalarAt, Stores, StoresCell, load_of, stored}
 use Rattle.spv_types.specs.Rows.{leaves}

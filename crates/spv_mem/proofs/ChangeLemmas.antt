@@ -206,3 +206,11 @@ left_variables m now i l y (Some last) view at is p =
 
 pub copied_keeps : (new old : Held) → new ≡ old → ∥ IsMemory old ∥₁ → ∥ IsMemory new ∥₁
 copied_keeps new old same is = subst (λ (m : Held). ∥ IsMemory m ∥₁) (sym same) is
+
+-- ---- the locals of a frame, one after another
+
+pub none_are_variables : (ts : Types) (targets : List (ℕ × ℕ)) → ∥ AreVariables ts targets [] ∥₁
+none_are_variables ts targets = ∣ (λ id v h. absurd cc) ∣₁
+
+pub more_are_variables : (ts : Types) (targets : List (ℕ × ℕ)) (es : Roots) (id : ℕ) (v : Value) → ∥ AreVariables ts targets es ∥₁ → ∥ IsVariable ts targets id v ∥₁ → ∥ AreVariables ts targets (es ++ (id, v) ∷ []) ∥₁
+more_are_variables ts targets es id v all one = ∥∥₁_elim all (hlevel props) (λ (a : AreVariables ts targets es). ∥∥₁_map one (λ (o : IsVariable ts targets id v). snoc_variables ts targets es id v a o))

@@ -7,3 +7,5 @@ pub mod MemoryLemmas
 pub mod ChangeLemmas
 pub mod CellLemmas
 pub mod ArrayLemmas
+pub mod BlankLemmas
+pub mod ConditionLemmas

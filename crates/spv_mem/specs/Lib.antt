@@ -3,3 +3,5 @@ pub mod Targets
 pub mod Roots
 pub mod Memory
 pub mod Levels
+pub mod Blanks
+pub mod Conditions

@@ -1,5 +1,5 @@
 //! Roots: variables under their ids.
-ghost use Rattle.std.specs.Prelude.{◌≡◌, ◌++◌, [], ◌∷◌, ℕ, length, List, IfOk, IfSome, OnOk, OnErr, None, Some, slice_get, slice_set, option_map, option_and_then, option_copied, true};
+ghost use Rattle.std.specs.Prelude.{◌≡◌, ◌↔◌, ◌++◌, [], ◌∷◌, length, IsTrue, IfOk, OnOk, OnErr, None, Some, option_map, option_and_then, true};
 ghost use Rattle.std.specs.Option.{MatchOption, option_map_or};
 ghost use Rattle.spv_base.specs.Entries.{reads};
 ghost use Rattle.spv_base.specs.Parts.{part_at};
@@ -112,6 +112,13 @@ impl Roots {
             Some(entry) if entry.0 == id => Some(place),
             _ => first(self.entries.as_slice(), id),
         }
+    }
+
+    /// Whether there is no variable with an id.
+    pub(crate) fn has_none(&self, id: u32, place: usize) -> bool
+        ensures { IsTrue result ↔ reads id self.now ≡ None }
+    {
+        self.find(id, place).is_none()
     }
 
     /// The part that a path names in the variable with an id.

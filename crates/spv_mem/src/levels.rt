@@ -1,5 +1,5 @@
 //! The variables of the frames of an invocation, by depth.
-ghost use Rattle.std.specs.Prelude.{◌≡◌, ◌<◌, ◌≤◌, ◌++◌, [], ◌∷◌, IfOk, OnOk, OnErr, length, slice_get, slice_set, option_copied, MatchOption};
+ghost use Rattle.std.specs.Prelude.{◌≡◌, ◌↔◌, ◌<◌, IsTrue, ◌≤◌, ◌++◌, [], ◌∷◌, IfOk, OnOk, OnErr, length, slice_get, option_copied, MatchOption};
 ghost use Rattle.spv_mem.specs.Levels.{ExchangesAt, ExchangesLevel, FitAt, FitLevel, MayBePutAt, MayBePutLevel};
 
 use crate::entries::Locals;
@@ -55,6 +55,13 @@ impl Levels {
         ensures { option_copied result ≡ slice_get self.now.list depth }
     {
         self.list.get(depth as usize)
+    }
+
+    /// Whether there is room for further locals.
+    pub(crate) fn has_room(&self) -> bool
+        ensures { IsTrue result ↔ length self.now.list < self.now.room }
+    {
+        self.list.len() < self.room as usize
     }
 
     /// Adds locals at the end.

@@ -2,10 +2,13 @@
 //! 3.42.8 and 3.7).
 #![tactic(auto)]
 
+pub mod blanks;
 mod cells;
 pub mod chains;
 mod changes;
+pub mod conditions;
 pub mod entries;
+pub mod laws;
 pub mod levels;
 pub mod places;
 pub mod storage;

@@ -7,7 +7,7 @@ ghost use Rattle.std.specs.Prelude.{option_copied};
 ghost use Rattle.spv_types.specs.Rules.{is_runtime};
 ghost use Rattle.spv_types.specs.Types.{form_of};
 
-use spv_types::views::member_type;
+use spv_types::queries::member_type;
 use spv_types::{Form, TypeTable};
 
 /// Where a part of a variable lies: the number of cells before it, and its own.

@@ -1,20 +1,25 @@
 //! Runs `check` on each module of data/, as a user would, and says what it writes and how it ends: shaders as compilers
-//! and the optimizer give them, and modules with one rule broken. Their sources stand in examples/check.
+//! and the optimizer give them, and modules with one rule broken. Their sources stand in examples/check. Each module that
+//! is decoded is also read back from its listing.
 #![tactic(auto)]
+
+mod read_back;
 
 ghost use Rattle.std.specs.Prelude.{◌≡◌, ◌<◌, ◌-◌, ◌^◌};
 
+use crate::read_back::is_read_back;
 use spv_app::{Status, debug_main};
-use spv_base::{MemorySink, MemorySource, Probe, RealFiles, Steps};
+use spv_base::{Fail, MemorySink, MemorySource, Probe, RealFiles, Steps};
 use std::alloc::Global;
 use std::io::Write;
 use std::marker::Brand;
 use std::sync::ledger::{Blank, Ledger};
-use std::{io, rt};
+use std::{fs, io, rt};
 
 /// The modules of data/, in the order of the output. The name of a module with a rule broken says which word of the
 /// module before it was changed to which number.
-const MODULES: [&str; 28] = [
+const MODULES: [&str; 29] = [
+    "first.spv",
     "loops-1.3.spv",
     "loops-1.6-gVS.spv",
     "loops-vk11-opt.spv",
@@ -74,12 +79,23 @@ fn call<L: Ledger, R: rt::Files + AllocGlobal>(
     debug_main(alloc, words, &mut files, &mut input, out, kit, &mut steps)
 }
 
-/// Says what `check` writes for a module, and how it ends.
+/// What is told of a module's listing.
+fn of_listing(alloc: Global, bytes: &[u8]) -> &'static str {
+    match is_read_back(alloc, bytes) {
+        Ok(true) => "read back",
+        Ok(false) => "read otherwise",
+        Err(Fail::Refused(_)) => "not listed",
+        Err(Fail::NoMemory) => "out of memory",
+    }
+}
+
+/// Says what `check` writes for a module and how it ends, and whether the module is read back from its listing.
 fn report<R: rt::Files + Print + AllocGlobal>(rt: &R, name: &str) -> io::Result<()> {
     let words = words_for(rt.alloc(), name)?;
     let mut out = MemorySink::new(rt.alloc());
     let status = call::<Brand, _>(Blank::new(1), rt, &words, &mut out);
-    print!(rt; "{name}: status {}, ", status as u8)?;
+    let listed = of_listing(rt.alloc(), &fs::read(rt, name)?);
+    print!(rt; "{name}: status {}, {listed}, ", status as u8)?;
     io::writer(rt).write_all(&out.bytes)
 }
 

@@ -28,6 +28,3 @@ pub use encoding::{encode, is_formed, try_encode};
 pub use forms::{Head, Opcode, Part, Rest};
 pub use module::{DecodedModule, GREATEST_BOUND, WORD_LIMIT};
 pub use opcodes::{OPCODES, opcode_of};
-
-#[cfg(test)]
-mod tests;

@@ -4,27 +4,8 @@ ghost use Rattle.spv_base.specs.declared.instructions.Operand.TheVariants.{Id, L
 ghost use Rattle.spv_ops.specs.Rests.{has_one_literal, is_decorated_by, is_rest, rest_operands};
 
 use crate::forms::Rest;
+use crate::{decoration, execution_mode};
 use spv_base::{NoMemory, Operand, Operands};
-
-// Decorations (SPIR-V 1.6 section 3, Decoration).
-const SPEC_ID: u32 = 1;
-
-const BLOCK: u32 = 2;
-
-const ARRAY_STRIDE: u32 = 6;
-
-const BUILT_IN: u32 = 11;
-
-const BINDING: u32 = 33;
-
-const DESCRIPTOR_SET: u32 = 34;
-
-const OFFSET: u32 = 35;
-
-// Execution modes (SPIR-V 1.6 section 3, Execution Mode).
-const LOCAL_SIZE: u32 = 17;
-
-const LOCAL_SIZE_ID: u32 = 38;
 
 // A loop control has the bits below this one; from 8 on each has a literal (SPIR-V 1.6 section 3, Loop Control).
 const LOOP_CONTROLS: u32 = 512;
@@ -32,18 +13,18 @@ const LOOP_CONTROLS: u32 = 512;
 fn has_one_literal(decoration: u32) -> bool
     ensures { result ≡ has_one_literal decoration }
 {
-    decoration == SPEC_ID
-        || decoration == ARRAY_STRIDE
-        || decoration == BUILT_IN
-        || decoration == BINDING
-        || decoration == DESCRIPTOR_SET
-        || decoration == OFFSET
+    decoration == decoration::SPEC_ID
+        || decoration == decoration::ARRAY_STRIDE
+        || decoration == decoration::BUILT_IN
+        || decoration == decoration::BINDING
+        || decoration == decoration::DESCRIPTOR_SET
+        || decoration == decoration::OFFSET
 }
 
 fn is_decorated_by(decoration: u32, count: usize) -> bool
     ensures { result ≡ is_decorated_by decoration count }
 {
-    if decoration == BLOCK {
+    if decoration == decoration::BLOCK {
         count == 0
     } else if has_one_literal(decoration) {
         count == 1
@@ -66,8 +47,10 @@ pub fn is_rest(rest: Rest, words: &[u32]) -> bool
         (Rest::Decoration, [decoration, literals @ ..]) => {
             is_decorated_by(*decoration, literals.len())
         }
-        (Rest::ExecutionMode, [mode, literals @ ..]) => *mode != LOCAL_SIZE || literals.len() == 3,
-        (Rest::ExecutionModeIds, [mode, ids @ ..]) => *mode != LOCAL_SIZE_ID || ids.len() == 3,
+        (Rest::ExecutionMode, [mode, literals @ ..]) => *mode != execution_mode::LOCAL_SIZE
+            || literals.len() == 3,
+        (Rest::ExecutionModeIds, [mode, ids @ ..]) => *mode != execution_mode::LOCAL_SIZE_ID
+            || ids.len() == 3,
         (_, []) => false,
     }
 }

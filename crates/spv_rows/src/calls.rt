@@ -111,6 +111,15 @@ pub(crate) fn sum(alloc: Global) -> Result<Vec<u8>, NoMemory> {
     sum_with(alloc, SUM.len(), 0)
 }
 
+/// The bytes of the shader with those of each word reversed.
+pub(crate) fn reversed(alloc: Global) -> Result<Vec<u8>, NoMemory> {
+    let mut bytes = sum(alloc)?;
+    for word in bytes.chunks_exact_mut(4) {
+        word.reverse();
+    }
+    Ok(bytes)
+}
+
 /// Files with these contents.
 pub(crate) fn files(
     alloc: Global,
@@ -170,7 +179,7 @@ pub(crate) fn call<F: Files, I: Source, K: Sink>(
 }
 
 /// The status of one call over these bytes, and what it wrote.
-pub(crate) fn outcome(
+fn outcome(
     alloc: Global,
     line: &str,
     module: Vec<u8>,
@@ -183,4 +192,18 @@ pub(crate) fn outcome(
     let words = words(alloc, line)?;
     let status = call(alloc, &words, &mut held, &mut input, &mut out);
     Ok((status, out.bytes))
+}
+
+/// Whether a call over these bytes ends with a status and has written just this text.
+pub(crate) fn answers(
+    alloc: Global,
+    line: &str,
+    module: Vec<u8>,
+    setup: &str,
+    commands: &[u8],
+    due: Status,
+    written: &str,
+) -> Result<bool, NoMemory> {
+    let (status, bytes) = outcome(alloc, line, module, setup, commands)?;
+    Ok(status == due && bytes.as_slice() == written.as_bytes())
 }

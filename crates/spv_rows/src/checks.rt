@@ -1,7 +1,10 @@
 //! Modules that are only checked, and the line that is written for each.
-use crate::calls::{DEBUG, MODULE, TEN_ROUNDS, USAGE, call, files, outcome, sum, sum_with, words};
+use crate::calls::{
+    DEBUG, MODULE, TEN_ROUNDS, USAGE, answers, call, files, reversed, sum, sum_with, words,
+};
 use spv_app::Status;
-use spv_base::{FailingFiles, FailingSink, FailingSource};
+use spv_base::{FailingFiles, FailingSink, FailingSource, NoMemory};
+use std::alloc::Global;
 use std::test::Fail;
 
 const CHECK: &str = "spvdbg check module.spv";
@@ -31,17 +34,43 @@ const REFUSED: [(usize, u32, usize, &str); 19] = [
     (3, 1, 20, "module refused: M17 at word 0\n"),
 ];
 
+/// Whether `check` and `debug` refuse these bytes with the same line.
+fn both_refuse(alloc: Global, module: &[u8], written: &str) -> Result<bool, NoMemory> {
+    let due = Status::ModuleRefused;
+    let input = b"goto 1\n";
+    let checked = answers(
+        alloc,
+        CHECK,
+        module.to_vec(alloc)?,
+        TEN_ROUNDS,
+        input,
+        due,
+        written,
+    )?;
+    Ok(
+        checked
+            && answers(
+                alloc,
+                DEBUG,
+                module.to_vec(alloc)?,
+                TEN_ROUNDS,
+                input,
+                due,
+                written,
+            )?,
+    )
+}
+
 #[test]
 fn modules_are_refused(rt: HostRuntime) -> Result<(), Fail> {
     let alloc = rt.alloc();
     for (place, word, length, written) in REFUSED {
-        for line in [CHECK, DEBUG] {
-            let mut module = sum_with(alloc, place, word)?;
-            module.truncate(length);
-            let (status, bytes) = outcome(alloc, line, module, TEN_ROUNDS, b"goto 1\n")?;
-            assert_eq!(rt; status, Status::ModuleRefused, "{line}: {written}");
-            assert_eq!(rt; bytes.as_slice(), written.as_bytes(), "{line}: {written}");
-        }
+        let mut module = sum_with(alloc, place, word)?;
+        module.truncate(length);
+        assert!(rt;
+            both_refuse(alloc, module.as_slice(), written)?,
+            "{written}"
+        );
     }
     Ok(())
 }
@@ -54,17 +83,34 @@ fn modules_are_accepted(rt: HostRuntime) -> Result<(), Fail> {
     let alloc = rt.alloc();
     for (place, word) in CHANGED {
         let module = sum_with(alloc, place, word)?;
-        let (status, bytes) = outcome(alloc, CHECK, module, TEN_ROUNDS, b"goto 1\n")?;
-        assert_eq!(rt; status, Status::Done, "{place}");
-        assert_eq!(rt; bytes.as_slice(), ACCEPTED.as_bytes(), "{place}");
+        let right = answers(
+            alloc,
+            CHECK,
+            module,
+            "",
+            b"goto 1\n",
+            Status::Done,
+            ACCEPTED,
+        )?;
+        assert!(rt; right, "{place}");
     }
-    let mut swapped = sum(alloc)?;
-    for word in swapped.chunks_exact_mut(4) {
-        word.reverse();
-    }
-    let (status, bytes) = outcome(alloc, CHECK, swapped, "", b"")?;
-    assert_eq!(rt; status, Status::Done);
-    assert_eq!(rt; bytes.as_slice(), ACCEPTED.as_bytes());
+    Ok(())
+}
+
+#[test]
+fn reversed_words_are_read(rt: HostRuntime) -> Result<(), Fail> {
+    let alloc = rt.alloc();
+    assert!(rt;
+        answers(
+            alloc,
+            CHECK,
+            reversed(alloc)?,
+            "",
+            b"",
+            Status::Done,
+            ACCEPTED
+        )?
+    );
     Ok(())
 }
 
@@ -81,14 +127,35 @@ const WRONG_WORDS: [(&str, Status, &str); 5] = [
 fn words_are_refused(rt: HostRuntime) -> Result<(), Fail> {
     let alloc = rt.alloc();
     for (line, due, written) in WRONG_WORDS {
-        let (status, bytes) = outcome(alloc, line, sum(alloc)?, TEN_ROUNDS, b"goto 1\n")?;
-        assert_eq!(rt; status, due, "{line}");
-        assert_eq!(rt; bytes.as_slice(), written.as_bytes(), "{line}");
+        let right = answers(
+            alloc,
+            line,
+            sum(alloc)?,
+            TEN_ROUNDS,
+            b"goto 1\n",
+            due,
+            written,
+        )?;
+        assert!(rt; right, "{line}");
     }
+    Ok(())
+}
+
+#[test]
+fn long_modules_are_not_checked(rt: HostRuntime) -> Result<(), Fail> {
+    let alloc = rt.alloc();
     let long = vec![in alloc; 0u8; 4_194_305]?;
-    let (status, bytes) = outcome(alloc, CHECK, long, TEN_ROUNDS, b"goto 1\n")?;
-    assert_eq!(rt; status, Status::FileTooLong);
-    assert_eq!(rt; bytes.len(), 0);
+    assert!(rt;
+        answers(
+            alloc,
+            CHECK,
+            long,
+            TEN_ROUNDS,
+            b"goto 1\n",
+            Status::FileTooLong,
+            ""
+        )?
+    );
     Ok(())
 }
 

@@ -15,3 +15,5 @@ mod layouts;
 mod limits;
 #[cfg(test)]
 mod rows;
+#[cfg(test)]
+mod texts;

@@ -1,7 +1,8 @@
 //! How much input is taken, and in which pieces output is offered.
 use crate::calls::{DEBUG, TEN_ROUNDS, call, files, sum, words};
 use spv_app::Status;
-use spv_base::{Failed, MemoryFiles, MemorySink, MemorySource, Sink, Source};
+use spv_base::{Failed, MemoryFiles, MemorySink, MemorySource, NoMemory, Sink, Source};
+use std::alloc::Global;
 use std::test::Fail;
 
 /// One more byte than the input may have.
@@ -65,37 +66,46 @@ const ENDLESS: [(&str, u8, Status, &str, usize); 3] = [
     ("quit\n", b'\n', Status::Done, "", 4096),
 ];
 
+/// Bytes of lines of 255 spaces each.
+fn lines_of_spaces(alloc: Global, length: usize) -> Result<Vec<u8>, NoMemory> {
+    let mut bytes = vec![in alloc; b' '; length]?;
+    for line in bytes.chunks_exact_mut(256) {
+        if let Some(last) = line.last_mut() {
+            *last = b'\n';
+        }
+    }
+    Ok(bytes)
+}
+
+/// These bytes, and then one byte or lines of spaces, up to one more byte than the input may have.
+fn endless(alloc: Global, first: &str, rest: u8) -> Result<Vec<u8>, NoMemory> {
+    let mut bytes = Vec::from_slice(alloc, first.as_bytes())?;
+    let more = TOO_LONG.saturating_sub(bytes.len());
+    let rest = match rest {
+        b' ' => lines_of_spaces(alloc, more)?,
+        byte => vec![in alloc; byte; more]?,
+    };
+    bytes.extend_from_slice(rest.as_slice())?;
+    Ok(bytes)
+}
+
 #[test]
 fn long_input_ends_the_call(rt: HostRuntime) -> Result<(), Fail> {
     let alloc = rt.alloc();
     let words = words(alloc, DEBUG)?;
     for (first, rest, status, written, taken) in ENDLESS {
-        let mut commands = vec![in alloc; rest; TOO_LONG]?;
-        if rest == b' ' {
-            for line in commands.chunks_exact_mut(256) {
-                if let Some(last) = line.last_mut() {
-                    *last = b'\n';
-                }
-            }
-        }
-        for (i, byte) in first.bytes().enumerate() {
-            if i < commands.len() {
-                commands[i] = byte;
-            }
-        }
         let mut held = MemoryFiles::new(alloc, files(alloc, sum(alloc)?, TEN_ROUNDS)?);
         let mut input = Watched {
-            held: MemorySource::new(commands),
+            held: MemorySource::new(endless(alloc, first, rest)?),
             longest: 0,
         };
         let mut out = MemorySink::new(alloc);
+        let ended = call(alloc, &words, &mut held, &mut input, &mut out);
         assert_eq!(rt;
-            call(alloc, &words, &mut held, &mut input, &mut out),
-            status
+            (ended, input.held.at, input.longest),
+            (status, taken, 4096)
         );
         assert_eq!(rt; out.bytes.as_slice(), written.as_bytes());
-        assert_eq!(rt; input.held.at, taken);
-        assert_eq!(rt; input.longest, 4096);
     }
     Ok(())
 }

@@ -1,5 +1,5 @@
 //! Worked runs: a module, a setup and commands, and what is written.
-use crate::calls::{DEBUG, TEN_ROUNDS, USAGE, outcome, sum, sum_with};
+use crate::calls::{DEBUG, TEN_ROUNDS, USAGE, answers, reversed, sum, sum_with};
 use spv_app::Status;
 use std::test::Fail;
 
@@ -40,6 +40,25 @@ const COMMANDS: [(&str, &str); 19] = [
     ("goto 1\r\n", ARGUMENTS),
     ("regs 1\n", ARGUMENTS),
     ("quit now\nquit\ngoto 1\n", ARGUMENTS),
+];
+
+/// Setups, commands to the shader under them, and all that is written.
+const SCHEDULES: [(&str, &str, &str); 3] = [
+    (
+        "spvdbg-setup 1\nrounds 2",
+        "goto 3\n goto  0001 \ngoto 4294967295\n",
+        "stop: schedule ended\n@2 i=0 %7 word 60\nstop: done\n@1 i=0 %7 word 56\nstop: schedule ended\n@2 i=0 %7 word 60\n",
+    ),
+    (
+        "spvdbg-setup 1\nrounds 0",
+        "goto 1\ngoto 0\nregs\n",
+        "stop: start, schedule ended\n@0 i=0 %7 word 53\nstop: done, start, schedule ended\n@0 i=0 %7 word 53\n",
+    ),
+    (
+        TEN_ROUNDS,
+        "goto 0\n",
+        "stop: done, start\n@0 i=0 %7 word 53\n",
+    ),
 ];
 
 /// A word of the shader and what it becomes, a setup, and the status and the line of the refusal.
@@ -136,34 +155,53 @@ const WRONG_WORDS: [(&str, Status, &str); 8] = [
 fn commands_are_answered(rt: HostRuntime) -> Result<(), Fail> {
     let alloc = rt.alloc();
     for (commands, written) in COMMANDS {
-        let (status, bytes) = outcome(alloc, DEBUG, sum(alloc)?, TEN_ROUNDS, commands.as_bytes())?;
-        assert_eq!(rt; status, Status::Done, "{commands}");
-        assert_eq!(rt; bytes.as_slice(), written.as_bytes(), "{commands}");
+        let lines = commands.as_bytes();
+        let right = answers(
+            alloc,
+            DEBUG,
+            sum(alloc)?,
+            TEN_ROUNDS,
+            lines,
+            Status::Done,
+            written,
+        )?;
+        assert!(rt; right, "{commands}");
     }
+    Ok(())
+}
+
+#[test]
+fn lines_of_a_byte_are_unknown(rt: HostRuntime) -> Result<(), Fail> {
+    let alloc = rt.alloc();
     for byte in 0..=255u8 {
         let written = match byte {
             b'\n' | b' ' => "",
             _ => UNKNOWN,
         };
-        let (status, bytes) = outcome(alloc, DEBUG, sum(alloc)?, TEN_ROUNDS, &[byte, b'\n'])?;
-        assert_eq!(rt; status, Status::Done, "{byte}");
-        assert_eq!(rt; bytes.as_slice(), written.as_bytes(), "{byte}");
+        let line = [byte, b'\n'];
+        let right = answers(
+            alloc,
+            DEBUG,
+            sum(alloc)?,
+            TEN_ROUNDS,
+            &line,
+            Status::Done,
+            written,
+        )?;
+        assert!(rt; right, "{byte}");
     }
-    let mut swapped = sum(alloc)?;
-    for word in swapped.chunks_exact_mut(4) {
-        word.reverse();
+    Ok(())
+}
+
+#[test]
+fn schedules_end_runs(rt: HostRuntime) -> Result<(), Fail> {
+    let alloc = rt.alloc();
+    for (setup, commands, written) in SCHEDULES {
+        let module = reversed(alloc)?;
+        let lines = commands.as_bytes();
+        let right = answers(alloc, DEBUG, module, setup, lines, Status::Done, written)?;
+        assert!(rt; right, "{setup}");
     }
-    let (_, bytes) = outcome(alloc, DEBUG, swapped, TEN_ROUNDS, b"goto 0\n")?;
-    assert_eq!(rt;
-        bytes.as_slice(),
-        b"stop: done, start\n@0 i=0 %7 word 53\n".as_slice()
-    );
-    let two_rounds = "spvdbg-setup 1\nrounds 2";
-    let (_, bytes) = outcome(alloc, DEBUG, sum(alloc)?, two_rounds, b"goto 3\n")?;
-    assert_eq!(rt;
-        bytes.as_slice(),
-        b"stop: schedule ended\n@2 i=0 %7 word 60\n".as_slice()
-    );
     Ok(())
 }
 
@@ -177,42 +215,69 @@ fn lines_have_4096_bytes_at_most(rt: HostRuntime) -> Result<(), Fail> {
         (b'x', 4097, "refused: C11 line too long\n"),
     ];
     for (byte, length, written) in rows {
-        let commands = vec![in alloc; byte; length]?;
-        let (status, bytes) = outcome(alloc, DEBUG, sum(alloc)?, TEN_ROUNDS, &commands)?;
-        assert_eq!(rt; status, Status::Done, "{length}");
-        assert_eq!(rt; bytes.as_slice(), written.as_bytes(), "{length}");
+        let line = vec![in alloc; byte; length]?;
+        let right = answers(
+            alloc,
+            DEBUG,
+            sum(alloc)?,
+            TEN_ROUNDS,
+            &line,
+            Status::Done,
+            written,
+        )?;
+        assert!(rt; right, "{length}");
     }
     Ok(())
 }
 
 #[test]
-fn pairs_and_words_are_refused(rt: HostRuntime) -> Result<(), Fail> {
+fn pairs_are_refused(rt: HostRuntime) -> Result<(), Fail> {
     let alloc = rt.alloc();
     for (place, word, setup, due, written) in REFUSALS {
         let module = sum_with(alloc, place, word)?;
-        let (status, bytes) = outcome(alloc, DEBUG, module, setup, b"goto 1\n")?;
-        assert_eq!(rt; status, due, "{written}");
-        assert_eq!(rt; bytes.as_slice(), written.as_bytes(), "{written}");
+        let right = answers(alloc, DEBUG, module, setup, b"goto 1\n", due, written)?;
+        assert!(rt; right, "{written}");
     }
+    Ok(())
+}
+
+#[test]
+fn modules_have_20_bytes_at_least(rt: HostRuntime) -> Result<(), Fail> {
+    let alloc = rt.alloc();
     for length in [0, 19] {
         let mut module = sum(alloc)?;
         module.truncate(length);
-        let (status, bytes) = outcome(alloc, DEBUG, module, TEN_ROUNDS, b"goto 1\n")?;
-        assert_eq!(rt; status, Status::ModuleRefused, "{length}");
-        assert_eq!(rt;
-            bytes.as_slice(),
-            b"module refused: M1 at word 0\n".as_slice(),
-            "{length}"
-        );
+        let written = "module refused: M1 at word 0\n";
+        let due = Status::ModuleRefused;
+        let right = answers(alloc, DEBUG, module, TEN_ROUNDS, b"goto 1\n", due, written)?;
+        assert!(rt; right, "{length}");
     }
+    Ok(())
+}
+
+#[test]
+fn wrong_words_open_nothing(rt: HostRuntime) -> Result<(), Fail> {
+    let alloc = rt.alloc();
     for (line, due, written) in WRONG_WORDS {
-        let (status, bytes) = outcome(alloc, line, sum(alloc)?, TEN_ROUNDS, b"goto 1\n")?;
-        assert_eq!(rt; status, due, "{line}");
-        assert_eq!(rt; bytes.as_slice(), written.as_bytes(), "{line}");
+        let right = answers(
+            alloc,
+            line,
+            sum(alloc)?,
+            TEN_ROUNDS,
+            b"goto 1\n",
+            due,
+            written,
+        )?;
+        assert!(rt; right, "{line}");
     }
+    Ok(())
+}
+
+#[test]
+fn modules_have_4_mib_at_most(rt: HostRuntime) -> Result<(), Fail> {
+    let alloc = rt.alloc();
     let long = vec![in alloc; 0u8; 4_194_305]?;
-    let (status, bytes) = outcome(alloc, DEBUG, long, TEN_ROUNDS, b"goto 1\n")?;
-    assert_eq!(rt; status, Status::FileTooLong);
-    assert_eq!(rt; bytes.len(), 0);
+    let due = Status::FileTooLong;
+    assert!(rt; answers(alloc, DEBUG, long, TEN_ROUNDS, b"goto 1\n", due, "")?);
     Ok(())
 }

@@ -1,7 +1,7 @@
 -- The refusals of what a module declares, one instruction after another.
 use Rattle.std.proofs.Common.{◌≡◌, ◌∙◌, ℕ, ◌+◌, ◌<◌, ◌≤◌, true, false, List, ◌++◌, length, get_or, drop, drop-cons, drop_of_length-le, add-one, Ok, Err, refl}
 use Rattle.spv_base.specs.declared.instructions.Inst.{Inst}
-use Rattle.spv_types.specs.Blocks.{nothing}
+use Rattle.spv_types.specs.InterfaceBlocks.{nothing}
 use Rattle.spv_sections.specs.Capabilities.{capabilities_of, capability_breach, capability_breaches, capability_code, is_here}
 
 breach_at : (insts : List Inst) (n : ℕ) (inst : Inst) → n < length insts → inst ≡ get_or insts n inst

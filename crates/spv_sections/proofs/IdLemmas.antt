@@ -7,7 +7,7 @@ use Rattle.spv_base.specs.declared.instructions.Operand.TheVariants.{Id, Lit, Te
 use Rattle.spv_ops.specs.Module.{Decoded}
 use Rattle.spv_index.specs.Positions.{Stand}
 use Rattle.spv_types.specs.Build.{unless_refused}
-use Rattle.spv_types.specs.Blocks.{nothing}
+use Rattle.spv_types.specs.InterfaceBlocks.{nothing}
 use Rattle.spv_sections.specs.declared.ids.Scope.{Scope}
 use Rattle.spv_sections.specs.declared.kinds.Uses.{Uses}
 use Rattle.spv_sections.specs.declared.kinds.Wanted.{Wanted}

@@ -11,7 +11,7 @@ use Rattle.spv_ops.specs.Module.{Decoded}
 use Rattle.spv_index.specs.declared.classes.Class.{Class}
 use Rattle.spv_index.specs.Positions.{Stand, stands_of}
 use Rattle.spv_types.specs.Build.{unless_refused}
-use Rattle.spv_types.specs.Blocks.{nothing}
+use Rattle.spv_types.specs.InterfaceBlocks.{nothing}
 use Rattle.spv_sections.specs.declared.ids.Scope.{Scope}
 use Rattle.spv_sections.specs.declared.kinds.Uses.{Uses}
 use Rattle.spv_sections.specs.declared.kinds.Wanted.TheVariants.{DeclaredType}

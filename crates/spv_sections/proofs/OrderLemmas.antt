@@ -6,7 +6,7 @@ use Rattle.std.specs.List.{list_all}
 use Rattle.spv_index.specs.declared.positions.Stage.{Stage}
 use Rattle.spv_index.specs.Positions.{Stand, in_function}
 use Rattle.spv_types.specs.Build.{unless_refused}
-use Rattle.spv_types.specs.Blocks.{nothing}
+use Rattle.spv_types.specs.InterfaceBlocks.{nothing}
 use Rattle.spv_sections.specs.declared.sections.Part.{Part}
 use Rattle.spv_sections.specs.declared.sections.Part.TheVariants.{Capability, Extension, Import, MemoryModel, EntryPoint, ExecutionMode, Debug, Decoration, Declaration, Value, Line, Nop, Function, Body}
 use Rattle.spv_sections.specs.Sections.{fits_stage, may_follow, may_stand, order_breach, order_breaches_behind, part_at, rank}

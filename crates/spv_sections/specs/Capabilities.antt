@@ -1,13 +1,15 @@
 -- What a module declares that it needs, and whether this project has it (SPIR-V 1.6 sections 3.4, 3.5, 3.31 and 3.42.2 to 3.42.4).
 -- Which of them there are is this project's profile.
-use Rattle.std.specs.Prelude.{ℕ, Bool, not, List, [], ◌∷◌, ◌==◌, ◌&&◌, ◌||◌, nat_eq, if◌then◌else◌, codes, Result}
+use Rattle.std.specs.Prelude.{ℕ, Bool, not, List, [], ◌∷◌, ◌==◌, ◌&&◌, ◌||◌, nat_eq, if◌then◌else◌, codes, false, Some, Result}
+use Rattle.std.specs.Option.{option_eq, option_map_or}
 use Rattle.std.specs.List.{list_any, starts_with, flat_map}
 use Rattle.std.specs.Str.{bytes_eq}
 use Rattle.spv_base.specs.declared.instructions.Inst.{Inst}
 use Rattle.spv_base.specs.declared.causes.Refusal.{Refusal}
-use Rattle.spv_index.specs.Classes.{name_of, number_at}
+use Rattle.spv_index.specs.Classes.{name_of}
+use Rattle.spv_index.specs.Operands.{literal_operand}
 use Rattle.spv_types.specs.Build.{unless_refused}
-use Rattle.spv_types.specs.Blocks.{nothing}
+use Rattle.spv_types.specs.InterfaceBlocks.{nothing}
 
 -- the code of the rules of capabilities, extensions, imports and memory models
 abbrev pub capability_code : ℕ
@@ -34,8 +36,8 @@ abbrev pub is_set : List ℕ → Bool
 is_set name = bytes_eq name (codes "GLSL.std.450") || starts_with nat_eq name (codes "NonSemantic.")
 
 -- Logical addressing (0), and GLSL450 (1)
-abbrev pub is_memory_model : ℕ → ℕ → Bool
-is_memory_model addressing memory = (addressing == 0) && (memory == 1)
+abbrev pub is_memory_model : Inst → Bool
+is_memory_model inst = option_eq nat_eq (literal_operand inst 0) (Some 0) && option_eq nat_eq (literal_operand inst 1) (Some 1)
 
 -- OpPtrAccessChain, OpPtrEqual and OpPtrNotEqual need a capability that is not among those above
 abbrev pub needs_more : ℕ → Bool
@@ -44,10 +46,10 @@ needs_more op = (op == 67) || ((op == 401) || (op == 402))
 -- an instruction asks for nothing that is not here: OpCapability, OpExtension, OpExtInstImport and OpMemoryModel by what they declare
 abbrev pub is_here : Inst → Bool
 is_here inst =
-    if inst.op == 17 then is_capability (number_at inst 0)
+    if inst.op == 17 then option_map_or is_capability (literal_operand inst 0) false
     else if inst.op == 10 then is_extension (name_of inst)
     else if inst.op == 11 then is_set (name_of inst)
-    else if inst.op == 14 then is_memory_model (number_at inst 0) (number_at inst 1)
+    else if inst.op == 14 then is_memory_model inst
     else not (needs_more inst.op)
 
 abbrev pub capability_breach : Inst → List Refusal

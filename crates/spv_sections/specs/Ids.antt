@@ -15,7 +15,7 @@ use Rattle.spv_index.specs.declared.classes.Class.{Class}
 use Rattle.spv_index.specs.declared.positions.Position.{Position}
 use Rattle.spv_index.specs.Positions.{Stand, in_function, stands_of}
 use Rattle.spv_types.specs.Build.{unless_refused}
-use Rattle.spv_types.specs.Blocks.{nothing}
+use Rattle.spv_types.specs.InterfaceBlocks.{nothing}
 use Rattle.spv_sections.specs.declared.kinds.Wanted.{Wanted}
 use Rattle.spv_sections.specs.declared.kinds.Wanted.TheVariants.{DeclaredType}
 use Rattle.spv_sections.specs.declared.kinds.Uses.{Uses}

@@ -11,7 +11,7 @@ use Rattle.spv_index.specs.declared.classes.Class.TheVariants.{Function as Begin
 use Rattle.spv_index.specs.declared.positions.Stage.{Stage}
 use Rattle.spv_index.specs.Positions.{Stand, in_block, in_function, stands_of}
 use Rattle.spv_types.specs.Build.{unless_refused}
-use Rattle.spv_types.specs.Blocks.{nothing}
+use Rattle.spv_types.specs.InterfaceBlocks.{nothing}
 use Rattle.spv_sections.specs.declared.sections.Part.{Part}
 use Rattle.spv_sections.specs.declared.sections.Part.TheVariants.{Capability, Extension, Import, MemoryModel, EntryPoint, ExecutionMode, Debug, Decoration, Declaration, Value, Line, Nop, Function, Body}
 

@@ -4,9 +4,8 @@ ghost use Rattle.spv_index.specs.Classes.{name_of};
 ghost use Rattle.spv_sections.specs.Capabilities as spec;
 
 use spv_base::{Inst, Operand, Refusal};
-use spv_index::Index;
-use spv_index::classes::number_at;
-use spv_ops::{capability, op};
+use spv_index::{Index, literal_operand};
+use spv_ops::{addressing_model, capability, memory_model, op};
 
 /// The code of the rules of capabilities, extensions, imports and memory models.
 const CAPABILITY_CODE: u8 = 11;
@@ -58,6 +57,14 @@ fn is_set(name: &[u8]) -> bool
     name == b"GLSL.std.450".as_slice() || name.starts_with(b"NonSemantic.")
 }
 
+/// Whether the addressing model is Logical, and the memory model GLSL450.
+fn is_memory_model(inst: &Inst) -> bool
+    ensures { result ≡ spec.is_memory_model inst.now }
+{
+    literal_operand(inst, 0) == Some(addressing_model::LOGICAL)
+        && literal_operand(inst, 1) == Some(memory_model::GLSL450)
+}
+
 /// Whether an instruction asks for nothing that is not here.
 fn is_here(inst: &Inst) -> bool
     ensures { result ≡ spec.is_here inst.now }
@@ -65,8 +72,11 @@ fn is_here(inst: &Inst) -> bool
     match inst.op {
         op::EXTENSION => is_extension(name_of(inst)),
         op::EXT_INST_IMPORT => is_set(name_of(inst)),
-        op::MEMORY_MODEL => number_at(inst, 0) == 0 && number_at(inst, 1) == 1,
-        op::CAPABILITY => is_capability(number_at(inst, 0)),
+        op::MEMORY_MODEL => is_memory_model(inst),
+        op::CAPABILITY => match literal_operand(inst, 0) {
+            Some(number) => is_capability(number),
+            None => false,
+        },
         op::PTR_ACCESS_CHAIN | op::PTR_EQUAL | op::PTR_NOT_EQUAL => false,
         _ => true,
     }

@@ -3,7 +3,7 @@ ghost use Rattle.std.specs.Prelude.{◌≡◌, ◌↔◌, ◌⊎◌, Some, Ok};
 ghost use Rattle.std.specs.List.{AllByRecursion};
 ghost use Rattle.spv_ops.specs.Module.{Decoded, IsDecoded};
 ghost use Rattle.spv_index.specs.Definitions.{defining};
-ghost use Rattle.spv_types.specs.Blocks.{nothing};
+ghost use Rattle.spv_types.specs.InterfaceBlocks.{nothing};
 ghost use Rattle.spv_types.specs.Laws.{AreNamed};
 ghost use Rattle.spv_sections.specs.Ids.{ids_of};
 ghost use Rattle.spv_sections.specs.Laws.{AreInOrder};

@@ -8,8 +8,6 @@ mod ids;
 mod kinds;
 pub mod laws;
 mod sections;
-#[cfg(test)]
-mod tests;
 
 pub use capabilities::check_capabilities;
 pub use ids::check_ids;

@@ -8,8 +8,6 @@ mod request;
 mod run;
 mod session;
 mod setup;
-#[cfg(test)]
-mod tests;
 mod texts;
 
 pub use ends::{end_is_least, entries_take_turns};

@@ -9,8 +9,6 @@ mod rows;
 mod schedule;
 mod settings;
 mod setup;
-#[cfg(test)]
-mod tests;
 
 pub use line::{Content, Workgroup};
 pub use schedule::Schedule;

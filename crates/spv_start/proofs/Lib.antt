@@ -1,2 +1,4 @@
 pub mod Number_lemmas
 pub mod Block_lemmas
+pub mod BuiltIn_lemmas
+pub mod Undefined_lemmas

@@ -148,8 +148,37 @@ impl<'a> Reader<'a> {
     }
 }
 
+/// How many cells a member of a block has, where a runtime array has as many elements as fit so many bytes.
+fn member_room(types: &TypeTable, size: u64, member: &Member) -> u64 {
+    match types.form(member.ty) {
+        Some(Form::Runtime { element, stride }) => {
+            let at = u128::from(member.offset.unwrap_or(0));
+            let count = elements_in(size, at, *stride);
+            types.cells(*element).unwrap_or(0).saturating_mul(count)
+        }
+        _ => types.cells(member.ty).unwrap_or(0),
+    }
+}
+
+/// How many cells some members of a block have.
+fn members_room(types: &TypeTable, size: u64, members: &[Member]) -> u64 {
+    let mut room: u64 = 0;
+    for member in members {
+        room = room.saturating_add(member_room(types, size, member));
+    }
+    room
+}
+
+/// How many cells a block of so many bytes has: what is to be reserved for its row.
+fn room(types: &TypeTable, size: u64, ty: u32) -> u64 {
+    match types.form(ty) {
+        Some(Form::Struct { members, .. }) => members_room(types, size, members.as_slice()),
+        _ => types.cells(ty).unwrap_or(0),
+    }
+}
+
 /// The row of a type that a block of so many bytes is, of which those behind the ones written out are 0. Integers lie with the lowest
-/// byte first, members at their offsets and elements a stride apart; a runtime array has as many elements as fit.
+/// byte first, members at their offsets and elements a stride apart; a runtime array has as many elements as fit. The row has no room for more.
 #[tactic(auto, unfolding(crate::specs::Blocks::value_in))]
 pub fn read(
     alloc: Global,
@@ -160,7 +189,7 @@ pub fn read(
 ) -> Result<Vec<Cell>, NoMemory>
     ensures { IfOk result (λ cells. cells.items ≡ leaves (value_in types.now bytes.now size ty)) }
 {
-    let mut cells = Vec::new(alloc);
+    let mut cells = Vec::with_capacity(alloc, room(types, size, ty) as usize)?;
     Reader { types, bytes, size }.among(&mut cells, types.len(), ty, 0)?;
     Ok(cells)
 }

@@ -2,4 +2,8 @@
 #![tactic(auto)]
 
 pub mod blocks;
+pub mod built_ins;
 pub mod numbers;
+pub mod undefined;
+
+pub use built_ins::Invocation;

@@ -3,8 +3,6 @@
 
 mod breaks;
 mod stops;
-#[cfg(test)]
-mod tests;
 mod watches;
 
 pub use breaks::{Breakpoint, Breaks};

@@ -15,6 +15,3 @@ mod writing;
 pub use lines::{Line, Part, Wrong};
 pub use reading::read_listing;
 pub use writing::listing;
-
-#[cfg(test)]
-mod tests;

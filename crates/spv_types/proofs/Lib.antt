@@ -8,7 +8,7 @@ pub mod TypingLemmas
 pub mod RuleLemmas
 pub mod BuildLemmas
 pub mod LayoutLemmas
-pub mod BlockLemmas
+pub mod InterfaceBlockLemmas
 pub mod LimitLemmas
 pub mod ShapeLemmas
 pub mod SoundLemmas

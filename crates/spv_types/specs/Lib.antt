@@ -9,10 +9,10 @@ pub mod Rules
 pub mod Build
 pub mod Layout
 pub mod Measured
-pub mod Blocks
+pub mod InterfaceBlocks
 pub mod Shapes
 pub mod Limits
-pub mod Views
+pub mod Queries
 pub mod Laws
 pub mod Rows
 pub mod Counted

@@ -2,26 +2,24 @@
 //! module variables and blocks keep (SPIR-V 1.6 sections 2.16.1, 2.16.2 and 3.42.6).
 #![tactic(auto)]
 
-mod blocks;
 mod build;
 pub mod constants;
 pub mod counting;
 pub mod counts;
 pub mod forms;
+mod interface_blocks;
 pub mod laws;
 mod layout;
 pub mod leaves;
 pub mod limits;
 mod numbers;
 pub mod places;
+pub mod queries;
 pub mod rows;
 pub mod rules;
 mod spans;
 pub mod table;
-#[cfg(test)]
-mod tests;
 mod typing;
-pub mod views;
 
 pub use forms::{Form, Member};
 pub use limits::Limit;

@@ -8,8 +8,6 @@ pub mod lanes;
 pub mod laws;
 mod operands;
 pub mod rules;
-#[cfg(test)]
-mod tests;
 
 pub use fitting::fits_types;
 pub use glsl::fits_glsl_types;

@@ -8,7 +8,7 @@ use Rattle.spv_ops.specs.Module.{Decoded}
 use Rattle.spv_index.specs.Operands.{id_operand}
 use Rattle.spv_types.specs.Types.{Types}
 use Rattle.spv_types.specs.Build.{types_of}
-use Rattle.spv_types.specs.Blocks.{layout_of, nothing}
+use Rattle.spv_types.specs.InterfaceBlocks.{layout_of, nothing}
 use Rattle.spv_cfg.specs.Calls.{calls_in}
 use Rattle.spv_cfg.specs.Flow.{Flow, flow_of}
 use Rattle.spv_sections.specs.Sections.{sections_of}

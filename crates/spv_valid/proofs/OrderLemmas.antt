@@ -7,7 +7,7 @@ use Rattle.spv_types.specs.Types.{Types}
 use Rattle.spv_types.specs.Rules.{keeps_rules}
 use Rattle.spv_types.specs.Typing.{types_in}
 use Rattle.spv_types.specs.Build.{type_breaches, type_code}
-use Rattle.spv_types.specs.Blocks.{breach as layout_breach, keeps_layout, module_breaches}
+use Rattle.spv_types.specs.InterfaceBlocks.{breach as layout_breach, keeps_layout, module_breaches}
 use Rattle.spv_ops.specs.declared.op.TheConstants.{FUNCTION}
 use Rattle.spv_index.specs.declared.positions.Position.{Position}
 use Rattle.spv_index.specs.declared.classes.Class.{Class}

@@ -10,7 +10,7 @@ use Rattle.spv_base.specs.declared.instructions.Inst.{Inst}
 use Rattle.spv_types.specs.Types.{Types}
 use Rattle.spv_index.specs.Definitions.{before_functions}
 use Rattle.spv_types.specs.Build.{type_breaches, types_of, unless_refused}
-use Rattle.spv_types.specs.Blocks.{layout_of, nothing}
+use Rattle.spv_types.specs.InterfaceBlocks.{layout_of, nothing}
 use Rattle.spv_index.specs.Classes.{sets_of}
 use Rattle.spv_index.specs.Positions.{outside}
 use Rattle.spv_cfg.specs.Lowest.{lowest, sooner}

@@ -7,7 +7,7 @@ use Rattle.spv_base.specs.declared.instructions.Inst.{Inst}
 use Rattle.spv_ops.specs.Module.{Decoded, IsDecoded}
 use Rattle.spv_types.specs.Types.{Types}
 use Rattle.spv_types.specs.Build.{types_of}
-use Rattle.spv_types.specs.Blocks.{layout_of, nothing}
+use Rattle.spv_types.specs.InterfaceBlocks.{layout_of, nothing}
 use Rattle.spv_cfg.specs.Flow.{Flow, flow_of}
 use Rattle.spv_sections.specs.Sections.{sections_of}
 use Rattle.spv_sections.specs.Ids.{ids_of}

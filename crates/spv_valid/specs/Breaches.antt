@@ -9,7 +9,7 @@ use Rattle.spv_types.specs.Types.{Types}
 use Rattle.spv_index.specs.Definitions.{before_functions}
 use Rattle.spv_types.specs.Typing.{types_in}
 use Rattle.spv_types.specs.Build.{type_breaches}
-use Rattle.spv_types.specs.Blocks.{module_breaches}
+use Rattle.spv_types.specs.InterfaceBlocks.{module_breaches}
 use Rattle.spv_cfg.specs.Flow.{block_breaches, call_breaches, flow_in}
 use Rattle.spv_sections.specs.Sections.{order_breaches}
 use Rattle.spv_sections.specs.Ids.{id_breaches}

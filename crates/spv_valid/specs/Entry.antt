@@ -14,7 +14,7 @@ use Rattle.spv_types.specs.declared.forms.Form.TheVariants.{Void, Bool as Boolea
 use Rattle.spv_types.specs.Types.{Types, form_of}
 use Rattle.spv_types.specs.Constants.{is_constant}
 use Rattle.spv_types.specs.Rules.{is_three_words, is_word}
-use Rattle.spv_types.specs.Views.{is_void}
+use Rattle.spv_types.specs.Queries.{is_void}
 use Rattle.spv_cfg.specs.Flow.{Flow}
 use Rattle.spv_consts.specs.Table.{Constants, Row}
 use Rattle.spv_valid.specs.declared.entry.Entry.{Entry}

@@ -9,7 +9,7 @@ use spv_consts::ConstTable;
 use spv_index::{Index, id_operand, literal_operand, text_operand};
 use spv_ops::{built_in, decoration, execution_mode, execution_model, op};
 use spv_types::constants::is_constant;
-use spv_types::views::is_void;
+use spv_types::queries::is_void;
 use spv_types::{Form, TypeTable};
 
 /// The most invocations of a workgroup.

@@ -7,8 +7,6 @@ pub mod entry;
 pub mod meanings;
 mod modules;
 pub mod stack;
-#[cfg(test)]
-mod tests;
 mod validity;
 
 pub use acceptance::{accept, accepted_modules_pass};

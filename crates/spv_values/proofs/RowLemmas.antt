@@ -54,7 +54,7 @@ one_leaf v h = level (out-Value v) refl h
     level (Value-F.List vs) e h = absurd cc
     level (Value-F.Ptr p) e h = absurd cc
 
-scalar_leaf : (c : Lane) → leaves (Scalar c) ≡ c ∷ []
+pub scalar_leaf : (c : Lane) → leaves (Scalar c) ≡ c ∷ []
 unfolding leaves
 scalar_leaf c = search (rules, the_lemmas)
 

@@ -47,6 +47,27 @@ impl Row {
         }
     }
 
+    /// These cells, as the value of this tree.
+    pub fn with_tree(cells: Vec<Cell>, tree: Ghost<Value>) -> Row
+        requires { leaves tree.value ≡ cells.items }
+        ensures { result ≡ tree.value }
+    {
+        Row { cells, tree }
+    }
+
+    /// A scalar.
+    #[tactic(auto, using(crate::proofs::RowLemmas::scalar_leaf))]
+    pub fn of_cell(alloc: Global, cell: Cell) -> Result<Row, NoMemory>
+        ensures { IfOk result (λ row. row ≡ Scalar cell) }
+    {
+        let cells = vec![in alloc; cell]?;
+        let tree = Ghost::of();
+        Ok(Row {
+            cells,
+            tree: scalar(&tree, &cell),
+        })
+    }
+
     /// A value that lies elsewhere, copied.
     pub fn of_part(alloc: Global, part: &Part) -> Result<Row, NoMemory>
         ensures { IfOk result (λ row. row ≡ part.now) }

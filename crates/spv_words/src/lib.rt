@@ -3,8 +3,6 @@
 
 pub mod cuts;
 pub mod list;
-#[cfg(test)]
-mod tests;
 
 pub use cuts::{instructions_are_cut, raw};
 pub use list::{WordList, bytes_of, words};

@@ -1,4 +1,4 @@
-use Rattle.spv_cmd.specs.Words.{words_in}
+use Rattle.spv_line.specs.Words.{words_in}
 use Rattle.spv_cmd.specs.Grammar.{IsNumber, IsCount}
 use Rattle.spv_cmd.proofs.Reads_lemmas.{reads_through}
 use Rattle.spv_cmd.proofs.Row_lemmas.{no_count}

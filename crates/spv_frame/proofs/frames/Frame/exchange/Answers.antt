@@ -1,11 +1,10 @@
-use Rattle.std.proofs.Common.{◌≡◌, ◌∙◌, ℕ, ◌<◌, Bool, List, Option, Some, None, length, sym, ap, subst, arith, slice_get}
+use Rattle.std.proofs.Common.{◌≡◌, ◌∙◌, ℕ, Bool, Some, length, sym, ap, subst, arith, slice_get}
 use Rattle.std.proofs.lemmas.Option.{slice_get-get_or}
 use Rattle.spv_base.specs.declared.values.Value.{Value}
-use Rattle.spv_base.specs.Entries.{reads, writes}
+use Rattle.spv_base.specs.Entries.{writes}
 use Rattle.spv_types.specs.Rows.{leaves}
 use Rattle.spv_values.specs.Places.{IsRowAt}
 use Rattle.spv_frame.specs.Registers.{marked}
-use Rattle.spv_frame.specs.Frames.{Held}
 use Rattle.spv_frame.proofs.FrameLemmas.{exchanged, opened, value_is}
 use Rattle.spv_frame.proofs.frames.Frame.exchange.Goals as goal
 

@@ -1,4 +1,4 @@
-use Rattle.std.proofs.Common.{◌≡◌, ◌∙◌, ℕ, length, map, sym, ap, arith}
+use Rattle.std.proofs.Common.{◌≡◌, ◌∙◌, length, map, ap, arith}
 use Rattle.spv_frame.specs.Registers.{Planned, sizes}
 use Rattle.spv_frame.specs.Frames.{cells_in, trees}
 use Rattle.spv_frame.specs.Plans.{rooms}

@@ -1,5 +1,4 @@
-use Rattle.std.proofs.Common.{◌≡◌, ◌∙◌, ℕ, List, ap, sym, subst}
-use Rattle.spv_frame.specs.Registers.{Planned, Rooms}
+use Rattle.std.proofs.Common.{◌∙◌, ap, sym, subst}
 use Rattle.spv_frame.specs.Plans.{AreApart, rooms}
 use Rattle.spv_frame.proofs.PlanLemmas.{keeps, planned_is, rooms_are}
 use Rattle.spv_frame.proofs.plans.Plan.new.Goals as goal
@@ -11,4 +10,4 @@ invariant_of-result c =
 
 pub returns : goal.returns
 returns c =
-    planned_is c.args.function c.args.first _ _ _ _ _ _ c.in_ok-from_slice.ensures.items (ap rooms c.in_ok-slots_of.ensures ∙ rooms_are c.args.values.now) c.in_ok-from_slice-2.ensures.items
+    planned_is c.args.function c.args.first _ _ _ _ _ _ _ _ c.in_ok-from_slice.ensures.items (ap rooms c.in_ok-slots_of.ensures ∙ rooms_are c.args.values.now) c.in_ok-from_slice-2.ensures.items c.in_ok-from_slice-3.ensures.items

@@ -1,5 +1,4 @@
-use Rattle.std.proofs.Common.{◌≡◌, ◌≢◌, ◌-◌, ◌<◌, ◌≤◌, ◌++◌, [], ◌∷◌, ℕ, length, ap, arith}
-use Rattle.spv_frame.specs.Frames.{Held}
+use Rattle.std.proofs.Common.{◌≡◌, ◌-◌, ◌<◌, ◌≤◌, ◌++◌, [], ◌∷◌, length, ap, arith}
 use Rattle.spv_frame.specs.Stacks.{Stacked}
 use Rattle.spv_frame.proofs.StackLemmas.{after_is, kept_is, not_none, on_err, on_ok}
 use Rattle.spv_frame.proofs.stacks.Stack.append.Goals as goal

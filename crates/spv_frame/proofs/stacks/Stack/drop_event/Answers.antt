@@ -1,5 +1,4 @@
-use Rattle.std.proofs.Common.{◌≡◌, ◌≢◌, ◌-◌, ◌<◌, ◌≤◌, ◌++◌, [], ◌∷◌, ℕ, length, ap, arith}
-use Rattle.spv_frame.specs.Frames.{Held}
+use Rattle.std.proofs.Common.{◌≡◌, ◌≢◌, ◌-◌, ◌<◌, ◌≤◌, [], length, ap, arith}
 use Rattle.spv_frame.specs.Stacks.{Stacked}
 use Rattle.spv_frame.proofs.StackLemmas.{some_frame, taken_is}
 use Rattle.spv_frame.proofs.stacks.Stack.drop_event.Goals as goal

@@ -1,7 +1,6 @@
-use Rattle.std.proofs.Common.{◌≡◌, ◌∙◌, ◌-◌, ◌<◌, ◌≤◌, ℕ, Some, length, ap, sym, arith}
+use Rattle.std.proofs.Common.{◌≡◌, ◌-◌, ◌<◌, ◌≤◌, Some, length, ap, arith}
 use Rattle.spv_base.specs.Entries.{reads, writes}
 use Rattle.spv_frame.specs.Registers.{IsSlotOf, marked}
-use Rattle.spv_frame.specs.Frames.{Held}
 use Rattle.spv_frame.specs.Stacks.{Stacked}
 use Rattle.spv_frame.proofs.StackLemmas.{after_is, handed_is, some_frame}
 use Rattle.spv_frame.proofs.stacks.Stack.exchange.Goals as goal

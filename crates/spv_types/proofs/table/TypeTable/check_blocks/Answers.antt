@@ -1,5 +1,5 @@
 use Rattle.std.proofs.Common.{◌∙◌, refl, take}
-use Rattle.spv_types.proofs.BlockLemmas.{layout_done, layout_kept, layout_refused, layout_whole, taken_next, taken_none}
+use Rattle.spv_types.proofs.InterfaceBlockLemmas.{layout_done, layout_kept, layout_refused, layout_whole, taken_next, taken_none}
 use Rattle.spv_types.proofs.table.TypeTable.check_blocks.Goals as goal
 
 pub loop-inst-init : goal.loop-inst-init

@@ -1,7 +1,7 @@
 use Rattle.std.proofs.Common.{◌≡◌, [], take, drop}
 use Rattle.std.specs.BTreeSet.{contains}
 use Rattle.spv_index.specs.Keys.{pair_cmp}
-use Rattle.spv_types.specs.Blocks.{ArePlaces, module_breaches}
+use Rattle.spv_types.specs.InterfaceBlocks.{ArePlaces, module_breaches}
 use Rattle.spv_types.proofs.table.TypeTable.check_blocks.Given as goal
 
 -- the places of the buffer variables so far, of which none is refused

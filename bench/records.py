@@ -1,0 +1,184 @@
+#!/usr/bin/env python3
+"""Counts the debug records of modules, worked out here apart from the program.
+
+Reads the modules of crates/spv_records/data, and writes src/cases.rt and stdout of that crate. The modules are the shaders
+of examples/check: NAME-gVS.spv by `glslangValidator -V -gVS --target-env spirv1.6`, NAME-glslc.spv by `glslc -g
+--target-env=vulkan1.2`, and each of them after `spirv-opt -O` too. The kinds are those of
+NonSemantic.Shader.DebugInfo.100, and what makes a record malformed is this project's profile of it.
+"""
+import os
+import struct
+
+CRATE = os.path.join(os.path.dirname(os.path.abspath(__file__)), "..", "crates", "spv_records")
+SET = b"NonSemantic.Shader.DebugInfo.100"
+TYPES, SCOPES = {0, 2, 3, 4, 5, 6, 7, 8, 9, 10, 108}, {0, 1, 10, 20, 21, 22}
+LEADS = {"T": TYPES, "P": SCOPES, "S": {35}, "I": {25}, "V": {26}, "W": {26, 27}, "E": {31}, "O": {30}}
+# Of each number the operands: . is only counted, # a number, " a string, others lead to records; then those that may follow.
+KINDS = {
+    0: "", 1: "....", 2: ".##.", 3: "...", 4: "T.", 5: "T#*#", 6: "T#", 7: ".T....", 8: "..", 9: '.T......*#"',
+    10: ".....P...", 11: '"T......', 18: '"T.......', 19: "", 20: '".S......', 21: "S..P", 22: "..P", 23: "P?I", 24: "",
+    25: "#P?I", 26: '"T...P.', 27: "VI", 28: "W.E*#", 29: "W.E*#", 30: "#", 31: "*O", 35: '"?"', 101: "..", 102: '"',
+    103: "S#...", 104: "", 108: "T#.",
+}
+KINDS.update({number: "" for number in (12, 13, 14, 15, 16, 17, 32, 33, 34, 105, 106, 107)})
+IN_BLOCKS = {23, 24, 28, 29, 103, 104}
+OPERATIONS = {0: "", 1: "", 2: "", 3: "#", 4: "..", 5: "", 6: "", 7: "", 8: "#", 9: "##"}
+FRAGMENT, MOST_BITS, MOST_NESTING = 9, 268_435_456, 64
+
+
+class Module:
+    def __init__(self, words):
+        self.words, self.strings, self.numbers = words, {}, {}
+        self.marks, self.records, self.malformed, self.inlined, self.texts = {}, [], [], 0, []
+        integers, self.set, self.inside, self.in_force, at = set(), None, False, 0, 5
+        insts = []
+        while at < len(words):
+            count, op = words[at] >> 16, words[at] & 0xFFFF
+            insts.append((at, op, words[at + 1 : at + count]))
+            at += count
+        for _, op, rest in insts:
+            if op == 7:
+                self.strings[rest[0]] = text(rest[1:])
+            if op == 11 and text(rest[1:]) == SET:
+                self.set = rest[0]
+            if op == 21 and rest[1] == 32:
+                integers.add(rest[0])
+            if op in (43, 50) and rest[0] in integers:
+                self.numbers[rest[1]] = rest[2]
+        self.read(insts)
+
+    def read(self, insts):
+        for at, op, rest in insts:
+            if op == 248:
+                self.inside, self.in_force = True, 0
+            self.inlined += self.inside and self.in_force != 0
+            if op == 12 and rest[2] == self.set:
+                self.add(at, rest[1], rest[3], rest[4:])
+            if op in (249, 250, 251, 253, 254, 255):
+                self.inside = False
+            if op == 3:
+                self.texts.append([1, self.strings[rest[2]], text(rest[3:])] if len(rest) > 3 else [2, b"", b""])
+            if op == 2:
+                self.texts[-1][2] += text(rest)
+
+    def add(self, at, ident, number, ids):
+        measure = self.measure(number, ids) if self.is_right(number, ids) else None
+        if measure is None or measure[0] > MOST_BITS or measure[1] > MOST_NESTING:
+            self.malformed.append((at, number))
+            return
+        self.marks[ident] = (number, ids, *measure)
+        self.records.append((at, ident, number, ids))
+        if number in (23, 24):
+            self.in_force = ids[1] if len(ids) > 1 else 0
+        if number == 35:
+            self.texts.append([0 if len(ids) > 1 else 2, self.strings[ids[0]], self.strings[ids[1]] if len(ids) > 1 else b""])
+        if number == 102:
+            self.texts[-1][2] += self.strings[ids[0]]
+
+    def fits(self, role, ident):
+        if role in LEADS:
+            return ident in self.marks and self.marks[ident][0] in LEADS[role]
+        return role == "." or ident in (self.numbers if role == "#" else self.strings)
+
+    def is_right(self, number, ids):
+        kind = KINDS.get(number)
+        if kind is None or (number in IN_BLOCKS and not self.inside):
+            return False
+        roles = kind.split("*")[0].split("?")[0]
+        behind, more = ids[len(roles) :], kind[len(roles) :]
+        if more[:1] == "?":
+            behind, more = behind[:1], "?" + more[1:]
+        cycle = more[1:] or "."
+        behind = behind[: len(behind) // len(cycle) * len(cycle)]
+        fit = len(ids) >= len(roles) and all(map(self.fits, roles, ids))
+        fit = fit and all(self.fits(cycle[n % len(cycle)], ident) for n, ident in enumerate(behind))
+        if number == 30 and fit:
+            roles = OPERATIONS.get(self.numbers[ids[0]])
+            fit = roles is not None and len(ids) == 1 + len(roles) and all(map(self.fits, roles, ids[1:]))
+        if number == 31 and fit:
+            fit = all(self.numbers[self.marks[ident][1][0]] != FRAGMENT for ident in ids[:-1])
+        return fit
+
+    def measure(self, number, ids):
+        part = lambda ident: self.marks[ident][2:] if ident in self.marks else (0, 0)
+        over = lambda base, times=1, deeper=1: (base[0] * times, base[1] + deeper)
+        if number in (0, 3, 8):
+            return 0, 1
+        if number == 2:
+            return self.numbers[ids[1]], 1
+        if number == 5:
+            base = part(ids[0])
+            for ident in ids[1:]:
+                base = over(base, self.numbers[ident])
+            return base
+        if number in (6, 108):
+            return over(part(ids[0]), self.numbers[ids[1]])
+        if number in (4, 7, 9, 11):
+            return over(part(ids[0 if number == 4 else 1]), 1, number != 11)
+        if number == 10:
+            members = [part(ident) for ident in ids[9:] if ident in self.marks and self.marks[ident][0] == 11]
+            return sum(bits for bits, _ in members), 1 + max([nesting for _, nesting in members], default=0)
+        return 0, 0
+
+    def line(self, name):
+        operands = [ident for _, _, _, ids in self.records for ident in ids]
+        strings = sum(len(self.strings[ident]) for ident in operands if ident in self.strings)
+        numbers = sum(self.numbers.get(ident, 0) for ident in operands)
+        files = {}
+        for rank, file, data in sorted(self.texts, key=lambda row: row[0]):
+            if rank < 2:
+                files.setdefault(file, data)
+        texts = sum(len(files.get(name, b"")) for name in self.strings.values())
+        return (f"{name}: records {len(self.records)}, found {len(self.marks)}, ignored {len(self.malformed)}, strings {strings}, numbers {numbers}, "
+                f"inlined {self.inlined}, text {texts}")
+
+
+def text(words):
+    return struct.pack(f"<{len(words)}I", *words).split(b"\0")[0]
+
+
+# One operand of the first record with a number is exchanged: the module, the number, the place of the operand (-1 for the
+# number itself), and what stands there then: the first record with a number, string or number.
+EXCHANGES = [
+    ("structs-gVS", 26, 5, 2), ("structs-gVS", 20, 2, 1), ("structs-gVS", 11, 1, 20), ("structs-gVS", 10, 9, 2),
+    ("structs-gVS", 35, 0, "number"), ("structs-gVS-opt", 23, 0, 35), ("structs-gVS-opt", 25, 1, 31),
+    ("structs-gVS-opt", 25, 0, "string"), ("loops-gVS", 28, 2, 2), ("loops-gVS", 103, 0, 1), ("loops-gVS", 1, 2, "string"),
+    ("loops-gVS", 28, -1, 36), ("loops-gVS", 2, -1, 24), ("shared-gVS", 2, 1, "string"), ("shared-gVS", 35, 1, "number"),
+    ("widths-gVS", 6, 0, 10), ("widths-gVS", 5, 1, "string"), ("loops-gVS-opt", 29, 0, 35),
+]
+
+
+def exchange(name, number, place, other):
+    """The module, the word that is exchanged, and the number in its place."""
+    read = Module(words_of(name))
+    at = next(row[0] for row in read.records if row[2] == number)
+    if place < 0:
+        return name, at + 4, other
+    pool = {"string": read.strings, "number": read.numbers}.get(other)
+    return name, at + 5 + place, next(iter(pool)) if pool else next(row[1] for row in read.records if row[2] == other)
+
+
+def words_of(name):
+    data = open(os.path.join(CRATE, "data", name + ".spv"), "rb").read()
+    return list(struct.unpack(f"<{len(data) // 4}I", data))
+
+
+def main():
+    names = sorted(file[: -len(".spv")] for file in os.listdir(os.path.join(CRATE, "data")))
+    cases = [(name, 0, words_of(name)[0]) for name in names] + [exchange(*row) for row in EXCHANGES]
+    lines = []
+    for name, word, number in cases:
+        words = words_of(name)
+        words[word] = number
+        lines.append(Module(words).line(f"{name}.spv, word {word} is {number}" if word else name + ".spv"))
+    with open(os.path.join(CRATE, "stdout"), "w") as file:
+        file.write("".join(line + "\n" for line in lines))
+    with open(os.path.join(CRATE, "src", "cases.rt"), "w") as file:
+        file.write("//! What is read: written by bench/records.py.\n\n")
+        file.write("/// Modules of data/, each with a word and the number that is put there. Word 0 is left as it is.\n")
+        file.write("pub(crate) const CASES: &[(&str, usize, u32)] = &[\n")
+        file.write("".join(f'    ("{name}.spv", {word}, {number}),\n' for name, word, number in cases) + "];\n")
+
+
+if __name__ == "__main__":
+    main()

@@ -1,0 +1,10 @@
+use Rattle.std.proofs.Common.{◌≡◌, ◌++◌, ℕ, List, length, map}
+use Rattle.spv_dbg.specs.Seen.{seen}
+use Rattle.spv_dbg.specs.Sources.{op_sources_in}
+use Rattle.spv_dbg.proofs.op_sources.add_op_sources.Given as goal
+
+abbrev pub invariant-loop-insts : goal.invariant-loop-insts
+invariant-loop-insts l = (strings : List (ℕ × List ℕ)) → map (seen strings) l.sources.items ++ op_sources_in l.insts ≡ map (seen strings) l.initial.sources.items ++ op_sources_in l.initial.insts
+
+abbrev pub decreases-loop-insts : goal.decreases-loop-insts
+decreases-loop-insts l = length l.insts

@@ -1,0 +1,13 @@
+use Rattle.std.proofs.Common.{arith}
+use Rattle.spv_fit.proofs.Cell_lemmas.{own_at, own_none, sum_end, sum_more}
+use Rattle.spv_fit.proofs.cells.all_own.Goals as goal
+
+pub loop-inst-preserved : goal.loop-inst-preserved
+loop-inst-preserved c = record {
+  fits = omega arith;
+  sum = sum_more c.saturating_add-cells.result c.loop-inst.cells c.own_cells.result _ _ _ _ c.saturating_add-cells.ensures c.own_cells.ensures
+      (own_at c.args.types.now c.args.insts.now c.loop-inst.inst-index c.inst-item.result c.loop-inst-test.true c.inst-item.is) c.loop-inst.invariant.sum;
+}
+
+pub returns : goal.returns
+returns c = sum_end c.loop-inst.cells _ _ (c.loop-inst.invariant.fits) (own_none c.args.types.now c.args.insts.now c.loop-inst.inst-index c.loop-inst-test.false) c.loop-inst.invariant.sum

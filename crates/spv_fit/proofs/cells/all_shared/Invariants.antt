@@ -1,0 +1,11 @@
+use Rattle.std.proofs.Common.{◌≡◌, ◌<◌, ◌^◌, ◌+◌, drop}
+use Rattle.spv_types.specs.Cuts.{cut}
+use Rattle.spv_fit.specs.Cells.{all_shared}
+use Rattle.spv_fit.proofs.cells.all_shared.Given as goal
+
+-- the leaves so far and those to come
+abbrev pub invariant-loop-inst : goal.invariant-loop-inst
+invariant-loop-inst l = record {
+  fits : l.cells < 2 ^ 64;
+  sum : cut (l.cells + all_shared l.index.insts l.types l.setup (drop l.inst-index l.insts)) ≡ cut (all_shared l.index.insts l.types l.setup l.insts);
+}

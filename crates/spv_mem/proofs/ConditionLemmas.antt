@@ -1,0 +1,143 @@
+-- What the types of variables tell of the parts that pointers name.
+use Rattle.std.proofs.Common.{◌≡◌, ◌∙◌, ℕ, zero, suc, ◌+◌, ◌<◌, ◌≤◌, ◌==◌, Bool, true, false, List, [], ◌∷◌, length, drop, get_or, add-one, Option, Some, None, refl, sym, ap, subst, arith}
+use Rattle.std.proofs.Props.{props}
+use Rattle.std.specs.Prelude.{if◌then◌else◌, IsSome}
+use Rattle.std.specs.Option.{IfSome, IsSomeAnd, is_some, option_and_then}
+use Rattle.std.proofs.Math.Logic.{∥∥₁_elim, ∥∥₁_map}
+use Rattle.spv_base.specs.Entries.{reads}
+use Rattle.spv_base.specs.Lane.{IsLane, Lane}
+use Rattle.spv_base.specs.Parts.{part_at}
+use Rattle.spv_base.specs.declared.values.Pointer.{Pointer}
+use Rattle.spv_base.specs.declared.values.Value.{Value, Scalar, out-Value}
+use Rattle.spv_types.specs.declared.forms.Form.{Form}
+use Rattle.spv_types.specs.declared.forms.Form.TheVariants.{Void, Bool as Boolean, Int, Vector, Array, Runtime, Struct, Pointer as PointerForm, Function}
+use Rattle.spv_types.specs.Rows.{no_roots}
+use Rattle.spv_types.specs.Shapes.{HasShape, IsScalar, reached, scalar_in}
+use Rattle.spv_types.specs.Types.{Types, form_of}
+use Rattle.spv_types.proofs.RowShapes.{shapes_keep}
+use Rattle.spv_types.proofs.ShapeLemmas.{shapes_are_by_forms}
+use Rattle.spv_mem.specs.Conditions.{integer_width, width_at}
+use Rattle.spv_mem.specs.Memory.{Held, IsMemory, IsScalarAt, IsVariable, MayBeTargets, MayStore, id_in, load_of, root_value, roots_in}
+use Rattle.spv_mem.specs.Targets.{is_counted, may_be_target}
+use Rattle.spv_mem.proofs.BlankLemmas.{out_scalar}
+use Rattle.spv_mem.proofs.CountLemmas.{cells_by_form}
+
+-- ---- options
+
+some_then : {A B : Type 0} (f : A → Option B) (o : Option A) (b : B) → option_and_then f o ≡ Some b → (a : A) × (o ≡ Some a) × (f a ≡ Some b)
+some_then f None b h = absurd cc
+some_then f (Some a) b h = (a, refl, h)
+
+some_is : {A : Type 0} (o : Option A) → is_some o ≡ true → IsSome o
+some_is None h = absurd (grind arith)
+some_is (Some a) h = refl
+
+and_some : {A : Type 0} (o : Option A) (P : A → Type 0) → IsSomeAnd o P → is_some o ≡ true
+and_some None P h = absurd h
+and_some (Some a) P h = refl
+
+-- ---- where a pointer leads to an integer type
+
+pub record LeadsToInteger (m : Held) (p : Pointer) (width : ℕ) : Type 0 where
+  pub type : ℕ
+  pub named : reads (id_in p.root) m.targets ≡ Some type
+  pub part : ℕ
+  pub reaches : reached m.types type p.path ≡ Some part
+  pub sign : ℕ
+  pub form : form_of m.types part ≡ Some (Int width sign)
+
+form_is : (o : Option Form) (width : ℕ) → integer_width o ≡ Some width → (sign : ℕ) × (o ≡ Some (Int width sign))
+form_is None width h = absurd cc
+form_is (Some Void) width h = absurd cc
+form_is (Some Boolean) width h = absurd cc
+form_is (Some (Int w sign)) width h = let same : w ≡ width = cc in (sign, ap (λ (k : ℕ). Some (Int k sign)) same)
+form_is (Some (Vector component count)) width h = absurd cc
+form_is (Some (Array element len stride)) width h = absurd cc
+form_is (Some (Runtime element stride)) width h = absurd cc
+form_is (Some (Struct members block)) width h = absurd cc
+form_is (Some (PointerForm class target)) width h = absurd cc
+form_is (Some (Function returns parameters)) width h = absurd cc
+
+leads : (m : Held) (p : Pointer) (width : ℕ) → width_at m p ≡ Some width → LeadsToInteger m p width
+leads m p width h =
+    let first = some_then (λ type. option_and_then (λ t. integer_width (form_of m.types t)) (reached m.types type p.path)) (reads (id_in p.root) m.targets) width h in
+    let second = some_then (λ t. integer_width (form_of m.types t)) (reached m.types first.0 p.path) width first.2 in
+    let third = form_is (form_of m.types second.0) width second.2 in
+    record { type = first.0; named = first.1; part = second.0; reaches = second.1; sign = third.0; form = third.1 }
+
+pub width_unnamed : (m : Held) (p : Pointer) → reads (id_in p.root) m.targets ≡ None → None ≡ width_at m p
+width_unnamed m p h = rw h refl
+
+pub width_unreached : (m : Held) (p : Pointer) (type : ℕ) → reads (id_in p.root) m.targets ≡ Some type → reached m.types type p.path ≡ None → None ≡ width_at m p
+width_unreached m p type h g = rw (h, g) refl
+
+pub width_reached : (m : Held) (p : Pointer) (type part : ℕ) → reads (id_in p.root) m.targets ≡ Some type → reached m.types type p.path ≡ Some part → integer_width (form_of m.types part) ≡ width_at m p
+width_reached m p type part h g = rw (h, g) refl
+
+-- ---- what is there is a scalar
+
+there_scalar : (m : Held) (p : Pointer) (width i : ℕ) (w : Value) → IsMemory m → LeadsToInteger m p width → load_of m i p ≡ Some w → is_some (scalar_in (out-Value w)) ≡ true
+there_scalar m p width i w is l load =
+    let value = some_then (λ v. part_at v p.path) (root_value m i p.root) w load in
+    let roots = some_then (reads (id_in p.root)) (roots_in m i p.root) value.0 value.1 in
+    let variable : IsVariable m.types m.targets (id_in p.root) value.0 = is.variables i p.root roots.0 roots.1 (id_in p.root) value.0 roots.2 in
+    let type : Some variable.type ≡ Some l.type = sym variable.named ∙ l.named in
+    let same : variable.type ≡ l.type = cc in
+    let shape : HasShape m.types no_roots l.type value.0 = subst (λ (k : ℕ). HasShape m.types no_roots k value.0) same variable.shape in
+    let part : HasShape m.types no_roots l.part w = (shapes_keep m.types no_roots is.sound p.path l.type l.part value.0 w w shape l.reaches value.2).0 in
+    and_some (scalar_in (out-Value w)) (λ c. (c.width ≡ width) × IsLane c) ((shapes_are_by_forms m.types no_roots is.sound l.part (Int width l.sign) w l.form).0 part)
+
+scalar_at : (m : Held) (p : Pointer) (width : ℕ) → ∥ IsMemory m ∥₁ → width_at m p ≡ Some width → (i : ℕ) → IsScalarAt m i p
+scalar_at m p width is h i w load = some_is (scalar_in (out-Value w)) (∥∥₁_elim is (hlevel props) (λ (k : IsMemory m). there_scalar m p width i w k (leads m p width h) load))
+
+-- ---- a scalar of the width may be stored
+
+may_be_put : (m : Held) (p : Pointer) (width i : ℕ) (c : Lane) → IsMemory m → LeadsToInteger m p width → c.width ≡ width → IsLane c → MayStore m i p (Scalar c)
+may_be_put m p width i c is l same lane ty v named there t w reaches part =
+    let type : Some l.type ≡ Some ty = sym l.named ∙ named in
+    let alike : l.type ≡ ty = cc in
+    let at : reached m.types l.type p.path ≡ Some t = subst (λ (k : ℕ). reached m.types k p.path ≡ Some t) (sym alike) reaches in
+    let parts : Some l.part ≡ Some t = sym l.reaches ∙ at in
+    let one : l.part ≡ t = cc in
+    let scalar : IsScalar width (Scalar c) = rw out_scalar (same, lane) in
+    let shape : HasShape m.types no_roots l.part (Scalar c) = (shapes_are_by_forms m.types no_roots is.sound l.part (Int width l.sign) (Scalar c) l.form).1 scalar in
+    let counted : is_counted m.types l.part ≡ true = ap is_some (cells_by_form m.types is.sound l.part (Int width l.sign) l.form) in
+    (subst (λ (k : ℕ). is_counted m.types k ≡ true) one counted, subst (λ (k : ℕ). HasShape m.types no_roots k (Scalar c)) one shape)
+
+may_store : (m : Held) (p : Pointer) (width : ℕ) → ∥ IsMemory m ∥₁ → width_at m p ≡ Some width → (i : ℕ) (c : Lane) → c.width ≡ width → IsLane c → ∥ MayStore m i p (Scalar c) ∥₁
+may_store m p width is h i c same lane = ∥∥₁_map is (λ (k : IsMemory m). may_be_put m p width i c k (leads m p width h) same lane)
+
+-- ---- where a width is answered
+
+pub scalar_if : (m : Held) (p : Pointer) (r : Option ℕ) → ∥ IsMemory m ∥₁ → r ≡ width_at m p → IfSome r (λ width. (i : ℕ) → IsScalarAt m i p)
+scalar_if m p None is h = tt
+scalar_if m p (Some width) is h = λ i. scalar_at m p width is (sym h) i
+
+pub may_if : (m : Held) (p : Pointer) (r : Option ℕ) → ∥ IsMemory m ∥₁ → r ≡ width_at m p
+    → IfSome r (λ width. (i : ℕ) (c : Lane) → c.width ≡ width → IsLane c → ∥ MayStore m i p (Scalar c) ∥₁)
+may_if m p None is h = tt
+may_if m p (Some width) is h = λ i c same lane. may_store m p width is (sym h) i c same lane
+
+-- ---- lists of targets
+
+with_first : (ts : Types) (t : ℕ × ℕ) (targets : List (ℕ × ℕ)) → may_be_target ts t.1 ≡ true → MayBeTargets ts targets → MayBeTargets ts (t ∷ targets)
+with_first ts t targets may rest id type h = by_id (t.0 == id) refl h
+  where
+    by_id : (b : Bool) → (t.0 == id) ≡ b → (if b then Some t.1 else reads id targets) ≡ Some type → may_be_target ts type ≡ true
+    by_id true e h = let same : t.1 ≡ type = cc in subst (λ (k : ℕ). may_be_target ts k ≡ true) same may
+    by_id false e h = rest id type h
+
+-- a target that may have its type, before others
+one_more : (ts : Types) (targets : List (ℕ × ℕ)) (i : ℕ) (d : ℕ × ℕ) → i < length targets → may_be_target ts (get_or targets i d).1 ≡ true → MayBeTargets ts (drop (suc i) targets) → MayBeTargets ts (drop i targets)
+one_more ts [] i d l may rest = absurd (omega (arith, l))
+one_more ts (t ∷ targets) zero d l may rest = with_first ts t targets may rest
+one_more ts (t ∷ targets) (suc i) d l may rest = one_more ts targets i d (omega (arith, l)) may rest
+
+pub target_kept : (ts : Types) (targets : List (ℕ × ℕ)) (i : ℕ) (d : ℕ × ℕ) → i < length targets → true ≡ may_be_target ts (get_or targets i d).1 → MayBeTargets ts (drop (i + 1) targets) → MayBeTargets ts (drop i targets)
+target_kept ts targets i d l may rest = one_more ts targets i d l (sym may) (subst (λ (k : ℕ). MayBeTargets ts (drop k targets)) (add-one i) rest)
+
+pub none_left : (ts : Types) (targets : List (ℕ × ℕ)) (i : ℕ) → length targets ≤ i → MayBeTargets ts (drop i targets)
+none_left ts [] zero l = λ id type h. absurd cc
+none_left ts [] (suc i) l = λ id type h. absurd cc
+none_left ts (t ∷ targets) zero l = absurd (omega (arith, l))
+none_left ts (t ∷ targets) (suc i) l = none_left ts targets i (omega (arith, l))

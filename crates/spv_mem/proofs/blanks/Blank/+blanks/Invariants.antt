@@ -1,0 +1,29 @@
+use Rattle.std.proofs.Common.{◌≡◌, ◌*◌, ◌+◌, ◌++◌, drop, replicate}
+use Rattle.std.specs.List.{flat_map}
+use Rattle.spv_types.specs.declared.forms.Member.{Member}
+use Rattle.spv_types.specs.Rows.{leaves}
+use Rattle.spv_mem.specs.Blanks.{blank_among}
+use Rattle.spv_mem.proofs.blanks.Blank.+blanks.Given as goal
+
+-- the parts of a type stand before it
+abbrev pub decreases-among : goal.decreases-among
+decreases-among l = 3 * l.limit
+
+abbrev pub decreases-of_form : goal.decreases-of_form
+decreases-of_form l = 3 * l.limit + 2
+
+abbrev pub decreases-repeated : goal.decreases-repeated
+decreases-repeated l = 3 * l.limit + 1
+
+abbrev pub decreases-of_members : goal.decreases-of_members
+decreases-of_members l = 3 * l.limit + 1
+
+-- the cells so far are those of so many values
+abbrev pub invariant-repeated-loop-number : goal.invariant-repeated-loop-number
+invariant-repeated-loop-number l = l.cells.items ≡ l.fn.cells.items ++ flat_map leaves (replicate l._number (blank_among l.self.types.now l.self.elements l.limit l.ty))
+
+-- the cells so far and those of the members that are left
+abbrev pub invariant-of_members-loop-member : goal.invariant-of_members-loop-member
+invariant-of_members-loop-member l =
+    l.cells.items ++ flat_map (λ (m : Member). leaves (blank_among l.self.types.now l.self.elements l.limit m.ty)) (drop l.member-index l.members)
+    ≡ l.fn.cells.items ++ flat_map (λ (m : Member). leaves (blank_among l.self.types.now l.self.elements l.limit m.ty)) l.members

@@ -1,0 +1,239 @@
+//! Variables that begin undefined.
+ghost use Rattle.std.specs.Prelude.{◌≡◌, ◌++◌, IfOk, IfSome, OnOk, min, replicate};
+ghost use Rattle.std.specs.List.{flat_map};
+ghost use Rattle.spv_base.specs.Lane.{undefined_lane};
+ghost use Rattle.spv_mem.specs.Blanks.{blank_among, blank_in, blank_of, blank_step, if_any, last_part, part_count};
+ghost use Rattle.spv_mem.specs.Memory.{IsVariable};
+ghost use Rattle.spv_mem.specs.Targets.{elements_in};
+ghost use Rattle.spv_types.specs.declared.forms.Member.{Member as Part};
+ghost use Rattle.spv_types.specs.Rows.{leaves};
+ghost use Rattle.spv_types.specs.Rules.{last_type};
+
+use crate::storage::Memory;
+use crate::variables::Variable;
+use spv_base::{Cell, Ghost, NoMemory, Value};
+use spv_types::{Form, Member, TypeTable};
+use spv_values::Row;
+use std::alloc::Global;
+
+/// The undefined scalar of a width in bits, or of the widest where there is none so wide.
+fn undefined(width: u32) -> Cell
+    ensures { result ≡ undefined_lane (min width 64) }
+{
+    Cell {
+        bits: 0,
+        width: width.min(64) as u8,
+        defined: false,
+    }
+}
+
+/// The type of the last member.
+fn last_type(members: &[Member]) -> Option<u32>
+    ensures { result ≡ last_type members.now }
+{
+    match members.last() {
+        Some(member) => Some(member.ty),
+        None => None,
+    }
+}
+
+/// A type, if there is a value of it.
+fn if_any(count: u32, ty: u32) -> Option<u32>
+    ensures { result ≡ if_any count ty }
+{
+    if count > 0 { Some(ty) } else { None }
+}
+
+/// Types, and how many elements a runtime array has.
+#[derive(Clone, Copy)]
+struct Blank<'a> {
+    types: &'a TypeTable,
+    elements: u32,
+}
+
+impl<'a> Blank<'a> {
+    /// Appends the row of the type with an id, where it is among the first `limit` types.
+    #[tactic(auto, using(crate::proofs::BlankLemmas::blank_among_is))]
+    #[cycle(blanks)]
+    fn among(&self, cells: &mut Vec<Cell>, limit: usize, ty: u32) -> Result<(), NoMemory>
+        ensures { OnOk result (cells.new.items ≡ cells.old.items ++ leaves (blank_among self.now.types.now self.now.elements limit ty)) }
+    {
+        match self.types.found(limit, ty) {
+            Some((n, form)) => self.of_form(cells, n, form),
+            None => Ok(()),
+        }
+    }
+
+    /// Appends the row of a form whose parts are among the first types.
+    #[cycle(blanks)]
+    fn of_form(&self, cells: &mut Vec<Cell>, limit: usize, form: &Form) -> Result<(), NoMemory>
+        ensures { OnOk result (cells.new.items ≡ cells.old.items ++ leaves (blank_step self.now.elements (blank_among self.now.types.now self.now.elements limit) form.now)) }
+    {
+        match form {
+            Form::Bool => Ok(cells.push(undefined(1))?),
+            Form::Int { width, .. } => Ok(cells.push(undefined(*width))?),
+            Form::Vector { component, count } => self.repeated(cells, limit, *component, *count),
+            Form::Array {
+                element,
+                length,
+                ..
+            } => self.repeated(cells, limit, *element, length.unwrap_or(0)),
+            Form::Runtime { element, .. } => self.repeated(cells, limit, *element, self.elements),
+            Form::Struct { members, .. } => self.of_members(cells, limit, members.as_slice()),
+            Form::Void => Ok(()),
+            Form::Pointer { .. } => Ok(()),
+            Form::Function { .. } => Ok(()),
+        }
+    }
+
+    /// Appends the row of a type among the first so many times.
+    #[cycle(blanks)]
+    fn repeated(
+        &self,
+        cells: &mut Vec<Cell>,
+        limit: usize,
+        ty: u32,
+        count: u32,
+    ) -> Result<(), NoMemory>
+        ensures { OnOk result (cells.new.items ≡ cells.old.items ++ flat_map leaves (replicate count (blank_among self.now.types.now self.now.elements limit ty))) }
+    {
+        for _number in 0..count {
+            self.among(cells, limit, ty)?;
+        }
+        Ok(())
+    }
+
+    /// Appends the rows of members whose types are among the first.
+    #[cycle(blanks)]
+    fn of_members(
+        &self,
+        cells: &mut Vec<Cell>,
+        limit: usize,
+        members: &[Member],
+    ) -> Result<(), NoMemory>
+        ensures { OnOk result (cells.new.items ≡ cells.old.items ++ flat_map (λ (m : Part). leaves (blank_among self.now.types.now self.now.elements limit m.ty)) members.now) }
+    {
+        for member in members {
+            self.among(cells, limit, member.ty)?;
+        }
+        Ok(())
+    }
+
+    /// The type of the last part of a value of a form.
+    fn last_part(&self, form: &Form) -> Option<u32>
+        ensures { result ≡ last_part self.now.elements form.now }
+    {
+        match form {
+            Form::Vector { component, count } => if_any(*count, *component),
+            Form::Array {
+                element,
+                length,
+                ..
+            } => if_any(length.unwrap_or(0), *element),
+            Form::Runtime { element, .. } => if_any(self.elements, *element),
+            Form::Struct { members, .. } => last_type(members.as_slice()),
+            _ => None,
+        }
+    }
+
+    /// How many parts a value of a form has. A type of 2 ^ 32 members has no variable.
+    fn part_count(&self, form: &Form) -> Result<u32, NoMemory>
+        ensures { IfOk result (λ n. n ≡ part_count self.now.elements form.now) }
+    {
+        match form {
+            Form::Vector { count, .. } => Ok(*count),
+            Form::Array { length, .. } => Ok(length.unwrap_or(0)),
+            Form::Runtime { .. } => Ok(self.elements),
+            Form::Struct { members, .. } => match u32::try_from(members.len()) {
+                Ok(count) => Ok(count),
+                Err(_) => Err(NoMemory),
+            },
+            _ => Ok(0),
+        }
+    }
+
+    /// How many parts the last part of the value of a type has.
+    #[tactic(auto, using(crate::proofs::BlankLemmas::elements_are))]
+    fn last_count(&self, ty: u32) -> Result<u32, NoMemory>
+        ensures { IfOk result (λ n. n ≡ elements_in (blank_of self.now.types.now self.now.elements ty)) }
+    {
+        let Some((limit, form)) = self.types.found(self.types.len(), ty) else {
+            return Ok(0);
+        };
+        let Some(part) = self.last_part(form) else {
+            return Ok(0);
+        };
+        match self.types.found(limit, part) {
+            Some((_, form)) => self.part_count(form),
+            None => Ok(0),
+        }
+    }
+
+    /// The cells of the value of a type.
+    #[tactic(auto, unfolding(crate::specs::Blanks::blank_of))]
+    fn cells(&self, alloc: Global, ty: u32) -> Result<Vec<Cell>, NoMemory>
+        ensures { IfOk result (λ cells. cells.items ≡ leaves (blank_of self.now.types.now self.now.elements ty)) }
+    {
+        let mut cells = Vec::new(alloc);
+        self.among(&mut cells, self.types.len(), ty)?;
+        Ok(cells)
+    }
+
+    /// The tree of the value of a type, for proofs.
+    fn tree(&self, ty: u32) -> Ghost<Value>
+        ensures { result.value ≡ blank_of self.now.types.now self.now.elements ty }
+    {
+        let tree = Ghost::of();
+        self.tree_by(&tree, &ty)
+    }
+
+    fn tree_by(&self, tree: &Ghost<Value>, ty: &u32) -> Ghost<Value>
+        ensures { result.value ≡ blank_of self.now.types.now self.now.elements ty.now }
+    {
+        tree.by(self, ty)
+    }
+
+    /// The value of a type.
+    fn row(&self, alloc: Global, ty: u32) -> Result<Row, NoMemory>
+        ensures { IfOk result (λ row. row ≡ blank_of self.now.types.now self.now.elements ty) }
+    {
+        let cells = self.cells(alloc, ty)?;
+        Ok(Row::with_tree(cells, self.tree(ty)))
+    }
+}
+
+impl Variable {
+    /// The undefined value of a type of data, where a runtime array has so many elements.
+    pub fn blank(
+        alloc: Global,
+        types: &TypeTable,
+        ty: u32,
+        elements: u32,
+    ) -> Result<Variable, NoMemory>
+        ensures { IfOk result (λ variable. variable ≡ blank_of types.now elements ty) }
+    {
+        let blank = Blank { types, elements };
+        let count = blank.last_count(ty)?;
+        let row = blank.row(alloc, ty)?;
+        Ok(Variable::new(row, count))
+    }
+}
+
+impl Memory {
+    /// What the variable with an id holds before the first store: all its cells are undefined, and a runtime array has so many
+    /// elements. None exactly where the targets do not name the id, or name a type that is not one of data.
+    pub fn blank(&self, alloc: Global, id: u32, elements: u32) -> Result<Option<Variable>, NoMemory>
+        ensures value { IfOk result (λ variable. variable ≡ blank_in self.now id elements) }
+        ensures may { IfOk result (λ variable. IfSome variable (λ v. ∥ IsVariable self.now.types self.now.targets id v ∥₁)) }
+    {
+        let types = self.types.as_ref();
+        let Some(target) = self.targets.get(id) else {
+            return Ok(None);
+        };
+        if !types.is_data(target.ty) {
+            return Ok(None);
+        }
+        let variable = Variable::blank(alloc, types, target.ty, elements)?;
+        Ok(Some(variable))
+    }
+}
