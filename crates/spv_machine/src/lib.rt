@@ -16,4 +16,3 @@ pub use execution::{Did, StepErr, fault_of, step};
 pub use frames::{Frame, Stack};
 pub use runnable::Runnable;
 pub use world::World;
-
