@@ -85,6 +85,20 @@ impl Plan {
         self.parameters.as_slice()
     }
 
+    /// How many registers of values there are.
+    pub fn value_count(&self) -> usize
+        ensures { result ≡ length self.now.values }
+    {
+        self.values.len()
+    }
+
+    /// How many registers of pointers there are.
+    pub fn pointer_count(&self) -> usize
+        ensures { result ≡ length self.now.pointers }
+    {
+        self.pointers.len()
+    }
+
     /// Where the register of a value with a number lies. In constant time.
     pub fn slot(&self, number: usize) -> &Slot
         requires { number < length self.now.values }

@@ -8,6 +8,8 @@ use Rattle.spv_base.specs.Entries.{reads}
 use Rattle.spv_base.specs.Lane.{IsLane, Lane}
 use Rattle.spv_base.specs.Parts.{part_at}
 use Rattle.spv_base.specs.declared.values.Pointer.{Pointer}
+use Rattle.spv_base.specs.declared.values.Root.{Root}
+use Rattle.spv_base.specs.declared.values.Root.TheVariants.{Shared}
 use Rattle.spv_base.specs.declared.values.Value.{Value, Scalar, out-Value}
 use Rattle.spv_types.specs.declared.forms.Form.{Form}
 use Rattle.spv_types.specs.declared.forms.Form.TheVariants.{Void, Bool as Boolean, Int, Vector, Array, Runtime, Struct, Pointer as PointerForm, Function}
@@ -17,8 +19,8 @@ use Rattle.spv_types.specs.Types.{Types, form_of}
 use Rattle.spv_types.proofs.RowShapes.{shapes_keep}
 use Rattle.spv_types.proofs.ShapeLemmas.{shapes_are_by_forms}
 use Rattle.spv_mem.specs.Conditions.{integer_width, width_at}
-use Rattle.spv_mem.specs.Memory.{Held, IsMemory, IsScalarAt, IsVariable, MayBeTargets, MayStore, id_in, load_of, root_value, roots_in}
-use Rattle.spv_mem.specs.Targets.{is_counted, may_be_target}
+use Rattle.spv_mem.specs.Memory.{Held, IsMemory, IsScalarAt, IsVariable, MayBeTargets, MayStore, NamesArray, id_in, load_of, root_value, roots_in}
+use Rattle.spv_mem.specs.Targets.{is_array_at, is_counted, may_be_target}
 use Rattle.spv_mem.proofs.BlankLemmas.{out_scalar}
 use Rattle.spv_mem.proofs.CountLemmas.{cells_by_form}
 
@@ -141,3 +143,61 @@ none_left ts [] zero l = λ id type h. absurd cc
 none_left ts [] (suc i) l = λ id type h. absurd cc
 none_left ts (t ∷ targets) zero l = absurd (omega (arith, l))
 none_left ts (t ∷ targets) (suc i) l = none_left ts targets i (omega (arith, l))
+
+-- ---- runtime arrays
+
+-- a pointer into the shared variable with an id names a block, whose member k is a runtime array
+record LeadsToArray (m : Held) (p : Pointer) (k id : ℕ) : Type 0 where
+  value : Value
+  there : reads id m.shared ≡ Some value
+  type : ℕ
+  named : reads id m.targets ≡ Some type
+  block : ℕ
+  leads : reached m.types type p.path ≡ Some block
+  array : is_array_at m.types (form_of m.types block) k ≡ true
+
+of_id : (m : Held) (p : Pointer) (k id : ℕ) → p.root ≡ Shared id → NamesArray m p k → LeadsToArray m p k id
+of_id m p k id root is =
+    let roots : Shared is.id ≡ Shared id = sym is.shared ∙ root in
+    let same : is.id ≡ id = cc in
+    subst (λ (n : ℕ). LeadsToArray m p k n) same (record { value = is.value; there = is.there; type = is.type; named = is.named; block = is.block; leads = is.leads; array = is.array })
+
+pub no_array_unshared : (m : Held) (p : Pointer) (k : ℕ) → ((id : ℕ) → p.root ≡ Shared id → ⊥) → ∥ NamesArray m p k ∥₁ → ⊥
+no_array_unshared m p k other is = ∥∥₁_elim is (hlevel props) (λ (n : NamesArray m p k). other n.id n.shared)
+
+pub no_array_fresh : (m : Held) (p : Pointer) (k id : ℕ) → p.root ≡ Shared id → reads id m.shared ≡ None → ∥ NamesArray m p k ∥₁ → ⊥
+no_array_fresh m p k id root fresh is =
+    ∥∥₁_elim is (hlevel props) (λ (n : NamesArray m p k). let l = of_id m p k id root n in let there = l.there in absurd cc)
+
+pub no_array_untargeted : (m : Held) (p : Pointer) (k id : ℕ) → p.root ≡ Shared id → reads id m.targets ≡ None → ∥ NamesArray m p k ∥₁ → ⊥
+no_array_untargeted m p k id root none is =
+    ∥∥₁_elim is (hlevel props) (λ (n : NamesArray m p k). let l = of_id m p k id root n in let named = l.named in absurd cc)
+
+pub no_array_unreached : (m : Held) (p : Pointer) (k id type : ℕ) → p.root ≡ Shared id → reads id m.targets ≡ Some type → reached m.types type p.path ≡ None → ∥ NamesArray m p k ∥₁ → ⊥
+no_array_unreached m p k id type root named none is =
+    ∥∥₁_elim is (hlevel props) (λ (n : NamesArray m p k).
+    let l = of_id m p k id root n in
+    let types : Some l.type ≡ Some type = sym l.named ∙ named in
+    let same : l.type ≡ type = cc in
+    let leads : reached m.types type p.path ≡ Some l.block = subst (λ (t : ℕ). reached m.types t p.path ≡ Some l.block) same l.leads in
+    absurd cc)
+
+pub array_named : (m : Held) (p : Pointer) (k id type block : ℕ) → p.root ≡ Shared id → (reads id m.shared ≡ None → ⊥) → reads id m.targets ≡ Some type
+    → reached m.types type p.path ≡ Some block → is_array_at m.types (form_of m.types block) k ≡ true → ∥ NamesArray m p k ∥₁
+array_named m p k id type block root there named leads array = by_value (reads id m.shared) refl
+  where
+    by_value : (o : Option Value) → reads id m.shared ≡ o → ∥ NamesArray m p k ∥₁
+    by_value None e = absurd (there e)
+    by_value (Some v) e = ∣ record { id = id; shared = root; value = v; there = e; type = type; named = named; block = block; leads = leads; array = array } ∣₁
+
+pub array_is_named : (m : Held) (p : Pointer) (k id type block : ℕ) → p.root ≡ Shared id → reads id m.targets ≡ Some type → reached m.types type p.path ≡ Some block
+    → ∥ NamesArray m p k ∥₁ → is_array_at m.types (form_of m.types block) k ≡ true
+array_is_named m p k id type block root named leads is =
+    ∥∥₁_elim is (hlevel props) (λ (n : NamesArray m p k).
+    let l = of_id m p k id root n in
+    let types : Some l.type ≡ Some type = sym l.named ∙ named in
+    let same : l.type ≡ type = cc in
+    let here : reached m.types type p.path ≡ Some l.block = subst (λ (t : ℕ). reached m.types t p.path ≡ Some l.block) same l.leads in
+    let blocks : Some l.block ≡ Some block = sym here ∙ leads in
+    let one : l.block ≡ block = cc in
+    subst (λ (b : ℕ). is_array_at m.types (form_of m.types b) k ≡ true) one l.array)

@@ -3,15 +3,16 @@ ghost use Rattle.std.specs.Prelude.{◌≡◌, ◌↔◌, ◌<◌, ℕ, IfSome, 
 ghost use Rattle.spv_base.specs.Entries.{reads};
 ghost use Rattle.spv_base.specs.State.{Roots};
 ghost use Rattle.spv_base.specs.Lane.{IsLane, Lane};
+ghost use Rattle.spv_base.specs.declared.values.Root.TheVariants.{Shared};
 ghost use Rattle.spv_base.specs.declared.values.Value.{Scalar};
 ghost use Rattle.spv_mem.specs.Conditions.{integer_width, width_at};
-ghost use Rattle.spv_mem.specs.Memory.{AreTargets, HasRoom, IsScalarAt, MayBeTargets, MayStore};
+ghost use Rattle.spv_mem.specs.Memory.{AreTargets, HasRoom, IsScalarAt, MayBeTargets, MayStore, NamesArray};
 ghost use Rattle.spv_mem.specs.Targets.{end_open, is_open_array, is_open_block, may_be_target};
 ghost use Rattle.spv_types.specs.Laws.{AreSound};
 
-use crate::places::reached;
+use crate::places::{is_array_at, reached};
 use crate::storage::{Memory, id_in};
-use spv_base::Pointer;
+use spv_base::{Pointer, Root};
 use spv_types::{Form, Member, TypeTable};
 
 /// Whether a type is a runtime array of values with one number of leaves.
@@ -88,6 +89,34 @@ impl Memory {
         let target = self.targets.get(id)?;
         let ty = reached(types, target.ty, p.path.as_slice())?;
         integer_width(types.form(ty))
+    }
+
+    /// Whether a pointer names a block in a shared variable, of which a member is a runtime array.
+    pub fn names_array(&self, p: &Pointer, member: u32) -> bool
+        ensures { IsTrue result ↔ ∥ NamesArray self.now p.now member ∥₁ }
+    {
+        match p.root {
+            Root::Shared(id) => self.shared_array(id, p, member),
+            _ => false,
+        }
+    }
+
+    /// The same, where the variable is the shared one with an id.
+    fn shared_array(&self, id: u32, p: &Pointer, member: u32) -> bool
+        requires { p.now.root ≡ Shared id }
+        ensures { IsTrue result ↔ ∥ NamesArray self.now p.now member ∥₁ }
+    {
+        if self.is_fresh_shared(id) {
+            return false;
+        }
+        let types = self.types.as_ref();
+        let Some(target) = self.targets.get(id) else {
+            return false;
+        };
+        match reached(types, target.ty, p.path.as_slice()) {
+            Some(block) => is_array_at(types, types.form(block), u64::from(member)),
+            None => false,
+        }
     }
 
     /// Whether there is no shared variable with an id.

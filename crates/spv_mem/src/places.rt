@@ -48,7 +48,7 @@ fn is_runtime(form: Option<&Form>) -> bool
 }
 
 /// Whether a member of a block is a runtime array.
-fn is_array_at(types: &TypeTable, form: Option<&Form>, member: u64) -> bool
+pub(crate) fn is_array_at(types: &TypeTable, form: Option<&Form>, member: u64) -> bool
     ensures { result ≡ is_array_at types.now (option_copied form.entry) member }
 {
     match form {

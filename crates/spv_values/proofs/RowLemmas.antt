@@ -6,11 +6,11 @@ use Rattle.std.proofs.Props.{props}
 use Rattle.std.specs.Coded.{codes}
 use Rattle.spv_base.specs.Lane.{Lane}
 use Rattle.spv_base.specs.Parts.{part_at, with_part}
-use Rattle.spv_base.specs.declared.values.Value.{Value, Scalar, out-Value, the_lemmas}
+use Rattle.spv_base.specs.declared.values.Value.{Value, Scalar, List as Many, out-Value, the_lemmas}
 use Rattle.spv_base.specs.declared.values.Value.TheOpen.{Value-F}
 use Rattle.spv_types.specs.Rows.{HasRow, leaves}
 use Rattle.spv_types.specs.Shapes.{scalar_in}
-use Rattle.spv_types.proofs.RowLemmas.{scalar_row}
+use Rattle.spv_types.proofs.RowLemmas.{leaves_many, scalar_row}
 use Rattle.spv_types.proofs.RowPlaces.{lies_at, lies_within, lies_written}
 use Rattle.spv_values.specs.Places.{IsRowAt}
 
@@ -43,6 +43,11 @@ row_at v path n k has = record {
   row = λ w is. ∥∥₁_elim has (hlevel (props, codes)) (λ (h : HasRow v path n k). row v w path n k h is);
   written = λ u. ∥∥₁_elim has (hlevel (props, codes)) (λ (h : HasRow v path n k). written v u path n k h);
 }
+
+-- ---- no parts
+
+pub no_leaves : leaves (Many []) ≡ []
+no_leaves = leaves_many []
 
 -- ---- scalars
 

@@ -1,16 +1,17 @@
 //! Rows that own their cells: variables, and the results of instructions.
-ghost use Rattle.std.specs.Prelude.{◌≡◌, ◌+◌, ◌≤◌, IfOk, IsSome, Some, length};
+ghost use Rattle.std.specs.Prelude.{◌≡◌, ◌+◌, ◌≤◌, [], IfOk, IsSome, Some, length};
 ghost use Rattle.spv_base.specs.Parts.{part_at, with_part};
-ghost use Rattle.spv_base.specs.declared.values.Value.{Value, Scalar, out-Value};
+ghost use Rattle.spv_base.specs.declared.values.Value.{Value, Scalar, List as Many, out-Value};
 ghost use Rattle.spv_types.specs.Rows.{leaves};
 ghost use Rattle.spv_types.specs.Shapes.{scalar_in};
 ghost use Rattle.spv_values.specs.Places.{IsRowAt};
 
 use crate::parts::Part;
-use crate::trees::{part_of, replaced, same, scalar};
+use crate::trees::{no_parts, part_of, replaced, same, scalar};
 use spv_base::{Cell, Ghost, NoMemory, Path, Value};
 use std::alloc::Global;
 use std::marker::Model;
+use std::mem;
 
 /// The cells of a value, in its order. Contracts see the value as a tree.
 #[derive(Drop)]
@@ -116,6 +117,17 @@ impl Row {
     {
         self.cells[0] = cell;
         self.tree = scalar(&self.tree, &cell);
+    }
+
+    /// Takes the cells out, to be filled anew, and leaves none. It takes no memory.
+    #[tactic(auto, using(crate::proofs::RowLemmas::no_leaves))]
+    pub fn take_cells(&mut self) -> Vec<Cell>
+        ensures cells { result.items ≡ leaves self.old }
+        ensures none { self.new ≡ Many [] }
+    {
+        let alloc = *self.cells.allocator();
+        self.tree = no_parts(&self.tree);
+        mem::replace(&mut self.cells, Vec::new(alloc))
     }
 
     /// Exchanges the part that a path names, which lies behind `start` cells, with a value of as many cells.

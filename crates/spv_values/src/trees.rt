@@ -1,7 +1,7 @@
 //! Trees that only proofs read.
-ghost use Rattle.std.specs.Prelude.{◌≡◌, IsSome, Some};
+ghost use Rattle.std.specs.Prelude.{◌≡◌, [], IsSome, Some};
 ghost use Rattle.spv_base.specs.Parts.{part_at, with_part};
-ghost use Rattle.spv_base.specs.declared.values.Value.{Scalar};
+ghost use Rattle.spv_base.specs.declared.values.Value.{Scalar, List as Many};
 
 use spv_base::{Cell, Ghost, Path, Value};
 
@@ -30,6 +30,13 @@ pub fn scalar(tree: &Ghost<Value>, cell: &Cell) -> Ghost<Value>
 /// The same tree.
 pub fn same(tree: &Ghost<Value>) -> Ghost<Value>
     ensures { result.value ≡ tree.now.value }
+{
+    tree.by(tree, tree)
+}
+
+/// The tree of a list without parts.
+pub fn no_parts(tree: &Ghost<Value>) -> Ghost<Value>
+    ensures { result.value ≡ Many [] }
 {
     tree.by(tree, tree)
 }
