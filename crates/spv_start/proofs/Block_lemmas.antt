@@ -1,5 +1,5 @@
 -- The value of a type is made of its form; the leaves of values, one after another.
-use Rattle.std.proofs.Common.{◌≡◌, ◌∙◌, ℕ, zero, suc, ◌+◌, ◌-◌, ◌*◌, ◌<◌, List, [], ◌∷◌, ◌++◌, length, drop, get_or, append_assoc, append-nil, None, Some, Option, refl, sym, ap, arith, rules}
+use Rattle.std.proofs.Common.{◌≡◌, ◌∙◌, ℕ, zero, suc, ◌+◌, ◌-◌, ◌*◌, ◌<◌, List, [], ◌∷◌, ◌++◌, append_assoc, append-nil, None, Some, Option, refl, sym, ap, arith, rules}
 use Rattle.std.specs.List.{flat_map}
 use Rattle.std.specs.Prelude.{Result}
 use Rattle.std.specs.Result.{OnOk}
@@ -8,7 +8,6 @@ use Rattle.std.proofs.lemmas.List.Folds.{flat_map-map}
 use Rattle.spv_base.specs.Lane.{Lane}
 use Rattle.spv_base.specs.declared.values.Value.{Value, Scalar, List as Many, the_lemmas}
 use Rattle.spv_types.specs.declared.forms.Form.{Form}
-use Rattle.spv_types.specs.declared.forms.Member.{Member}
 use Rattle.spv_types.specs.Rows.{leaves}
 use Rattle.spv_types.specs.Types.{Types, found_among, in_first}
 use Rattle.spv_types.proofs.TypeLemmas.{in_first-is}

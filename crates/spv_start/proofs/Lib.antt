@@ -1,4 +1,3 @@
 pub mod Number_lemmas
 pub mod Block_lemmas
 pub mod BuiltIn_lemmas
-pub mod Undefined_lemmas

@@ -1,5 +1,5 @@
 -- The built-in values of an invocation (SPIR-V 1.6 section 3.21, BuiltIn), by its number and those of its workgroup.
-use Rattle.std.specs.Prelude.{◌≡◌, ℕ, ◌+◌, ◌*◌, ◌<◌, ◌/◌, ◌%◌, ◌^◌, ◌==◌, if◌then◌else◌, List, [], ◌∷◌, Option, Some, None}
+use Rattle.std.specs.Prelude.{◌≡◌, ℕ, ◌+◌, ◌*◌, ◌<◌, ◌/◌, ◌%◌, ◌==◌, if◌then◌else◌, [], ◌∷◌, Option, Some, None}
 use Rattle.spv_base.specs.Lane.{defined_lane}
 use Rattle.spv_base.specs.declared.values.Value.{Value, Scalar, List as Many}
 use Rattle.spv_start.specs.declared.built_ins.Invocation.{Invocation}

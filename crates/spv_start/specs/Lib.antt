@@ -1,4 +1,3 @@
 pub mod Numbers
 pub mod Blocks
 pub mod BuiltIns
-pub mod Undefined

@@ -12,7 +12,7 @@ use spv_types::{Form, Member, TypeTable};
 use std::alloc::Global;
 
 /// How many elements of a runtime array fit so many bytes, of which it begins at a place.
-fn elements_in(size: u64, at: u128, stride: Option<u32>) -> u64
+pub fn elements_in(size: u64, at: u128, stride: Option<u32>) -> u64
     ensures { result ≡ elements_in size at stride }
 {
     match stride {

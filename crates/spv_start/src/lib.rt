@@ -4,6 +4,5 @@
 pub mod blocks;
 pub mod built_ins;
 pub mod numbers;
-pub mod undefined;
 
 pub use built_ins::Invocation;

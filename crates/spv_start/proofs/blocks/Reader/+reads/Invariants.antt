@@ -1,4 +1,4 @@
-use Rattle.std.proofs.Common.{◌≡◌, ◌*◌, ◌+◌, ◌≤◌, ◌++◌, ◌^◌, ◌<◌, drop}
+use Rattle.std.proofs.Common.{◌≡◌, ◌*◌, ◌+◌, ◌++◌, ◌^◌, ◌<◌, drop}
 use Rattle.std.specs.List.{flat_map}
 use Rattle.spv_types.specs.Rows.{leaves}
 use Rattle.spv_start.specs.Blocks.{read_among, read_members, read_row}

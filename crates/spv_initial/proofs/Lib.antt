@@ -1,0 +1,9 @@
+pub mod VariableLemmas
+pub mod ElementLemmas
+pub mod LeafLemmas
+pub mod ShapeLemmas
+pub mod BuiltInLemmas
+pub mod SuitLemmas
+pub mod BufferLemmas
+pub mod StartLemmas
+pub mod LocalLemmas

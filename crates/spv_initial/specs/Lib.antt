@@ -1,0 +1,4 @@
+pub mod Variables
+pub mod Elements
+pub mod Values
+pub mod Start
