@@ -1,0 +1,9 @@
+pub mod MemberLemmas
+pub mod StopLemmas
+pub mod ApartLemmas
+pub mod DraftLemmas
+pub mod WalkLemmas
+pub mod CountLemmas
+pub mod TypeLemmas
+pub mod PlanLemmas
+pub mod ReadLemmas

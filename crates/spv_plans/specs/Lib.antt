@@ -1,0 +1,4 @@
+pub mod Members
+pub mod Registers
+pub mod Plans
+pub mod Drafts
