@@ -1,0 +1,10 @@
+pub mod ListLemmas
+pub mod LaneLemmas
+pub mod VectorLemmas
+pub mod FormLemmas
+pub mod SelectLemmas
+pub mod CompositeLemmas
+pub mod ExtendedLemmas
+pub mod TypeLemmas
+pub mod FormShapes
+pub mod ResultLemmas

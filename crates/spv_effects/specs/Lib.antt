@@ -1,0 +1,13 @@
+pub mod Lanes
+pub mod LaneTypes
+pub mod Forms
+pub mod UnaryOps
+pub mod BinaryOps
+pub mod Bitcasts
+pub mod Truths
+pub mod Fields
+pub mod ExtendedOps
+pub mod Selects
+pub mod Vectors
+pub mod Composites
+pub mod GlslOps
