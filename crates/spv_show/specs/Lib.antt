@@ -1,0 +1,6 @@
+pub mod Scalars
+pub mod Pointers
+pub mod Lists
+pub mod Texts
+pub mod Rows
+pub mod Sheets

@@ -1,0 +1,23 @@
+-- The text of a pointer: `&%ROOT`, and `[I]` for each of its indexes.
+use Rattle.std.specs.Prelude.{ℕ, List, ◌++◌, codes, decimal, Option, Some, None}
+use Rattle.std.specs.List.{flat_map}
+use Rattle.spv_base.specs.declared.values.Pointer.{Pointer}
+use Rattle.spv_base.specs.declared.values.Root.{Root}
+use Rattle.spv_base.specs.declared.values.Root.TheVariants.{Shared, Private, Local}
+use Rattle.spv_show.specs.Scalars.{unavailable}
+
+-- the id of the variable
+abbrev pub root_id : Root → ℕ
+root_id (Shared id) = id
+root_id (Private id) = id
+root_id (Local depth id) = id
+
+abbrev pub index_text : ℕ → List ℕ
+index_text index = codes "[" ++ decimal index ++ codes "]"
+
+abbrev pub pointer_text : Pointer → List ℕ
+pointer_text p = codes "&%" ++ decimal (root_id p.root) ++ flat_map index_text p.path
+
+abbrev pub pointer_if_any : Option Pointer → List ℕ
+pointer_if_any None = unavailable
+pointer_if_any (Some p) = pointer_text p
