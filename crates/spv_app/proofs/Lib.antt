@@ -5,6 +5,5 @@ pub mod Runs
 pub mod Headlines
 pub mod Checks
 pub mod Splits
-pub mod Openings
 pub mod Readings
 pub mod Decodings

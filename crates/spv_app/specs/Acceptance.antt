@@ -1,5 +1,5 @@
 -- Which modules are accepted.
-use Rattle.std.specs.Prelude.{ℕ, [], None, slice_index, Result, Ok}
+use Rattle.std.specs.Prelude.{ℕ, ℤ, List, [], Option, None, slice_index, Result, Ok}
 use Rattle.spv_base.specs.Answers.{after}
 use Rattle.spv_base.specs.declared.causes.Refusal.{Refusal}
 use Rattle.spv_words.specs.Words.{ModuleWords}
@@ -16,7 +16,11 @@ bound_of words = slice_index words.items 3
 unfoldable pub decoded_of : ModuleWords → Result Decoded Refusal
 decoded_of words = after (raw_of words.items) (λ raws. after (insts_of raws) (λ insts. Ok (record { insts = insts; bound = bound_of words })))
 
--- The module with these words that is accepted: decoded, and by the rules of modules, for the first entry point and with no values for
--- SpecIds.
+-- The module with these words that is accepted: decoded, and by the rules of modules, for the entry point of a name or the first one,
+-- and with values for SpecIds.
+unfoldable pub accepted_as : Option (List ℕ) → List (ℕ × ℤ) → ModuleWords → Result Accepted Refusal
+accepted_as name over words = after (decoded_of words) (λ m. acceptance m name over)
+
+-- The same for the first entry point and with no values for SpecIds.
 unfoldable pub accepted_of : ModuleWords → Result Accepted Refusal
-accepted_of words = after (decoded_of words) (λ m. acceptance m None [])
+accepted_of words = accepted_as None [] words

@@ -1,20 +1,35 @@
 -- Which pair of a module and a setup is opened, and which refusal is due else.
-use Rattle.std.specs.Prelude.{ℕ, List, ◌++◌, codes, decimal, Result, Ok, Err}
+use Rattle.std.specs.Prelude.{ℕ, ◌*◌, ◌==◌, if◌then◌else◌, List, ◌++◌, codes, decimal, Result, Ok, Err}
 use Rattle.spv_base.specs.Answers.{after}
 use Rattle.spv_base.specs.declared.causes.Refusal.{Refusal}
 use Rattle.spv_base.specs.declared.causes.SetupRefusal.{SetupRefusal}
 use Rattle.spv_words.specs.Words.{words_of}
+use Rattle.spv_valid.specs.Acceptance.{Accepted}
+use Rattle.spv_setup.specs.declared.settings.Settings.{Settings}
+use Rattle.spv_setup.specs.Settings.{settings_of}
+use Rattle.spv_setup.specs.Schedule.{Entries}
+use Rattle.spv_fit.specs.Fit.{fitted}
 use Rattle.spv_machine.specs.Program.{Program, program_of}
-use Rattle.spv_session.specs.Settings.{settings_of}
 use Rattle.spv_session.specs.View.{View, first_view}
 use Rattle.spv_app.specs.declared.opening.OpeningRefusal.{OpeningRefusal}
 use Rattle.spv_app.specs.declared.opening.OpeningRefusal.TheVariants.{Module, Setup}
-use Rattle.spv_app.specs.Acceptance.{accepted_of}
+use Rattle.spv_app.specs.Acceptance.{accepted_as}
 
--- the program of a module's bytes: its words, the accepted module of them, and the form that can be run
-abbrev pub program_in : List ℕ → Result Program Refusal
-program_in bytes =
-    after (words_of bytes) (λ words. after (accepted_of words) program_of)
+-- the accepted module of a module's bytes, for the entry point that the setup names, and with its numbers for SpecIds
+abbrev pub accepted_in : List ℕ → Settings → Result Accepted Refusal
+accepted_in bytes s = after (words_of bytes) (accepted_as s.entry s.overrides)
+
+-- how many invocations a workgroup has
+abbrev pub invocations_of : Accepted → ℕ
+invocations_of a = a.size.0 * a.size.1 * a.size.2
+
+-- the schedule of a setup that fits the module
+abbrev pub schedule_for : Accepted → Settings → Result Entries SetupRefusal
+schedule_for a s = fitted a.insts a.types (invocations_of a) a.stack_cells s
+
+-- What can be run so far: a module in the first form, by one invocation. All else is refused by M0 at the first instruction's word.
+abbrev pub program_in : Accepted → Result Program Refusal
+program_in a = if invocations_of a == 1 then program_of a else Err (record { code = 0; word = 5 })
 
 -- whose refusal it is
 abbrev pub of_setup : {A : Type 0} → Result A SetupRefusal → Result A OpeningRefusal
@@ -25,9 +40,13 @@ abbrev pub of_module : {A : Type 0} → Result A Refusal → Result A OpeningRef
 of_module (Ok x) = Ok x
 of_module (Err refusal) = Err (Module refusal)
 
--- the setup's text is looked at first, and then the module; the view is the one before the first command
+-- the view before the first command, where the setup fits the module and the module can be run
+abbrev pub started : Settings → Accepted → Result View OpeningRefusal
+started s a = after (of_setup (schedule_for a s)) (λ schedule. after (of_module (program_in a)) (λ program. Ok (first_view program schedule)))
+
+-- The setup's text is looked at first, then the module, then whether the setup fits it, and then whether it can be run.
 unfoldable pub opening : List ℕ → List ℕ → Result View OpeningRefusal
-opening mod_bytes setup = after (of_setup (settings_of setup)) (λ settings. after (of_module (program_in mod_bytes)) (λ program. Ok (first_view program settings)))
+opening mod_bytes setup = after (of_setup (settings_of setup)) (λ s. after (of_module (accepted_in mod_bytes s)) (started s))
 
 -- the text that tells a refusal
 abbrev pub refusal_text : OpeningRefusal → List ℕ

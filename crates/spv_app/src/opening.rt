@@ -1,17 +1,24 @@
 //! The opening of a pair of a module and a setup.
-ghost use Rattle.std.specs.Prelude.{◌≡◌, Ok, IfOk};
+ghost use Rattle.std.specs.Prelude.{◌≡◌, ◌≤◌, ◌<◌, IfOk, OnOk, length};
 ghost use Rattle.spv_base.specs.Answers.{Answers};
-ghost use Rattle.spv_session.specs.Settings.{settings_of};
-ghost use Rattle.spv_session.specs.View.{first_view};
-ghost use Rattle.spv_app.specs.Opening.{opening, program_in, of_setup, of_module};
+ghost use Rattle.spv_setup.specs.Settings.{settings_of};
+ghost use Rattle.spv_valid.specs.Validity.{IsValid};
+ghost use Rattle.spv_app.specs.Limits.{setup_limit};
+ghost use Rattle.spv_app.specs.Opening.{opening, accepted_in, invocations_of, schedule_for, program_in, started, of_setup, of_module};
 
-use crate::acceptance::accepted;
+use crate::acceptance::accepted_as;
 use spv_base::{Fail, Refusal, SetupRefusal};
+use spv_fit::fit;
 use spv_machine::Runnable;
-use spv_session::{Group, Setup};
+use spv_session::Group;
+use spv_setup::{Schedule, Setup};
+use spv_valid::Module;
 use spv_words::words;
 use std::alloc::Global;
 use std::fmt;
+
+/// What can't be run so far.
+const NOT_BUILT: Fail<Refusal> = Fail::Refused(Refusal { code: 0, word: 5 });
 
 /// Why a pair of a module and a setup is refused.
 #[derive(Clone, Copy, Debug, PartialEq, Eq)]
@@ -40,18 +47,9 @@ impl fmt::Display for OpeningRefusal {
     }
 }
 
-/// The module of these bytes that can be run, or the first rule that is broken. Rules of a later pass are looked at only
-/// where the one before finds nothing: the header, the passes of acceptance, the form of the whole.
-fn module_of(alloc: Global, bytes: &[u8]) -> Result<Runnable, Fail<Refusal>>
-    ensures { Answers (program_in bytes.now) result }
-{
-    let list = words(alloc, bytes)?;
-    let module = accepted(alloc, &list)?;
-    Runnable::of(alloc, module)
-}
-
 /// The setup of this text.
 fn parse_setup(alloc: Global, text: &[u8]) -> Result<Setup, Fail<OpeningRefusal>>
+    requires { length text.now ≤ setup_limit }
     ensures { Answers (of_setup (settings_of text.now)) result }
 {
     match Setup::parse(alloc, text) {
@@ -61,35 +59,124 @@ fn parse_setup(alloc: Global, text: &[u8]) -> Result<Setup, Fail<OpeningRefusal>
     }
 }
 
-/// The module of these bytes.
-fn read_module(alloc: Global, bytes: &[u8]) -> Result<Runnable, Fail<OpeningRefusal>>
-    ensures { Answers (of_module (program_in bytes.now)) result }
+/// The module of these bytes, for the setup's entry point and with its numbers for SpecIds; or the first rule that is broken.
+/// Rules of a later pass are looked at only where the one before finds nothing: the header, the passes of acceptance.
+fn accepted_in(alloc: Global, bytes: &[u8], setup: &Setup) -> Result<Module, Fail<Refusal>>
+    ensures due { Answers (accepted_in bytes.now setup.now) result }
+    ensures valid { IfOk result IsValid }
 {
-    match module_of(alloc, bytes) {
-        Ok(module) => Ok(module),
+    let list = words(alloc, bytes)?;
+    accepted_as(alloc, &list, setup.entry(), setup.overrides())
+}
+
+/// The same, refused as a pair is.
+fn read_module(alloc: Global, bytes: &[u8], setup: &Setup) -> Result<Module, Fail<OpeningRefusal>>
+    ensures due { Answers (of_module (accepted_in bytes.now setup.now)) result }
+    ensures valid { IfOk result IsValid }
+{
+    match accepted_in(alloc, bytes, setup) {
+        Ok(accepted) => Ok(accepted),
         Err(Fail::Refused(refusal)) => Err(Fail::Refused(OpeningRefusal::Module(refusal))),
         Err(Fail::NoMemory) => Err(Fail::NoMemory),
     }
 }
 
-/// The group of a module and a setup that fits it, at the first position.
-fn fit(alloc: Global, module: Runnable, setup: Setup) -> Result<Group, Fail<OpeningRefusal>>
-    ensures view { Answers (Ok (first_view «module» setup)) result }
-    ensures start { IfOk result (λ group. group.position ≡ 0) }
+/// How many invocations a workgroup has, from 1 to 1,024.
+fn invocations_of(accepted: &Module) -> u32
+    requires { IsValid accepted.now }
+    ensures count { result ≡ invocations_of accepted.now }
+    ensures some { 0 < result }
 {
-    match Group::open(alloc, module, setup) {
-        Ok(group) => Ok(group),
+    let (x, y, z) = accepted.size();
+    x * y * z
+}
+
+/// The schedule of a setup that fits the module; or the first rule of the fit that is broken.
+fn schedule_for(
+    alloc: Global,
+    accepted: &Module,
+    setup: &Setup,
+) -> Result<Schedule, Fail<SetupRefusal>>
+    requires { IsValid accepted.now }
+    ensures due { Answers (schedule_for accepted.now setup.now) result }
+    ensures count { IfOk result (λ schedule. schedule.invocations ≡ invocations_of accepted.now) }
+{
+    let invocations = invocations_of(accepted);
+    let frames = accepted.stack_cells();
+    fit(
+        alloc,
+        accepted.index(),
+        accepted.types(),
+        invocations,
+        frames,
+        setup,
+    )
+}
+
+/// The same, refused as a pair is.
+fn fit_setup(
+    alloc: Global,
+    accepted: &Module,
+    setup: &Setup,
+) -> Result<Schedule, Fail<OpeningRefusal>>
+    requires { IsValid accepted.now }
+    ensures due { Answers (of_setup (schedule_for accepted.now setup.now)) result }
+    ensures count { IfOk result (λ schedule. schedule.invocations ≡ invocations_of accepted.now) }
+{
+    match schedule_for(alloc, accepted, setup) {
+        Ok(schedule) => Ok(schedule),
         Err(Fail::Refused(refusal)) => Err(Fail::Refused(OpeningRefusal::Setup(refusal))),
         Err(Fail::NoMemory) => Err(Fail::NoMemory),
     }
 }
 
-/// Opens a pair: the setup's text is looked at first, and then the module. The group stands at the first position.
+/// The module as it can be run. Refuses code 0 at word 5 where its workgroup has more than one invocation, or it is in another
+/// form than the first.
+fn program_in(alloc: Global, accepted: Module) -> Result<Runnable, Fail<Refusal>>
+    requires { IsValid accepted }
+    ensures due { Answers (program_in accepted) result }
+    ensures one { OnOk result (invocations_of accepted ≡ 1) }
+{
+    if invocations_of(&accepted) != 1 {
+        return Err(NOT_BUILT);
+    }
+    Runnable::of(alloc, accepted)
+}
+
+/// The same, refused as a pair is.
+fn run_module(alloc: Global, accepted: Module) -> Result<Runnable, Fail<OpeningRefusal>>
+    requires { IsValid accepted }
+    ensures due { Answers (of_module (program_in accepted)) result }
+    ensures one { OnOk result (invocations_of accepted ≡ 1) }
+{
+    match program_in(alloc, accepted) {
+        Ok(program) => Ok(program),
+        Err(Fail::Refused(refusal)) => Err(Fail::Refused(OpeningRefusal::Module(refusal))),
+        Err(Fail::NoMemory) => Err(Fail::NoMemory),
+    }
+}
+
+/// The group of a module and a setup, at the first position, where the setup fits the module and the module can be run.
+#[tactic(auto, using(spv_session::proofs::Runs::one_starts))]
+fn start(alloc: Global, accepted: Module, setup: &Setup) -> Result<Group, Fail<OpeningRefusal>>
+    requires { IsValid accepted }
+    ensures view { Answers (started setup.now accepted) result }
+    ensures start { IfOk result (λ group. group.position ≡ 0) }
+{
+    let schedule = fit_setup(alloc, &accepted, setup)?;
+    let program = run_module(alloc, accepted)?;
+    Ok(Group::open(alloc, program, schedule)?)
+}
+
+/// Opens a pair: the setup's text is looked at first, then the module, then whether the setup fits it, and then whether it can
+/// be run. The group stands at the first position.
+#[tactic(auto, unfolding(crate::specs::Opening::opening))]
 pub fn open(alloc: Global, binary: Vec<u8>, setup: Vec<u8>) -> Result<Group, Fail<OpeningRefusal>>
+    requires { length setup.items ≤ setup_limit }
     ensures opening { Answers (opening binary.items setup.items) result }
     ensures start { IfOk result (λ group. group.position ≡ 0) }
 {
     let setup = parse_setup(alloc, &setup)?;
-    let module = read_module(alloc, &binary)?;
-    fit(alloc, module, setup)
+    let accepted = read_module(alloc, &binary, &setup)?;
+    start(alloc, accepted, &setup)
 }

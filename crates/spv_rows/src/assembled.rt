@@ -224,7 +224,7 @@ const RUNS: [(&[u32], &str, Status, &str); 3] = [
 ];
 
 /// The bytes of words, the lowest first.
-fn bytes_of(alloc: Global, words: &[u32]) -> Result<Vec<u8>, NoMemory> {
+pub(crate) fn bytes_of(alloc: Global, words: &[u32]) -> Result<Vec<u8>, NoMemory> {
     let mut bytes = Vec::new(alloc);
     for word in words {
         bytes.extend_from_slice(&word.to_le_bytes())?;

@@ -16,4 +16,6 @@ mod limits;
 #[cfg(test)]
 mod rows;
 #[cfg(test)]
+mod setups;
+#[cfg(test)]
 mod texts;

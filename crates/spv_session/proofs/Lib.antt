@@ -1,6 +1,5 @@
 pub mod Elements
 pub mod Request_lemmas
-pub mod Entries
 pub mod Registers
 pub mod Shown_lemmas
 pub mod Positions_lemmas

@@ -1,8 +1,8 @@
 -- The end of a run, and one event more.
 use Rattle.std.proofs.Common.{◌≡◌, ℕ, suc, ◌+◌, ◌<◌, ◌≤◌, Bool, true, false, cond, List, [], ◌∷◌, length, refl, sym, ap, ◌∙◌, subst, arith, None, Some, Option, inl, inr, add-one, zero, Ok, Err, Result, IfOk, nat_eq, get_or}
-use Rattle.std.specs.Prelude.{slice_get, is_some, option_map}
+use Rattle.std.specs.Prelude.{slice_get, is_some, option_map, IfSome, IsSome}
 use Rattle.std.proofs.lemmas.Bool.{cases_lt, eqb-false}
-use Rattle.std.proofs.lemmas.Option.{slice_get_past, slice_get-get_or}
+use Rattle.std.proofs.lemmas.Option.{slice_get_past, slice_get_within, slice_get-get_or}
 use Rattle.spv_base.specs.State.{State, Frame, Roots}
 use Rattle.spv_base.specs.declared.causes.NoMemory.{NoMemory}
 use Rattle.spv_base.specs.declared.happenings.Status4.{Status4}
@@ -10,16 +10,15 @@ use Rattle.spv_base.specs.declared.happenings.Happening.{Happening}
 use Rattle.spv_base.specs.declared.happenings.Fault.{Fault}
 use Rattle.spv_base.specs.declared.happenings.EndCause.{EndCause}
 use Rattle.spv_base.specs.declared.happenings.EndCause.TheVariants as end
+use Rattle.spv_setup.specs.Schedule.{Entries}
 use Rattle.spv_machine.specs.Program.{Program}
 use Rattle.spv_machine.specs.Step.{Idles, Moves, Faults, start_of, step_of, fault_in}
 use Rattle.spv_machine.specs.Sound.{IsSound, AllStand, LeadsSoundly}
-use Rattle.spv_session.specs.Settings.{Settings}
 use Rattle.spv_session.specs.Positions.{IsLeast}
-use Rattle.spv_session.specs.Run.{rounds_over, entries_of, state_after, event, run, happening_in, happening_at, all_finished, is_stuck, next_cause, cause_in, cause_at, has_cause, end_of, idle_event}
+use Rattle.spv_session.specs.Run.{state_after, event, run, happening_in, happening_at, all_finished, is_stuck, next_cause, cause_in, cause_at, has_cause, end_of, idle_event}
 use Rattle.spv_session.specs.View.{View, end_cause_in}
 use Rattle.spv_session.specs.Motion.{IsRun, WasMade}
 use Rattle.spv_session.proofs.Positions_lemmas.{least_is}
-use Rattle.spv_session.proofs.Entries.{entry_below}
 
 -- ---- the end
 
@@ -49,18 +48,14 @@ before_end p es n l h = elim (cases_lt n (end_of p es)) [ inl k ↦ k | inr k �
 
 -- ---- at the end
 
--- the next entry, by the state's number of invocations
-pub next_entry : (p : Program) (s : Settings) (w : State) (n k : ℕ) (last : Option Happening) (o : Option ℕ) → IsRun p s w n last → k ≡ length w.statuses → o ≡ slice_get (rounds_over s.rounds k) n → o ≡ slice_get (entries_of p s) n
-next_entry p s w n k last o is e h = h ∙ ap (λ j. slice_get (rounds_over s.rounds j) n) (e ∙ is.count)
+here : (p : Program) (s : Entries) (w : State) (n : ℕ) (last : Option Happening) (o : Option ℕ) → IsRun p s w n last → o ≡ slice_get s.list n → cause_at p s.list n ≡ cause_in p w o
+here p s w n last o is e = ap (λ v. cause_in p v (slice_get s.list n)) (sym is.state) ∙ ap (cause_in p w) (sym e)
 
-here : (p : Program) (s : Settings) (w : State) (n : ℕ) (last : Option Happening) (o : Option ℕ) → IsRun p s w n last → o ≡ slice_get (entries_of p s) n → cause_at p (entries_of p s) n ≡ cause_in p w o
-here p s w n last o is e = ap (λ v. cause_in p v (slice_get (entries_of p s) n)) (sym is.state) ∙ ap (cause_in p w) (sym e)
-
-pub at_end : (p : Program) (s : Settings) (w : State) (n : ℕ) (last : Option Happening) (o : Option ℕ) (c : EndCause) → IsRun p s w n last → o ≡ slice_get (entries_of p s) n → cause_in p w o ≡ Some c
-    → (n ≡ end_of p (entries_of p s)) × (cause_at p (entries_of p s) n ≡ Some c) × (n ≡ n)
+pub at_end : (p : Program) (s : Entries) (w : State) (n : ℕ) (last : Option Happening) (o : Option ℕ) (c : EndCause) → IsRun p s w n last → o ≡ slice_get s.list n → cause_in p w o ≡ Some c
+    → (n ≡ end_of p s.list) × (cause_at p s.list n ≡ Some c) × (n ≡ n)
 at_end p s w n last o c is e h =
     let at = here p s w n last o is e ∙ h in
-    (is_end p (entries_of p s) n is.within (ap is_some at), at, refl)
+    (is_end p s.list n is.within (ap is_some at), at, refl)
 
 pub finished_cause : (p : Program) (w : State) (o : Option ℕ) → all_finished w ≡ true → cause_in p w o ≡ Some end.Finished
 finished_cause p w o h = ap (λ b. cond b (Some end.Finished) (cond (is_stuck w) (Some end.Stuck) (next_cause p w o))) h
@@ -71,25 +66,39 @@ stuck_cause p w o h k = ap (λ b. cond b (Some end.Finished) (cond (is_stuck w) 
 pub other_cause : (p : Program) (w : State) (o : Option ℕ) → all_finished w ≡ false → is_stuck w ≡ false → cause_in p w o ≡ next_cause p w o
 other_cause p w o h k = ap (λ b. cond b (Some end.Finished) (cond (is_stuck w) (Some end.Stuck) (next_cause p w o))) h ∙ ap (λ b. cond b (Some end.Stuck) (next_cause p w o)) k
 
-pub finished_here : (p : Program) (s : Settings) (w : State) (n : ℕ) (last : Option Happening) → IsRun p s w n last → all_finished w ≡ true
-    → (n ≡ end_of p (entries_of p s)) × (cause_at p (entries_of p s) n ≡ Some end.Finished) × (n ≡ n)
-finished_here p s w n last is f = at_end p s w n last (slice_get (entries_of p s) n) end.Finished is refl (finished_cause p w (slice_get (entries_of p s) n) f)
+pub finished_here : (p : Program) (s : Entries) (w : State) (n : ℕ) (last : Option Happening) → IsRun p s w n last → all_finished w ≡ true
+    → (n ≡ end_of p s.list) × (cause_at p s.list n ≡ Some end.Finished) × (n ≡ n)
+finished_here p s w n last is f = at_end p s w n last (slice_get s.list n) end.Finished is refl (finished_cause p w (slice_get s.list n) f)
 
-pub stuck_here : (p : Program) (s : Settings) (w : State) (n : ℕ) (last : Option Happening) → IsRun p s w n last → all_finished w ≡ false → is_stuck w ≡ true
-    → (n ≡ end_of p (entries_of p s)) × (cause_at p (entries_of p s) n ≡ Some end.Stuck) × (n ≡ n)
-stuck_here p s w n last is f k = at_end p s w n last (slice_get (entries_of p s) n) end.Stuck is refl (stuck_cause p w (slice_get (entries_of p s) n) f k)
+pub stuck_here : (p : Program) (s : Entries) (w : State) (n : ℕ) (last : Option Happening) → IsRun p s w n last → all_finished w ≡ false → is_stuck w ≡ true
+    → (n ≡ end_of p s.list) × (cause_at p s.list n ≡ Some end.Stuck) × (n ≡ n)
+stuck_here p s w n last is f k = at_end p s w n last (slice_get s.list n) end.Stuck is refl (stuck_cause p w (slice_get s.list n) f k)
 
-pub schedule_here : (p : Program) (s : Settings) (w : State) (n : ℕ) (last : Option Happening) (k : ℕ) → IsRun p s w n last → all_finished w ≡ false → is_stuck w ≡ false → k ≡ length w.statuses → None ≡ slice_get (rounds_over s.rounds k) n
-    → (n ≡ end_of p (entries_of p s)) × (cause_at p (entries_of p s) n ≡ Some end.Schedule) × (n ≡ n)
-schedule_here p s w n last k is f g e h = at_end p s w n last None end.Schedule is (next_entry p s w n k last None is e h) (other_cause p w None f g)
+pub schedule_here : (p : Program) (s : Entries) (w : State) (n : ℕ) (last : Option Happening) → IsRun p s w n last → all_finished w ≡ false → is_stuck w ≡ false → None ≡ slice_get s.list n
+    → (n ≡ end_of p s.list) × (cause_at p s.list n ≡ Some end.Schedule) × (n ≡ n)
+schedule_here p s w n last is f g e = at_end p s w n last None end.Schedule is e (other_cause p w None f g)
 
-pub fault_here : (p : Program) (s : Settings) (w : State) (n : ℕ) (last : Option Happening) (k i : ℕ) (fault : Fault) → IsRun p s w n last → all_finished w ≡ false → is_stuck w ≡ false → k ≡ length w.statuses → Some i ≡ slice_get (rounds_over s.rounds k) n → step_of p w i ≡ Faults fault
-    → (n ≡ end_of p (entries_of p s)) × (cause_at p (entries_of p s) n ≡ Some (end.Fault fault)) × (n ≡ n)
-fault_here p s w n last k i fault is f g e h due =
-    at_end p s w n last (Some i) (end.Fault fault) is (next_entry p s w n k last (Some i) is e h) (other_cause p w (Some i) f g ∙ ap (λ o. option_map (λ x. end.Fault x) (fault_in o)) due)
+pub fault_here : (p : Program) (s : Entries) (w : State) (n : ℕ) (last : Option Happening) (i : ℕ) (fault : Fault) → IsRun p s w n last → all_finished w ≡ false → is_stuck w ≡ false → Some i ≡ slice_get s.list n → step_of p w i ≡ Faults fault
+    → (n ≡ end_of p s.list) × (cause_at p s.list n ≡ Some (end.Fault fault)) × (n ≡ n)
+fault_here p s w n last i fault is f g e due =
+    at_end p s w n last (Some i) (end.Fault fault) is e (other_cause p w (Some i) f g ∙ ap (λ o. option_map (λ x. end.Fault x) (fault_in o)) due)
 
-pub entry_within : (s : Settings) (w : State) (n k i : ℕ) → k ≡ length w.statuses → Some i ≡ slice_get (rounds_over s.rounds k) n → i < length w.statuses
-entry_within s w n k i e h = let l = entry_below s.rounds k n i h in omega arith
+-- ---- the next entry
+
+-- an invocation of the schedule is one of the state
+pub entry_within : (p : Program) (s : Entries) (w : State) (n i : ℕ) (last : Option Happening) (o : Option ℕ) → IsRun p s w n last → o ≡ Some i → IfSome o (λ k. k < s.invocations) → i < length w.statuses
+entry_within p s w n i last None is e below = absurd (cc)
+entry_within p s w n i last (Some j) is e below =
+    let same : j ≡ i = cc in
+    let within : j < s.invocations = below in
+    let count : length w.statuses ≡ length (start_of p).statuses = is.count in
+    let fits : s.invocations ≡ length (start_of p).statuses = is.fits in
+    omega arith
+
+-- a place with an entry is below the number of them
+pub place_within : (entries : List ℕ) (n : ℕ) (o : Option ℕ) → o ≡ slice_get entries n → IsSome o → n < length entries
+place_within entries n None e some = absurd (cc)
+place_within entries n (Some i) e some = slice_get_within entries n i (sym e)
 
 -- ---- one event more
 
@@ -109,38 +118,35 @@ moved p w i t h due sound = record {
   count = (subst (LeadsSoundly p w) due sound).1;
 }
 
-went_on : (p : Program) (s : Settings) (w : State) (n i : ℕ) (last : Option Happening) → IsRun p s w n last → all_finished w ≡ false → is_stuck w ≡ false → Some i ≡ slice_get (entries_of p s) n → fault_in (step_of p w i) ≡ None → n < end_of p (entries_of p s)
+went_on : (p : Program) (s : Entries) (w : State) (n i : ℕ) (last : Option Happening) → IsRun p s w n last → all_finished w ≡ false → is_stuck w ≡ false → Some i ≡ slice_get s.list n → fault_in (step_of p w i) ≡ None → n < end_of p s.list
 went_on p s w n i last is f k e none =
-    before_end p (entries_of p s) n is.within
+    before_end p s.list n is.within
     (ap is_some (here p s w n last (Some i) is e ∙ other_cause p w (Some i) f k ∙ ap (option_map (λ f. end.Fault f)) none))
 
 -- the state of a run and the outcome of its next event
-outcome_here : (p : Program) (s : Settings) (w : State) (n i : ℕ) (last : Option Happening) → IsRun p s w n last → happening_in (step_of p w i) i ≡ happening_in (step_of p (run p (entries_of p s) n) i) i
+outcome_here : (p : Program) (s : Entries) (w : State) (n i : ℕ) (last : Option Happening) → IsRun p s w n last → happening_in (step_of p w i) i ≡ happening_in (step_of p (run p s.list n) i) i
 outcome_here p s w n i last is = ap (λ v. happening_in (step_of p v i) i) is.state
 
-happened : (p : Program) (s : Settings) (w : State) (n i : ℕ) (last : Option Happening) (t : State) (h : Happening) → IsRun p s w n last → Some i ≡ slice_get (entries_of p s) n → WasMade p w i t h → happening_at p (entries_of p s) n ≡ Some h
+happened : (p : Program) (s : Entries) (w : State) (n i : ℕ) (last : Option Happening) (t : State) (h : Happening) → IsRun p s w n last → Some i ≡ slice_get s.list n → WasMade p w i t h → happening_at p s.list n ≡ Some h
 happened p s w n i last t h is e made =
-    ap (option_map (λ j. happening_in (step_of p (run p (entries_of p s) n) j) j)) (sym e)
+    ap (option_map (λ j. happening_in (step_of p (run p s.list n) j) j)) (sym e)
     ∙ ap Some (sym (made.happening ∙ outcome_here p s w n i last is))
 
-pub goes_on : (p : Program) (s : Settings) (w : State) (n : ℕ) (last : Option Happening) (k i : ℕ) (t : State) (h : Happening) → IsRun p s w n last → all_finished w ≡ false → is_stuck w ≡ false → k ≡ length w.statuses → Some i ≡ slice_get (rounds_over s.rounds k) n → WasMade p w i t h
-    → (n < end_of p (entries_of p s)) × (happening_at p (entries_of p s) n ≡ Some h) × (n + 1 ≡ n + 1)
-goes_on p s w n last k i t h is f g c at made =
-    let e = next_entry p s w n k last (Some i) is c at in
-    (went_on p s w n i last is f g e made.faultless, happened p s w n i last t h is e made, refl)
+pub goes_on : (p : Program) (s : Entries) (w : State) (n : ℕ) (last : Option Happening) (i : ℕ) (t : State) (h : Happening) → IsRun p s w n last → all_finished w ≡ false → is_stuck w ≡ false → Some i ≡ slice_get s.list n → WasMade p w i t h
+    → (n < end_of p s.list) × (happening_at p s.list n ≡ Some h) × (n + 1 ≡ n + 1)
+goes_on p s w n last i t h is f g e made = (went_on p s w n i last is f g e made.faultless, happened p s w n i last t h is e made, refl)
 
-pub runs_on : (p : Program) (s : Settings) (w : State) (n : ℕ) (last : Option Happening) (k i : ℕ) (t : State) (h : Happening) → IsRun p s w n last → all_finished w ≡ false → is_stuck w ≡ false → k ≡ length w.statuses → Some i ≡ slice_get (rounds_over s.rounds k) n → WasMade p w i t h → IsSound p t
+pub runs_on : (p : Program) (s : Entries) (w : State) (n : ℕ) (last : Option Happening) (i : ℕ) (t : State) (h : Happening) → IsRun p s w n last → all_finished w ≡ false → is_stuck w ≡ false → Some i ≡ slice_get s.list n → WasMade p w i t h → IsSound p t
     → IsRun p s t (n + 1) (Some h)
-runs_on p s w n last k i t h is f g c at made sound = rw add-one (
-    let e = next_entry p s w n k last (Some i) is c at in
+runs_on p s w n last i t h is f g e made sound = rw add-one (
     let below = went_on p s w n i last is f g e made.faultless in
     record {
-      state = made.state ∙ ap (λ v. state_after (step_of p v i) v) is.state ∙ ap (λ o. event p o (run p (entries_of p s) n)) e;
+      state = made.state ∙ ap (λ v. state_after (step_of p v i) v) is.state ∙ ap (λ o. event p o (run p s.list n)) e;
       before = sym (happened p s w n i last t h is e made);
       within = omega arith;
       sound = sound;
       count = made.count ∙ is.count;
-      rounds = is.rounds;
+      fits = is.fits;
     })
 
 -- ---- the first invocation
@@ -153,11 +159,12 @@ paired p [] (fs ∷ fss) vss h = absurd h
 paired p (t ∷ ts) [] vss h = absurd h
 paired p (t ∷ ts) (fs ∷ fss) [] h = absurd h
 
-one_starts : (p : Program) → length (start_of p).statuses ≡ 1
+-- a run starts with one invocation
+pub one_starts : (p : Program) → length (start_of p).statuses ≡ 1
 unfolding start_of
 one_starts p = refl
 
-pub has_first : (p : Program) (s : Settings) (w : State) (n : ℕ) (last : Option Happening) → IsRun p s w n last → 0 < length w.stacks
+pub has_first : (p : Program) (s : Entries) (w : State) (n : ℕ) (last : Option Happening) → IsRun p s w n last → 0 < length w.stacks
 has_first p s w n last is =
     let pair = paired p w.statuses w.stacks w.memory.locals is.sound.stand in
     let one = is.count ∙ one_starts p in
@@ -175,24 +182,24 @@ cause_or_none p es n false l h =
     let other : n < end_of p es = let ne = eqb-false n (end_of p es) h in omega arith in
     no_cause (cause_at p es n) ((end_is p es).before n (omega arith) other)
 
-pub cause_is : (v : View) (w : State) (n k : ℕ) (s : Settings) (p : Program) (last : Option Happening) (o : Option ℕ) (r : Result (Option EndCause) NoMemory) → IsRun p s w n last → k ≡ length w.statuses → o ≡ slice_get (rounds_over s.rounds k) n
-    → ◌≡◌ {A = View} (record { program = p; settings = s; position = n }) v → IfOk r (λ cause. cause ≡ cause_in p w o) → IfOk r (λ cause. cause ≡ end_cause_in v)
-cause_is v w n k s p last o (Ok cause) is e h view due =
+pub cause_is : (v : View) (w : State) (n : ℕ) (s : Entries) (p : Program) (last : Option Happening) (o : Option ℕ) (r : Result (Option EndCause) NoMemory) → IsRun p s w n last → o ≡ slice_get s.list n
+    → ◌≡◌ {A = View} (record { program = p; schedule = s; position = n }) v → IfOk r (λ cause. cause ≡ cause_in p w o) → IfOk r (λ cause. cause ≡ end_cause_in v)
+cause_is v w n s p last o (Ok cause) is e view due =
     due
-    ∙ sym (here p s w n last o is (next_entry p s w n k last o is e h))
-    ∙ cause_or_none p (entries_of p s) n (nat_eq n (end_of p (entries_of p s))) is.within refl
+    ∙ sym (here p s w n last o is e)
+    ∙ cause_or_none p s.list n (nat_eq n (end_of p s.list)) is.within refl
     ∙ ap end_cause_in view
-cause_is v w n k s p last o (Err error) is e h view due = due
+cause_is v w n s p last o (Err error) is e view due = due
 
 -- ---- the start
 
 some_event : {A B : Type 0} (f : A → B) (o : Option A) (x : A) → o ≡ Some x → None ≡ option_map f o → ⊥
 some_event f o x h k = absurd (cc (ap (option_map f) h))
 
-pub at_start : (p : Program) (s : Settings) (w : State) (n : ℕ) (last : Option Happening) → IsRun p s w n last → last ≡ None → n ≡ 0
+pub at_start : (p : Program) (s : Entries) (w : State) (n : ℕ) (last : Option Happening) → IsRun p s w n last → last ≡ None → n ≡ 0
 at_start p s w zero last is h = refl
 at_start p s w (suc m) last is h =
-    let es = entries_of p s in
+    let es = s.list in
     let to = (end_is p es).to in
     let l : m < length es = omega (arith, is.within) in
     absurd (some_event (λ i. happening_in (step_of p (run p es m) i) i) (slice_get es m) (get_or es m 0) (slice_get-get_or es m 0 l) (sym h ∙ is.before))

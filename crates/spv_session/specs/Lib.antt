@@ -1,4 +1,3 @@
-pub mod Settings
 pub mod Positions
 pub mod Run
 pub mod View

@@ -3,6 +3,7 @@ use Rattle.std.specs.Prelude.{◌≡◌, ℕ, ◌+◌, ◌<◌, ◌≤◌, List,
 use Rattle.spv_base.specs.State.{State}
 use Rattle.spv_base.specs.declared.causes.NoMemory.{NoMemory}
 use Rattle.spv_base.specs.declared.happenings.Happening.{Happening}
+use Rattle.spv_setup.specs.Schedule.{Entries}
 use Rattle.spv_machine.specs.Program.{Program}
 use Rattle.spv_machine.specs.Step.{Faults, start_of, step_of, fault_in}
 use Rattle.spv_machine.specs.Sound.{IsSound}
@@ -12,8 +13,7 @@ use Rattle.spv_session.specs.declared.motion.Forth.{Forth}
 use Rattle.spv_session.specs.declared.motion.Forth.TheVariants as forth
 use Rattle.spv_session.specs.declared.motion.Back.{Back}
 use Rattle.spv_session.specs.declared.motion.Back.TheVariants as back
-use Rattle.spv_session.specs.Settings.{Settings, most_rounds}
-use Rattle.spv_session.specs.Run.{entries_of, state_after, run, happening_in, happening_at, happening_before, cause_at, end_of}
+use Rattle.spv_session.specs.Run.{state_after, run, happening_in, happening_at, happening_before, cause_at, end_of}
 
 -- from position n to m: one event on, or at the end the cause of it
 abbrev pub Goes : Program → List ℕ → Result Forth NoMemory → (n m : ℕ) → Type 0
@@ -27,14 +27,14 @@ Returns p entries (Ok (back.Went h)) n m = (happening_before p entries n ≡ Som
 Returns p entries (Ok back.AtStart) n m = (n ≡ 0) × (m ≡ n)
 Returns p entries (Err e) n m = m ≡ n
 
--- a state and the event before it are those of a position of the run, up to its end
-pub record IsRun (p : Program) (settings : Settings) (w : State) (n : ℕ) (last : Option Happening) : Type 0 where
-  pub state : w ≡ run p (entries_of p settings) n
-  pub before : last ≡ happening_before p (entries_of p settings) n
-  pub within : n ≤ end_of p (entries_of p settings)
+-- a state and the event before it are those of a position of the run, up to its end, and the schedule is of as many invocations
+pub record IsRun (p : Program) (schedule : Entries) (w : State) (n : ℕ) (last : Option Happening) : Type 0 where
+  pub state : w ≡ run p schedule.list n
+  pub before : last ≡ happening_before p schedule.list n
+  pub within : n ≤ end_of p schedule.list
   pub sound : IsSound p w
   pub count : length w.statuses ≡ length (start_of p).statuses
-  pub rounds : settings.rounds ≤ most_rounds
+  pub fits : schedule.invocations ≡ length (start_of p).statuses
 
 -- what an event of an invocation left that didn't fault
 pub record WasMade (p : Program) (w : State) (i : ℕ) (t : State) (h : Happening) : Type 0 where

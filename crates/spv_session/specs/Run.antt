@@ -1,6 +1,7 @@
--- A run: the states at its positions, always from the start, and where and why it ends.
+-- A run by the entries of a schedule, each the invocation that an event is of: the states at its positions, always from the start, and
+-- where and why it ends.
 use Rattle.std.specs.Prelude.{ℕ, zero, suc, Bool, true, false, not, ◌&&◌, if◌then◌else◌, List, length, Option, Some, None, is_some, slice_get, option_map}
-use Rattle.std.specs.List.{list_all, list_any, repeat, range_with_len}
+use Rattle.std.specs.List.{list_all, list_any}
 use Rattle.spv_base.specs.State.{State}
 use Rattle.spv_base.specs.declared.happenings.Status4.{Status4}
 use Rattle.spv_base.specs.declared.happenings.Status4.TheVariants.{Ready, Arrived, Passed, Finished}
@@ -10,18 +11,7 @@ use Rattle.spv_base.specs.declared.happenings.EndCause.{EndCause}
 use Rattle.spv_base.specs.declared.happenings.EndCause.TheVariants as end
 use Rattle.spv_machine.specs.Program.{Program}
 use Rattle.spv_machine.specs.Step.{Outcome, Idles, Moves, Faults, start_of, step_of, fault_in}
-use Rattle.spv_session.specs.Settings.{Settings}
 use Rattle.spv_session.specs.Positions.{least_of}
-
--- ---- the schedule
-
--- so many times the invocations 0, 1 and so on to the last
-abbrev pub rounds_over : ℕ → ℕ → List ℕ
-rounds_over rounds invocations = repeat rounds (range_with_len 0 invocations)
-
--- the entries of a schedule, each the invocation that an event is of
-abbrev pub entries_of : Program → Settings → List ℕ
-entries_of p settings = rounds_over settings.rounds (length (start_of p).statuses)
 
 -- ---- states
 

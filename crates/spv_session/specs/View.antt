@@ -1,25 +1,25 @@
--- A view: a program, its settings, and a position of the run. All else follows from these.
+-- A view: a program, the schedule of its invocations, and a position of the run. All else follows from these.
 use Rattle.std.specs.Prelude.{ℕ, ◌==◌, min, if◌then◌else◌, List, Option, None}
 use Rattle.spv_base.specs.State.{State}
 use Rattle.spv_base.specs.declared.happenings.EndCause.{EndCause}
+use Rattle.spv_setup.specs.Schedule.{Entries}
 use Rattle.spv_machine.specs.Program.{Program}
-use Rattle.spv_session.specs.Settings.{Settings}
-use Rattle.spv_session.specs.Run.{entries_of, run, cause_at, end_of}
+use Rattle.spv_session.specs.Run.{run, cause_at, end_of}
 
 pub record View : Type 0 where
   pub program : Program
-  pub settings : Settings
+  pub schedule : Entries
   pub position : ℕ
 
-abbrev pub first_view : Program → Settings → View
-first_view p settings = record { program = p; settings = settings; position = 0 }
+abbrev pub first_view : Program → Entries → View
+first_view p schedule = record { program = p; schedule = schedule; position = 0 }
 
 -- the same run at another position
 abbrev pub view_at : ℕ → View → View
 view_at n v = record v { position = n }
 
 abbrev pub entries_in : View → List ℕ
-entries_in v = entries_of v.program v.settings
+entries_in v = v.schedule.list
 
 -- the state at the view's position, by running from the start
 abbrev pub state_in : View → State

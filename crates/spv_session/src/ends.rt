@@ -1,9 +1,9 @@
 //! Why a run ends at a state.
-ghost use Rattle.std.specs.Prelude.{ℕ, ◌*◌, ◌%◌, true, List, slice_get, Some, ◌≡◌, ◌<◌, IfOk, length};
+ghost use Rattle.std.specs.Prelude.{ℕ, true, List, ◌≡◌, ◌<◌, IfOk, length};
 ghost use Rattle.std.specs.Option.{ForSome};
 ghost use Rattle.spv_machine.specs.Program.{Program};
 ghost use Rattle.spv_session.specs.Positions.{IsLeast};
-ghost use Rattle.spv_session.specs.Run.{is_finished, is_arrived, can_go, all_finished, is_stuck, cause_in, has_cause, end_of, rounds_over};
+ghost use Rattle.spv_session.specs.Run.{is_finished, is_arrived, can_go, all_finished, is_stuck, cause_in, has_cause, end_of};
 ghost use Rattle.spv_machine.specs.Sound.{IsSound};
 
 use spv_base::{EndCause, NoMemory, Status4};
@@ -93,10 +93,4 @@ pub fn cause_here(
 pub fn end_is_least()
     ensures least { (p : Program) (entries : List ℕ) → IsLeast (has_cause p entries) 0 (length entries) (end_of p entries) }
     ensures cause { (p : Program) (entries : List ℕ) → has_cause p entries (end_of p entries) ≡ true }
-{}
-
-/// The entries of a schedule name the invocations in turn, so many times as there are rounds.
-pub fn entries_take_turns()
-    ensures count { (rounds invocations : ℕ) → length (rounds_over rounds invocations) ≡ rounds * invocations }
-    ensures turn { (rounds invocations n : ℕ) → n < rounds * invocations → slice_get (rounds_over rounds invocations) n ≡ Some (n % invocations) }
 {}

@@ -1,7 +1,7 @@
 //! A run of a module that goes forth and back along its schedule.
-ghost use Rattle.std.specs.Prelude.{◌≡◌, ◌≤◌, ◌<◌, ◌+◌, IfOk, OnOk, OnErr, IfErr, length, slice_get, Some, ℕ};
+ghost use Rattle.std.specs.Prelude.{◌≡◌, ◌≤◌, ◌<◌, ◌+◌, IfOk, OnOk, length, slice_get, Some};
 ghost use Rattle.spv_machine.specs.Sound.{IsSound};
-ghost use Rattle.spv_base.specs.declared.causes.Fail.TheVariants as fail;
+ghost use Rattle.spv_machine.specs.Step.{start_of};
 ghost use Rattle.spv_session.specs.Costs.{ForthCounts, BackCounts, goto_cost};
 ghost use Rattle.spv_session.specs.Motion.{Goes, Returns};
 ghost use Rattle.spv_session.specs.View.{first_view, view_at, entries_in, state_in, end_in, end_cause_in, goto_target};
@@ -9,19 +9,19 @@ ghost use Rattle.spv_session.specs.View.{first_view, view_at, entries_in, state_
 use crate::ends::cause_here;
 use crate::motion::{Back, Forth};
 use crate::run::Run;
-use crate::setup::Setup;
-use spv_base::{EndCause, Fail, NoMemory, SetupRefusal, Status4, Steps};
+use spv_base::{EndCause, NoMemory, Status4, Steps};
 use spv_machine::{Runnable, World};
+use spv_setup::Schedule;
 use std::alloc::Global;
 use std::marker::Model;
 use std::sync::ledger::Ledger;
 
-/// A module, its setup, and a position of the run that they give.
+/// A module, the schedule of its invocations, and a position of the run that they give.
 #[derive(Drop)]
 pub struct Group {
     alloc: Global,
     module: Runnable,
-    setup: Setup,
+    schedule: Schedule,
     run: Run,
 }
 
@@ -31,22 +31,22 @@ impl Model for Group {
 
     ghost Value = { View };
 
-    ghost view = { λ g. record { program = g.module; settings = g.setup; position = g.run.position } };
+    ghost view = { λ g. record { program = g.module; schedule = g.schedule; position = g.run.position } };
 
-    ghost invariant = { λ g. IsRun g.module g.setup g.run.world g.run.position g.run.last };
+    ghost invariant = { λ g. IsRun g.module g.schedule g.run.world g.run.position g.run.last };
 }
 
 impl Group {
-    /// The run of a module by a setup, at its start. Only memory can be wanting.
-    pub fn open(alloc: Global, m: Runnable, setup: Setup) -> Result<Group, Fail<SetupRefusal>>
-        ensures group { IfOk result (λ g. g ≡ first_view m setup) }
-        ensures error { IfErr result (λ e. e ≡ fail.NoMemory) }
+    /// The run of a module by a schedule of as many invocations, at its start.
+    pub fn open(alloc: Global, m: Runnable, schedule: Schedule) -> Result<Group, NoMemory>
+        requires { schedule.invocations ≡ length (start_of m).statuses }
+        ensures { IfOk result (λ g. g ≡ first_view m schedule) }
     {
-        let run = Run::start(alloc, &m, &setup)?;
+        let run = Run::start(alloc, &m, &schedule)?;
         Ok(Group {
             alloc,
             module: m,
-            setup,
+            schedule,
             run,
         })
     }
@@ -101,9 +101,7 @@ impl Group {
     pub fn end_cause(&self) -> Result<Option<EndCause>, NoMemory>
         ensures { IfOk result (λ cause. cause ≡ end_cause_in self.now) }
     {
-        let next = self
-            .setup
-            .entry(self.run.world.invocations(), self.run.position);
+        let next = self.schedule.at(self.run.position);
         cause_here(self.alloc, &self.module, &self.run.world, next)
     }
 
@@ -113,7 +111,8 @@ impl Group {
         ensures kept { self.new ≡ view_at self.new.position self.old }
         ensures cost { ForthCounts result steps.old steps.new }
     {
-        self.run.forth(self.alloc, &self.module, &self.setup, steps)
+        self.run
+            .forth(self.alloc, &self.module, &self.schedule, steps)
     }
 
     /// Takes the last event back, by running again from the start, with a step for each event on the way. After want of memory
@@ -127,8 +126,8 @@ impl Group {
             return Ok(Back::AtStart);
         };
         let target = self.run.position - 1;
-        let mut run = Run::start(self.alloc, &self.module, &self.setup)?;
-        run.run_to(self.alloc, &self.module, &self.setup, target, steps)?;
+        let mut run = Run::start(self.alloc, &self.module, &self.schedule)?;
+        run.run_to(self.alloc, &self.module, &self.schedule, target, steps)?;
         self.run = run;
         Ok(Back::Went(happening))
     }
@@ -147,9 +146,9 @@ impl Group {
         ensures cost { steps.new ≤ steps.old + goto_cost self.old target }
     {
         if target < self.run.position {
-            self.run = Run::start(self.alloc, &self.module, &self.setup)?;
+            self.run = Run::start(self.alloc, &self.module, &self.schedule)?;
         }
         self.run
-            .run_to(self.alloc, &self.module, &self.setup, target, steps)
+            .run_to(self.alloc, &self.module, &self.schedule, target, steps)
     }
 }

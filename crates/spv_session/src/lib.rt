@@ -7,13 +7,11 @@ mod motion;
 mod request;
 mod run;
 mod session;
-mod setup;
 mod texts;
 
-pub use ends::{end_is_least, entries_take_turns};
+pub use ends::end_is_least;
 pub use group::Group;
 pub use motion::{Back, Forth};
 pub use request::{Request, requests_are_commands};
 pub use session::{Next, Session};
-pub use setup::Setup;
 pub use texts::shown_registers_ascend;

@@ -1,16 +1,17 @@
 //! A run at a position, always by running on from the start.
-ghost use Rattle.std.specs.Prelude.{◌≡◌, ◌≤◌, ◌+◌, ◌-◌, ◌<◌, length, IfOk, OnOk, OnErr, max, min};
+ghost use Rattle.std.specs.Prelude.{◌≡◌, ◌≤◌, ◌+◌, ◌-◌, ◌<◌, ◌^◌, length, slice_get, IfOk, OnOk, IfSome, IsSome, max, min};
 ghost use Rattle.spv_machine.specs.Sound.{IsSound};
+ghost use Rattle.spv_machine.specs.Step.{start_of};
 ghost use Rattle.spv_session.specs.Motion.{IsRun, Makes, Goes};
 ghost use Rattle.spv_session.specs.Costs.{ForthCounts, run_cost};
-ghost use Rattle.spv_session.specs.Run.{entries_of, end_of, idle_event};
+ghost use Rattle.spv_session.specs.Run.{end_of, idle_event};
 
 use crate::ends::{all_finished, is_stuck};
 use crate::motion::Forth;
-use crate::setup::Setup;
 use spv_base::{EndCause, Happening, Kind, NoMemory, Steps};
 use spv_machine::execution::step_sound;
 use spv_machine::{Did, Runnable, StepErr, World, step};
+use spv_setup::Schedule;
 use std::alloc::Global;
 use std::sync::ledger::Ledger;
 
@@ -33,6 +34,17 @@ fn idle(inv: u32) -> Happening
         root: 0,
         line: 0,
     }
+}
+
+/// The invocation of the event at a position; none where the schedule ends before.
+fn entry(schedule: &Schedule, position: u64) -> Option<u32>
+    ensures entry { result ≡ slice_get schedule.now.list position }
+    ensures below { IsSome result → position < 2 ^ 64 - 1 }
+    ensures exists { IfSome result (λ i. i < schedule.now.invocations) }
+{
+    // There are at most 4,194,304 entries.
+    let _entries = schedule.len();
+    schedule.at(position)
 }
 
 /// Makes the event of an invocation, with one step.
@@ -60,12 +72,12 @@ fn event<L: Ledger>(
 }
 
 impl Run {
-    /// The start of a run.
-    pub fn start(alloc: Global, m: &Runnable, setup: &Setup) -> Result<Run, NoMemory>
-        ensures run { IfOk result (λ r. IsRun m.now setup.now r.world r.position r.last) }
+    /// The start of a run by a schedule of as many invocations.
+    pub fn start(alloc: Global, m: &Runnable, schedule: &Schedule) -> Result<Run, NoMemory>
+        requires { schedule.now.invocations ≡ length (start_of m.now).statuses }
+        ensures run { IfOk result (λ r. IsRun m.now schedule.now r.world r.position r.last) }
         ensures position { IfOk result (λ r. r.position ≡ 0) }
     {
-        let _rounds = setup.rounds();
         Ok(Run {
             world: World::start(alloc, m)?,
             position: 0,
@@ -78,12 +90,12 @@ impl Run {
         &mut self,
         alloc: Global,
         m: &Runnable,
-        setup: &Setup,
+        schedule: &Schedule,
         steps: &mut Steps<L>,
     ) -> Result<Forth, NoMemory>
-        requires { IsRun m.now setup.now self.old.world self.old.position self.old.last }
-        ensures run { IsRun m.now setup.now self.new.world self.new.position self.new.last }
-        ensures goes { Goes m.now (entries_of m.now setup.now) result self.old.position self.new.position }
+        requires { IsRun m.now schedule.now self.old.world self.old.position self.old.last }
+        ensures run { IsRun m.now schedule.now self.new.world self.new.position self.new.last }
+        ensures goes { Goes m.now schedule.now.list result self.old.position self.new.position }
         ensures cost { ForthCounts result steps.old steps.new }
     {
         if all_finished(&self.world) {
@@ -92,7 +104,7 @@ impl Run {
         if is_stuck(&self.world) {
             return Ok(Forth::AtEnd(EndCause::Stuck));
         }
-        let Some(inv) = setup.entry(self.world.invocations(), self.position) else {
+        let Some(inv) = entry(schedule, self.position) else {
             return Ok(Forth::AtEnd(EndCause::Schedule));
         };
         match event(alloc, m, &mut self.world, inv, steps) {
@@ -112,18 +124,18 @@ impl Run {
         &mut self,
         alloc: Global,
         m: &Runnable,
-        setup: &Setup,
+        schedule: &Schedule,
         target: u64,
         steps: &mut Steps<L>,
     ) -> Result<(), NoMemory>
-        requires { IsRun m.now setup.now self.old.world self.old.position self.old.last }
-        ensures run { IsRun m.now setup.now self.new.world self.new.position self.new.last }
-        ensures position { OnOk result (self.new.position ≡ max self.old.position (min target (end_of m.now (entries_of m.now setup.now)))) }
+        requires { IsRun m.now schedule.now self.old.world self.old.position self.old.last }
+        ensures run { IsRun m.now schedule.now self.new.world self.new.position self.new.last }
+        ensures position { OnOk result (self.new.position ≡ max self.old.position (min target (end_of m.now schedule.now.list))) }
         ensures counted { steps.old + (self.new.position - self.old.position) ≤ steps.new }
-        ensures cost { steps.new ≤ steps.old + run_cost (end_of m.now (entries_of m.now setup.now)) self.old.position target }
+        ensures cost { steps.new ≤ steps.old + run_cost (end_of m.now schedule.now.list) self.old.position target }
     {
         'up: while self.position < target {
-            if let Forth::AtEnd(_) = self.forth(alloc, m, setup, steps)? {
+            if let Forth::AtEnd(_) = self.forth(alloc, m, schedule, steps)? {
                 return Ok(());
             }
         }

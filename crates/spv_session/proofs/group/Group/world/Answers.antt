@@ -4,4 +4,4 @@ use Rattle.spv_session.proofs.group.Group.world.Goals as goal
 pub returns-clause-first : goal.returns-clause-first
 returns-clause-first c =
     let g = c.self.inside in
-    has_first g.module g.setup g.run.world g.run.position g.run.last c.self.invariant
+    has_first g.module g.schedule g.run.world g.run.position g.run.last c.self.invariant

@@ -4,7 +4,7 @@ use Rattle.spv_session.proofs.run.Run.run_to.Given as goal
 
 abbrev pub invariant-up : goal.invariant-up
 invariant-up g l = record {
-  run : IsRun l.m l.setup l.self.world l.self.position l.self.last;
+  run : IsRun l.m l.schedule l.self.world l.self.position l.self.last;
   later : l.fn.self.position ≤ l.self.position;
   until : l.self.position ≤ max l.fn.self.position l.target;
   counted : l.steps ≡ l.fn.steps + (l.self.position - l.fn.self.position);
