@@ -13,8 +13,6 @@ mod fit;
 #[cfg(test)]
 mod sections;
 #[cfg(test)]
-mod start;
-#[cfg(test)]
 mod types;
 #[cfg(test)]
 mod typing;

@@ -1,0 +1,148 @@
+//! Loads and stores in the blocks of modules of compilers, beside places of bytes that another program works out, and the calls
+//! on the variables of invocations. What is due is written by bench/layouts.py.
+//!
+//! Each byte of a buffer is one more than the one before it, so the number of an integer tells where it begins; and the first
+//! bytes of the blocks of a module differ, so it tells the block.
+#![tactic(auto)]
+
+mod accesses;
+mod answers;
+mod blocks;
+mod calls;
+mod cases;
+mod memories;
+
+use crate::answers::Answer;
+use crate::blocks::{Found, found_in};
+use crate::calls::loads_on;
+use crate::cases::{Block, RUNS};
+use spv_base::{Cell, Fail, Overrides, Refusal};
+use spv_ops::{DecodedModule, decode_all};
+use spv_valid::{Module, accept};
+use spv_words::{raw, words};
+use std::alloc::Global;
+use std::{fs, io, rt};
+
+/// The module on whose variables of invocations calls are tried.
+const CALLED: &str = "structs-1.6.spv";
+
+/// What is loaded after those calls.
+const LOADED: &[&str] = &[
+    "the Input variable of invocation 0",
+    "the Input variable of invocation 1",
+    "the local variable",
+    "the local variable of invocation 0",
+    "the local variable of a copy",
+    "the local variable behind the copy",
+    "the local variable of a frame that is left",
+    "the local variable of a frame that is given back",
+];
+
+/// The module with these bytes.
+fn module_of(alloc: Global, bytes: &[u8]) -> Result<Option<Module>, Fail<Refusal>> {
+    let list = words(alloc, bytes)?;
+    let raws = raw(alloc, &list)?;
+    let insts = decode_all(alloc, raws.as_slice())?;
+    match DecodedModule::of(insts, list.bound()) {
+        Some(decoded) => Ok(Some(accept(alloc, decoded, None, &Overrides::new(alloc))?)),
+        None => Ok(None),
+    }
+}
+
+/// What is found in the blocks of the module with these bytes; none where it is refused.
+fn found_by(
+    alloc: Global,
+    bytes: &[u8],
+    blocks: &[Block],
+) -> Result<Option<Vec<Found>>, Fail<Refusal>> {
+    match module_of(alloc, bytes)? {
+        Some(module) => Ok(found_in(alloc, &module, blocks)?),
+        None => Ok(None),
+    }
+}
+
+/// What the loads give after calls on the module with these bytes; none where it is refused.
+fn loads_by(alloc: Global, bytes: &[u8]) -> Result<Option<Vec<Option<Cell>>>, Fail<Refusal>> {
+    match module_of(alloc, bytes)? {
+        Some(module) => Ok(loads_on(alloc, &module)?),
+        None => Ok(None),
+    }
+}
+
+/// Says what is found of a part.
+fn print_answer<R: Print>(rt: &R, answer: &Answer) -> io::Result<()> {
+    match answer {
+        Answer::Scalar { cell, place } => {
+            let Cell { bits, width, .. } = *cell;
+            println!(rt; "0x{bits:x} of {width} bits, cell {place}")
+        }
+        Answer::Part { cells, ends } => match ends {
+            Some((first, last)) => println!(rt; "{cells} cells, 0x{first:x} to 0x{last:x}"),
+            None => println!(rt; "{cells} cells"),
+        },
+        Answer::Outside => println!(rt; "out of bounds"),
+        Answer::Mixed => println!(rt; "the calls do not agree"),
+    }
+}
+
+/// Says what is found in a block.
+fn print_found<R: Print>(rt: &R, block: &Block, found: &Found) -> io::Result<()> {
+    let (variable, size, _, paths) = *block;
+    let cells = found.cells;
+    print!(rt; "variable {variable}: {size} bytes, {cells} cells")?;
+    match found.elements {
+        Some(elements) => println!(rt; ", {elements} elements")?,
+        None => println!(rt; "")?,
+    }
+    for (path, answer) in paths.iter().zip(found.answers.as_slice()) {
+        print!(rt; "{path:?}: ")?;
+        print_answer(rt, answer)?;
+    }
+    Ok(())
+}
+
+/// Says what is found in the blocks of a module.
+fn report<R: rt::Files + Print + AllocGlobal>(
+    rt: &R,
+    name: &str,
+    blocks: &[Block],
+) -> io::Result<()> {
+    let bytes = fs::read(rt, name)?;
+    println!(rt; "{name}:")?;
+    let Ok(Some(all)) = found_by(rt.alloc(), bytes.as_slice(), blocks) else {
+        return println!(rt; "the blocks do not hold their bytes");
+    };
+    for (block, found) in blocks.iter().zip(all.as_slice()) {
+        print_found(rt, block, found)?;
+    }
+    Ok(())
+}
+
+/// Says what a load gives.
+fn print_load<R: Print>(rt: &R, name: &str, cell: &Option<Cell>) -> io::Result<()> {
+    match cell {
+        Some(Cell { bits, defined, .. }) if *defined => println!(rt; "{name} is 0x{bits:x}"),
+        Some(_) => println!(rt; "{name} is undefined"),
+        None => println!(rt; "{name} is out of bounds"),
+    }
+}
+
+/// Says what the loads give after the calls on the variables of invocations.
+fn report_calls<R: rt::Files + Print + AllocGlobal>(rt: &R) -> io::Result<()> {
+    let bytes = fs::read(rt, CALLED)?;
+    println!(rt; "calls on {CALLED}, by 0x5 and 0x7 in invocation 1, and 0x9 in a copy:")?;
+    let Ok(Some(loads)) = loads_by(rt.alloc(), bytes.as_slice()) else {
+        return println!(rt; "the variables cannot be added");
+    };
+    for (name, cell) in LOADED.iter().zip(loads.as_slice()) {
+        print_load(rt, name, cell)?;
+    }
+    Ok(())
+}
+
+fn main(rt: HostRuntime) -> io::Result<()> {
+    for (name, blocks) in RUNS {
+        report(&rt, name, blocks)?;
+    }
+    report_calls(&rt)
+}
