@@ -1,5 +1,5 @@
 -- Which pair of a module and a setup is opened, and which refusal is due else.
-use Rattle.std.specs.Prelude.{ℕ, ◌*◌, ◌==◌, if◌then◌else◌, List, ◌++◌, codes, decimal, Result, Ok, Err}
+use Rattle.std.specs.Prelude.{ℕ, ◌*◌, List, ◌++◌, codes, decimal, Result, Ok, Err}
 use Rattle.spv_base.specs.Answers.{after}
 use Rattle.spv_base.specs.declared.causes.Refusal.{Refusal}
 use Rattle.spv_base.specs.declared.causes.SetupRefusal.{SetupRefusal}
@@ -9,7 +9,7 @@ use Rattle.spv_setup.specs.declared.settings.Settings.{Settings}
 use Rattle.spv_setup.specs.Settings.{settings_of}
 use Rattle.spv_setup.specs.Schedule.{Entries}
 use Rattle.spv_fit.specs.Fit.{fitted}
-use Rattle.spv_machine.specs.Program.{Program, program_of}
+use Rattle.spv_machine.specs.Program.{program_of}
 use Rattle.spv_session.specs.View.{View, first_view}
 use Rattle.spv_app.specs.declared.opening.OpeningRefusal.{OpeningRefusal}
 use Rattle.spv_app.specs.declared.opening.OpeningRefusal.TheVariants.{Module, Setup}
@@ -27,10 +27,6 @@ invocations_of a = a.size.0 * a.size.1 * a.size.2
 abbrev pub schedule_for : Accepted → Settings → Result Entries SetupRefusal
 schedule_for a s = fitted a.insts a.types (invocations_of a) a.stack_cells s
 
--- What can be run so far: a module in the first form, by one invocation. All else is refused by M0 at the first instruction's word.
-abbrev pub program_in : Accepted → Result Program Refusal
-program_in a = if invocations_of a == 1 then program_of a else Err (record { code = 0; word = 5 })
-
 -- whose refusal it is
 abbrev pub of_setup : {A : Type 0} → Result A SetupRefusal → Result A OpeningRefusal
 of_setup (Ok x) = Ok x
@@ -42,7 +38,7 @@ of_module (Err refusal) = Err (Module refusal)
 
 -- the view before the first command, where the setup fits the module and the module can be run
 abbrev pub started : Settings → Accepted → Result View OpeningRefusal
-started s a = after (of_setup (schedule_for a s)) (λ schedule. after (of_module (program_in a)) (λ program. Ok (first_view program schedule)))
+started s a = after (of_setup (schedule_for a s)) (λ schedule. after (of_module (program_of a s)) (λ program. Ok (first_view program schedule)))
 
 -- The setup's text is looked at first, then the module, then whether the setup fits it, and then whether it can be run.
 unfoldable pub opening : List ℕ → List ℕ → Result View OpeningRefusal

@@ -3,22 +3,21 @@ ghost use Rattle.std.specs.Prelude.{◌≡◌, ◌≤◌, ◌<◌, IfOk, OnOk, l
 ghost use Rattle.spv_base.specs.Answers.{Answers};
 ghost use Rattle.spv_setup.specs.Settings.{settings_of};
 ghost use Rattle.spv_valid.specs.Validity.{IsValid};
+ghost use Rattle.spv_machine.specs.Program.{program_of};
 ghost use Rattle.spv_app.specs.Limits.{setup_limit};
-ghost use Rattle.spv_app.specs.Opening.{opening, accepted_in, invocations_of, schedule_for, program_in, started, of_setup, of_module};
+ghost use Rattle.spv_app.specs.Opening.{opening, accepted_in, invocations_of, schedule_for, started, of_setup, of_module};
 
 use crate::acceptance::accepted_as;
 use spv_base::{Fail, Refusal, SetupRefusal};
 use spv_fit::fit;
 use spv_machine::Runnable;
+use spv_machine::laws::runs_start_with_all;
 use spv_session::Group;
 use spv_setup::{Schedule, Setup};
 use spv_valid::Module;
 use spv_words::words;
 use std::alloc::Global;
 use std::fmt;
-
-/// What can't be run so far.
-const NOT_BUILT: Fail<Refusal> = Fail::Refused(Refusal { code: 0, word: 5 });
 
 /// Why a pair of a module and a setup is refused.
 #[derive(Clone, Copy, Debug, PartialEq, Eq)]
@@ -130,26 +129,14 @@ fn fit_setup(
     }
 }
 
-/// The module as it can be run. Refuses code 0 at word 5 where its workgroup has more than one invocation, or it is in another
-/// form than the first.
-fn program_in(alloc: Global, accepted: Module) -> Result<Runnable, Fail<Refusal>>
-    requires { IsValid accepted }
-    ensures due { Answers (program_in accepted) result }
-    ensures one { OnOk result (invocations_of accepted ≡ 1) }
+/// The module as it can be run with the setup, refused as a pair is. Refuses code 0 at word 5 where its workgroup has more than one
+/// invocation, or the machine can't do one of its executables yet.
+#[tactic(auto, unfolding(spv_machine::specs::Program::program_of))]
+fn run_module(accepted: Module, setup: Setup) -> Result<Runnable, Fail<OpeningRefusal>>
+    ensures due { Answers (of_module (program_of accepted setup)) result }
+    ensures same { IfOk result (λ program. program.accepted ≡ accepted) }
 {
-    if invocations_of(&accepted) != 1 {
-        return Err(NOT_BUILT);
-    }
-    Runnable::of(alloc, accepted)
-}
-
-/// The same, refused as a pair is.
-fn run_module(alloc: Global, accepted: Module) -> Result<Runnable, Fail<OpeningRefusal>>
-    requires { IsValid accepted }
-    ensures due { Answers (of_module (program_in accepted)) result }
-    ensures one { OnOk result (invocations_of accepted ≡ 1) }
-{
-    match program_in(alloc, accepted) {
+    match Runnable::of(accepted, setup) {
         Ok(program) => Ok(program),
         Err(Fail::Refused(refusal)) => Err(Fail::Refused(OpeningRefusal::Module(refusal))),
         Err(Fail::NoMemory) => Err(Fail::NoMemory),
@@ -157,14 +144,14 @@ fn run_module(alloc: Global, accepted: Module) -> Result<Runnable, Fail<OpeningR
 }
 
 /// The group of a module and a setup, at the first position, where the setup fits the module and the module can be run.
-#[tactic(auto, using(spv_session::proofs::Runs::one_starts))]
-fn start(alloc: Global, accepted: Module, setup: &Setup) -> Result<Group, Fail<OpeningRefusal>>
+fn start(alloc: Global, accepted: Module, setup: Setup) -> Result<Group, Fail<OpeningRefusal>>
     requires { IsValid accepted }
-    ensures view { Answers (started setup.now accepted) result }
+    ensures view { Answers (started setup accepted) result }
     ensures start { IfOk result (λ group. group.position ≡ 0) }
 {
-    let schedule = fit_setup(alloc, &accepted, setup)?;
-    let program = run_module(alloc, accepted)?;
+    runs_start_with_all();
+    let schedule = fit_setup(alloc, &accepted, &setup)?;
+    let program = run_module(accepted, setup)?;
     Ok(Group::open(alloc, program, schedule)?)
 }
 
@@ -178,5 +165,5 @@ pub fn open(alloc: Global, binary: Vec<u8>, setup: Vec<u8>) -> Result<Group, Fai
 {
     let setup = parse_setup(alloc, &setup)?;
     let accepted = read_module(alloc, &binary, &setup)?;
-    start(alloc, accepted, &setup)
+    start(alloc, accepted, setup)
 }

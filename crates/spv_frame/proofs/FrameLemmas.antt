@@ -14,7 +14,7 @@ use Rattle.spv_frame.specs.Plans.{rooms}
 use Rattle.spv_frame.specs.declared.slots.Slot.{Slot}
 use Rattle.spv_frame.proofs.RegisterLemmas.{Lies, get_is_read, lies, marks_get, marks_length, marks_set, number_inside, set_is_write, trees_many}
 
-map_long : {A B : Type 0} (f : A → B) (xs : List A) → length (map f xs) ≡ length xs
+pub map_long : {A B : Type 0} (f : A → B) (xs : List A) → length (map f xs) ≡ length xs
 map_long f [] = refl
 map_long f (x ∷ xs) = ap suc (map_long f xs)
 

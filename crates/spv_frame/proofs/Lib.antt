@@ -5,3 +5,4 @@ pub mod StackLemmas
 pub mod ContentLemmas
 pub mod CallLemmas
 pub mod SlotLemmas
+pub mod ListingLemmas

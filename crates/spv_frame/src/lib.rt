@@ -6,6 +6,7 @@ pub mod contents;
 pub mod frames;
 pub mod functions;
 pub mod laws;
+pub mod listing;
 pub mod phis;
 pub mod plans;
 pub mod slots;

@@ -1,125 +1,161 @@
--- What a step is, by the status of its invocation, and what a call of it leaves.
-use Rattle.std.proofs.Common.{◌≡◌, ℕ, List, [], ◌∷◌, map, filter, refl, ap, sym, ◌∙◌, subst, slice_get, Option, Some, None, IsSome, Result, Ok, Err, IfOk}
-use Rattle.std.proofs.lemmas.Result.{IfOk-at_ok}
-use Rattle.spv_base.specs.Answers.{Answers}
+-- What a step of an invocation is, by its status.
+use Rattle.std.proofs.Common.{◌≡◌, ◌≢◌, ◌∙◌, ℕ, zero, suc, ◌-◌, ◌<◌, Bool, false, true, List, [], ◌∷◌, Option, Some, None, Result, Ok, Err, length, slice_get, refl, sym, ap, subst, arith}
+use Rattle.std.proofs.lemmas.Option.{slice_get_within}
+use Rattle.std.specs.Option.{IsSomeAnd, is_some, option_and_then}
+use Rattle.spv_base.specs.Entries.{reads}
 use Rattle.spv_base.specs.declared.causes.Fail.{Fail}
-use Rattle.spv_base.specs.Lane.{undefined_lane}
-use Rattle.spv_base.specs.State.{State, Frame, Roots, frames_of, top_pc, set_pc, set_status}
-use Rattle.spv_base.specs.declared.values.Value.{Value, Scalar}
-use Rattle.spv_base.specs.declared.happenings.Status4.{Status4}
-use Rattle.spv_base.specs.declared.happenings.Status4.TheVariants.{Ready, Arrived, Passed, Finished}
+use Rattle.spv_base.specs.declared.causes.Fail.TheVariants.{Refused, NoMemory}
 use Rattle.spv_base.specs.declared.instructions.Inst.{Inst}
-use Rattle.spv_machine.specs.declared.execution.Did.{Did}
-use Rattle.spv_machine.specs.declared.execution.Did.TheVariants.{Idle, Moved}
-use Rattle.spv_machine.specs.declared.execution.StepErr.{StepErr}
-use Rattle.spv_machine.specs.declared.execution.StepErr.TheVariants.{Fault as Faulted, NoMemory}
-use Rattle.spv_machine.specs.Held.{HasTop}
-use Rattle.spv_machine.specs.Program.{Program, next_of, variables_of, is_register_inst}
-use Rattle.spv_machine.specs.Effect.{int_width}
-use Rattle.spv_machine.specs.Valid.{IsValid}
-use Rattle.spv_machine.specs.Step.{Outcome, Idles, Moves, outcome, due_of, at_pc, past_pc, by_status, step_of, happening_of, fault_in, start_of}
-use Rattle.spv_machine.specs.Fits.{HasFrames}
-use Rattle.spv_machine.specs.Does.{Does}
-use Rattle.spv_machine.specs.Sound.{IsSound, HaveShapes, RegistersHaveShapes, Stands, LeadsSoundly}
-use Rattle.spv_machine.proofs.Operands.{scalar_shape, undefined_int}
-use Rattle.spv_machine.proofs.Keeps.{stand_at}
+use Rattle.spv_base.specs.declared.values.Value.{Value}
+use Rattle.spv_index.specs.Classes.{class_of, is_terminator, sets_of}
+use Rattle.spv_index.specs.Definitions.{at}
+use Rattle.spv_frame.specs.Frames.{Held as Frame}
+use Rattle.spv_frame.specs.Stacks.{Stacked, top}
+use Rattle.spv_statuses.specs.declared.invocations.Status.{Status}
+use Rattle.spv_statuses.specs.declared.invocations.Status.TheVariants.{Ready, Arrived, Passed, Finished}
+use Rattle.spv_valid.specs.Acceptance.{Accepted}
+use Rattle.spv_machine.specs.Effects.{effect_of}
+use Rattle.spv_machine.specs.Planned.{IsDue}
+use Rattle.spv_machine.specs.Program.{Program}
+use Rattle.spv_machine.specs.Reached.{IsReached, IsStepBy}
+use Rattle.spv_machine.specs.Sound.{IsBarrier, IsSound, IsSoundFrame, IsSoundStack, StandsAs}
+use Rattle.spv_machine.specs.State.{State, on_frame, on_frames, set_status, top_of, with_pc}
+use Rattle.spv_machine.specs.Step.{Idles, Moves, at_frame, at_inst, by_status, fault_in, go, next_of, outcome, past_frame, plain, step_of}
+use Rattle.spv_machine.specs.declared.causes.Cause.{Cause}
+use Rattle.spv_machine.specs.declared.effects.Control.TheVariants.{Next}
+use Rattle.spv_machine.specs.declared.effects.Effect.{Effect}
+use Rattle.spv_machine.proofs.KeepsControl.{top_at}
+use Rattle.spv_machine.proofs.Known.{IsKnown, goes_on}
+use Rattle.spv_machine.proofs.Lists.{change_same}
+use Rattle.spv_machine.proofs.Standing.{Standing, at_standing, standing}
+use Rattle.spv_machine.proofs.Stands.{class_is}
 
-pub ready_is : (p : Program) (s : State) (i pc : ℕ) → slice_get s.statuses i ≡ Some Ready → top_pc (frames_of s i) ≡ Some pc → step_of p s i ≡ outcome s i pc (due_of p s i pc)
+-- ---- the top frame of an invocation that is not finished
+
+pub record HasTop (p : Program) (s : State) (i : ℕ) (t : Status) : Type 0 where
+  pub frame : Frame
+  pub top : top_of s i ≡ Some frame
+  pub sound : IsSoundFrame p.accepted frame
+  pub waits : StandsAs p.accepted t frame
+
+got : {A : Type 0} (xs : List A) (i : ℕ) → i < length xs → (x : A) × (slice_get xs i ≡ Some x)
+got [] i h = absurd (omega arith)
+got (x ∷ xs) zero h = (x, refl)
+got (x ∷ xs) (suc i) h = got xs i (omega arith)
+
+last_frame : (fs : List Frame) → fs ≢ [] → (f : Frame) × (top fs ≡ Some f)
+last_frame [] some = absurd (some refl)
+last_frame (f ∷ fs) some = got (f ∷ fs) (length (f ∷ fs) - 1) (omega arith)
+
+pub has_top : (p : Program) (s : State) (i : ℕ) (t : Status) → IsSound p s → i < length s.statuses.list → slice_get s.statuses.list i ≡ Some t → t ≢ Finished → HasTop p s i t
+has_top p s i t sound inside status moves =
+    let stacks = sound.stacks in
+    let levels = sound.levels in
+    let k = got s.stacks i (omega arith) in
+    let l = got s.memory.locals i (omega arith) in
+    let own : IsSoundStack p.accepted t k.0 l.0 = sound.each i t k.0 l.0 status k.1 l.1 in
+    let f = last_frame k.0.frames (λ none. moves (own.finished.1 none)) in
+    record { frame = f.0; top = top_at s i k.0 f.0 k.1 f.1; sound = own.frames (length k.0.frames - 1) f.0 f.1; waits = own.waits f.0 f.1 }
+
+-- ---- a Ready invocation
+
+-- its top frame stands at an instruction
+pub ready_at : (p : Program) (s : State) (i : ℕ) (f : Frame) → IsKnown p.accepted → HasTop p s i Ready → top_of s i ≡ Some f → (d : Inst) × (at p.accepted.insts f.pc ≡ Some d)
+ready_at p s i f known h is =
+    let same : h.frame ≡ f = let own = h.top in cc in
+    let stands = standing p.accepted h.frame.plan.function h.frame.pc h.sound.stands in
+    (stands.stand.inst, subst (λ (x : Frame). at p.accepted.insts x.pc ≡ Some stands.stand.inst) same (at_standing p.accepted h.frame.plan.function h.frame.pc known stands))
+
+-- the top frame of an invocation that has reached an instruction
+pub reached_top : (p : Program) (s : State) (i : ℕ) (d : Inst) → IsReached p s i d → HasTop p s i Ready
+reached_top p s i d r = has_top p s i Ready r.sound (slice_get_within s.statuses.list i Ready r.ready) r.ready (λ e. cc)
+
+pub reached_inside : (p : Program) (s : State) (i : ℕ) (d : Inst) → IsReached p s i d → i < length s.stacks
+reached_inside p s i d r =
+    let inside = slice_get_within s.statuses.list i Ready r.ready in
+    let stacks = r.sound.stacks in
+    omega arith
+
+pub reached_frame : (p : Program) (s : State) (i : ℕ) (d : Inst) (b : Accepted) → b ≡ p.accepted → IsReached p s i d → IsSomeAnd (top_of s i) (IsSoundFrame b)
+reached_frame p s i d b same r =
+    let h = reached_top p s i d r in
+    subst (λ (o : Option Frame). IsSomeAnd o (IsSoundFrame b)) (sym h.top) (subst (λ (x : Accepted). IsSoundFrame x h.frame) (sym same) h.sound)
+
+reached_step : (p : Program) (s : State) (i : ℕ) (d : Inst) (r : IsReached p s i d) → step_of p s i ≡ outcome p s i d (effect_of p s i r.frame d)
 unfolding step_of
-ready_is p s i pc ready top = ap (by_status p s i) ready ∙ ap (at_pc p s i) top
+reached_step p s i d r = ap (by_status p s i) r.ready ∙ ap (at_frame p s i) r.top ∙ ap (at_inst p s i r.frame) r.at
 
-pub passed_is : (p : Program) (s : State) (i pc : ℕ) → slice_get s.statuses i ≡ Some Passed → top_pc (frames_of s i) ≡ Some pc → step_of p s i ≡ Moves (happening_of i pc) (set_status i Ready (set_pc i (next_of p.insts pc) s))
+pub step_by : (p : Program) (s : State) (i : ℕ) (d : Inst) (f : Frame) (v : Value) (result : Result Effect (Fail Cause)) → IsReached p s i d → top_of s i ≡ Some f → IsDue (effect_of p s i f d) v result
+    → IsStepBy p s i d v result
+step_by p s i d f v result r is due = by_result result due
+  where
+    step : step_of p s i ≡ outcome p s i d (effect_of p s i f d)
+    step =
+        let same : r.frame ≡ f = let own = r.top in cc in
+        reached_step p s i d r ∙ ap (λ (x : Frame). outcome p s i d (effect_of p s i x d)) same
+
+    by_result : (o : Result Effect (Fail Cause)) → IsDue (effect_of p s i f d) v o → IsStepBy p s i d v o
+    by_result (Ok e) h = step ∙ ap (outcome p s i d) h
+    by_result (Err (Refused cause)) h = step ∙ ap (outcome p s i d) h
+    by_result (Err NoMemory) h = tt
+
+-- ---- a Passed invocation
+
+pub passed_step : (p : Program) (s : State) (i : ℕ) (f : Frame) → slice_get s.statuses.list i ≡ Some Passed → top_of s i ≡ Some f
+    → step_of p s i ≡ Moves (plain i f.pc) (set_status i Ready (go p.accepted i Next s))
 unfolding step_of
-passed_is p s i pc passed top = ap (by_status p s i) passed ∙ ap (past_pc p s i) top
+passed_step p s i f passed is = ap (by_status p s i) passed ∙ ap (past_frame p s i) is
 
-pub arrived_is : (p : Program) (s : State) (i : ℕ) → slice_get s.statuses i ≡ Some Arrived → step_of p s i ≡ Idles
+-- it goes on behind its barrier
+barrier_goes : (sets : List (ℕ × Bool)) (d : Inst) → d.op ≡ 224 → is_terminator (class_of sets d) ≡ false
+barrier_goes sets d op = rw op refl
+
+next_there : (a : Accepted) (pc : ℕ) → goes_on a pc ≡ true → (word : ℕ) × (reads pc a.flow.nexts ≡ Some (Some word))
+next_there a pc h = by_read (reads pc a.flow.nexts) h
+  where
+    by_read : (o : Option (Option ℕ)) → is_some (option_and_then (λ n. n) o) ≡ true → (word : ℕ) × (o ≡ Some (Some word))
+    by_read None g = absurd (cc)
+    by_read (Some None) g = absurd (cc)
+    by_read (Some (Some word)) g = (word, refl)
+
+pub barrier_next : (p : Program) (s : State) (i : ℕ) (f : Frame) → IsKnown p.accepted → HasTop p s i Passed → top_of s i ≡ Some f → (word : ℕ) × (reads f.pc p.accepted.flow.nexts ≡ Some (Some word))
+barrier_next p s i f known h is =
+    let a = p.accepted in
+    let stands : Standing a h.frame.plan.function h.frame.pc = standing a h.frame.plan.function h.frame.pc h.sound.stands in
+    let barrier : IsBarrier a h.frame.pc = h.waits in
+    let same : barrier.0 ≡ stands.stand.inst = let one = barrier.1 in let other = at_standing a h.frame.plan.function h.frame.pc known stands in cc in
+    let goes : is_terminator stands.stand.class ≡ false
+    = ap is_terminator (class_is a.insts stands.stand stands.one) ∙ barrier_goes (sets_of a.insts) stands.stand.inst (sym (ap (λ (d : Inst). d.op) same) ∙ barrier.2) in
+    let next = next_there a stands.stand.inst.word (known.goes_on stands.stand stands.one stands.stops goes) in
+    let own : h.frame ≡ f = let top = h.top in cc in
+    (next.0, subst (λ (n : ℕ). reads n a.flow.nexts ≡ Some (Some next.0)) (stands.here ∙ ap (λ (x : Frame). x.pc) own) next.1)
+
+-- ---- on to the next executable, where the top frame stands
+
+pub moved_is : (a : Accepted) (s : State) (i word : ℕ) (f : Frame) → top_of s i ≡ Some f → word ≡ next_of a f.pc → on_frame i (with_pc word) s ≡ go a i Next s
+moved_is a s i word f is next =
+    ap (λ (ks : List Stacked). record s { stacks = ks })
+    (change_same i (on_frames (with_pc word)) (on_frames (λ x. with_pc (next_of a x.pc) x)) s.stacks (λ k stack.
+    ap (λ (fs : List Frame). record k { frames = fs })
+    (change_same (length k.frames - 1) (with_pc word) (λ x. with_pc (next_of a x.pc) x) k.frames (λ x here.
+    let same : f ≡ x = let own = top_at s i k x stack here in cc in
+    ap (λ (n : ℕ). with_pc n x) (next ∙ ap (λ (y : Frame). next_of a y.pc) same)))))
+
+-- ---- an invocation that waits or is finished
+
+pub arrived_step : (p : Program) (s : State) (i word : ℕ) → slice_get s.statuses.list i ≡ Some (Arrived word) → step_of p s i ≡ Idles
 unfolding step_of
-arrived_is p s i arrived = ap (by_status p s i) arrived
+arrived_step p s i word status = ap (by_status p s i) status
 
-pub finished_is : (p : Program) (s : State) (i : ℕ) → slice_get s.statuses i ≡ Some Finished → step_of p s i ≡ Idles
+pub finished_step : (p : Program) (s : State) (i : ℕ) → slice_get s.statuses.list i ≡ Some Finished → step_of p s i ≡ Idles
 unfolding step_of
-finished_is p s i finished = ap (by_status p s i) finished
+finished_step p s i status = ap (by_status p s i) status
 
-pub passed_faults : (p : Program) (s : State) (i : ℕ) → slice_get s.statuses i ≡ Some Passed → None ≡ fault_in (step_of p s i)
+-- none of these faults
+pub passed_faultless : (p : Program) (s : State) (i : ℕ) → slice_get s.statuses.list i ≡ Some Passed → fault_in (step_of p s i) ≡ None
 unfolding step_of
-passed_faults p s i passed = sym (ap fault_in (ap (by_status p s i) passed) ∙ by_pc (top_pc (frames_of s i))) where
-  by_pc : (o : Option ℕ) → fault_in (past_pc p s i o) ≡ None
-  by_pc None = refl
-  by_pc (Some pc) = refl
-
--- ---- an invocation that isn't finished has a top frame
-
-stands_top : (p : Program) (t : Status4) (fs : List Frame) (vs : List Roots) → HasFrames (Some t) → Stands p t fs vs → HasTop fs
-stands_top p Ready (f ∷ []) (vars ∷ []) h s = tt
-stands_top p Arrived (f ∷ []) (vars ∷ []) h s = tt
-stands_top p Passed (f ∷ []) (vars ∷ []) h s = tt
-stands_top p Finished fs vs h s = absurd h
-stands_top p _ _ _ h s = absurd s
-
-top_some : (fs : List Frame) → HasTop fs → IsSome (top_pc fs)
-top_some [] h = absurd h
-top_some (f ∷ fs) h = refl
-
-pub stands_somewhere : (p : Program) (s : State) (i : ℕ) → IsSound p s → HasFrames (slice_get s.statuses i) → IsSome (top_pc (frames_of s i))
-stands_somewhere p s i sound h = by_status' (slice_get s.statuses i) refl h where
-  by_status' : (o : Option Status4) → slice_get s.statuses i ≡ o → HasFrames o → IsSome (top_pc (frames_of s i))
-  by_status' None e h = absurd h
-  by_status' (Some t) e h = top_some _ (stands_top p t _ _ h (stand_at p s.statuses s.stacks s.memory.locals i t sound.stand e))
-
-pub none_some : {A : Type 0} (o : Option A) → None ≡ o → IsSome o → ⊥
-none_some None e h = cc
-none_some (Some x) e h = cc
-
-pub answers_hold : {A : Type 0} (due : Result A ℕ) (r : Result A (Fail ℕ)) (P : A → Type 0) → Answers due r → IfOk due P → IfOk r P
-answers_hold due (Ok x) P a h = IfOk-at_ok P a h
-answers_hold due (Err e) P a h = tt
-
--- ---- a call of step leaves a sound state
-
-pub does_sound : (p : Program) (due : Outcome) (r : Result Did StepErr) (old new : State) → Does due r old new → IsSound p old → LeadsSoundly p old due → IsSound p new
-does_sound p due (Ok Idle) old new h sound leads = subst (IsSound p) (sym h.1) sound
-does_sound p due (Ok (Moved e)) old new h sound leads = (subst (LeadsSoundly p old) h leads).0
-does_sound p due (Err (Faulted f)) old new h sound leads = subst (IsSound p) (sym h.1) sound
-does_sound p due (Err NoMemory) old new h sound leads = subst (IsSound p) (sym h) sound
-
--- ---- the start is sound
-
-register_ids : (ds : List Inst) → map (λ (e : ℕ × Option Value). e.0) (map (λ (d : Inst). (d.id, None)) ds) ≡ map (λ (d : Inst). d.id) ds
-register_ids [] = refl
-register_ids (d ∷ ds) = ap (λ l. d.id ∷ l) (register_ids ds)
-
-variable_ids : (ids : List ℕ) → map (λ (e : ℕ × Value). e.0) (map (λ id. (id, Scalar (undefined_lane int_width))) ids) ≡ ids
-variable_ids [] = refl
-variable_ids (k ∷ ids) = ap (λ l. k ∷ l) (variable_ids ids)
-
-register_shapes : (ds : List Inst) → RegistersHaveShapes (map (λ (d : Inst). (d.id, None)) ds)
-register_shapes [] = tt
-register_shapes (d ∷ ds) = (tt, register_shapes ds)
-
-variable_shapes : (ids : List ℕ) → HaveShapes (map (λ id. (id, Scalar (undefined_lane int_width))) ids)
-variable_shapes [] = tt
-variable_shapes (k ∷ ids) = (scalar_shape _ undefined_int, variable_shapes ids)
-
-pub start_sound : (p : Program) → IsValid p.insts → IsSound p (start_of p)
-unfolding start_of
-start_sound p valid = record {
-  shared = refl;
-  privates_paired = refl;
-  privates = (refl, tt);
-  stand = (
-    record {
-      function = refl;
-      executable = valid.first;
-      registers = register_ids (filter is_register_inst p.insts);
-      variables = variable_ids (variables_of p.insts);
-      register_shapes = register_shapes (filter is_register_inst p.insts);
-      variable_shapes = variable_shapes (variables_of p.insts);
-      events = refl;
-    },
-    tt,
-  );
-}
-
-pub sound_at : {E : Type 0} (p : Program) (s : State) (r : Result State E) → IfOk r (λ w. w ≡ s) → IsSound p s → IfOk r (λ w. IsSound p w)
-sound_at p s (Ok w) h sound = subst (IsSound p) (sym h) sound
-sound_at p s (Err e) h sound = tt
+passed_faultless p s i passed = ap (λ (o : Option Status). fault_in (by_status p s i o)) passed ∙ by_frame (top_of s i)
+  where
+    by_frame : (o : Option Frame) → fault_in (past_frame p s i o) ≡ None
+    by_frame None = refl
+    by_frame (Some f) = refl

@@ -1,179 +1,91 @@
--- What a change of an entry keeps of the frames.
-use Rattle.std.proofs.Common.{◌≡◌, inl, inr, ℕ, zero, suc, Bool, true, false, cond, List, [], ◌∷◌, map, filter, refl, ap, ◌∙◌, subst, arith, slice_get, Option, Some, None, IsSome, find, unwrap_or, nat_eq}
-use Rattle.std.specs.Prelude.{◌||◌}
-use Rattle.std.specs.List.{list_any}
-use Rattle.spv_base.specs.Entries.{reads, writes, change, on_first}
-use Rattle.spv_base.specs.State.{Frame, Roots, Registers, with_reg, with_pc, without_first, top_reg}
-use Rattle.spv_base.specs.declared.values.Value.{Value}
+-- The executable at which a frame stands, and the one behind it.
+use Rattle.std.proofs.Common.{◌≡◌, ◌∙◌, ℕ, zero, suc, ◌==◌, Bool, true, false, cond, List, [], ◌∷◌, ◌++◌, Option, Some, map, slice_get, sym, ap, subst}
+use Rattle.std.proofs.lemmas.Bool.{and_parts, eq-eqb, eqb-true}
+use Rattle.std.specs.List.{Contains, flat_map}
+use Rattle.spv_base.specs.Entries.{reads}
 use Rattle.spv_base.specs.declared.instructions.Inst.{Inst}
-use Rattle.spv_base.specs.declared.happenings.Status4.{Status4}
-use Rattle.spv_base.specs.declared.happenings.Status4.TheVariants.{Ready, Arrived, Passed, Finished}
-use Rattle.spv_machine.specs.Action.{action_of, has_register}
-use Rattle.spv_machine.specs.Program.{Program, registers_of, is_register_inst, inst_at}
-use Rattle.spv_machine.specs.Valid.{IsExecutable}
-use Rattle.spv_machine.specs.Sound.{HasShape, HasShapeIfAny, HaveShapes, RegistersHaveShapes, IsSoundFrame, Stands}
-use Rattle.spv_machine.proofs.Ordered.{found}
+use Rattle.spv_index.specs.Classes.{is_executable, sets_of}
+use Rattle.spv_index.specs.Definitions.{at}
+use Rattle.spv_index.specs.Positions.{Stand, in_block, in_function, stands_of}
+use Rattle.spv_cfg.specs.Calls.{function_of}
+use Rattle.spv_cfg.specs.Executables.{executables_of, followed}
+use Rattle.spv_valid.specs.Acceptance.{Accepted}
+use Rattle.spv_plans.specs.Members.{is_stop, stands_in}
+use Rattle.spv_plans.specs.Plans.{functions_in}
+use Rattle.spv_machine.specs.Sound.{StandsIn}
+use Rattle.spv_machine.proofs.Blocks.{Begun, Entered, Follows, Listed, block_inside, follows, listed, opcode_of_function, rooted}
+use Rattle.spv_plans.proofs.NumberLemmas.{at_contains}
+use Rattle.spv_machine.proofs.Known.{IsKnown}
+use Rattle.spv_machine.proofs.Stands.{IsOne, at_stand, class_is, member_one, one_member, same_stand_at, stand_inst}
 
--- ---- entries
+pub record Standing (a : Accepted) (function word : ℕ) : Type 0 where
+  pub stand : Stand
+  pub one : IsOne (stands_of a.insts) stand
+  pub within : stands_in function stand ≡ true
+  pub here : stand.inst.word ≡ word
+  pub stops : is_stop stand ≡ true
 
-ids_written : {X : Type 0} (k : ℕ) (v : X) (es : List (ℕ × X)) → map (λ (e : ℕ × X). e.0) (writes k v es) ≡ map (λ (e : ℕ × X). e.0) es
-ids_written k v [] = refl
-ids_written k v (e ∷ es) = by_head (nat_eq e.0 k) (ids_written k v es) where
-  by_head : (b : Bool) → map (λ (e : ℕ × _). e.0) (writes k v es) ≡ map (λ (e : ℕ × _). e.0) es → map (λ (e : ℕ × _). e.0) (cond b ((e.0, v) ∷ es) (e ∷ writes k v es)) ≡ map (λ (e : ℕ × _). e.0) (e ∷ es)
-  by_head true rest = refl
-  by_head false rest = ap (λ l. e.0 ∷ l) rest
+pub standing : (a : Accepted) (function word : ℕ) → StandsIn a function word → Standing a function word
+standing a function word s =
+    let member = member_one a.insts function s.stand s.among in
+    record { stand = s.stand; one = member.0; within = member.1; here = s.here; stops = s.stops }
 
-shapes_written : (k : ℕ) (v : Value) (es : Roots) → HaveShapes es → HasShape v → HaveShapes (writes k v es)
-shapes_written k v [] h s = tt
-shapes_written k v (e ∷ es) h s = by_head (nat_eq e.0 k) (shapes_written k v es h.1 s) where
-  by_head : (b : Bool) → HaveShapes (writes k v es) → HaveShapes (cond b ((e.0, v) ∷ es) (e ∷ writes k v es))
-  by_head true rest = (s, h.1)
-  by_head false rest = (h.0, rest)
+pub stands_there : (a : Accepted) (function word : ℕ) → Standing a function word → StandsIn a function word
+stands_there a function word s = record { stand = s.stand; among = one_member a.insts function s.stand s.one s.within; here = s.here; stops = s.stops }
 
-registers_written : (k : ℕ) (v : Value) (es : Registers) → RegistersHaveShapes es → HasShape v → RegistersHaveShapes (writes k (Some v) es)
-registers_written k v [] h s = tt
-registers_written k v (e ∷ es) h s = by_head (nat_eq e.0 k) (registers_written k v es h.1 s) where
-  by_head : (b : Bool) → RegistersHaveShapes (writes k (Some v) es) → RegistersHaveShapes (cond b ((e.0, Some v) ∷ es) (e ∷ writes k (Some v) es))
-  by_head true rest = (s, h.1)
-  by_head false rest = (h.0, rest)
+-- the instruction there
+pub at_standing : (a : Accepted) (function word : ℕ) → IsKnown a → (s : Standing a function word) → at a.insts word ≡ Some s.stand.inst
+at_standing a function word known s = at_stand a.insts s.stand word known.words s.one s.here
 
-pub shape_read : (k : ℕ) (v : Value) (es : Roots) → HaveShapes es → reads k es ≡ Some v → HasShape v
-shape_read k v [] h r = absurd (cc)
-shape_read k v (e ∷ es) h r = by_head (nat_eq e.0 k) (shape_read k v es h.1) r where
-  same : (x : Value) → HasShape x → Some x ≡ Some v → HasShape v
-  same x s r = let q : x ≡ v = cc in subst HasShape q s
+-- ---- the next executable
 
-  by_head : (b : Bool) → (reads k es ≡ Some v → HasShape v) → cond b (Some e.1) (reads k es) ≡ Some v → HasShape v
-  by_head true rest r = same e.1 h.0 r
-  by_head false rest r = rest r
+pub next_stands : (a : Accepted) (function pc word : ℕ) → IsKnown a → Standing a function pc → reads pc a.flow.nexts ≡ Some (Some word) → Standing a function word
+next_stands a function pc word known here next =
+    let read : reads pc (followed (executables_of a.insts)) ≡ Some (Some word) = subst (λ (es : List (ℕ × Option ℕ)). reads pc es ≡ Some (Some word)) known.nexts next in
+    let pair : Follows (executables_of a.insts) pc word = follows (executables_of a.insts) pc word read in
+    let first : Listed (stands_of a.insts) pair.label pc = listed (stands_of a.insts) pair.first.0 pair.label pc pair.first.1 in
+    let second : Listed (stands_of a.insts) pair.label word = listed (stands_of a.insts) pair.second.0 pair.label word pair.second.1 in
+    let one : Entered (stands_of a.insts) first.stand.position.function first.stand.position.label
+    = (rooted a.insts first.stand first.one).block (and_parts (is_executable first.stand.class) (in_block first.stand.position.stage) first.stops).1 in
+    let inside = (and_parts (is_executable second.stand.class) (in_block second.stand.position.stage) second.stops).1 in
+    let other : Entered (stands_of a.insts) second.stand.position.function second.stand.position.label = (rooted a.insts second.stand second.one).block inside in
+    let label : one.stand.inst.id ≡ other.stand.inst.id = one.id ∙ first.inside ∙ sym second.inside ∙ sym other.id in
+    let functions = known.labels one.stand other.stand one.one other.one one.class label in
+    let own : here.stand ≡ first.stand = same_stand_at a.insts here.stand first.stand known.words here.one first.one (here.here ∙ sym first.here) in
+    let function_is : first.stand.position.function ≡ function
+    = subst (λ (s : Stand). s.position.function ≡ function) own
+    (eqb-true here.stand.position.function function (and_parts (in_function here.stand.position.stage) (here.stand.position.function == function) here.within).1) in
+    let there : second.stand.position.function ≡ function = sym other.within ∙ sym functions ∙ one.within ∙ function_is in
+    record {
+      stand = second.stand;
+      one = second.one;
+      within = rw (block_inside second.stand.position.stage inside) (eq-eqb second.stand.position.function function there);
+      here = second.here;
+      stops = second.stops;
+    }
 
-register_read : (k : ℕ) (v : Value) (es : Registers) → RegistersHaveShapes es → unwrap_or (reads k es) None ≡ Some v → HasShape v
-register_read k v [] h r = absurd (cc)
-register_read k v (e ∷ es) h r = by_head (nat_eq e.0 k) (register_read k v es h.1) r where
-  same : (x : Option Value) → HasShapeIfAny x → x ≡ Some v → HasShape v
-  same None s r = absurd (cc)
-  same (Some x) s r = let q : x ≡ v = cc in subst HasShape q s
+-- ---- the function
 
-  by_head : (b : Bool) → (unwrap_or (reads k es) None ≡ Some v → HasShape v) → unwrap_or (cond b (Some e.1) (reads k es)) None ≡ Some v → HasShape v
-  by_head true rest r = same e.1 h.0 r
-  by_head false rest r = rest r
+-- an OpFunction is among the functions of a module
+function_listed : (is : List Inst) (k : ℕ) (i : Inst) → slice_get is k ≡ Some i → i.op ≡ 54 → (n : ℕ) × (slice_get (map (λ (f : ℕ × ℕ). f.0) (flat_map function_of is)) n ≡ Some i.id)
+function_listed [] k i h op = absurd (cc)
+function_listed (x ∷ is) zero i h op =
+    let same : x ≡ i = cc in
+    let test : (x.op == 54) ≡ true = eq-eqb x.op 54 (ap (λ (z : Inst). z.op) same ∙ op) in
+    (0, rw test (ap (λ (z : Inst). Some z.id) same))
+function_listed (x ∷ is) (suc k) i h op = by_op (x.op == 54) (function_listed is k i h op)
+  where
+    by_op : (b : Bool) → (n : ℕ) × (slice_get (map (λ (f : ℕ × ℕ). f.0) (flat_map function_of is)) n ≡ Some i.id)
+        → (n : ℕ) × (slice_get (map (λ (f : ℕ × ℕ). f.0) (cond b ((x.id, x.word) ∷ []) [] ++ flat_map function_of is)) n ≡ Some i.id)
+    by_op true rest = (suc rest.0, rest.1)
+    by_op false rest = rest
 
--- an id among those of the entries has a place
-reads_among : {X : Type 0} (k : ℕ) (es : List (ℕ × X)) → list_any (λ i. nat_eq i k) (map (λ (e : ℕ × X). e.0) es) ≡ true → IsSome (reads k es)
-reads_among k [] h = absurd (cc)
-reads_among k (e ∷ es) h = by_head (nat_eq e.0 k) (reads_among k es) h where
-  by_head : (b : Bool) → (list_any (λ i. nat_eq i k) (map (λ (e : ℕ × _). e.0) es) ≡ true → IsSome (reads k es)) → (b || list_any (λ i. nat_eq i k) (map (λ (e : ℕ × _). e.0) es)) ≡ true → IsSome (cond b (Some e.1) (reads k es))
-  by_head true rest h = refl
-  by_head false rest h = rest h
-
-same_id : (k : ℕ) → nat_eq k k ≡ true
-same_id k = grind arith
-
-abbrev pub Ids : List Inst → List ℕ
-Ids ds = map (λ (d : Inst). d.id) ds
-
-either : (a : Bool) → (a || true) ≡ true
-either true = refl
-either false = refl
-
-among_registers : (p : Inst → Bool) (insts : List Inst) (d : Inst) → find p insts ≡ Some d → has_register (action_of d) ≡ true → list_any (λ i. nat_eq i d.id) (registers_of insts) ≡ true
-among_registers p [] d f has = absurd (cc)
-among_registers p (x ∷ xs) d f has = elim (found p x d xs f) [
-  | inl here ↦ first (is_register_inst x) (ap is_register_inst here.1 ∙ has) (subst (λ (y : Inst). nat_eq x.id y.id ≡ true) here.1 (same_id x.id))
-  | inr there ↦ later (is_register_inst x) (among_registers p xs d there.1 has)
-] where
-  first : (b : Bool) → b ≡ true → nat_eq x.id d.id ≡ true → list_any (λ i. nat_eq i d.id) (Ids (cond b (x ∷ filter is_register_inst xs) (filter is_register_inst xs))) ≡ true
-  first true q e = rw e refl
-  first false q e = absurd (cc)
-
-  later : (b : Bool) → list_any (λ i. nat_eq i d.id) (registers_of xs) ≡ true → list_any (λ i. nat_eq i d.id) (Ids (cond b (x ∷ filter is_register_inst xs) (filter is_register_inst xs))) ≡ true
-  later true h = rw h (either (nat_eq x.id d.id))
-  later false h = h
-
--- a register of the module has a place in a frame with the registers of the module
-pub register_place : (p : Inst → Bool) (insts : List Inst) (d : Inst) (regs : Registers) → find p insts ≡ Some d → has_register (action_of d) ≡ true → map (λ (e : ℕ × Option Value). e.0) regs ≡ registers_of insts → IsSome (reads d.id regs)
-register_place p insts d regs f has ids = reads_among d.id regs (ap (list_any (λ i. nat_eq i d.id)) ids ∙ among_registers p insts d f has)
-
--- ---- frames
-
-frame_stored : (p : Program) (f : Frame) (vars : Roots) (id : ℕ) (v : Value) → HasShape v → IsSoundFrame p f vars → IsSoundFrame p f (writes id v vars)
-frame_stored p f vars id v s h = record {
-  function = h.function;
-  executable = h.executable;
-  registers = h.registers;
-  variables = ids_written id v vars ∙ h.variables;
-  register_shapes = h.register_shapes;
-  variable_shapes = shapes_written id v vars h.variable_shapes s;
-  events = h.events;
-}
-
-frame_set : (p : Program) (f : Frame) (vars : Roots) (id : ℕ) (v : Value) → HasShape v → IsSoundFrame p f vars → IsSoundFrame p (with_reg id (Some v) f) vars
-frame_set p f vars id v s h = record {
-  function = h.function;
-  executable = h.executable;
-  registers = ids_written id (Some v) f.regs ∙ h.registers;
-  variables = h.variables;
-  register_shapes = registers_written id v f.regs h.register_shapes s;
-  variable_shapes = h.variable_shapes;
-  events = h.events;
-}
-
-frame_moved : (p : Program) (f : Frame) (vars : Roots) (pc : ℕ) → IsExecutable (inst_at p.insts pc) → IsSoundFrame p f vars → IsSoundFrame p (with_pc pc f) vars
-frame_moved p f vars pc exec h = record {
-  function = h.function;
-  executable = exec;
-  registers = h.registers;
-  variables = h.variables;
-  register_shapes = h.register_shapes;
-  variable_shapes = h.variable_shapes;
-  events = h.events;
-}
-
--- ---- one invocation
-
-pub stands_stored : (p : Program) (t : Status4) (fs : List Frame) (vss : List Roots) (n id : ℕ) (v : Value) → HasShape v → Stands p t fs vss → Stands p t fs (change n (writes id v) vss)
-stands_stored p Finished [] [] n id v s h = tt
-stands_stored p Ready (f ∷ []) (vars ∷ []) zero id v s h = frame_stored p f vars id v s h
-stands_stored p Ready (f ∷ []) (vars ∷ []) (suc n) id v s h = h
-stands_stored p Arrived (f ∷ []) (vars ∷ []) zero id v s h = (frame_stored p f vars id v s h.0, h.1)
-stands_stored p Arrived (f ∷ []) (vars ∷ []) (suc n) id v s h = h
-stands_stored p Passed (f ∷ []) (vars ∷ []) zero id v s h = (frame_stored p f vars id v s h.0, h.1)
-stands_stored p Passed (f ∷ []) (vars ∷ []) (suc n) id v s h = h
-stands_stored p _ _ _ n id v s h = absurd h
-
-pub stands_set : (p : Program) (t : Status4) (fs : List Frame) (vss : List Roots) (id : ℕ) (v : Value) → HasShape v → Stands p t fs vss → Stands p t (on_first (with_reg id (Some v)) fs) vss
-stands_set p Finished [] [] id v s h = tt
-stands_set p Ready (f ∷ []) (vars ∷ []) id v s h = frame_set p f vars id v s h
-stands_set p Arrived (f ∷ []) (vars ∷ []) id v s h = (frame_set p f vars id v s h.0, h.1)
-stands_set p Passed (f ∷ []) (vars ∷ []) id v s h = (frame_set p f vars id v s h.0, h.1)
-stands_set p _ _ _ id v s h = absurd h
-
--- an invocation that is Ready, or has passed a barrier, goes on to an executable and is Ready
-pub stands_ready : (p : Program) (fs : List Frame) (vss : List Roots) (pc : ℕ) → IsExecutable (inst_at p.insts pc) → Stands p Ready fs vss → Stands p Ready (on_first (with_pc pc) fs) vss
-stands_ready p (f ∷ []) (vars ∷ []) pc exec h = frame_moved p f vars pc exec h
-stands_ready p _ _ pc exec h = absurd h
-
-pub stands_passed : (p : Program) (fs : List Frame) (vss : List Roots) (pc : ℕ) → IsExecutable (inst_at p.insts pc) → Stands p Passed fs vss → Stands p Ready (on_first (with_pc pc) fs) vss
-stands_passed p (f ∷ []) (vars ∷ []) pc exec h = frame_moved p f vars pc exec h.0
-stands_passed p _ _ pc exec h = absurd h
-
-pub stands_left : (p : Program) (fs : List Frame) (vss : List Roots) → Stands p Ready fs vss → Stands p Finished (without_first fs) (without_first vss)
-stands_left p (f ∷ []) (vars ∷ []) h = tt
-stands_left p _ _ h = absurd h
-
-pub stands_register : (p : Program) (t : Status4) (fs : List Frame) (vss : List Roots) (id : ℕ) (v : Value) → Stands p t fs vss → top_reg fs id ≡ Some v → HasShape v
-stands_register p Finished [] [] id v h r = absurd (cc)
-stands_register p Ready (f ∷ []) (vars ∷ []) id v h r = register_read id v f.regs h.register_shapes r
-stands_register p Arrived (f ∷ []) (vars ∷ []) id v h r = register_read id v f.regs h.0.register_shapes r
-stands_register p Passed (f ∷ []) (vars ∷ []) id v h r = register_read id v f.regs h.0.register_shapes r
-stands_register p _ _ _ id v h r = absurd h
-
-pub stands_variables : (p : Program) (t : Status4) (fs : List Frame) (vss : List Roots) (n : ℕ) (vars : Roots) → Stands p t fs vss → slice_get vss n ≡ Some vars → HaveShapes vars
-stands_variables p Finished [] [] n vars h r = absurd (cc)
-stands_variables p Ready (f ∷ []) (vs ∷ []) zero vars h r = let q : vs ≡ vars = cc in subst HaveShapes q h.variable_shapes
-stands_variables p Ready (f ∷ []) (vs ∷ []) (suc n) vars h r = absurd (cc)
-stands_variables p Arrived (f ∷ []) (vs ∷ []) zero vars h r = let q : vs ≡ vars = cc in subst HaveShapes q h.0.variable_shapes
-stands_variables p Arrived (f ∷ []) (vs ∷ []) (suc n) vars h r = absurd (cc)
-stands_variables p Passed (f ∷ []) (vs ∷ []) zero vars h r = let q : vs ≡ vars = cc in subst HaveShapes q h.0.variable_shapes
-stands_variables p Passed (f ∷ []) (vs ∷ []) (suc n) vars h r = absurd (cc)
-stands_variables p _ _ _ n vars h r = absurd h
+-- a function in which an executable stands is one of the module
+pub function_known : (a : Accepted) (function word : ℕ) → Standing a function word → Contains (functions_in a) function
+function_known a function word s =
+    let parts = and_parts (in_function s.stand.position.stage) (s.stand.position.function == function) s.within in
+    let begun : Begun (stands_of a.insts) s.stand.position.function = (rooted a.insts s.stand s.one).function parts.0 in
+    let op = opcode_of_function (sets_of a.insts) begun.stand.inst (sym (class_is a.insts begun.stand begun.one) ∙ begun.class) in
+    let found = function_listed a.insts begun.one.number begun.stand.inst (stand_inst a.insts begun.one.number begun.stand begun.one.is) op in
+    let named : begun.stand.inst.id ≡ function = begun.id ∙ eqb-true s.stand.position.function function parts.1 in
+    at_contains (functions_in a) found.0 function (found.1 ∙ ap (λ (n : ℕ). Some n) named)

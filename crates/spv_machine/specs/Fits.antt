@@ -1,42 +1,43 @@
--- What a state must have for an invocation's event and for an effect to be done on it. No definition of a step speaks of it: these are
--- the conditions of the calls inside a step, and a sound state keeps them.
-use Rattle.std.specs.Prelude.{◌<◌, ℕ, length, IsSome, ⊤, Option, Some, None}
-use Rattle.spv_base.specs.State.{State, frames_of, load_of}
-use Rattle.spv_base.specs.declared.values.Value.{Value}
+-- What an effect that was worked out has, so that it can be done without failing and leaves a sound state. No definition of a step speaks of
+-- it: these are the conditions of calls inside a step.
+use Rattle.std.specs.Prelude.{◌≡◌, ℕ, Option, Some, None, IsSome, ⊤}
+use Rattle.spv_base.specs.Entries.{reads}
+use Rattle.spv_base.specs.declared.instructions.Inst.{Inst}
 use Rattle.spv_base.specs.declared.values.Pointer.{Pointer}
-use Rattle.spv_base.specs.declared.happenings.Status4.{Status4}
-use Rattle.spv_base.specs.declared.happenings.Status4.TheVariants.{Ready, Arrived, Passed, Finished}
-use Rattle.spv_machine.specs.declared.effects.Effect.{Effect}
-use Rattle.spv_machine.specs.Held.{HasTop, HasRegister}
-use Rattle.spv_machine.specs.Step.{put_store, put_register}
+use Rattle.spv_base.specs.declared.values.Value.{Value, out-Value}
+use Rattle.spv_base.specs.declared.values.Value.TheOpen.{Value-F}
+use Rattle.spv_types.specs.Rows.{no_roots}
+use Rattle.spv_types.specs.Shapes.{HasShape}
+use Rattle.spv_mem.specs.Memory.{MayStore, load_of}
+use Rattle.spv_operands.specs.Shapes.{target_in}
+use Rattle.spv_valid.specs.Acceptance.{Accepted}
+use Rattle.spv_machine.specs.Effects.{Effect}
+use Rattle.spv_machine.specs.Program.{Program}
+use Rattle.spv_machine.specs.State.{State}
+use Rattle.spv_machine.specs.declared.effects.Control.{Control}
+use Rattle.spv_machine.specs.declared.effects.Control.TheVariants.{Next, Leave}
 
--- ---- an event
+-- a part that is there, and a value of its type
+abbrev pub StoreFits : State → ℕ → Option (Pointer × Value) → Type 0
+StoreFits s i None = ⊤
+StoreFits s i (Some e) = IsSome (load_of s.memory i e.0) × ∥ MayStore s.memory i e.0 e.1 ∥₁
 
--- an invocation with this status has frames
-abbrev pub HasFrames : Option Status4 → Type 0
-HasFrames (Some Ready) = ⊤
-HasFrames (Some Arrived) = ⊤
-HasFrames (Some Passed) = ⊤
-HasFrames (Some Finished) = ⊥
-HasFrames None = ⊥
+-- a value of the instruction's type: a pointer leads to where this points
+abbrev pub LevelFits : Accepted → ℕ → Value → Value-F Value → Type 0
+LevelFits a ty v (Value-F.Scalar c) = HasShape a.types no_roots ty v
+LevelFits a ty v (Value-F.List vs) = HasShape a.types no_roots ty v
+LevelFits a ty v (Value-F.Ptr q) = HasShape a.types (target_in a) ty v
 
--- ---- an effect: the part of memory, the place of the register, and the frame
+abbrev pub ResultFits : Accepted → Inst → Option Value → Type 0
+ResultFits a d None = ⊤
+ResultFits a d (Some v) = LevelFits a d.ty v (out-Value v)
 
-abbrev pub StoreFits : ℕ → Option (Pointer × Value) → State → Type 0
-StoreFits i None s = ⊤
-StoreFits i (Some e) s = IsSome (load_of s.memory i e.0)
+-- an executable stands behind it in its block
+abbrev pub ControlFits : Accepted → Inst → Control → Type 0
+ControlFits a d Next = (word : ℕ) × (reads d.word a.flow.nexts ≡ Some (Some word))
+ControlFits a d Leave = ⊤
 
-abbrev pub RegisterFits : ℕ → Option (ℕ × Value) → State → Type 0
-RegisterFits i None s = ⊤
-RegisterFits i (Some e) s = HasRegister (frames_of s i) e.0
-
-pub record GoFits (i : ℕ) (s : State) : Type 0 where
-  pub top : HasTop (frames_of s i)
-  pub statuses : i < length s.statuses
-  pub stacks : i < length s.stacks
-  pub locals : i < length s.memory.locals
-
-pub record Fits (i : ℕ) (e : Effect) (s : State) : Type 0 where
-  pub store : StoreFits i e.store s
-  pub register : RegisterFits i e.register (put_store i e.store s)
-  pub control : GoFits i (put_register i e.register (put_store i e.store s))
+pub record Fits (p : Program) (s : State) (i : ℕ) (d : Inst) (e : Effect) : Type 0 where
+  pub store : StoreFits s i e.store
+  pub result : ResultFits p.accepted d e.result
+  pub control : ControlFits p.accepted d e.control

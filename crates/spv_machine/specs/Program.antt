@@ -1,70 +1,42 @@
--- A program: the instructions of an accepted module in the first form, and what a run reads from them.
-use Rattle.std.specs.Prelude.{ℕ, Bool, true, false, map, filter, ◌&&◌, ◌==◌, if◌then◌else◌, nat_lt, List, Option, Result, Ok, Err, find, unwrap_or, option_map}
+-- A program: an accepted module that can be run so far, and the setup that it runs with.
+use Rattle.std.specs.Prelude.{ℕ, ◌*◌, ◌==◌, ◌&&◌, ◌||◌, not, if◌then◌else◌, Bool, true, false, Result, Ok, Err, suc, ◌-◌, length, slice_get}
+use Rattle.std.specs.List.{list_all}
+use Rattle.std.specs.Option.{option_map_or}
 use Rattle.spv_base.specs.declared.causes.Refusal.{Refusal}
 use Rattle.spv_base.specs.declared.instructions.Inst.{Inst}
+use Rattle.spv_index.specs.Positions.{Stand, stands_of}
+use Rattle.spv_setup.specs.declared.settings.Settings.{Settings}
 use Rattle.spv_valid.specs.Acceptance.{Accepted}
-use Rattle.spv_machine.specs.declared.opcodes.Opcode.{Opcode}
-use Rattle.spv_machine.specs.declared.opcodes.Opcode.TheVariants.{Function}
-use Rattle.spv_machine.specs.Opcode.{opcode_of}
-use Rattle.spv_machine.specs.Action.{action_of, is_executable, has_register, is_variable}
-use Rattle.spv_machine.specs.Form as form
+use Rattle.spv_initial.specs.Start.{invocations}
+use Rattle.spv_plans.specs.Members.{is_stop}
+use Rattle.spv_machine.specs.Actions.{action_of}
+use Rattle.spv_machine.specs.declared.actions.Action.{Action}
+use Rattle.spv_machine.specs.declared.actions.Action.TheVariants.{Compute, Load, Store, Return, Other}
 
--- what callers see of a module
+-- what callers see of a module that runs
 pub record Program : Type 0 where
-  pub insts : List Inst
+  pub accepted : Accepted
+  pub setup : Settings
 
--- An accepted module in the first form is a program. Any other is refused at the first instruction's word.
-unfoldable pub program_of : Accepted → Result Program Refusal
-program_of accepted = if form.is_first_form accepted.insts accepted.bound then Ok (record { insts = accepted.insts }) else Err (record { code = 0; word = 5 })
+-- what the machine does so far
+abbrev pub is_done : Action → Bool
+is_done (Compute c) = true
+is_done Load = true
+is_done Store = true
+is_done Return = true
+is_done Other = false
 
--- the entry function's id
-abbrev pub entry_of : Program → ℕ
-entry_of p = form.entry_of p.insts
+-- a run would stop at it, and the machine can't do it yet
+abbrev pub is_open : Stand → Bool
+is_open s = is_stop s && not (is_done (action_of s.inst))
 
--- ---- by id
+-- A module of one invocation runs, if each of its executables can be done. Any other is refused by M0, at the first instruction's word.
+abbrev pub is_built : Accepted → Bool
+is_built a = invocations a == 1 && list_all (λ s. not (is_open s)) (stands_of a.insts)
 
--- the instruction that defines an id
-abbrev pub definition : List Inst → ℕ → Option Inst
-definition insts id = find (form.is_definition id) insts
+unfoldable pub program_of : Accepted → Settings → Result Program Refusal
+program_of a s = if is_built a then Ok (record { accepted = a; setup = s }) else Err (record { code = 0; word = 5 })
 
--- the registers of a frame, and its variables, in the order of the module
-abbrev pub is_register_inst : Inst → Bool
-is_register_inst d = has_register (action_of d)
-
-abbrev pub is_variable_inst : Inst → Bool
-is_variable_inst d = is_variable (action_of d)
-
-abbrev pub registers_of : List Inst → List ℕ
-registers_of insts = map (λ (d : Inst). d.id) (filter is_register_inst insts)
-
-abbrev pub variables_of : List Inst → List ℕ
-variables_of insts = map (λ (d : Inst). d.id) (filter is_variable_inst insts)
-
--- ---- by word
-
--- the instruction at a word
-abbrev pub inst_at : List Inst → ℕ → Option Inst
-inst_at insts word = find (λ (d : Inst). d.word == word) insts
-
--- an executable behind a word
-abbrev pub is_next : ℕ → Inst → Bool
-is_next word d = nat_lt word d.word && is_executable (action_of d)
-
--- the word of the next executable behind a word, and 0 where there is none
-abbrev pub next_of : List Inst → ℕ → ℕ
-next_of insts word = unwrap_or (option_map (λ (d : Inst). d.word) (find (is_next word) insts)) 0
-
--- the word of the OpFunction with this id, and 0 where there is none
-abbrev pub is_function_opcode : Opcode → Bool
-is_function_opcode Function = true
-is_function_opcode _ = false
-
-abbrev pub is_function : ℕ → Inst → Bool
-is_function id d = is_function_opcode (opcode_of d.op) && (d.id == id)
-
-abbrev pub function_word : List Inst → ℕ → ℕ
-function_word insts id = unwrap_or (option_map (λ (d : Inst). d.word) (find (is_function id) insts)) 0
-
--- the first executable of a function; what stands before it is passed
-abbrev pub first_of : List Inst → ℕ → ℕ
-first_of insts id = next_of insts (function_word insts id)
+-- one more than the word of the last instruction
+abbrev pub words_of : Accepted → ℕ
+words_of a = option_map_or (λ (i : Inst). suc i.word) (slice_get a.insts (length a.insts - 1)) 0

@@ -1,86 +1,94 @@
 -- Sound states: what holds at every position of a run.
-use Rattle.std.specs.Prelude.{◌≡◌, ℕ, List, [], ◌∷◌, length, map, Option, Some, None, ⊤}
-use Rattle.spv_base.specs.Lane.{Lane, IsLane}
-use Rattle.spv_base.specs.State.{State, Frame, Roots, Registers}
-use Rattle.spv_base.specs.declared.values.Value.{Value, out-Value}
-use Rattle.spv_base.specs.declared.values.Value.TheOpen.{Value-F}
-use Rattle.spv_base.specs.declared.happenings.Status4.{Status4}
-use Rattle.spv_base.specs.declared.happenings.Status4.TheVariants.{Ready, Arrived, Passed, Finished}
-use Rattle.spv_machine.specs.Program.{Program, entry_of, registers_of, variables_of, inst_at}
-use Rattle.spv_machine.specs.Effect.{int_width}
-use Rattle.spv_machine.specs.Valid.{IsExecutable, GoesOn}
-use Rattle.spv_machine.specs.Step.{Outcome, Idles, Moves, Faults}
-
--- ---- shapes
-
--- A value of the integer type is a scalar of 32 bits: its number is below 2 ^ 32, and 0 where it is undefined.
-abbrev pub IsInt : Lane → Type 0
-IsInt c = (c.width ≡ int_width) × IsLane c
-
-abbrev pub IsIntLevel : Value-F Value → Type 0
-IsIntLevel (Value-F.Scalar c) = IsInt c
-IsIntLevel (Value-F.List vs) = ⊥
-IsIntLevel (Value-F.Ptr q) = ⊥
-
--- all values of the form are of the integer type
-abbrev pub HasShape : Value → Type 0
-HasShape v = IsIntLevel (out-Value v)
-
-abbrev pub HasShapeIfAny : Option Value → Type 0
-HasShapeIfAny None = ⊤
-HasShapeIfAny (Some v) = HasShape v
-
-abbrev pub HaveShapes : Roots → Type 0
-HaveShapes [] = ⊤
-HaveShapes (e ∷ es) = HasShape e.1 × HaveShapes es
-
-abbrev pub RegistersHaveShapes : Registers → Type 0
-RegistersHaveShapes [] = ⊤
-RegistersHaveShapes (e ∷ es) = HasShapeIfAny e.1 × RegistersHaveShapes es
+use Rattle.std.specs.Prelude.{◌≡◌, ◌↔◌, ℕ, suc, true, List, [], length, map, Option, Some, None, slice_get, ⊤}
+use Rattle.std.specs.List.{AllZip, Contains}
+use Rattle.spv_base.specs.State.{Roots}
+use Rattle.spv_base.specs.declared.instructions.Inst.{Inst}
+use Rattle.spv_base.specs.declared.values.Pointer.{Pointer}
+use Rattle.spv_base.specs.declared.values.Value.{Value}
+use Rattle.spv_index.specs.Definitions.{at}
+use Rattle.spv_index.specs.Operands.{id_operand}
+use Rattle.spv_index.specs.Positions.{Stand}
+use Rattle.spv_valid.specs.Acceptance.{Accepted}
+use Rattle.spv_mem.specs.Memory.{Held as Memory, Levels}
+use Rattle.spv_initial.specs.Start.{variables}
+use Rattle.spv_initial.specs.Variables.{targets_of}
+use Rattle.spv_frame.specs.Frames.{Held as Frame}
+use Rattle.spv_frame.specs.Registers.{ids}
+use Rattle.spv_frame.specs.Stacks.{Stacked, top}
+use Rattle.spv_plans.specs.Members.{is_stop, members}
+use Rattle.spv_plans.specs.Plans.{plan_of, plans_in}
+use Rattle.spv_operands.specs.Shapes.{AreShaped}
+use Rattle.spv_statuses.specs.declared.invocations.Status.{Status}
+use Rattle.spv_statuses.specs.declared.invocations.Status.TheVariants.{Ready, Arrived, Passed, Finished}
+use Rattle.spv_machine.specs.Program.{Program, words_of}
+use Rattle.spv_machine.specs.State.{State}
+use Rattle.spv_machine.specs.Step.{frame_roots}
 
 -- ---- frames
 
--- A frame is of the entry function, stands at an executable, and has exactly the registers and the variables of its
--- function, each value of the shape of its type. It has passed no debug events, since the form has none.
-pub record IsSoundFrame (p : Program) (f : Frame) (vars : Roots) : Type 0 where
-  pub function : f.function ≡ entry_of p
-  pub executable : IsExecutable (inst_at p.insts f.pc)
-  pub registers : map (λ (e : ℕ × Option Value). e.0) f.regs ≡ registers_of p.insts
-  pub variables : map (λ (e : ℕ × Value). e.0) vars ≡ variables_of p.insts
-  pub register_shapes : RegistersHaveShapes f.regs
-  pub variable_shapes : HaveShapes vars
-  pub events : f.events ≡ []
+-- an executable of a function begins at a word
+pub record StandsIn (a : Accepted) (function word : ℕ) : Type 0 where
+  pub stand : Stand
+  pub among : Contains (members a.insts function) stand
+  pub here : stand.inst.word ≡ word
+  pub stops : is_stop stand ≡ true
 
--- An invocation is Finished exactly where it has no frames. One that waits at a barrier, or has passed it, stands at an
--- instruction from which control goes on.
-abbrev pub Stands : Program → Status4 → List Frame → List Roots → Type 0
-Stands p Finished [] [] = ⊤
-Stands p Ready (f ∷ []) (vars ∷ []) = IsSoundFrame p f vars
-Stands p Arrived (f ∷ []) (vars ∷ []) = IsSoundFrame p f vars × GoesOn (inst_at p.insts f.pc)
-Stands p Passed (f ∷ []) (vars ∷ []) = IsSoundFrame p f vars × GoesOn (inst_at p.insts f.pc)
-Stands p _ _ _ = ⊥
+-- a frame has a place for each register of its plan
+pub record HasPlaces (f : Frame) : Type 0 where
+  pub values : map (λ (e : ℕ × Option Value). e.0) f.values ≡ ids f.plan.values
+  pub pointers : map (λ (e : ℕ × Option Pointer). e.0) f.pointers ≡ f.plan.pointers
+
+-- A frame has the registers of its function, each with a value of the shape of its type if it has one, and stands at an executable of the
+-- function.
+pub record IsSoundFrame (a : Accepted) (f : Frame) : Type 0 where
+  pub plan : f.plan ≡ plan_of a f.plan.function
+  pub places : HasPlaces f
+  pub stands : StandsIn a f.plan.function f.pc
+  pub shaped : AreShaped a f
+
+-- a frame has exactly the variables of its function
+abbrev pub HasVariables : Accepted → Frame → Roots → Type 0
+HasVariables a f es = map (λ (e : ℕ × Value). e.0) es ≡ map (λ (e : ℕ × Value). e.0) (frame_roots a f.plan.function)
+
+-- ---- invocations
+
+-- an OpFunctionCall (57) of a function stands at a word
+abbrev pub IsCallOf : Accepted → ℕ → ℕ → Type 0
+IsCallOf a word function = (d : Inst) × (at a.insts word ≡ Some d) × (d.op ≡ 57) × (id_operand d 0 ≡ Some function)
+
+-- an OpControlBarrier (224) stands at a word
+abbrev pub IsBarrier : Accepted → ℕ → Type 0
+IsBarrier a word = (d : Inst) × (at a.insts word ≡ Some d) × (d.op ≡ 224)
+
+-- an invocation that waits at a barrier, or has passed it, stands there
+abbrev pub StandsAs : Accepted → Status → Frame → Type 0
+StandsAs a Ready f = ⊤
+StandsAs a (Arrived word) f = (f.pc ≡ word) × IsBarrier a word
+StandsAs a Passed f = IsBarrier a f.pc
+StandsAs a Finished f = ⊤
+
+pub record IsSoundStack (a : Accepted) (t : Status) (k : Stacked) (l : Levels) : Type 0 where
+  pub room : k.room ≡ a.depth
+  pub levels : l.room ≡ a.depth
+  -- it is Finished exactly where it has no frames
+  pub finished : (t ≡ Finished) ↔ (k.frames ≡ [])
+  pub frames : (depth : ℕ) (f : Frame) → slice_get k.frames depth ≡ Some f → IsSoundFrame a f
+  pub variables : AllZip (HasVariables a) k.frames l.list
+  -- its first frame is one of the entry function, and a frame below another stands at the call of the other's function
+  pub first : (f : Frame) → slice_get k.frames 0 ≡ Some f → f.plan.function ≡ a.entry
+  pub calls : (depth : ℕ) (f g : Frame) → slice_get k.frames depth ≡ Some f → slice_get k.frames (suc depth) ≡ Some g → IsCallOf a f.pc g.plan.function
+  pub waits : (f : Frame) → top k.frames ≡ Some f → StandsAs a t f
 
 -- ---- states
 
--- no root of the form is shared or private
-abbrev pub AreEmpty : List Roots → Type 0
-AreEmpty [] = ⊤
-AreEmpty (r ∷ rs) = (r ≡ []) × AreEmpty rs
-
--- each invocation stands with its status, its frames and their variables
-abbrev pub AllStand : Program → List Status4 → List (List Frame) → List (List Roots) → Type 0
-AllStand p [] [] [] = ⊤
-AllStand p (t ∷ ts) (fs ∷ fss) (vs ∷ vss) = Stands p t fs vs × AllStand p ts fss vss
-AllStand p _ _ _ = ⊥
-
+-- the plans and the variables are those of the module; the memory keeps the shapes of all variables by itself
 pub record IsSound (p : Program) (s : State) : Type 0 where
-  pub shared : s.memory.shared ≡ []
-  pub privates_paired : length s.memory.privates ≡ length s.statuses
-  pub privates : AreEmpty s.memory.privates
-  pub stand : AllStand p s.statuses s.stacks s.memory.locals
-
--- a step leads to a sound state, with as many invocations
-abbrev pub LeadsSoundly : Program → State → Outcome → Type 0
-LeadsSoundly p s Idles = ⊤
-LeadsSoundly p s (Moves h t) = IsSound p t × (length t.statuses ≡ length s.statuses) × (length t.stacks ≡ length s.stacks)
-LeadsSoundly p s (Faults f) = ⊤
+  pub plans : s.plans ≡ plans_in p.accepted
+  pub types : s.memory.types ≡ p.accepted.types
+  pub targets : s.memory.targets ≡ targets_of (variables p.accepted)
+  pub words : s.statuses.words ≡ words_of p.accepted
+  pub stacks : length s.stacks ≡ length s.statuses.list
+  pub levels : length s.memory.locals ≡ length s.statuses.list
+  pub privates : length s.memory.privates ≡ length s.statuses.list
+  pub each : (i : ℕ) (t : Status) (k : Stacked) (l : Levels) → slice_get s.statuses.list i ≡ Some t → slice_get s.stacks i ≡ Some k
+      → slice_get s.memory.locals i ≡ Some l → IsSoundStack p.accepted t k l

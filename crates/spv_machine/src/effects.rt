@@ -1,194 +1,78 @@
 //! What an instruction does to a world, before any of it is done.
-ghost use Rattle.std.specs.Prelude.{◌≡◌, ◌<◌, ℕ, [], ◌∷◌, length, Ok, ok_or, Some, option_copied};
-ghost use Rattle.spv_base.specs.Answers.{Answers};
-ghost use Rattle.spv_base.specs.State as state;
-ghost use Rattle.spv_machine.specs.Effect as effect;
-ghost use Rattle.spv_machine.specs.Action as action;
+ghost use Rattle.std.specs.Prelude.{◌≡◌, ◌<◌, IfOk, Some, length};
+ghost use Rattle.spv_index.specs.Definitions.{at};
+ghost use Rattle.spv_machine.specs.Planned.{IsDue, IsTaken, PlannedFits};
+ghost use Rattle.spv_machine.specs.Effects as spec;
+ghost use Rattle.spv_machine.specs.Sound.{IsSound};
+ghost use Rattle.spv_machine.specs.State as state;
 
-use crate::actions::{Action, action_of};
-use crate::lanes;
+use crate::accesses::{load, store};
+use crate::actions::Action;
+use crate::causes::Cause;
+use crate::computing::compute;
 use crate::runnable::Runnable;
-use crate::world::World;
-use spv_base::{Cell, Fail, Inst, NoMemory, Path, Pointer, Root, Value};
+use crate::sites::Site;
+use crate::whole::Whole;
+use spv_base::{Fail, Inst, Pointer};
+use spv_frame::Frame;
+use spv_values::Row;
 use std::alloc::Global;
 
 /// Where control goes.
 #[derive(Clone, Copy, Debug, PartialEq, Eq)]
 pub enum Control {
-    /// To the instruction with this word number.
-    Goto(u32),
+    /// To the next executable of the block.
+    Next,
     /// Out of the function.
     Leave,
 }
 
-/// What an instruction does.
+/// What the register of the instruction takes.
+#[derive(Drop)]
+pub enum Gain {
+    Nothing,
+    /// The value in the row at hand.
+    Row,
+    Pointer(Pointer),
+}
+
+/// What an instruction does. A value that it stores, or that its register takes, lies in a row beside it.
 #[derive(Drop)]
 pub struct Effect {
-    /// The part of memory that is set, and its new value.
-    pub store: Option<(Pointer, Value)>,
-    /// The register that is set, and its new value.
-    pub register: Option<(u32, Value)>,
+    /// Where memory is set.
+    pub store: Option<Pointer>,
+    pub gain: Gain,
     pub control: Control,
 }
 
-/// The value of an operand, or fault 4.
-fn operand(alloc: Global, m: &Runnable, w: &World, inv: u32, id: u32) -> Result<Value, Fail<u8>>
-    requires { inv < length w.now.stacks }
-    ensures { Answers (effect.operand m.now w.now inv id) result }
-{
-    let register = match m.action_for(id) {
-        Action::Constant(word) => {
-            return Ok(Value::Scalar(Cell {
-                bits: u64::from(word),
-                width: 32,
-                defined: true,
-            }));
-        }
-        Action::Variable => {
-            let depth = w.stack(inv).depth().saturating_sub(1);
-            return Ok(Value::Ptr(Pointer {
-                root: Root::Local { depth, id },
-                path: Path::new(alloc),
-            }));
-        }
-        Action::Load(_) | Action::IAdd(_, _) => w.stack(inv).register(id),
-        Action::Store(_, _) | Action::Return | Action::Other => None,
-    };
-    match register {
-        Some(value) => Ok(value.copy(alloc)?),
-        None => Err(Fail::Refused(4)),
-    }
-}
-
-/// The scalar of a value.
-fn cell_of(value: &Value) -> Cell
-    ensures { result ≡ effect.lane_of value.now }
-{
-    match value {
-        Value::Scalar(cell) => *cell,
-        Value::List(_) | Value::Ptr(_) => Cell {
-            bits: 0,
-            width: 32,
-            defined: false,
-        },
-    }
-}
-
-/// The pointer that a value is, or fault 3.
-fn pointer_of(value: Value) -> Result<Pointer, Fail<u8>>
-    ensures { Answers (ok_or (effect.pointer_of value) 3) result }
-{
-    match value {
-        Value::Ptr(pointer) => Ok(pointer),
-        Value::Scalar(_) | Value::List(_) => Err(Fail::Refused(3)),
-    }
-}
-
-/// The part of memory that a pointer names, or fault 3.
-fn loaded(alloc: Global, w: &World, inv: u32, pointer: &Pointer) -> Result<Value, Fail<u8>>
-    ensures { Answers (effect.loaded w.now inv pointer.now) result }
-{
-    match w.load(inv, pointer) {
-        Some(value) => Ok(value.copy(alloc)?),
-        None => Err(Fail::Refused(3)),
-    }
-}
-
-/// A result, and on to the next executable.
-fn result_effect(m: &Runnable, pc: u32, id: u32, value: Value) -> Effect
-    ensures { result ≡ effect.result_effect m.now pc id value }
-{
-    Effect {
-        store: None,
-        register: Some((id, value)),
-        control: Control::Goto(m.next(pc)),
-    }
-}
-
-fn load(
+/// What an instruction does at which the top frame of an invocation stands, or why it faults. What it does can be done.
+pub fn effect_at(
     alloc: Global,
     m: &Runnable,
-    w: &World,
+    w: &Whole,
     inv: u32,
-    pc: u32,
-    id: u32,
-    at: u32,
-) -> Result<Effect, Fail<u8>>
-    requires { inv < length w.now.stacks }
-    ensures { Answers (effect.load_effect m.now w.now inv pc id at) result }
-{
-    let at = operand(alloc, m, w, inv, at)?;
-    let pointer = pointer_of(at)?;
-    let value = loaded(alloc, w, inv, &pointer)?;
-    Ok(result_effect(m, pc, id, value))
-}
-
-fn store(
-    alloc: Global,
-    m: &Runnable,
-    w: &World,
-    inv: u32,
-    pc: u32,
-    at: u32,
-    object: u32,
-) -> Result<Effect, Fail<u8>>
-    requires { inv < length w.now.stacks }
-    ensures { Answers (effect.store_effect m.now w.now inv pc at object) result }
-{
-    let at = operand(alloc, m, w, inv, at)?;
-    let value = operand(alloc, m, w, inv, object)?;
-    let pointer = pointer_of(at)?;
-    match w.load(inv, &pointer) {
-        Some(_) => Ok(Effect {
-            store: Some((pointer, value)),
-            register: None,
-            control: Control::Goto(m.next(pc)),
-        }),
-        None => Err(Fail::Refused(3)),
-    }
-}
-
-fn add(
-    alloc: Global,
-    m: &Runnable,
-    w: &World,
-    inv: u32,
-    pc: u32,
-    id: u32,
-    a: u32,
-    b: u32,
-) -> Result<Effect, Fail<u8>>
-    requires { inv < length w.now.stacks }
-    ensures { Answers (effect.add_effect m.now w.now inv pc id a b) result }
-{
-    let a = operand(alloc, m, w, inv, a)?;
-    let b = operand(alloc, m, w, inv, b)?;
-    let sum = lanes::sum(cell_of(&a), cell_of(&b));
-    Ok(result_effect(m, pc, id, Value::Scalar(sum)))
-}
-
-/// What an instruction at a word does, or the code of its fault.
-pub fn effect_of(
-    alloc: Global,
-    m: &Runnable,
-    w: &World,
-    inv: u32,
-    pc: u32,
+    frame: &Frame,
     inst: &Inst,
-) -> Result<Effect, Fail<u8>>
-    requires { inv < length w.now.stacks }
-    ensures { Answers (effect.effect_of m.now w.now inv pc inst.now) result }
+    row: &mut Row,
+) -> Result<Effect, Fail<Cause>>
+    requires inv { inv < length w.now.stacks }
+    requires sound { IsSound m.now w.now }
+    requires frame { state.top_of w.now inv ≡ Some frame.now }
+    requires inst { at m.now.accepted.insts frame.now.pc ≡ Some inst.now }
+    ensures due { IsDue (spec.effect_of m.now w.now inv frame.now inst.now) row.new result }
+    ensures fits { PlannedFits m.now w.now inv inst.now row.new result }
+    ensures taken { IfOk result (λ e. IsTaken e.store e.gain row.new) }
 {
-    let id = inst.id;
-    match action_of(inst) {
-        Action::Load(at) => load(alloc, m, w, inv, pc, id, at),
-        Action::Store(at, object) => store(alloc, m, w, inv, pc, at, object),
-        Action::IAdd(a, b) => add(alloc, m, w, inv, pc, id, a, b),
+    let site = Site::of(alloc, m, w, inv, frame, inst);
+    match Action::of(inst) {
+        Action::Compute(computation) => compute(&site, computation, row),
+        Action::Load => load(&site, row),
+        Action::Store => store(&site, row),
         Action::Return => Ok(Effect {
             store: None,
-            register: None,
+            gain: Gain::Nothing,
             control: Control::Leave,
         }),
-        Action::Constant(_) | Action::Variable | Action::Other => Err(Fail::Refused(0)),
+        Action::Other => Err(Fail::Refused(Cause::Unreachable)),
     }
 }

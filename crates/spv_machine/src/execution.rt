@@ -1,19 +1,27 @@
 //! One step of an invocation.
-ghost use Rattle.std.specs.Prelude.{◌≡◌, ◌<◌, ◌+◌, ℕ, length, IfOk, Ok, Some, IsSome, slice_get};
-ghost use Rattle.spv_base.specs.Answers.{Answers};
-ghost use Rattle.spv_base.specs.State as state;
-ghost use Rattle.spv_base.specs.declared.happenings.Status4.{Status4 as StatusType};
-ghost use Rattle.spv_machine.specs.Held as held;
-ghost use Rattle.spv_machine.specs.Program as program;
-ghost use Rattle.spv_machine.specs.Step as spec;
-ghost use Rattle.spv_machine.specs.Fits.{HasFrames, StoreFits, RegisterFits, GoFits, Fits};
+ghost use Rattle.std.specs.Prelude.{◌≡◌, ◌<◌, ◌+◌, ℕ, IfOk, None, Some, length, slice_get};
+ghost use Rattle.std.specs.Option.{option_map};
+ghost use Rattle.spv_base.specs.Entries.{reads};
+ghost use Rattle.spv_base.specs.declared.values.Value.{Value};
 ghost use Rattle.spv_machine.specs.Does.{Does};
-ghost use Rattle.spv_machine.specs.Sound.{IsSound, LeadsSoundly};
+ghost use Rattle.spv_machine.specs.Effects.{code_of};
+ghost use Rattle.spv_machine.specs.Fits.{ControlFits, Fits, ResultFits, StoreFits};
+ghost use Rattle.spv_machine.specs.Planned.{IsTaken, PlannedFits, gained, shown};
+ghost use Rattle.spv_machine.specs.Reached.{IsReached, IsStepBy};
+ghost use Rattle.spv_machine.specs.Sound.{IsSound};
+ghost use Rattle.spv_machine.specs.Step as spec;
 
-use crate::effects::{Control, Effect, effect_of};
+use crate::causes::Cause;
+use crate::effects::{Control, Effect, Gain, effect_at};
 use crate::runnable::Runnable;
+use crate::whole::Whole;
 use crate::world::World;
-use spv_base::{Fail, Fault, Happening, Kind, NoMemory, Pointer, Status4, Steps, Value};
+use spv_base::{Cell, Fail, Fault, Happening, Inst, Kind, NoMemory, Pointer, Root, Steps};
+use spv_index::literal_operand;
+use spv_ops::storage_class;
+use spv_statuses::Status;
+use spv_valid::Module;
+use spv_values::Row;
 use std::alloc::Global;
 use std::sync::ledger::Ledger;
 
@@ -32,9 +40,9 @@ pub enum StepErr {
     NoMemory,
 }
 
-/// An event of this form: no instruction writes shared memory or arrives at a barrier, and the line is the debug layer's.
+/// An event that writes nothing that all invocations see.
 fn plain(inv: u32, word: u32) -> Happening
-    ensures { result ≡ spec.happening_of inv word }
+    ensures { result ≡ spec.plain inv word }
 {
     Happening {
         inv,
@@ -45,126 +53,235 @@ fn plain(inv: u32, word: u32) -> Happening
     }
 }
 
-fn put_store(w: &mut World, inv: u32, store: Option<(Pointer, Value)>)
-    requires { StoreFits inv store w.old }
-    ensures { w.new ≡ spec.put_store inv store w.old }
+/// Whether a variable is one that all invocations see and write: of the class StorageBuffer or Workgroup.
+fn is_written(accepted: &Module, id: u32) -> bool
+    ensures { result ≡ spec.is_written accepted.now id }
 {
-    if let Some((pointer, value)) = store {
-        w.store(inv, &pointer, value);
+    let Some(inst) = accepted.defining(id) else {
+        return false;
+    };
+    match literal_operand(inst, 0) {
+        Some(class) => {
+            class == storage_class::STORAGE_BUFFER || class == storage_class::WORKGROUP
+        }
+        None => false,
     }
 }
 
-fn put_register(w: &mut World, inv: u32, register: Option<(u32, Value)>)
-    requires { RegisterFits inv register w.old }
-    ensures { w.new ≡ spec.put_register inv register w.old }
+/// The event of a store in a variable.
+fn written(accepted: &Module, inv: u32, word: u32, root: Root) -> Happening
+    ensures { result ≡ spec.written accepted.now inv word root }
 {
-    if let Some((id, value)) = register {
-        w.set_register(inv, id, value);
+    match root {
+        Root::Shared(id) if is_written(accepted, id) => Happening {
+            inv,
+            kind: Kind::Write,
+            word,
+            root: id,
+            line: 0,
+        },
+        _ => plain(inv, word),
     }
 }
 
-fn go(w: &mut World, inv: u32, control: Control)
-    requires { GoFits inv w.old }
-    ensures { w.new ≡ spec.go inv control w.old }
+/// The event of an effect.
+fn happening(accepted: &Module, inv: u32, word: u32, effect: &Effect) -> Happening
+    ensures { (v : Value) → result ≡ spec.happening_of accepted.now inv word (shown effect.now v).store }
+{
+    match &effect.store {
+        Some(pointer) => written(accepted, inv, word, pointer.root),
+        None => plain(inv, word),
+    }
+}
+
+/// The fault at an instruction.
+fn fault(cause: Cause, inv: u32, word: u32) -> Fault
+    ensures { result ≡ record { code = code_of cause; inv = inv; word = word } }
+{
+    Fault {
+        code: cause.code(),
+        inv,
+        word,
+    }
+}
+
+/// Puts the value of a row where a store leads; the old one is in the row then.
+fn put_store(whole: &mut Whole, inv: u32, store: Option<Pointer>, row: &mut Row)
+    requires { StoreFits whole.old inv (option_map (λ q. (q, row.old)) store) }
+    ensures store { whole.new ≡ spec.put_store inv (option_map (λ q. (q, row.old)) store) whole.old }
+    ensures row { store ≡ None → row.new ≡ row.old }
+{
+    if let Some(pointer) = store {
+        whole.store(inv, &pointer, row);
+    }
+}
+
+/// Gives the register of an instruction what it takes.
+fn put_result(m: &Runnable, whole: &mut Whole, inv: u32, inst: &Inst, gain: Gain, row: &mut Row)
+    requires reached { IsReached m.now whole.old inv inst.now }
+    requires fits { ResultFits m.now.accepted inst.now (gained gain row.old) }
+    requires taken { IsTaken None gain row.old }
+    ensures { whole.new ≡ spec.put_result inv inst.now.id (gained gain row.old) whole.old }
+{
+    let accepted = m.accepted();
+    let _insts = accepted.insts();
+    match gain {
+        Gain::Nothing => {}
+        Gain::Row => whole.set_value(accepted, inv, inst.id, row),
+        Gain::Pointer(pointer) => whole.set_pointer(accepted, inv, inst.id, pointer),
+    }
+}
+
+/// The executable behind the one at a word, which is there.
+fn word_behind(accepted: &Module, pc: u32) -> u32
+    requires { (word : ℕ) × (reads pc accepted.now.flow.nexts ≡ Some (Some word)) }
+    ensures { result ≡ spec.next_of accepted.now pc }
+{
+    match accepted.next(pc) {
+        Some(word) => word,
+        None => unreachable!(),
+    }
+}
+
+/// Goes on to the next executable, or out of the function.
+fn go(m: &Runnable, whole: &mut Whole, inv: u32, inst: &Inst, control: Control)
+    requires reached { IsReached m.now whole.old inv inst.now }
+    requires fits { ControlFits m.now.accepted inst.now control }
+    ensures { whole.new ≡ spec.go m.now.accepted inv control whole.old }
 {
     match control {
-        Control::Goto(pc) => w.set_pc(inv, pc),
+        Control::Next => whole.set_pc(inv, word_behind(m.accepted(), inst.word)),
         Control::Leave => {
-            w.leave(inv);
-            w.set_status(inv, Status4::Finished);
+            whole.leave(inv);
+            whole.set_status(inv, Status::Finished);
         }
     }
 }
 
 /// Does an effect. It takes no memory and can't fail.
-fn apply(w: &mut World, inv: u32, effect: Effect)
-    requires { Fits inv effect w.old }
-    ensures { w.new ≡ spec.apply inv effect w.old }
+fn apply(m: &Runnable, whole: &mut Whole, inv: u32, inst: &Inst, effect: Effect, row: &mut Row)
+    requires reached { IsReached m.now whole.old inv inst.now }
+    requires fits { Fits m.now whole.old inv inst.now (shown effect row.old) }
+    requires taken { IsTaken effect.store effect.gain row.old }
+    ensures { whole.new ≡ spec.apply m.now.accepted inv inst.now.id (shown effect row.old) whole.old }
 {
+    let _insts = m.accepted().insts();
     let Effect {
         store,
-        register,
+        gain,
         control,
     } = effect;
-    put_store(w, inv, store);
-    put_register(w, inv, register);
-    go(w, inv, control);
+    put_store(whole, inv, store, row);
+    put_result(m, whole, inv, inst, gain, row);
+    go(m, whole, inv, inst, control);
 }
 
-/// The word at which an invocation stands that is not finished.
-fn word_of(m: &Runnable, w: &World, inv: u32) -> u32
-    requires inv { inv < length w.now.statuses }
-    requires sound { IsSound m.now w.now }
-    requires stands { HasFrames (slice_get w.now.statuses inv) }
-    ensures { state.top_pc (state.frames_of w.now inv) ≡ Some result }
+/// The instruction that a Ready invocation has reached.
+fn reached<'a>(m: &'a Runnable, whole: &Whole, inv: u32) -> &'a Inst
+    requires inv { inv < length whole.now.statuses.list }
+    requires ready { slice_get whole.now.statuses.list inv ≡ Some Status.Ready }
+    requires sound { IsSound m.now whole.now }
+    ensures { IsReached m.now whole.now inv result.now }
 {
-    match w.stack(inv).pc() {
-        Some(pc) => pc,
+    let accepted = m.accepted();
+    let _insts = accepted.insts();
+    let Some(frame) = whole.top(inv) else {
+        unreachable!();
+    };
+    match accepted.at(frame.pc()) {
+        Some(inst) => inst,
         None => unreachable!(),
     }
 }
 
-/// What the next event of a Ready invocation does, or the code of its fault. What it does may be done.
-fn due(alloc: Global, m: &Runnable, w: &World, inv: u32, pc: u32) -> Result<Effect, Fail<u8>>
-    requires inv { inv < length w.now.statuses }
-    requires ready { slice_get w.now.statuses inv ≡ Some Status4.Ready }
-    requires pc { state.top_pc (state.frames_of w.now inv) ≡ Some pc }
-    requires sound { IsSound m.now w.now }
-    ensures due { Answers (spec.due_of m.now w.now inv pc) result }
-    ensures fits { IfOk result (λ effect. Fits inv effect w.now) }
+/// What the instruction does that a Ready invocation has reached, or why it faults.
+fn due(
+    alloc: Global,
+    m: &Runnable,
+    whole: &Whole,
+    inv: u32,
+    inst: &Inst,
+    row: &mut Row,
+) -> Result<Effect, Fail<Cause>>
+    requires inv { inv < length whole.now.statuses.list }
+    requires reached { IsReached m.now whole.now inv inst.now }
+    ensures due { IsStepBy m.now whole.now inv inst.now row.new result }
+    ensures fits { PlannedFits m.now whole.now inv inst.now row.new result }
+    ensures taken { IfOk result (λ e. IsTaken e.store e.gain row.new) }
 {
-    match m.inst_at(pc) {
-        Some(inst) => effect_of(alloc, m, w, inv, pc, inst),
+    match whole.top(inv) {
+        Some(frame) => effect_at(alloc, m, whole, inv, frame, inst, row),
         None => unreachable!(),
     }
 }
 
 /// The event of a Ready invocation.
-fn ready(alloc: Global, m: &Runnable, w: &mut World, inv: u32) -> Result<Did, StepErr>
-    requires inv { inv < length w.old.statuses }
-    requires ready { slice_get w.old.statuses inv ≡ Some Status4.Ready }
-    requires sound { IsSound m.now w.old }
-    ensures { Does (spec.step_of m.now w.old inv) result w.old w.new }
+fn ready(
+    alloc: Global,
+    m: &Runnable,
+    whole: &mut Whole,
+    inv: u32,
+    row: &mut Row,
+) -> Result<Did, StepErr>
+    requires inv { inv < length whole.old.statuses.list }
+    requires ready { slice_get whole.old.statuses.list inv ≡ Some Status.Ready }
+    requires sound { IsSound m.now whole.old }
+    ensures does { Does (spec.step_of m.now whole.old inv) result whole.old whole.new }
+    ensures sound { IsSound m.now whole.new }
+    ensures invocations { length whole.new.statuses.list ≡ length whole.old.statuses.list }
 {
-    let pc = word_of(m, w, inv);
-    match due(alloc, m, w, inv, pc) {
+    let accepted = m.accepted();
+    let _insts = accepted.insts();
+    let inst = reached(m, whole, inv);
+    match due(alloc, m, whole, inv, inst, row) {
         Ok(effect) => {
-            apply(w, inv, effect);
-            Ok(Did::Moved(plain(inv, pc)))
+            let happening = happening(accepted, inv, inst.word, &effect);
+            apply(m, whole, inv, inst, effect, row);
+            Ok(Did::Moved(happening))
         }
-        Err(Fail::Refused(code)) => Err(StepErr::Fault(Fault {
-            code,
-            inv,
-            word: pc,
-        })),
+        Err(Fail::Refused(cause)) => Err(StepErr::Fault(fault(cause, inv, inst.word))),
         Err(Fail::NoMemory) => Err(StepErr::NoMemory),
     }
 }
 
-/// The event of a Passed invocation.
-fn pass(m: &Runnable, w: &mut World, inv: u32) -> Did
-    requires inv { inv < length w.old.statuses }
-    requires passed { slice_get w.old.statuses inv ≡ Some Status4.Passed }
-    requires sound { IsSound m.now w.old }
-    ensures { Does (spec.step_of m.now w.old inv) (Ok result) w.old w.new }
+/// The event of a Passed invocation: it moves past the barrier.
+fn pass(m: &Runnable, whole: &mut Whole, inv: u32) -> Did
+    requires inv { inv < length whole.old.statuses.list }
+    requires passed { slice_get whole.old.statuses.list inv ≡ Some Status.Passed }
+    requires sound { IsSound m.now whole.old }
+    ensures does { Does (spec.step_of m.now whole.old inv) (Ok result) whole.old whole.new }
+    ensures sound { IsSound m.now whole.new }
+    ensures invocations { length whole.new.statuses.list ≡ length whole.old.statuses.list }
 {
-    let pc = word_of(m, w, inv);
-    w.set_pc(inv, m.next(pc));
-    w.set_status(inv, Status4::Ready);
+    let accepted = m.accepted();
+    let _insts = accepted.insts();
+    let Some(frame) = whole.top(inv) else {
+        unreachable!();
+    };
+    let pc = frame.pc();
+    whole.set_pc(inv, word_behind(accepted, pc));
+    whole.set_status(inv, Status::Ready);
     Did::Moved(plain(inv, pc))
 }
 
 /// The event of an invocation, not counted.
-fn event(alloc: Global, m: &Runnable, w: &mut World, inv: u32) -> Result<Did, StepErr>
-    requires inv { inv < length w.old.statuses }
-    requires sound { IsSound m.now w.old }
-    ensures { Does (spec.step_of m.now w.old inv) result w.old w.new }
+fn event(
+    alloc: Global,
+    m: &Runnable,
+    whole: &mut Whole,
+    inv: u32,
+    row: &mut Row,
+) -> Result<Did, StepErr>
+    requires inv { inv < length whole.old.statuses.list }
+    requires sound { IsSound m.now whole.old }
+    ensures does { Does (spec.step_of m.now whole.old inv) result whole.old whole.new }
+    ensures sound { IsSound m.now whole.new }
+    ensures invocations { length whole.new.statuses.list ≡ length whole.old.statuses.list }
 {
-    match w.status(inv) {
-        Status4::Ready => ready(alloc, m, w, inv),
-        Status4::Passed => Ok(pass(m, w, inv)),
-        Status4::Arrived => Ok(Did::Idle),
-        Status4::Finished => Ok(Did::Idle),
+    match whole.statuses().get(inv) {
+        Status::Ready => ready(alloc, m, whole, inv, row),
+        Status::Passed => Ok(pass(m, whole, inv)),
+        Status::Arrived(_) | Status::Finished => Ok(Did::Idle),
     }
 }
 
@@ -177,52 +294,53 @@ pub fn step<L: Ledger>(
     inv: u32,
     steps: &mut Steps<L>,
 ) -> Result<Did, StepErr>
-    requires inv { inv < length w.old.statuses }
+    requires inv { inv < length w.old.statuses.list }
     requires sound { IsSound m.now w.old }
     ensures does { Does (spec.step_of m.now w.old inv) result w.old w.new }
     ensures sound { IsSound m.now w.new }
+    ensures invocations { length w.new.statuses.list ≡ length w.old.statuses.list }
     ensures count { steps.new ≡ steps.old + 1 }
 {
     steps.tick();
-    step_sound(m);
-    event(alloc, m, w, inv)
+    let World { whole, row } = w;
+    event(alloc, m, whole, inv, row)
 }
 
-/// The fault of an invocation's next event, if it faults. It counts no step.
-pub fn fault_of(alloc: Global, m: &Runnable, w: &World, inv: u32) -> Result<Option<Fault>, NoMemory>
-    requires inv { inv < length w.now.statuses }
-    requires sound { IsSound m.now w.now }
-    ensures { IfOk result (λ f. f ≡ spec.fault_in (spec.step_of m.now w.now inv)) }
+/// The fault of a Ready invocation's next event, if it faults.
+fn ready_fault(
+    alloc: Global,
+    m: &Runnable,
+    whole: &Whole,
+    inv: u32,
+) -> Result<Option<Fault>, NoMemory>
+    requires inv { inv < length whole.now.statuses.list }
+    requires ready { slice_get whole.now.statuses.list inv ≡ Some Status.Ready }
+    requires sound { IsSound m.now whole.now }
+    ensures { IfOk result (λ f. f ≡ spec.fault_in (spec.step_of m.now whole.now inv)) }
 {
-    match w.status(inv) {
-        Status4::Ready => ready_fault(alloc, m, w, inv),
-        Status4::Passed => Ok(None),
-        Status4::Arrived => Ok(None),
-        Status4::Finished => Ok(None),
-    }
-}
-
-fn ready_fault(alloc: Global, m: &Runnable, w: &World, inv: u32) -> Result<Option<Fault>, NoMemory>
-    requires inv { inv < length w.now.statuses }
-    requires ready { slice_get w.now.statuses inv ≡ Some Status4.Ready }
-    requires sound { IsSound m.now w.now }
-    ensures { IfOk result (λ f. f ≡ spec.fault_in (spec.step_of m.now w.now inv)) }
-{
-    let pc = word_of(m, w, inv);
-    match due(alloc, m, w, inv, pc) {
-        Ok(_) => Ok(None),
-        Err(Fail::Refused(code)) => Ok(Some(Fault {
-            code,
-            inv,
-            word: pc,
-        })),
+    let blank = Cell {
+        bits: 0,
+        width: 1,
+        defined: false,
+    };
+    let mut row = Row::of_cell(alloc, blank)?;
+    let inst = reached(m, whole, inv);
+    match due(alloc, m, whole, inv, inst, &mut row) {
+        Ok(_effect) => Ok(None),
+        Err(Fail::Refused(cause)) => Ok(Some(fault(cause, inv, inst.word))),
         Err(Fail::NoMemory) => Err(NoMemory),
     }
 }
 
-/// Each step of a sound state leads to a sound state, with as many invocations.
-pub fn step_sound(m: &Runnable)
-    ensures { (s : state.State) (i : ℕ) → IsSound m.now s → LeadsSoundly m.now s (spec.step_of m.now s i) }
+/// The fault of an invocation's next event, if it faults. It counts no step, and takes memory as a step does.
+pub fn fault_of(alloc: Global, m: &Runnable, w: &World, inv: u32) -> Result<Option<Fault>, NoMemory>
+    requires inv { inv < length w.now.statuses.list }
+    requires sound { IsSound m.now w.now }
+    ensures { IfOk result (λ f. f ≡ spec.fault_in (spec.step_of m.now w.now inv)) }
 {
-    let _insts = m.insts();
+    let whole = w.whole();
+    match whole.statuses().get(inv) {
+        Status::Ready => ready_fault(alloc, m, whole, inv),
+        Status::Passed | Status::Arrived(_) | Status::Finished => Ok(None),
+    }
 }

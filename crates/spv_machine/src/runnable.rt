@@ -1,144 +1,99 @@
-//! Accepted modules in the first form.
-ghost use Rattle.std.specs.Prelude.{◌↔◌, ℕ, List, Ok, ◌≡◌, ◌==◌, find, option_copied, length};
+//! Accepted modules that can be run, with the setups that they run with.
+ghost use Rattle.std.specs.Prelude.{◌≡◌, true, not};
+ghost use Rattle.std.specs.List.{list_all};
 ghost use Rattle.spv_base.specs.Answers.{Answers};
-ghost use Rattle.spv_valid.specs.Acceptance.{Accepted};
 ghost use Rattle.spv_machine.specs.Program as program;
-ghost use Rattle.spv_machine.specs.Form as form;
-ghost use Rattle.spv_machine.specs.Valid.{IsValid};
 
-use crate::actions::{Action, action_of, is_executable};
-use crate::form::{entry_of, is_first_form};
-use crate::opcodes::{Opcode, defines, opcode_of};
+use crate::actions::Action;
 use spv_base::{Fail, Inst, Refusal};
+use spv_index::classes::Class;
+use spv_index::positions::Position;
+use spv_index::stands::Stands;
+use spv_initial::memory::invocations;
+use spv_setup::Setup;
 use spv_valid::Module;
-use std::alloc::Global;
 use std::marker::Model;
 
-/// An accepted module in the first form, which can be run.
+/// An accepted module that can be run, and the setup that it runs with.
 #[derive(Drop)]
 pub struct Runnable {
     accepted: Module,
-    entry: u32,
+    setup: Setup,
 }
 
 impl Model for Runnable {
-    ghost use Rattle.std.specs.Prelude.{◌≡◌};
-    ghost use Rattle.spv_machine.specs.Program.{Program};
-    ghost use Rattle.spv_machine.specs.Form as form;
-    ghost use Rattle.spv_machine.specs.Valid.{IsValid};
+    ghost use Rattle.std.specs.Prelude.{◌≡◌, true};
+    ghost use Rattle.spv_machine.specs.Program.{Program, is_built};
 
     ghost Value = { Program };
 
-    ghost view = { λ r. record { insts = r.accepted.insts } };
+    ghost view = { λ r. record { accepted = r.accepted; setup = r.setup } };
 
-    ghost invariant = { λ r. (r.entry ≡ form.entry_of r.accepted.insts) × IsValid r.accepted.insts };
+    ghost invariant = { λ r. is_built r.accepted ≡ true };
 }
 
-/// Whether the instruction defines this id.
-fn is_definition(inst: &Inst, id: u32) -> bool
-    ensures { result ≡ form.is_definition id inst.now }
+/// Whether the machine can do what an instruction does.
+fn is_done(action: Action) -> bool
+    ensures { result ≡ program.is_done action }
 {
-    defines(opcode_of(inst.op)) && inst.id == id
+    match action {
+        Action::Compute(_) | Action::Load | Action::Store | Action::Return => true,
+        Action::Other => false,
+    }
 }
 
-/// Whether the instruction is an executable behind a word.
-fn is_next(inst: &Inst, word: u32) -> bool
-    ensures { result ≡ program.is_next word inst.now }
+/// Whether a run would stop at an instruction of a class at a position, and the machine can't do it yet.
+fn is_open(position: Position, class: Class, inst: &Inst) -> bool
+    ensures { result ≡ program.is_open (record { position = position; class = class; inst = inst.now }) }
 {
-    word < inst.word && is_executable(action_of(inst))
+    class.is_executable() && position.stage.in_block() && !is_done(Action::of(inst))
 }
 
-/// Whether the instruction is the OpFunction with this id.
-fn is_function(inst: &Inst, id: u32) -> bool
-    ensures { result ≡ program.is_function id inst.now }
+/// Whether the machine can do each of some instructions at which a run stops.
+fn are_built(stands: &Stands) -> bool
+    ensures { result ≡ list_all (λ s. not (program.is_open s)) stands.now }
 {
-    matches!(opcode_of(inst.op), Opcode::Function) && inst.id == id
+    for n in 0..stands.len() {
+        let stand = stands.at(n);
+        if is_open(stand.position, stand.class, stand.inst) {
+            return false;
+        }
+    }
+    true
 }
 
-/// An accepted module is a program exactly where it is in the first form, and the program has its instructions.
-pub fn first_form()
-    ensures { (accepted : Accepted) (p : program.Program) → (program.program_of accepted ≡ Ok p) ↔ (form.IsFirstForm accepted.insts accepted.bound × (p.insts ≡ accepted.insts)) }
-{}
+/// Whether a module has one invocation, and the machine can do each of its executables.
+fn is_built(accepted: &Module) -> bool
+    ensures { result ≡ program.is_built accepted.now }
+{
+    invocations(accepted) == 1 && are_built(&accepted.index().stands())
+}
 
 impl Runnable {
-    /// This module, where it is in the first form; else refusal 0, at word 5, where the first instruction
-    /// stands.
-    pub fn of(alloc: Global, accepted: Module) -> Result<Runnable, Fail<Refusal>>
-        ensures { Answers (program.program_of accepted) result }
+    /// This module with a setup, where it can be run; else refusal 0, at word 5, where the first instruction stands.
+    #[tactic(auto, unfolding(crate::specs::Program::program_of))]
+    pub fn of(accepted: Module, setup: Setup) -> Result<Runnable, Fail<Refusal>>
+        ensures { Answers (program.program_of accepted setup) result }
     {
-        if !is_first_form(alloc, accepted.insts(), accepted.bound())? {
-            return Err(Fail::Refused(Refusal { code: 0, word: 5 }));
-        }
-        let entry = entry_of(accepted.insts());
-        Ok(Runnable { accepted, entry })
-    }
-
-    /// The instructions.
-    pub fn insts(&self) -> &[Inst]
-        ensures value { result.now ≡ self.now.insts }
-        ensures valid { IsValid self.now.insts }
-    {
-        self.accepted.insts()
-    }
-
-    /// The id of the entry function.
-    pub fn entry(&self) -> u32
-        ensures { result ≡ program.entry_of self.now }
-    {
-        self.entry
-    }
-
-    /// The instruction that defines an id.
-    fn definition(&self, id: u32) -> Option<&Inst>
-        ensures { option_copied result ≡ program.definition self.now.insts id }
-    {
-        self.insts().iter().find(|inst| is_definition(inst, id))
-    }
-
-    /// What the id that an instruction defines stands for.
-    pub fn action_for(&self, id: u32) -> Action
-        ensures { result ≡ form.action_for self.now.insts id }
-    {
-        match self.definition(id) {
-            Some(inst) => action_of(inst),
-            None => Action::Other,
+        if is_built(&accepted) {
+            Ok(Runnable { accepted, setup })
+        } else {
+            Err(Fail::Refused(Refusal { code: 0, word: 5 }))
         }
     }
 
-    /// The instruction at a word.
-    pub fn inst_at(&self, word: u32) -> Option<&Inst>
-        ensures valid { IsValid self.now.insts }
-        ensures value { option_copied result ≡ program.inst_at self.now.insts word }
+    /// The module.
+    pub fn accepted(&self) -> &Module
+        ensures module { result.now ≡ self.now.accepted }
+        ensures built { program.is_built self.now.accepted ≡ true }
     {
-        self.insts().iter().find(|inst| inst.word == word)
+        &self.accepted
     }
 
-    /// The word of the next executable behind a word, and 0 where there is none.
-    pub fn next(&self, word: u32) -> u32
-        ensures { result ≡ program.next_of self.now.insts word }
+    /// The setup.
+    pub fn setup(&self) -> &Setup
+        ensures { result.now ≡ self.now.setup }
     {
-        match self.insts().iter().find(|inst| is_next(inst, word)) {
-            Some(inst) => inst.word,
-            None => 0,
-        }
-    }
-
-    /// The word of the OpFunction with this id, and 0 where there is none.
-    fn function_word(&self, id: u32) -> u32
-        ensures { result ≡ program.function_word self.now.insts id }
-    {
-        match self.insts().iter().find(|inst| is_function(inst, id)) {
-            Some(inst) => inst.word,
-            None => 0,
-        }
-    }
-
-    /// The word of a function's first executable.
-    pub fn first(&self, id: u32) -> u32
-        ensures valid { IsValid self.now.insts }
-        ensures value { result ≡ program.first_of self.now.insts id }
-    {
-        let _accepted = &self.accepted;
-        self.next(self.function_word(id))
+        &self.setup
     }
 }

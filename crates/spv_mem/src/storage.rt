@@ -1,7 +1,7 @@
 //! Memory: loads and stores of parts of variables.
 ghost use Rattle.std.specs.Prelude.{◌≡◌, IfOk, [], Err, Ok, length, option_copied, replicate, if◌then◌else◌};
 ghost use Rattle.spv_base.specs.declared.causes.MemErr.TheVariants.{OutOfBounds as Outside};
-ghost use Rattle.spv_mem.specs.Memory.{AreTargets, Loads, MayStore, Stores, empty, id_in, load_of, roots_in};
+ghost use Rattle.spv_mem.specs.Memory.{AreTargets, IsMemory, Loads, MayStore, Stores, empty, id_in, load_of, roots_in};
 
 use crate::entries::Roots;
 use crate::levels::{Levels, exchange_at, exchange_level};
@@ -100,6 +100,13 @@ impl Memory {
             privates: no_roots(alloc, invocations)?,
             locals: no_levels(alloc, invocations, depth)?,
         })
+    }
+
+    /// A fact, with nothing to run: the types are sound, the variables may have theirs, and each has a value of its type.
+    pub fn keeps_types(&self)
+        ensures { ∥ IsMemory self.now ∥₁ }
+    {
+        let _types = &self.types;
     }
 
     /// The list in which the variable stands that a root of an invocation names.

@@ -72,7 +72,7 @@ others_differ ts q p k (s ∷ ss) h = by_pick (p s && (is_register ts s.inst && 
     by_pick false rest = rest
 
 -- a register has an id
-register_named : (ts : Types) (i : Inst) → is_register ts i ≡ true → i.id ≡ 0 → ⊥
+pub register_named : (ts : Types) (i : Inst) → is_register ts i ≡ true → i.id ≡ 0 → ⊥
 register_named ts i h none =
     let test : eqb i.id 0 ≡ true = eq-eqb i.id 0 none in
     let result : (not (i.id == 0) && not (i.ty == 0)) ≡ true = (and_parts (has_result i) _ h).0 in

@@ -7,3 +7,10 @@ pub mod CountLemmas
 pub mod TypeLemmas
 pub mod PlanLemmas
 pub mod ReadLemmas
+pub mod NumberLemmas
+pub mod PlacedLemmas
+pub mod ComesLemmas
+pub mod PlanOfLemmas
+pub mod FunctionLemmas
+pub mod DefinedLemmas
+pub mod FoundLemmas

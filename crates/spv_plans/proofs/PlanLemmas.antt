@@ -60,7 +60,7 @@ each_drop P zero xs h = h
 each_drop P (suc n) [] h = tt
 each_drop P (suc n) (x ∷ xs) h = each_drop P n xs h.1
 
-each_at : {X : Type 0} (P : X → Type 0) (xs : List X) (k : ℕ) (x : X) → AllByRecursion P xs → slice_get xs k ≡ Some x → P x
+pub each_at : {X : Type 0} (P : X → Type 0) (xs : List X) (k : ℕ) (x : X) → AllByRecursion P xs → slice_get xs k ≡ Some x → P x
 each_at P [] k x h at = absurd (cc)
 each_at P (y ∷ xs) zero x h at = let same : y ≡ x = cc in subst P same h.0
 each_at P (y ∷ xs) (suc k) x h at = each_at P xs k x h.1 at
@@ -95,7 +95,7 @@ behind_first P (j ∷ is) n i at op h = by_op (j.op == 54) refl n at h (λ m the
 
 -- ---- the types of registers have numbers of cells
 
-result_typed : (ts : Types) (i : Inst) → is_register ts i ≡ true → i.ty ≢ 0
+pub result_typed : (ts : Types) (i : Inst) → is_register ts i ≡ true → i.ty ≢ 0
 result_typed ts i h none =
     let result : has_result i ≡ true = (and_parts (has_result i) _ h).0 in
     let typed : not (i.ty == 0) ≡ true = (and_parts (not (i.id == 0)) (not (i.ty == 0)) result).1 in
@@ -190,7 +190,7 @@ function_results : results (head_of 54) ≡ true
 unfolding head_of row_of table
 function_results = refl
 
-function_named : (decoded : Decoded) (i : Inst) → is_result decoded i ≡ true → i.op ≡ 54 → i.id ≢ 0
+pub function_named : (decoded : Decoded) (i : Inst) → is_result decoded i ≡ true → i.op ≡ 54 → i.id ≢ 0
 function_named decoded i h op none =
     let test : (i.id == 0) ≡ true = eq-eqb i.id 0 none in
     let without : not (results (head_of i.op)) ≡ true = rw test at h in
@@ -205,11 +205,11 @@ differs : (id : ℕ) → id ≢ 0 → (j : Inst) → Differs id j → j.id ≢ i
 differs id named j (inl none) = λ same. named (sym same ∙ none)
 differs id named j (inr apart) = apart
 
-each_inst : (P : Inst → Type 0) (ss : List Stand) → AllByRecursion (λ (s : Stand). P s.inst) ss → AllByRecursion P (map (λ (s : Stand). s.inst) ss)
+pub each_inst : (P : Inst → Type 0) (ss : List Stand) → AllByRecursion (λ (s : Stand). P s.inst) ss → AllByRecursion P (map (λ (s : Stand). s.inst) ss)
 each_inst P [] h = tt
 each_inst P (s ∷ ss) h = (h.0, each_inst P ss h.1)
 
-result_here : (a : Accepted) (n : ℕ) (i : Inst) → IsValid a → slice_get a.insts n ≡ Some i → is_result (decoded_in a) i ≡ true
+pub result_here : (a : Accepted) (n : ℕ) (i : Inst) → IsValid a → slice_get a.insts n ≡ Some i → is_result (decoded_in a) i ≡ true
 result_here a n i v at =
     let each = each_inst (λ (j : Inst). is_result (decoded_in a) j ≡ true) (stands_of a.insts)
     (each_weaker (IsInOrder (decoded_in a)) (λ (s : Stand). is_result (decoded_in a) s.inst ≡ true) (λ s order. order.result) (stands_of a.insts) v.ids) in

@@ -1,5 +1,5 @@
 -- The registers of a function: its parameters, and the results of its instructions whose type isn't void (SPIR-V 1.6 sections 2.2.1,
--- 3.42.8 and 3.42.9). The result of an OpVariable stands for the variable, and is no register.
+-- 3.42.8 and 3.42.9). The result of an OpVariable stands for the variable and that of an OpLabel for the block: they are no registers.
 use Rattle.std.specs.Prelude.{◌≡◌, ℕ, ◌==◌, ◌&&◌, ◌||◌, not, nat_le, true, false, if◌then◌else◌, Bool, List, [], ◌∷◌, Some, slice_get}
 use Rattle.std.specs.List.{flat_map}
 use Rattle.std.specs.Option.{option_map_or}
@@ -18,9 +18,9 @@ has_result i = not (i.id == 0) && not (i.ty == 0)
 abbrev pub is_parameter : Inst → Bool
 is_parameter i = i.op == 55
 
--- of a type other than void, and no OpVariable (59)
+-- of a type other than void, and no OpVariable (59) or OpLabel (248)
 abbrev pub has_value : Types → Inst → Bool
-has_value ts i = not (is_void (form_of ts i.ty)) && not (i.op == 59)
+has_value ts i = (not (is_void (form_of ts i.ty)) && not (i.op == 59)) && not (i.op == 248)
 
 abbrev pub is_register : Types → Inst → Bool
 is_register ts i = has_result i && (is_parameter i || has_value ts i)

@@ -33,14 +33,15 @@ impl Model for Draft {
     ghost view = { λ d. record { function = d.function; first = d.first; parameters = d.parameters.items; values = d.values.items; pointers = d.pointers.items; types = d.types.items } };
 }
 
-/// Whether an instruction has a register: a parameter does, and a result of a type that isn't void, but not an OpVariable.
+/// Whether an instruction has a register: a parameter does, and a result of a type that isn't void, but not an OpVariable or an
+/// OpLabel.
 fn is_register(types: &TypeTable, inst: &Inst) -> bool
     ensures { result ≡ spec.is_register types.now inst.now }
 {
     inst.id != 0
         && inst.ty != 0
         && (inst.op == op::FUNCTION_PARAMETER
-            || !is_void(types.form(inst.ty)) && inst.op != op::VARIABLE)
+            || !is_void(types.form(inst.ty)) && inst.op != op::VARIABLE && inst.op != op::LABEL)
 }
 
 /// The number of cells of a type that has one within the limits.

@@ -2,7 +2,7 @@
 #![tactic(auto)]
 
 mod drafts;
-mod laws;
+pub mod laws;
 mod plans;
 mod walks;
 

@@ -2,9 +2,9 @@
 ghost use Rattle.std.specs.Prelude.{◌≡◌, IfOk, Some, map, option_map, slice_get};
 ghost use Rattle.std.specs.List.{AllByRecursion};
 ghost use Rattle.spv_cfg.specs.Calls.{functions_of};
-ghost use Rattle.spv_plans.specs.Plans.{IsPlan};
+ghost use Rattle.spv_plans.specs.Plans.{IsPlan, plans_in};
 
-use crate::laws::registers_are_counted;
+use crate::laws::{functions_have_their_plans, registers_are_counted};
 use crate::walks::{draft_of, first_stop};
 use spv_base::NoMemory;
 use spv_frame::{Plan, Plans};
@@ -29,12 +29,15 @@ fn plan_at(alloc: Global, accepted: &Module, n: usize) -> Result<Plan, NoMemory>
 
 /// The plans of the functions of an accepted module, one for each OpFunction, in their order. Each plan has the word number of its
 /// function's first executable, and a register for each parameter and each result of an instruction in the function, in the order
-/// of the module: results of type void have none, and OpVariables, which stand for variables. It takes a time that grows with the
-/// module's length alone: each instruction is looked at three times at most. It fails where memory runs out.
+/// of the module: results of type void have none, and OpVariables and OpLabels, which stand for variables and blocks. It takes a time
+/// that grows with the module's length alone: each instruction is looked at three times at most. It fails where memory runs out.
 pub fn plans_of(alloc: Global, accepted: &Module) -> Result<Plans, NoMemory>
     ensures functions { IfOk result (λ plans. map (λ p. p.function) plans ≡ map (λ f. f.0) (functions_of accepted.now.insts)) }
     ensures plans { IfOk result (λ plans. AllByRecursion (IsPlan accepted.now) plans) }
+    // They are the plans that are read off the module.
+    ensures are { IfOk result (λ plans. plans ≡ plans_in accepted.now) }
 {
+    functions_have_their_plans();
     let insts = accepted.insts();
     let mut list = Vec::new(alloc);
     for (n, inst) in insts.iter().enumerate() {

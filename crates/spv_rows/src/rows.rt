@@ -106,8 +106,8 @@ const REFUSALS: [(usize, u32, &str, Status, &str); 10] = [
         "module refused: M7 at word 65\n",
     ),
     (
-        60,
-        0x0005_0082,
+        65,
+        0x0001_00FF,
         TEN_ROUNDS,
         Status::ModuleRefused,
         "module refused: M0 at word 5\n",
@@ -202,6 +202,27 @@ fn schedules_end_runs(rt: HostRuntime) -> Result<(), Fail> {
         let right = answers(alloc, DEBUG, module, setup, lines, Status::Done, written)?;
         assert!(rt; right, "{setup}");
     }
+    Ok(())
+}
+
+#[test]
+fn values_that_are_not_there_fault(rt: HostRuntime) -> Result<(), Fail> {
+    let alloc = rt.alloc();
+    // The addition's first operand is its own result.
+    let module = sum_with(alloc, 63, 11)?;
+    let lines = b"goto 9\ngoto 2\n";
+    let written =
+        "stop: fault F4 i=0 word 60\n@2 i=0 %7 word 60\nstop: done, fault F4 i=0 word 60\n@2 i=0 %7 word 60\n";
+    let right = answers(
+        alloc,
+        DEBUG,
+        module,
+        TEN_ROUNDS,
+        lines,
+        Status::Done,
+        written,
+    )?;
+    assert!(rt; right);
     Ok(())
 }
 

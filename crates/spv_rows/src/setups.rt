@@ -1,4 +1,4 @@
-//! Setups of every kind of line, over the shader that can be run, and over modules that are accepted and can't be run so far.
+//! Setups of every kind of line, over a shader that can be run, and over modules that are accepted and can't be run so far.
 use crate::assembled::bytes_of;
 use crate::calls::{DEBUG, answers, sum, sum_with};
 use spv_app::Status;
@@ -153,8 +153,8 @@ const REFUSED: &[(&str, &str)] = &[
 /// The first three lines of the examples of docs/SETUP.md.
 const HEAD: &str = "spvdbg-setup 1\nbuffer 0 0 zero 8\npush hex 0100000002000000\n";
 
-/// What stands behind them, and the line of the refusal. The answers are those of docs/SETUP.md, where what is accepted can't be
-/// run.
+/// What stands behind them, and what is written. The answers are those of docs/SETUP.md, where what is accepted can't be run, but for
+/// the entry point of one invocation.
 const BEHIND: &[(&str, &str)] = &[
     ("", NOT_RUN),
     ("# move 9 9\n", NOT_RUN),
@@ -182,14 +182,20 @@ const BEHIND: &[(&str, &str)] = &[
     ("rounds 2097153\n", "setup refused: S9 at line 0\n"),
     // The entry point and the numbers for SpecIds say how many invocations there are.
     ("move 1 1\n", NOT_RUN),
-    ("entry one\nmove 0 1\n", NOT_RUN),
+    (
+        "entry one\nmove 0 1\n",
+        "stop: done, all finished\n@1 i=0 finished\n",
+    ),
     ("entry one\nmove 1 1\n", "setup refused: S5 at line 5\n"),
     ("spec 6 7\nmove 6 1\n", NOT_RUN),
     ("spec 6 7\nmove 7 1\n", "setup refused: S5 at line 5\n"),
     ("entry two\n", NO_ENTRY),
     ("spec 6 0\n", NO_ENTRY),
     ("spec 6 1025\n", NO_ENTRY),
-    ("entry one\nspec 6 0\n", NOT_RUN),
+    (
+        "entry one\nspec 6 0\n",
+        "stop: start, schedule ended\n@0 i=0 %20 word 166\n",
+    ),
     // The text goes before the module, and the module before the fit.
     ("entry two\njump 1\n", "setup refused: S2 at line 5\n"),
     ("entry two\nmove 9 1\n", NO_ENTRY),
@@ -231,12 +237,14 @@ fn bytes_of_rows(alloc: Global, rows: &[&[u32]]) -> Result<Vec<u8>, NoMemory> {
     Ok(bytes)
 }
 
-/// Whether a pair is refused with just this line, by the status that goes with it.
-fn refuses(alloc: Global, module: Vec<u8>, setup: &str, written: &str) -> Result<bool, NoMemory> {
+/// Whether a pair is refused with just this line, or runs with these replies to `goto 1`, by the status that goes with it.
+fn opens(alloc: Global, module: Vec<u8>, setup: &str, written: &str) -> Result<bool, NoMemory> {
     let due = if written.starts_with("setup") {
         Status::SetupRefused
-    } else {
+    } else if written.starts_with("module") {
         Status::ModuleRefused
+    } else {
+        Status::Done
     };
     answers(alloc, DEBUG, module, setup, b"goto 1\n", due, written)
 }
@@ -276,21 +284,21 @@ fn whole_setups_run(rt: HostRuntime) -> Result<(), Fail> {
 fn setups_of_the_shader_are_refused(rt: HostRuntime) -> Result<(), Fail> {
     let alloc = rt.alloc();
     for &(setup, written) in REFUSED {
-        let right = refuses(alloc, sum(alloc)?, setup, written)?;
+        let right = opens(alloc, sum(alloc)?, setup, written)?;
         assert!(rt; right, "{setup}");
     }
     Ok(())
 }
 
 #[test]
-fn the_form_is_looked_at_last(rt: HostRuntime) -> Result<(), Fail> {
+fn what_is_built_is_looked_at_last(rt: HostRuntime) -> Result<(), Fail> {
     let alloc = rt.alloc();
-    // With a subtraction in the place of the addition.
+    // With OpUnreachable in the place of the return.
     let misfit = "spvdbg-setup 1\nspec 3 1\n";
-    let module = sum_with(alloc, 60, 0x0005_0082)?;
-    assert!(rt; refuses(alloc, module, misfit, "setup refused: S8 at line 2\n")?);
-    let module = sum_with(alloc, 60, 0x0005_0082)?;
-    assert!(rt; refuses(alloc, module, "spvdbg-setup 1\nmove 0 1\n", NOT_RUN)?);
+    let module = sum_with(alloc, 65, 0x0001_00FF)?;
+    assert!(rt; opens(alloc, module, misfit, "setup refused: S8 at line 2\n")?);
+    let module = sum_with(alloc, 65, 0x0001_00FF)?;
+    assert!(rt; opens(alloc, module, "spvdbg-setup 1\nmove 0 1\n", NOT_RUN)?);
     Ok(())
 }
 
@@ -299,7 +307,7 @@ fn setups_fit_blocks(rt: HostRuntime) -> Result<(), Fail> {
     let alloc = rt.alloc();
     for &(lines, written) in BEHIND {
         let setup = format!(in alloc; "{HEAD}{lines}")?;
-        let right = refuses(
+        let right = opens(
             alloc,
             bytes_of_rows(alloc, BLOCKS)?,
             setup.as_str(),
@@ -308,7 +316,7 @@ fn setups_fit_blocks(rt: HostRuntime) -> Result<(), Fail> {
         assert!(rt; right, "{lines}");
     }
     for &(setup, written) in WHOLE {
-        let right = refuses(alloc, bytes_of_rows(alloc, BLOCKS)?, setup, written)?;
+        let right = opens(alloc, bytes_of_rows(alloc, BLOCKS)?, setup, written)?;
         assert!(rt; right, "{setup}");
     }
     Ok(())
@@ -319,6 +327,6 @@ fn cells_are_counted(rt: HostRuntime) -> Result<(), Fail> {
     let alloc = rt.alloc();
     let module = bytes_of_rows(alloc, WIDE)?;
     let written = "setup refused: S10 at line 0\n";
-    assert!(rt; refuses(alloc, module, "spvdbg-setup 1\nrounds 30\n", written)?);
+    assert!(rt; opens(alloc, module, "spvdbg-setup 1\nrounds 30\n", written)?);
     Ok(())
 }

@@ -1,11 +1,12 @@
 -- The end of a run, and one event more.
-use Rattle.std.proofs.Common.{◌≡◌, ℕ, suc, ◌+◌, ◌<◌, ◌≤◌, Bool, true, false, cond, List, [], ◌∷◌, length, refl, sym, ap, ◌∙◌, subst, arith, None, Some, Option, inl, inr, add-one, zero, Ok, Err, Result, IfOk, nat_eq, get_or}
-use Rattle.std.specs.Prelude.{slice_get, is_some, option_map, IfSome, IsSome}
+use Rattle.std.proofs.Common.{◌≡◌, ℕ, suc, ◌+◌, ◌<◌, ◌≤◌, Bool, true, false, cond, List, [], ◌∷◌, length, refl, sym, ap, ◌∙◌, subst, arith, None, Some, Option, inl, inr, add-one, zero, Ok, Err, Result, IfOk, nat_eq, get_or, ◌-◌}
+use Rattle.std.proofs.lemmas.Bool.{ltb-true}
+use Rattle.std.specs.Result.{IsErrAnd}
+use Rattle.std.specs.Prelude.{max, min, nat_lt, slice_get, is_some, option_map, IfSome, IsSome}
 use Rattle.std.proofs.lemmas.Bool.{cases_lt, eqb-false}
 use Rattle.std.proofs.lemmas.Option.{slice_get_past, slice_get_within, slice_get-get_or}
-use Rattle.spv_base.specs.State.{State, Frame, Roots}
+use Rattle.spv_machine.specs.State.{State}
 use Rattle.spv_base.specs.declared.causes.NoMemory.{NoMemory}
-use Rattle.spv_base.specs.declared.happenings.Status4.{Status4}
 use Rattle.spv_base.specs.declared.happenings.Happening.{Happening}
 use Rattle.spv_base.specs.declared.happenings.Fault.{Fault}
 use Rattle.spv_base.specs.declared.happenings.EndCause.{EndCause}
@@ -13,9 +14,12 @@ use Rattle.spv_base.specs.declared.happenings.EndCause.TheVariants as end
 use Rattle.spv_setup.specs.Schedule.{Entries}
 use Rattle.spv_machine.specs.Program.{Program}
 use Rattle.spv_machine.specs.Step.{Idles, Moves, Faults, start_of, step_of, fault_in}
-use Rattle.spv_machine.specs.Sound.{IsSound, AllStand, LeadsSoundly}
+use Rattle.spv_machine.specs.Sound.{IsSound}
 use Rattle.spv_session.specs.Positions.{IsLeast}
 use Rattle.spv_session.specs.Run.{state_after, event, run, happening_in, happening_at, all_finished, is_stuck, next_cause, cause_in, cause_at, has_cause, end_of, idle_event}
+use Rattle.spv_session.specs.Costs.{BackCounts, run_cost}
+use Rattle.spv_session.specs.declared.motion.Back.{Back}
+use Rattle.spv_session.specs.declared.motion.Back.TheVariants as back
 use Rattle.spv_session.specs.View.{View, end_cause_in}
 use Rattle.spv_session.specs.Motion.{IsRun, WasMade}
 use Rattle.spv_session.proofs.Positions_lemmas.{least_is}
@@ -86,13 +90,13 @@ fault_here p s w n last i fault is f g e due =
 -- ---- the next entry
 
 -- an invocation of the schedule is one of the state
-pub entry_within : (p : Program) (s : Entries) (w : State) (n i : ℕ) (last : Option Happening) (o : Option ℕ) → IsRun p s w n last → o ≡ Some i → IfSome o (λ k. k < s.invocations) → i < length w.statuses
+pub entry_within : (p : Program) (s : Entries) (w : State) (n i : ℕ) (last : Option Happening) (o : Option ℕ) → IsRun p s w n last → o ≡ Some i → IfSome o (λ k. k < s.invocations) → i < length w.statuses.list
 entry_within p s w n i last None is e below = absurd (cc)
 entry_within p s w n i last (Some j) is e below =
     let same : j ≡ i = cc in
     let within : j < s.invocations = below in
-    let count : length w.statuses ≡ length (start_of p).statuses = is.count in
-    let fits : s.invocations ≡ length (start_of p).statuses = is.fits in
+    let count : length w.statuses.list ≡ length (start_of p).statuses.list = is.count in
+    let fits : s.invocations ≡ length (start_of p).statuses.list = is.fits in
     omega arith
 
 -- a place with an entry is below the number of them
@@ -107,15 +111,15 @@ idled p w i t h due same e = record {
   state = same ∙ ap (λ o. state_after o w) (sym due);
   happening = e ∙ ap (λ o. happening_in o i) (sym due);
   faultless = ap fault_in due;
-  count = ap (λ (s : State). length s.statuses) same;
+  count = ap (λ (s : State). length s.statuses.list) same;
 }
 
-pub moved : (p : Program) (w : State) (i : ℕ) (t : State) (h : Happening) → step_of p w i ≡ Moves h t → LeadsSoundly p w (step_of p w i) → WasMade p w i t h
-moved p w i t h due sound = record {
+pub moved : (p : Program) (w : State) (i : ℕ) (t : State) (h : Happening) → step_of p w i ≡ Moves h t → length t.statuses.list ≡ length w.statuses.list → WasMade p w i t h
+moved p w i t h due many = record {
   state = ap (λ o. state_after o w) (sym due);
   happening = ap (λ o. happening_in o i) (sym due);
   faultless = ap fault_in due;
-  count = (subst (LeadsSoundly p w) due sound).1;
+  count = many;
 }
 
 went_on : (p : Program) (s : Entries) (w : State) (n i : ℕ) (last : Option Happening) → IsRun p s w n last → all_finished w ≡ false → is_stuck w ≡ false → Some i ≡ slice_get s.list n → fault_in (step_of p w i) ≡ None → n < end_of p s.list
@@ -151,23 +155,10 @@ runs_on p s w n last i t h is f g e made sound = rw add-one (
 
 -- ---- the first invocation
 
-paired : (p : Program) (ts : List Status4) (fss : List (List Frame)) (vss : List (List Roots)) → AllStand p ts fss vss → length fss ≡ length ts
-paired p [] [] [] h = refl
-paired p (t ∷ ts) (fs ∷ fss) (vs ∷ vss) h = ap suc (paired p ts fss vss h.1)
-paired p [] [] (vs ∷ vss) h = absurd h
-paired p [] (fs ∷ fss) vss h = absurd h
-paired p (t ∷ ts) [] vss h = absurd h
-paired p (t ∷ ts) (fs ∷ fss) [] h = absurd h
-
--- a run starts with one invocation
-pub one_starts : (p : Program) → length (start_of p).statuses ≡ 1
-unfolding start_of
-one_starts p = refl
-
-pub has_first : (p : Program) (s : Entries) (w : State) (n : ℕ) (last : Option Happening) → IsRun p s w n last → 0 < length w.stacks
-has_first p s w n last is =
-    let pair = paired p w.statuses w.stacks w.memory.locals is.sound.stand in
-    let one = is.count ∙ one_starts p in
+pub has_first : (p : Program) (s : Entries) (w : State) (n : ℕ) (last : Option Happening) → length (start_of p).statuses.list ≡ 1 → IsRun p s w n last → 0 < length w.stacks
+has_first p s w n last one is =
+    let stacks : length w.stacks ≡ length w.statuses.list = is.sound.stacks in
+    let count : length w.statuses.list ≡ 1 = is.count ∙ one in
     omega arith
 
 -- ---- why a run ends at a position
@@ -203,3 +194,30 @@ at_start p s w (suc m) last is h =
     let to = (end_is p es).to in
     let l : m < length es = omega (arith, is.within) in
     absurd (some_event (λ i. happening_in (step_of p (run p es m) i) i) (slice_get es m) (get_or es m 0) (slice_get-get_or es m 0 l) (sym h ∙ is.before))
+
+-- ---- going back
+
+run_cost_is : (end from target : ℕ) → from ≡ 0 → target ≤ end → run_cost end from target ≡ target
+run_cost_is end from target z h = by (nat_lt end target) refl
+  where
+    by : (b : Bool) → nat_lt end target ≡ b → run_cost end from target ≡ target
+    by true e = let l : end < target = ltb-true end target e in absurd (omega arith)
+    by false e = rw (e, z) (omega (arith, h))
+
+-- a run on from the start to a position takes a step for each event
+pub back_counted : (end from target before now at : ℕ) → from ≡ 0 → target ≤ end → at ≡ max from (min target end) → before + (at - from) ≤ now → now ≤ before + run_cost end from target
+    → now ≡ before + target
+back_counted end from target before now at z h is counted cost =
+    let most : now ≤ before + target = subst (λ (n : ℕ). now ≤ before + n) (run_cost_is end from target z h) cost in
+    let there : at ≡ target = is ∙ rw z (omega (arith, h)) in
+    omega (arith, z, there, counted, most)
+
+pub back_bounded : (end from target before now at : ℕ) → from ≡ 0 → target ≤ end → before + (at - from) ≤ now → now ≤ before + run_cost end from target
+    → (before ≤ now) × (now ≤ before + target)
+back_bounded end from target before now at z h counted cost =
+    (omega (arith, counted), subst (λ (n : ℕ). now ≤ before + n) (run_cost_is end from target z h) cost)
+
+pub err_counts : (P : NoMemory → Type 0) (r : Result Back NoMemory) (position before now : ℕ) → IsErrAnd r P → (before ≤ now) × (now ≤ before + (position - 1)) → BackCounts r position before now
+err_counts P (Ok (back.Went h)) position before now is counted = absurd is
+err_counts P (Ok back.AtStart) position before now is counted = absurd is
+err_counts P (Err error) position before now is counted = counted

@@ -1,5 +1,5 @@
--- The registers that are shown ascend, and are those that have a value.
-use Rattle.std.proofs.Common.{◌≡◌, ℕ, zero, suc, ◌+◌, ◌<◌, ◌≤◌, ◌⊎◌, inl, inr, List, [], ◌∷◌, fold, length, Option, Some, None, refl, sym, ap, ◌∙◌, subst, arith, Ordering, slice_index, slice_index_or}
+-- The registers that are shown ascend, and are those that hold something.
+use Rattle.std.proofs.Common.{◌≡◌, ℕ, zero, suc, ◌+◌, ◌<◌, ◌≤◌, ◌⊎◌, inl, inr, List, [], ◌∷◌, fold, length, refl, sym, ap, ◌∙◌, subst, arith, Ordering, slice_index, slice_index_or}
 use Rattle.std.specs.declared.cmp.Ordering.TheVariants.{Less, Equal, Greater}
 use Rattle.std.specs.Ordering.{nat_cmp, match_ordering, MatchOrdering}
 use Rattle.std.specs.Cmp.{ranks}
@@ -7,9 +7,11 @@ use Rattle.std.specs.BTreeMap.{insert_entry}
 use Rattle.std.specs.Map.{keys_of}
 use Rattle.std.specs.List.{Contains}
 use Rattle.std.specs.List.Sorted.{IsStrictlyIncreasing}
-use Rattle.spv_base.specs.declared.values.Value.{Value}
-use Rattle.spv_base.specs.State.{Registers}
-use Rattle.spv_session.specs.Texts.{with_value, with_register, ascending}
+use Rattle.spv_session.specs.Texts.{ascending, with_shown}
+
+-- the text of a register
+abbrev Text : Type 0
+Text = List ℕ
 
 -- ---- elements
 
@@ -29,11 +31,11 @@ has_none x h = let below = h.1 in absurd (omega arith)
 -- ---- the order
 
 -- the ids rise from this number on
-abbrev Rise : ℕ → List (ℕ × Value) → Type 0
+abbrev Rise : ℕ → List (ℕ × Text) → Type 0
 Rise low [] = Unit {0}
 Rise low (e ∷ es) = (low ≤ e.0) × Rise (suc e.0) es
 
-insert_rises : (low : ℕ) (es : List (ℕ × Value)) (k : ℕ) (v : Value) → low ≤ k → Rise low es → Rise low (insert_entry nat_cmp es k v)
+insert_rises : (low : ℕ) (es : List (ℕ × Text)) (k : ℕ) (v : Text) → low ≤ k → Rise low es → Rise low (insert_entry nat_cmp es k v)
 insert_rises low [] k v from h = (from, tt)
 insert_rises low (e ∷ es) k v from h = by (λ above. insert_rises (suc e.0) es k v above h.1) (nat_cmp k e.0) (ranks k e.0)
   where
@@ -42,15 +44,11 @@ insert_rises low (e ∷ es) k v from h = by (λ above. insert_rises (suc e.0) es
     by later Equal l = (h.0, h.1)
     by later Greater l = (h.0, later (omega arith))
 
-value_rises : (held : List (ℕ × Value)) (k : ℕ) (o : Option Value) → Rise 0 held → Rise 0 (with_value held k o)
-value_rises held k None h = h
-value_rises held k (Some v) h = insert_rises 0 held k v (omega arith) h
-
-all_rise : (registers : Registers) (held : List (ℕ × Value)) → Rise 0 held → Rise 0 (fold with_register held registers)
+all_rise : (shown held : List (ℕ × Text)) → Rise 0 held → Rise 0 (fold with_shown held shown)
 all_rise [] held h = h
-all_rise (r ∷ registers) held h = all_rise registers (with_register held r) (value_rises held r.0 r.1 h)
+all_rise (r ∷ shown) held h = all_rise shown (with_shown held r) (insert_rises 0 held r.0 r.1 (omega arith) h)
 
-rise_at : (low : ℕ) (es : List (ℕ × Value)) → Rise low es → (k : ℕ) → k + 1 < length (keys_of es) → slice_index (keys_of es) k < slice_index (keys_of es) (k + 1)
+rise_at : (low : ℕ) (es : List (ℕ × Text)) → Rise low es → (k : ℕ) → k + 1 < length (keys_of es) → slice_index (keys_of es) k < slice_index (keys_of es) (k + 1)
 rise_at low [] h k below = absurd (omega arith)
 rise_at low (e ∷ []) h k below = absurd (omega arith)
 rise_at low (e ∷ (f ∷ es)) h zero below = h.1.0
@@ -58,12 +56,12 @@ rise_at low (e ∷ (f ∷ es)) h (suc k) below =
     let next : suc k + 1 ≡ suc (k + 1) = omega arith in
     subst (λ n. slice_index (keys_of (f ∷ es)) k < slice_index (keys_of (e ∷ (f ∷ es))) n) (sym next) (rise_at (suc e.0) (f ∷ es) h.1 k (omega arith))
 
-pub shown_ascend : (registers : Registers) → IsStrictlyIncreasing (keys_of (ascending registers))
-shown_ascend registers = rise_at 0 (ascending registers) (all_rise registers [] tt)
+pub shown_ascend : (shown : List (ℕ × Text)) → IsStrictlyIncreasing (keys_of (ascending shown))
+shown_ascend shown = rise_at 0 (ascending shown) (all_rise shown [] tt)
 
--- ---- those that are shown have their value
+-- ---- those that are shown have their text
 
-insert_holds : (es : List (ℕ × Value)) (k : ℕ) (v : Value) (x : ℕ × Value) → Contains (insert_entry nat_cmp es k v) x → ((k, v) ≡ x) ⊎ Contains es x
+insert_holds : (es : List (ℕ × Text)) (k : ℕ) (v : Text) (x : ℕ × Text) → Contains (insert_entry nat_cmp es k v) x → ((k, v) ≡ x) ⊎ Contains es x
 insert_holds [] k v x h = has_first x (k, v) [] h
 insert_holds (e ∷ es) k v x h = by (insert_holds es k v x) (nat_cmp k e.0) (ranks k e.0) h
   where
@@ -85,36 +83,28 @@ insert_holds (e ∷ es) k v x h = by (insert_holds es k v x) (nat_cmp k e.0) (ra
     by later Equal l a = replaced l (has_first x (e.0, v) es a)
     by later Greater l a = first later (has_first x e (insert_entry nat_cmp es k v) a)
 
-value_holds : (held : List (ℕ × Value)) (r : ℕ × Option Value) (x : ℕ × Value) (o : Option Value) → r.1 ≡ o → Contains (with_value held r.0 o) x → (r ≡ (x.0, Some x.1)) ⊎ Contains held x
-value_holds held r x None e h = inr h
-value_holds held r x (Some v) e h = by (insert_holds held r.0 v x h)
-  where
-    by : ((r.0, v) ≡ x) ⊎ Contains held x → (r ≡ (x.0, Some x.1)) ⊎ Contains held x
-    by (inl a) = inl (ap (λ o. (r.0, o)) e ∙ ap (λ (y : ℕ × Value). (y.0, Some y.1)) a)
-    by (inr a) = inr a
-
-all_hold : (registers : Registers) (held : List (ℕ × Value)) (x : ℕ × Value) → Contains (fold with_register held registers) x → Contains registers (x.0, Some x.1) ⊎ Contains held x
+all_hold : (shown held : List (ℕ × Text)) (x : ℕ × Text) → Contains (fold with_shown held shown) x → Contains shown x ⊎ Contains held x
 all_hold [] held x h = inr h
-all_hold (r ∷ registers) held x h = by (all_hold registers (with_register held r) x h)
+all_hold (r ∷ shown) held x h = by (all_hold shown (with_shown held r) x h)
   where
-    at : (r ≡ (x.0, Some x.1)) ⊎ Contains held x → Contains (r ∷ registers) (x.0, Some x.1) ⊎ Contains held x
-    at (inl a) = inl (subst (Contains (r ∷ registers)) a (has_head r registers))
+    at : (r ≡ x) ⊎ Contains held x → Contains (r ∷ shown) x ⊎ Contains held x
+    at (inl a) = inl (subst (Contains (r ∷ shown)) a (has_head r shown))
     at (inr a) = inr a
 
-    by : Contains registers (x.0, Some x.1) ⊎ Contains (with_register held r) x → Contains (r ∷ registers) (x.0, Some x.1) ⊎ Contains held x
-    by (inl a) = inl (has_more (x.0, Some x.1) r registers a)
-    by (inr a) = at (value_holds held r x r.1 refl a)
+    by : Contains shown x ⊎ Contains (with_shown held r) x → Contains (r ∷ shown) x ⊎ Contains held x
+    by (inl a) = inl (has_more x r shown a)
+    by (inr a) = at (insert_holds held r.0 r.1 x a)
 
-pub shown_have_values : (registers : Registers) (id : ℕ) (v : Value) → Contains (ascending registers) (id, v) → Contains registers (id, Some v)
-shown_have_values registers id v h = by (all_hold registers [] (id, v) h)
+pub shown_are_theirs : (shown : List (ℕ × Text)) (id : ℕ) (v : Text) → Contains (ascending shown) (id, v) → Contains shown (id, v)
+shown_are_theirs shown id v h = by (all_hold shown [] (id, v) h)
   where
-    by : Contains registers (id, Some v) ⊎ Contains {X = ℕ × Value} [] (id, v) → Contains registers (id, Some v)
+    by : Contains shown (id, v) ⊎ Contains {X = ℕ × Text} [] (id, v) → Contains shown (id, v)
     by (inl a) = a
-    by (inr a) = absurd (has_none {X = ℕ × Value} (id, v) a)
+    by (inr a) = absurd (has_none {X = ℕ × Text} (id, v) a)
 
--- ---- those that have a value are shown
+-- ---- those that have a text are shown
 
-insert_keeps : (es : List (ℕ × Value)) (k : ℕ) (v : Value) (id : ℕ) → (k ≡ id) ⊎ Contains (keys_of es) id → Contains (keys_of (insert_entry nat_cmp es k v)) id
+insert_keeps : (es : List (ℕ × Text)) (k : ℕ) (v : Text) (id : ℕ) → (k ≡ id) ⊎ Contains (keys_of es) id → Contains (keys_of (insert_entry nat_cmp es k v)) id
 insert_keeps [] k v id (inl a) = subst (Contains (k ∷ [])) a (has_head k [])
 insert_keeps [] k v id (inr a) = absurd (has_none id a)
 insert_keeps (e ∷ es) k v id h = by (insert_keeps es k v id) (nat_cmp k e.0) (ranks k e.0)
@@ -141,24 +131,20 @@ insert_keeps (e ∷ es) k v id h = by (insert_keeps es k v id) (nat_cmp k e.0) (
     by later Equal l = at l h
     by later Greater l = behind later h
 
-value_keeps : (held : List (ℕ × Value)) (k : ℕ) (o : Option Value) (id : ℕ) → Contains (keys_of held) id → Contains (keys_of (with_value held k o)) id
-value_keeps held k None id h = h
-value_keeps held k (Some v) id h = insert_keeps held k v id (inr h)
-
-all_keep : (registers : Registers) (held : List (ℕ × Value)) (id : ℕ) → Contains (keys_of held) id → Contains (keys_of (fold with_register held registers)) id
+all_keep : (shown held : List (ℕ × Text)) (id : ℕ) → Contains (keys_of held) id → Contains (keys_of (fold with_shown held shown)) id
 all_keep [] held id h = h
-all_keep (r ∷ registers) held id h = all_keep registers (with_register held r) id (value_keeps held r.0 r.1 id h)
+all_keep (r ∷ shown) held id h = all_keep shown (with_shown held r) id (insert_keeps held r.0 r.1 id (inr h))
 
-value_is_held : (held : List (ℕ × Value)) (r : ℕ × Option Value) (id : ℕ) (v : Value) → r ≡ (id, Some v) → Contains (keys_of (with_register held r)) id
-value_is_held held r id v e = subst (λ (q : ℕ × Option Value). Contains (keys_of (with_register held q)) id) (sym e) (insert_keeps held id v id (inl refl))
+held_now : (held : List (ℕ × Text)) (r : ℕ × Text) (id : ℕ) (v : Text) → r ≡ (id, v) → Contains (keys_of (with_shown held r)) id
+held_now held r id v e = subst (λ (q : ℕ × Text). Contains (keys_of (with_shown held q)) id) (sym e) (insert_keeps held id v id (inl refl))
 
-all_shown : (registers : Registers) (held : List (ℕ × Value)) (id : ℕ) (v : Value) → Contains registers (id, Some v) → Contains (keys_of (fold with_register held registers)) id
-all_shown [] held id v h = absurd (has_none (id, Some v) h)
-all_shown (r ∷ registers) held id v h = by (all_shown registers (with_register held r) id v) (has_first (id, Some v) r registers h)
+all_shown : (shown held : List (ℕ × Text)) (id : ℕ) (v : Text) → Contains shown (id, v) → Contains (keys_of (fold with_shown held shown)) id
+all_shown [] held id v h = absurd (has_none (id, v) h)
+all_shown (r ∷ shown) held id v h = by (all_shown shown (with_shown held r) id v) (has_first (id, v) r shown h)
   where
-    by : (Contains registers (id, Some v) → Contains (keys_of (fold with_register (with_register held r) registers)) id) → (r ≡ (id, Some v)) ⊎ Contains registers (id, Some v) → Contains (keys_of (fold with_register (with_register held r) registers)) id
-    by later (inl a) = all_keep registers (with_register held r) id (value_is_held held r id v a)
+    by : (Contains shown (id, v) → Contains (keys_of (fold with_shown (with_shown held r) shown)) id) → (r ≡ (id, v)) ⊎ Contains shown (id, v) → Contains (keys_of (fold with_shown (with_shown held r) shown)) id
+    by later (inl a) = all_keep shown (with_shown held r) id (held_now held r id v a)
     by later (inr a) = later a
 
-pub values_are_shown : (registers : Registers) (id : ℕ) (v : Value) → Contains registers (id, Some v) → Contains (keys_of (ascending registers)) id
-values_are_shown registers id v h = all_shown registers [] id v h
+pub texts_are_shown : (shown : List (ℕ × Text)) (id : ℕ) (v : Text) → Contains shown (id, v) → Contains (keys_of (ascending shown)) id
+texts_are_shown shown id v h = all_shown shown [] id v h

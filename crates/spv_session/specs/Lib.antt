@@ -6,3 +6,4 @@ pub mod Texts
 pub mod Reply
 pub mod Motion
 pub mod Costs
+pub mod Frames

@@ -1,10 +1,10 @@
 -- What the motions of a group by one event do.
 use Rattle.std.specs.Prelude.{◌≡◌, ℕ, ◌+◌, ◌<◌, ◌≤◌, List, length, Option, Some, None, Result, Ok, Err}
-use Rattle.spv_base.specs.State.{State}
 use Rattle.spv_base.specs.declared.causes.NoMemory.{NoMemory}
 use Rattle.spv_base.specs.declared.happenings.Happening.{Happening}
 use Rattle.spv_setup.specs.Schedule.{Entries}
 use Rattle.spv_machine.specs.Program.{Program}
+use Rattle.spv_machine.specs.State.{State}
 use Rattle.spv_machine.specs.Step.{Faults, start_of, step_of, fault_in}
 use Rattle.spv_machine.specs.Sound.{IsSound}
 use Rattle.spv_machine.specs.declared.execution.StepErr.{StepErr}
@@ -33,15 +33,15 @@ pub record IsRun (p : Program) (schedule : Entries) (w : State) (n : ℕ) (last 
   pub before : last ≡ happening_before p schedule.list n
   pub within : n ≤ end_of p schedule.list
   pub sound : IsSound p w
-  pub count : length w.statuses ≡ length (start_of p).statuses
-  pub fits : schedule.invocations ≡ length (start_of p).statuses
+  pub count : length w.statuses.list ≡ length (start_of p).statuses.list
+  pub fits : schedule.invocations ≡ length (start_of p).statuses.list
 
 -- what an event of an invocation left that didn't fault
 pub record WasMade (p : Program) (w : State) (i : ℕ) (t : State) (h : Happening) : Type 0 where
   pub state : t ≡ state_after (step_of p w i) w
   pub happening : h ≡ happening_in (step_of p w i) i
   pub faultless : fault_in (step_of p w i) ≡ None
-  pub count : length t.statuses ≡ length w.statuses
+  pub count : length t.statuses.list ≡ length w.statuses.list
 
 -- an event of an invocation, or its fault
 abbrev pub Makes : Program → State → ℕ → Result Happening StepErr → State → Type 0

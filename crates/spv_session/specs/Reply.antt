@@ -1,7 +1,9 @@
 -- The reply to a line, and the view after it. How a position was reached doesn't matter to it.
-use Rattle.std.specs.Prelude.{◌≡◌, ℕ, ◌==◌, Bool, true, false, List, [], ◌++◌, Option, Some, None, is_some, if◌then◌else◌, slice_get, Result, Ok, Err}
-use Rattle.spv_base.specs.State.{Frame, frames_of}
+use Rattle.std.specs.Prelude.{◌≡◌, ℕ, ◌==◌, Bool, true, false, List, [], ◌++◌, Option, Some, None, is_some, if◌then◌else◌, Result, Ok, Err}
 use Rattle.spv_base.specs.declared.causes.CmdRefusal.{CmdRefusal}
+use Rattle.spv_valid.specs.Acceptance.{Accepted}
+use Rattle.spv_frame.specs.Frames.{Held as Frame}
+use Rattle.spv_machine.specs.State.{top_of}
 use Rattle.spv_session.specs.declared.request.Request.{Request}
 use Rattle.spv_session.specs.declared.request.Request.TheVariants.{Nothing, Goto, Regs, Quit}
 use Rattle.spv_session.specs.Requests.{request_of}
@@ -10,16 +12,16 @@ use Rattle.spv_session.specs.View.{View, view_at, state_in, end_cause_in, goto_t
 
 -- the top frame of the invocation 0, which replies speak of; none where it is finished
 abbrev pub focus_frame : View → Option Frame
-focus_frame v = slice_get (frames_of (state_in v) 0) 0
+focus_frame v = top_of (state_in v) 0
 
 -- the refusal of a command that asks for the frame of a finished invocation
 abbrev pub focus_finished : ℕ
 focus_finished = 12
 
 -- a finished invocation has no registers
-abbrev pub registers_reply : Option Frame → List ℕ
-registers_reply None = refusal_line focus_finished
-registers_reply (Some f) = registers_text f.regs
+abbrev pub registers_reply : Accepted → Option Frame → List ℕ
+registers_reply a None = refusal_line focus_finished
+registers_reply a (Some f) = registers_text a f
 
 -- why a motion to a number stopped at the view's position, and where that is
 abbrev pub stop_reply : ℕ → View → List ℕ
@@ -29,7 +31,7 @@ abbrev pub reply_to : View → Result Request CmdRefusal → List ℕ × View
 reply_to v (Err refusal) = (refusal_line refusal.code, v)
 reply_to v (Ok Nothing) = ([], v)
 reply_to v (Ok Quit) = ([], v)
-reply_to v (Ok Regs) = (registers_reply (focus_frame v), v)
+reply_to v (Ok Regs) = (registers_reply v.program.accepted (focus_frame v), v)
 reply_to v (Ok (Goto n)) = (stop_reply n (view_at (goto_target v n) v), view_at (goto_target v n) v)
 
 unfoldable pub reply : View → List ℕ → List ℕ × View

@@ -1,16 +1,14 @@
 -- A run by the entries of a schedule, each the invocation that an event is of: the states at its positions, always from the start, and
 -- where and why it ends.
-use Rattle.std.specs.Prelude.{ℕ, zero, suc, Bool, true, false, not, ◌&&◌, if◌then◌else◌, List, length, Option, Some, None, is_some, slice_get, option_map}
-use Rattle.std.specs.List.{list_all, list_any}
-use Rattle.spv_base.specs.State.{State}
-use Rattle.spv_base.specs.declared.happenings.Status4.{Status4}
-use Rattle.spv_base.specs.declared.happenings.Status4.TheVariants.{Ready, Arrived, Passed, Finished}
+use Rattle.std.specs.Prelude.{ℕ, zero, suc, Bool, if◌then◌else◌, List, length, Option, Some, None, is_some, slice_get, option_map}
 use Rattle.spv_base.specs.declared.happenings.Happening.{Happening}
 use Rattle.spv_base.specs.declared.happenings.Kind.TheVariants.{Idle}
 use Rattle.spv_base.specs.declared.happenings.EndCause.{EndCause}
 use Rattle.spv_base.specs.declared.happenings.EndCause.TheVariants as end
 use Rattle.spv_machine.specs.Program.{Program}
+use Rattle.spv_machine.specs.State.{State}
 use Rattle.spv_machine.specs.Step.{Outcome, Idles, Moves, Faults, start_of, step_of, fault_in}
+use Rattle.spv_statuses.specs.Group as statuses
 use Rattle.spv_session.specs.Positions.{least_of}
 
 -- ---- states
@@ -51,30 +49,12 @@ happening_before p entries (suc n) = happening_at p entries n
 
 -- ---- the end
 
-abbrev pub is_finished : Status4 → Bool
-is_finished Finished = true
-is_finished Ready = false
-is_finished Arrived = false
-is_finished Passed = false
-
-abbrev pub is_arrived : Status4 → Bool
-is_arrived Arrived = true
-is_arrived Ready = false
-is_arrived Passed = false
-is_arrived Finished = false
-
-abbrev pub can_go : Status4 → Bool
-can_go Ready = true
-can_go Passed = true
-can_go Arrived = false
-can_go Finished = false
-
 abbrev pub all_finished : State → Bool
-all_finished s = list_all is_finished s.statuses
+all_finished s = statuses.all_finished s.statuses.list
 
 -- no invocation is ready or passed, and one has arrived at a barrier
 abbrev pub is_stuck : State → Bool
-is_stuck s = not (list_any can_go s.statuses) && list_any is_arrived s.statuses
+is_stuck s = statuses.is_stuck s.statuses.list
 
 -- what the next entry has for a cause: its event faults, or there is none
 abbrev pub next_cause : Program → State → Option ℕ → Option EndCause

@@ -1,14 +1,17 @@
 -- The texts of replies. Each line ends with a line feed.
-use Rattle.std.specs.Prelude.{ℕ, Bool, if◌then◌else◌, List, [], ◌∷◌, ◌++◌, codes, decimal, Option, Some, None, fold, map, slice_index_or}
-use Rattle.std.specs.List.{flat_map, join_by}
+use Rattle.std.specs.Prelude.{ℕ, Bool, if◌then◌else◌, List, [], ◌∷◌, ◌++◌, codes, decimal, Option, Some, None, fold, slice_index_or, unwrap_or}
+use Rattle.std.specs.List.{filter_map, flat_map, join_by}
 use Rattle.std.specs.BTreeMap.{insert_entry}
+use Rattle.std.specs.Option.{option_and_then, option_map, option_map_or}
 use Rattle.std.specs.Ordering.{nat_cmp}
-use Rattle.spv_base.specs.State.{Frame, Registers}
-use Rattle.spv_base.specs.Lane.{Lane}
-use Rattle.spv_base.specs.declared.values.Value.{Value, out-Value}
-use Rattle.spv_base.specs.declared.values.Value.TheOpen.{Value-F}
 use Rattle.spv_base.specs.declared.happenings.EndCause.{EndCause}
 use Rattle.spv_base.specs.declared.happenings.EndCause.TheVariants as end
+use Rattle.spv_base.specs.declared.values.Pointer.{Pointer}
+use Rattle.spv_base.specs.declared.values.Value.{Value, Ptr}
+use Rattle.spv_index.specs.Definitions.{result_type}
+use Rattle.spv_valid.specs.Acceptance.{Accepted}
+use Rattle.spv_frame.specs.Frames.{Held as Frame}
+use Rattle.spv_show.specs.Texts.{value_text}
 
 -- ---- refusals
 
@@ -23,48 +26,49 @@ refusals =
 abbrev pub refusal_line : ℕ → List ℕ
 refusal_line code = codes "refused: " ++ slice_index_or refusals code [] ++ codes "\n"
 
--- ---- values and registers
+-- ---- registers
 
--- a scalar in decimal, or that it is undefined
-abbrev pub scalar_text : Lane → List ℕ
-scalar_text cell = if cell.defined then decimal cell.bits else codes "<undefined>"
+-- the type of the result with an id
+abbrev pub type_of : Accepted → ℕ → ℕ
+type_of a id = unwrap_or (result_type a.insts id) 0
 
--- No register holds a list or a pointer as yet.
-abbrev pub text_by : Value-F Value → List ℕ
-text_by (Value-F.Scalar cell) = scalar_text cell
-text_by (Value-F.List values) = codes "<unavailable>"
-text_by (Value-F.Ptr pointer) = codes "<unavailable>"
+-- the text of what a register holds, by the type of its id
+abbrev pub register_text : Accepted → ℕ → Value → List ℕ
+register_text a id v = value_text a.types (type_of a id) v
 
-abbrev pub text_of : Value → List ℕ
-text_of v = text_by (out-Value v)
+abbrev pub shown_value : Accepted → ℕ × Option Value → Option (ℕ × List ℕ)
+shown_value a e = option_map (λ v. (e.0, register_text a e.0 v)) e.1
 
--- the registers that have a value, in ascending order of their ids
-abbrev pub with_value : List (ℕ × Value) → ℕ → Option Value → List (ℕ × Value)
-with_value held id None = held
-with_value held id (Some v) = insert_entry nat_cmp held id v
+abbrev pub shown_pointer : Accepted → ℕ × Option Pointer → Option (ℕ × List ℕ)
+shown_pointer a e = option_map (λ p. (e.0, register_text a e.0 (Ptr p))) e.1
 
-abbrev pub with_register : List (ℕ × Value) → ℕ × Option Value → List (ℕ × Value)
-with_register held register = with_value held register.0 register.1
+-- the registers of a frame that hold something, each with its text
+abbrev pub shown_in : Accepted → Frame → List (ℕ × List ℕ)
+shown_in a f = filter_map (shown_value a) f.values ++ filter_map (shown_pointer a) f.pointers
 
-abbrev pub ascending : Registers → List (ℕ × Value)
-ascending registers = fold with_register [] registers
+-- in ascending order of their ids
+abbrev pub with_shown : List (ℕ × List ℕ) → ℕ × List ℕ → List (ℕ × List ℕ)
+with_shown held shown = insert_entry nat_cmp held shown.0 shown.1
 
-abbrev pub shown_text : ℕ × Value → ℕ × List ℕ
-shown_text register = (register.0, text_of register.1)
+abbrev pub with_any : {X : Type 0} → List (ℕ × List ℕ) → (X → Option (ℕ × List ℕ)) → Option X → List (ℕ × List ℕ)
+with_any held text x = option_map_or (with_shown held) (option_and_then text x) held
+
+abbrev pub ascending : List (ℕ × List ℕ) → List (ℕ × List ℕ)
+ascending shown = fold with_shown [] shown
 
 abbrev pub shown_line : ℕ × List ℕ → List ℕ
 shown_line shown = codes "%" ++ decimal shown.0 ++ codes " = " ++ shown.1 ++ codes "\n"
 
--- a line for each register that has a value
-abbrev pub registers_text : Registers → List ℕ
-registers_text registers = flat_map shown_line (map shown_text (ascending registers))
+-- a line for each register that holds something
+abbrev pub registers_text : Accepted → Frame → List ℕ
+registers_text a f = flat_map shown_line (ascending (shown_in a f))
 
 -- ---- positions
 
 -- where the top frame of an invocation stands; a finished one has no frame
 abbrev pub place_text : Option Frame → List ℕ
 place_text None = codes "finished"
-place_text (Some f) = codes "%" ++ decimal f.function ++ codes " word " ++ decimal f.pc
+place_text (Some f) = codes "%" ++ decimal f.plan.function ++ codes " word " ++ decimal f.pc
 
 -- the position, and where the invocation 0 stands there
 abbrev pub position_line : ℕ → Option Frame → List ℕ

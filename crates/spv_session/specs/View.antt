@@ -1,9 +1,9 @@
 -- A view: a program, the schedule of its invocations, and a position of the run. All else follows from these.
 use Rattle.std.specs.Prelude.{ℕ, ◌==◌, min, if◌then◌else◌, List, Option, None}
-use Rattle.spv_base.specs.State.{State}
 use Rattle.spv_base.specs.declared.happenings.EndCause.{EndCause}
 use Rattle.spv_setup.specs.Schedule.{Entries}
 use Rattle.spv_machine.specs.Program.{Program}
+use Rattle.spv_machine.specs.State.{State}
 use Rattle.spv_session.specs.Run.{run, cause_at, end_of}
 
 pub record View : Type 0 where

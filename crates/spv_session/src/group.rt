@@ -1,5 +1,5 @@
 //! A run of a module that goes forth and back along its schedule.
-ghost use Rattle.std.specs.Prelude.{◌≡◌, ◌≤◌, ◌<◌, ◌+◌, IfOk, OnOk, length, slice_get, Some};
+ghost use Rattle.std.specs.Prelude.{◌≡◌, ◌≤◌, ◌<◌, ◌+◌, IfOk, OnOk, length};
 ghost use Rattle.spv_machine.specs.Sound.{IsSound};
 ghost use Rattle.spv_machine.specs.Step.{start_of};
 ghost use Rattle.spv_session.specs.Costs.{ForthCounts, BackCounts, goto_cost};
@@ -9,7 +9,8 @@ ghost use Rattle.spv_session.specs.View.{first_view, view_at, entries_in, state_
 use crate::ends::cause_here;
 use crate::motion::{Back, Forth};
 use crate::run::Run;
-use spv_base::{EndCause, NoMemory, Status4, Steps};
+use spv_base::{EndCause, NoMemory, Steps};
+use spv_machine::laws::runs_start_with_all;
 use spv_machine::{Runnable, World};
 use spv_setup::Schedule;
 use std::alloc::Global;
@@ -39,7 +40,7 @@ impl Model for Group {
 impl Group {
     /// The run of a module by a schedule of as many invocations, at its start.
     pub fn open(alloc: Global, m: Runnable, schedule: Schedule) -> Result<Group, NoMemory>
-        requires { schedule.invocations ≡ length (start_of m).statuses }
+        requires { schedule.invocations ≡ length (start_of m).statuses.list }
         ensures { IfOk result (λ g. g ≡ first_view m schedule) }
     {
         let run = Run::start(alloc, &m, &schedule)?;
@@ -79,22 +80,9 @@ impl Group {
         ensures sound { IsSound self.now.program result.now }
         ensures first { 0 < length result.now.stacks }
     {
+        runs_start_with_all();
+        let _accepted = self.module.accepted();
         &self.run.world
-    }
-
-    /// How many invocations there are.
-    pub fn invocations(&self) -> u32
-        ensures { result ≡ length (state_in self.now).statuses }
-    {
-        self.run.world.invocations()
-    }
-
-    /// How far an invocation is.
-    pub fn status(&self, i: u32) -> Status4
-        requires { i < length (state_in self.now).statuses }
-        ensures { slice_get (state_in self.now).statuses i ≡ Some result }
-    {
-        self.run.world.status(i)
     }
 
     /// Why the run ends here; none exactly where it goes on. It takes no step.
@@ -128,7 +116,7 @@ impl Group {
         let target = self.run.position - 1;
         let mut run = Run::start(self.alloc, &self.module, &self.schedule)?;
         run.run_to(self.alloc, &self.module, &self.schedule, target, steps)?;
-        self.run = run;
+        self.run.replace(run);
         Ok(Back::Went(happening))
     }
 
@@ -146,7 +134,7 @@ impl Group {
         ensures cost { steps.new ≤ steps.old + goto_cost self.old target }
     {
         if target < self.run.position {
-            self.run = Run::start(self.alloc, &self.module, &self.schedule)?;
+            self.run.restart(self.alloc, &self.module, &self.schedule)?;
         }
         self.run
             .run_to(self.alloc, &self.module, &self.schedule, target, steps)

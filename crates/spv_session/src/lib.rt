@@ -4,6 +4,7 @@
 mod ends;
 mod group;
 mod motion;
+mod registers;
 mod request;
 mod run;
 mod session;
@@ -12,6 +13,6 @@ mod texts;
 pub use ends::end_is_least;
 pub use group::Group;
 pub use motion::{Back, Forth};
+pub use registers::shown_registers_ascend;
 pub use request::{Request, requests_are_commands};
 pub use session::{Next, Session};
-pub use texts::shown_registers_ascend;

@@ -1,5 +1,5 @@
 //! A run at a position, always by running on from the start.
-ghost use Rattle.std.specs.Prelude.{◌≡◌, ◌≤◌, ◌+◌, ◌-◌, ◌<◌, ◌^◌, length, slice_get, IfOk, OnOk, IfSome, IsSome, max, min};
+ghost use Rattle.std.specs.Prelude.{◌≡◌, ◌≤◌, ◌+◌, ◌-◌, ◌<◌, ◌^◌, length, slice_get, IfOk, OnErr, OnOk, IfSome, IsSome, max, min};
 ghost use Rattle.spv_machine.specs.Sound.{IsSound};
 ghost use Rattle.spv_machine.specs.Step.{start_of};
 ghost use Rattle.spv_session.specs.Motion.{IsRun, Makes, Goes};
@@ -9,7 +9,6 @@ ghost use Rattle.spv_session.specs.Run.{end_of, idle_event};
 use crate::ends::{all_finished, is_stuck};
 use crate::motion::Forth;
 use spv_base::{EndCause, Happening, Kind, NoMemory, Steps};
-use spv_machine::execution::step_sound;
 use spv_machine::{Did, Runnable, StepErr, World, step};
 use spv_setup::Schedule;
 use std::alloc::Global;
@@ -56,14 +55,12 @@ fn event<L: Ledger>(
     inv: u32,
     steps: &mut Steps<L>,
 ) -> Result<Happening, StepErr>
-    requires inv { inv < length world.old.statuses }
+    requires inv { inv < length world.old.statuses.list }
     requires sound { IsSound m.now world.old }
     ensures makes { Makes m.now world.old inv result world.new }
     ensures sound { IsSound m.now world.new }
     ensures count { steps.new ≡ steps.old + 1 }
 {
-    // A step keeps the number of invocations.
-    step_sound(m);
     match step(alloc, m, world, inv, steps) {
         Ok(Did::Moved(happening)) => Ok(happening),
         Ok(Did::Idle) => Ok(idle(inv)),
@@ -74,7 +71,7 @@ fn event<L: Ledger>(
 impl Run {
     /// The start of a run by a schedule of as many invocations.
     pub fn start(alloc: Global, m: &Runnable, schedule: &Schedule) -> Result<Run, NoMemory>
-        requires { schedule.now.invocations ≡ length (start_of m.now).statuses }
+        requires { schedule.now.invocations ≡ length (start_of m.now).statuses.list }
         ensures run { IfOk result (λ r. IsRun m.now schedule.now r.world r.position r.last) }
         ensures position { IfOk result (λ r. r.position ≡ 0) }
     {
@@ -83,6 +80,30 @@ impl Run {
             position: 0,
             last: None,
         })
+    }
+
+    /// Goes back to the start. After want of memory all is as before.
+    pub fn restart(
+        &mut self,
+        alloc: Global,
+        m: &Runnable,
+        schedule: &Schedule,
+    ) -> Result<(), NoMemory>
+        requires { schedule.now.invocations ≡ length (start_of m.now).statuses.list }
+        ensures run { OnOk result (IsRun m.now schedule.now self.new.world self.new.position self.new.last) }
+        ensures position { OnOk result (self.new.position ≡ 0) }
+        ensures err { OnErr result (self.new ≡ self.old) }
+    {
+        let run = Run::start(alloc, m, schedule)?;
+        self.replace(run);
+        Ok(())
+    }
+
+    /// Becomes another run.
+    pub fn replace(&mut self, run: Run)
+        ensures { self.new ≡ run }
+    {
+        *self = run;
     }
 
     /// Makes the next event. It takes one step, or none at an end that is no fault.

@@ -8,9 +8,11 @@ ghost use Rattle.spv_session.specs.View.{view_at, end_in};
 ghost use Rattle.spv_session.specs.declared.session.Next.TheVariants as answers;
 
 use crate::group::Group;
+use crate::registers::push_registers;
 use crate::request::Request;
-use crate::texts::{push_position, push_registers, push_stop, refusal_line};
+use crate::texts::{push_position, push_stop, refusal_line};
 use spv_base::{CmdRefusal, Fail, NoMemory, Probe, Steps};
+use spv_machine::laws::top_frames_are_sound;
 use std::alloc::Global;
 use std::marker::Model;
 use std::sync::ledger::Ledger;
@@ -118,11 +120,12 @@ impl Session {
 
     /// Appends the registers of the invocation 0.
     fn push_registers(&self, text: &mut Vec<u8>) -> Result<(), NoMemory>
-        ensures { OnOk result (text.new.items ≡ text.old.items ++ registers_reply (focus_frame self.now)) }
+        ensures { OnOk result (text.new.items ≡ text.old.items ++ registers_reply self.now.program.accepted (focus_frame self.now)) }
     {
-        match self.group.world().stack(0).top() {
+        top_frames_are_sound();
+        match self.group.world().whole().top(0) {
             None => text.extend_from_slice(refusal_line(FOCUS_FINISHED))?,
-            Some(frame) => push_registers(self.alloc, text, frame.registers())?,
+            Some(frame) => push_registers(self.alloc, text, self.group.module(), frame)?,
         }
         Ok(())
     }
@@ -134,11 +137,7 @@ impl Session {
         let position = self.group.position();
         let cause = self.group.end_cause()?;
         push_stop(self.alloc, text, position == asked, position == 0, cause)?;
-        push_position(
-            self.alloc,
-            text,
-            position,
-            self.group.world().stack(0).top(),
-        )
+        let top = self.group.world().whole().top(0);
+        push_position(self.alloc, text, position, top)
     }
 }

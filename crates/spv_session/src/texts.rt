@@ -1,18 +1,10 @@
 //! The texts of replies.
-ghost use Rattle.std.specs.Prelude.{◌≡◌, ℕ, ◌++◌, [], ◌∷◌, Some, OnOk, IfOk, MatchOption, map, codes, decimal, option_copied};
-ghost use Rattle.std.specs.List.{flat_map, Contains};
-ghost use Rattle.std.specs.List.Sorted.{IsStrictlyIncreasing};
-ghost use Rattle.std.specs.Map.{keys_of};
-ghost use Rattle.std.specs.BTreeMap.{insert_entry};
-ghost use Rattle.std.specs.Ordering.{nat_cmp};
-ghost use Rattle.spv_base.specs.State.{Registers};
-ghost use Rattle.spv_base.specs.declared.values.Value.{Value as AnyValue};
-ghost use Rattle.spv_session.specs.Texts.{refusal_line, text_of, scalar_text, ascending, shown_text, shown_line, registers_text, place_text, position_line, cause_text, stop_line};
+ghost use Rattle.std.specs.Prelude.{◌≡◌, ◌++◌, OnOk, decimal, option_copied};
+ghost use Rattle.spv_session.specs.Texts.{refusal_line, place_text, position_line, cause_text, stop_line};
 
-use spv_base::{Cell, CmdRefusal, EndCause, NoMemory, Text, Value};
-use spv_machine::{Frame, Stack};
+use spv_base::{CmdRefusal, EndCause, NoMemory};
+use spv_frame::Frame;
 use std::alloc::Global;
-use std::collections::BTreeMap;
 
 /// The line of a refusal. Its code is 1 to 13.
 pub fn refusal_line(refusal: CmdRefusal) -> &'static [u8]
@@ -37,103 +29,10 @@ pub fn refusal_line(refusal: CmdRefusal) -> &'static [u8]
 }
 
 /// Appends a number in decimal.
-fn push_number(alloc: Global, text: &mut Vec<u8>, number: u64) -> Result<(), NoMemory>
+pub fn push_number(alloc: Global, text: &mut Vec<u8>, number: u64) -> Result<(), NoMemory>
     ensures { OnOk result (text.new.items ≡ text.old.items ++ decimal number) }
 {
     text.extend_from_slice(number.to_string(alloc)?.as_bytes())?;
-    Ok(())
-}
-
-/// Appends the text of a scalar: its number in decimal, or that it is undefined.
-fn push_scalar(alloc: Global, text: &mut Vec<u8>, cell: &Cell) -> Result<(), NoMemory>
-    ensures { OnOk result (text.new.items ≡ text.old.items ++ scalar_text cell.now) }
-{
-    if cell.defined {
-        push_number(alloc, text, cell.bits)
-    } else {
-        text.extend_from_slice(b"<undefined>")?;
-        Ok(())
-    }
-}
-
-/// Appends the text of a value.
-fn push_value(alloc: Global, text: &mut Vec<u8>, value: &Value) -> Result<(), NoMemory>
-    ensures { OnOk result (text.new.items ≡ text.old.items ++ text_of value.now) }
-{
-    if let Value::Scalar(cell) = value {
-        push_scalar(alloc, text, cell)
-    } else {
-        text.extend_from_slice(b"<unavailable>")?;
-        Ok(())
-    }
-}
-
-/// Puts the text of a value under an id, where there is a value.
-fn show(
-    alloc: Global,
-    shown: &mut BTreeMap<u32, Text>,
-    id: u32,
-    value: &Option<Value>,
-) -> Result<(), NoMemory>
-    ensures { OnOk result (MatchOption value.now (shown.new.entries ≡ shown.old.entries) (λ v. shown.new.entries ≡ insert_entry nat_cmp shown.old.entries id (text_of v))) }
-{
-    if let Some(value) = value {
-        let mut text = Vec::new(alloc);
-        push_value(alloc, &mut text, value)?;
-        shown.insert(id, Text::from_vec(text))?;
-    }
-    Ok(())
-}
-
-/// The texts of the registers that have a value, by their ids.
-fn shown_registers(
-    alloc: Global,
-    registers: &[(u32, Option<Value>)],
-) -> Result<BTreeMap<u32, Text>, NoMemory>
-    ensures { IfOk result (λ shown. shown.entries ≡ map shown_text (ascending registers.now)) }
-{
-    let mut shown = BTreeMap::new(alloc);
-    for register in registers {
-        show(alloc, &mut shown, register.0, &register.1)?;
-    }
-    Ok(shown)
-}
-
-/// Appends the line of a register with this text.
-fn push_register(alloc: Global, text: &mut Vec<u8>, id: u32, shown: &Text) -> Result<(), NoMemory>
-    ensures { OnOk result (text.new.items ≡ text.old.items ++ shown_line (id, shown.now)) }
-{
-    text.extend_from_slice(b"%")?;
-    push_number(alloc, text, id as u64)?;
-    text.extend_from_slice(b" = ")?;
-    text.extend_from_slice(shown.as_slice())?;
-    text.extend_from_slice(b"\n")?;
-    Ok(())
-}
-
-/// Appends a line for each register that has a value, in ascending order of their ids.
-pub fn push_registers(
-    alloc: Global,
-    text: &mut Vec<u8>,
-    registers: &[(u32, Option<Value>)],
-) -> Result<(), NoMemory>
-    ensures { OnOk result (text.new.items ≡ text.old.items ++ registers_text registers.now) }
-{
-    let shown = shown_registers(alloc, registers)?;
-    push_shown(alloc, text, &shown)
-}
-
-/// Appends a line for each register with its text.
-fn push_shown(
-    alloc: Global,
-    text: &mut Vec<u8>,
-    shown: &BTreeMap<u32, Text>,
-) -> Result<(), NoMemory>
-    ensures { OnOk result (text.new.items ≡ text.old.items ++ flat_map shown_line shown.now.entries) }
-{
-    for (id, line) in shown {
-        push_register(alloc, text, *id, line)?;
-    }
     Ok(())
 }
 
@@ -217,10 +116,3 @@ pub fn push_stop(
     text.extend_from_slice(b"\n")?;
     Ok(())
 }
-
-/// The registers that are shown ascend by their ids, each with a value that it has, and all are shown that have one.
-pub fn shown_registers_ascend()
-    ensures ascending { (registers : Registers) → IsStrictlyIncreasing (keys_of (ascending registers)) }
-    ensures values { (registers : Registers) (id : ℕ) (value : AnyValue) → Contains (ascending registers) (id, value) → Contains registers (id, Some value) }
-    ensures all { (registers : Registers) (id : ℕ) (value : AnyValue) → Contains registers (id, Some value) → Contains (keys_of (ascending registers)) id }
-{}

@@ -1,17 +1,13 @@
-use Rattle.std.proofs.Common.{sym, ap, ◌∙◌, refl}
-use Rattle.spv_machine.specs.Step.{outcome, Moves}
-use Rattle.spv_machine.proofs.Outcomes.{ready_is}
+use Rattle.std.proofs.Common.{sym, subst}
+use Rattle.spv_machine.specs.Planned.{shown}
+use Rattle.spv_machine.specs.Sound.{IsSound}
+use Rattle.spv_machine.proofs.Known.{IsKnown, known_as}
+use Rattle.spv_machine.proofs.ReachedLemmas.{applied_sound}
 use Rattle.spv_machine.proofs.execution.ready.Goals as goal
 
-pub returns-in-Ok : goal.returns-in-Ok
-returns-in-Ok c =
-    ready_is c.args.m.now c.args.w.now c.args.inv c.word_of-pc.result c.requires.ready c.word_of-pc.ensures
-    ∙ ap (outcome c.args.w.now c.args.inv c.word_of-pc.result) c.in-Ok.ensures.due
-    ∙ (λ i. Moves (sym c.plain.ensures i) (sym c.apply.ensures i))
-
-pub returns-in-Err-Refused : goal.returns-in-Err-Refused
-returns-in-Err-Refused c = (
-  ready_is c.args.m.now c.args.w.now c.args.inv c.word_of-pc.result c.requires.ready c.word_of-pc.ensures
-      ∙ ap (outcome c.args.w.now c.args.inv c.word_of-pc.result) (rw c.in-Err-Refused.field-0-is at c.in-Err-Refused.ensures.due),
-  refl,
-)
+pub returns-in-Ok-clause-sound : goal.returns-in-Ok-clause-sound
+returns-in-Ok-clause-sound c =
+    let p = c.args.m.now in
+    let known : IsKnown p.accepted = known_as p.accepted c.accepted-accepted.result.now c.accepted-accepted.ensures.module c.insts-insts.ensures.accepted c.insts-insts.ensures.valid in
+    subst (IsSound p) (sym c.apply.ensures)
+    (applied_sound p known c.args.whole.now c.args.inv c.reached-inst.result.now (shown c.in-Ok.effect c.due.new.row) c.accepted-accepted.ensures.built c.reached-inst.ensures c.in-Ok.ensures.fits)

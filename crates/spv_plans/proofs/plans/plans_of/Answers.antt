@@ -1,10 +1,15 @@
-use Rattle.std.proofs.Common.{Global, ◌≡◌, ◌∙◌, ◌+◌, List, Some, length, map, refl, sym, ap, subst, slice_get}
+use Rattle.std.proofs.Common.{Global, ◌≡◌, ◌∙◌, ℕ, ◌+◌, ◌≤◌, List, Some, length, map, refl, sym, ap, subst, slice_get, arith}
 use Rattle.std.proofs.lemmas.Bool.{ne_eqb}
 use Rattle.std.proofs.lemmas.Option.{slice_get_read}
 use Rattle.std.specs.declared.rc.Rc.{Rc}
+use Rattle.spv_base.specs.declared.instructions.Inst.{Inst}
+use Rattle.spv_cfg.specs.Calls.{functions_of}
 use Rattle.spv_frame.specs.Registers.{Planned}
 use Rattle.spv_frame.specs.declared.plans.Plan.{Plan}
-use Rattle.spv_plans.proofs.ReadLemmas.{Reading, grown, id_is, none_there, one_read}
+use Rattle.spv_frame.proofs.StackLemmas.{if_ok}
+use Rattle.spv_plans.specs.Plans.{IsPlan, functions_in}
+use Rattle.spv_plans.proofs.PlanOfLemmas.{plans_are}
+use Rattle.spv_plans.proofs.ReadLemmas.{Reading, all_read, grown, id_is, none_there, one_read}
 use Rattle.spv_plans.proofs.plans.plans_of.Goals as goal
 use Rattle.spv_plans.proofs.plans.plans_of.Goals.{then-inst-eq-FUNCTION+in_ok-plan+in_ok-new+in_ok-push, else-inst-eq-FUNCTION}
 
@@ -25,3 +30,14 @@ loop-n-preserved c =
           subst (λ (ps : List Planned). Reading a insts ps (c.loop-n.n + 1)) (sym (ap (λ v. map f v.items) w.list-is))
           (none_there a insts (map f c.loop-n.list.items) c.loop-n.n i c.loop-n.invariant at (ne_eqb i.op 54 w.if-inst-eq-FUNCTION.false))
     ]
+
+pub returns-clause-are : goal.returns-clause-are
+returns-clause-are c =
+    let a = c.args.accepted.now in
+    let insts = c.insts-insts.result.now in
+    let ps : List Planned = map (λ (x : Rc Plan Global). x.value) c.loop-n.list.items in
+    let past : length insts ≤ c.loop-n.n = omega (arith, c.loop-n-test.false) in
+    let functions : map (λ (p : Planned). p.function) ps ≡ functions_in a
+    = all_read a insts ps c.loop-n.n c.loop-n.invariant past ∙ ap (λ (is : List Inst). map (λ (f : ℕ × ℕ). f.0) (functions_of is)) c.insts-insts.ensures.insts in
+    let only = λ (p : Planned) (is : IsPlan a p). c.functions_have_their_plans.ensures.only a p c.insts-insts.ensures.accepted is in
+    if_ok c.new-2.result _ _ (λ (plans : List Planned) (e : plans ≡ ps). e ∙ plans_are a ps (functions_of a.insts) only c.loop-n.invariant.plans functions) c.new-2.ensures

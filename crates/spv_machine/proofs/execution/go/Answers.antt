@@ -1,0 +1,15 @@
+use Rattle.std.proofs.Common.{ap, sym, ◌∙◌}
+use Rattle.spv_valid.specs.Acceptance.{Accepted}
+use Rattle.spv_machine.specs.Step.{go, next_of}
+use Rattle.spv_machine.specs.declared.effects.Control.{Control}
+use Rattle.spv_machine.proofs.Outcomes.{moved_is}
+use Rattle.spv_machine.proofs.ReachedLemmas.{word_is}
+use Rattle.spv_machine.proofs.execution.go.Goals as goal
+
+pub returns-in-Next : goal.returns-in-Next
+returns-in-Next c =
+    let a = c.args.m.now.accepted in
+    let r = c.requires.reached in
+    let word = word_is c.args.m.now c.args.whole.now c.args.inv c.args.inst.now r in
+    let next = c.word_behind.ensures ∙ ap (λ (x : Accepted). next_of x c.args.inst.now.word) c.accepted.ensures.module ∙ ap (next_of a) word in
+    c.set_pc.ensures ∙ moved_is a c.args.whole.now c.args.inv c.word_behind.result r.frame r.top next ∙ ap (λ (x : Control). go a c.args.inv x c.args.whole.now) (sym c.in-Next.is)

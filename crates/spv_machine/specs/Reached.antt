@@ -1,0 +1,32 @@
+-- An instruction that is due: what is known of a state where an invocation has reached it.
+use Rattle.std.specs.Prelude.{◌≡◌, ℕ, Some, ⊤, slice_get}
+use Rattle.spv_base.specs.declared.causes.Fail.{Fail}
+use Rattle.spv_base.specs.declared.causes.Fail.TheVariants.{Refused, NoMemory}
+use Rattle.spv_base.specs.declared.instructions.Inst.{Inst}
+use Rattle.spv_base.specs.declared.values.Value.{Value}
+use Rattle.std.specs.Prelude.{Result, Ok, Err}
+use Rattle.spv_index.specs.Definitions.{at}
+use Rattle.spv_frame.specs.Frames.{Held as Frame}
+use Rattle.spv_statuses.specs.declared.invocations.Status.TheVariants.{Ready}
+use Rattle.spv_machine.specs.Effects.{code_of}
+use Rattle.spv_machine.specs.Planned.{shown}
+use Rattle.spv_machine.specs.Program.{Program}
+use Rattle.spv_machine.specs.Sound.{IsSound}
+use Rattle.spv_machine.specs.State.{State, top_of}
+use Rattle.spv_machine.specs.Step.{Moves, Faults, apply, happening_of, step_of}
+use Rattle.spv_machine.specs.declared.causes.Cause.{Cause}
+use Rattle.spv_machine.specs.declared.effects.Effect.{Effect}
+
+-- the top frame of a Ready invocation of a sound state stands at the instruction
+pub record IsReached (p : Program) (s : State) (i : ℕ) (d : Inst) : Type 0 where
+  pub sound : IsSound p s
+  pub ready : slice_get s.statuses.list i ≡ Some Ready
+  pub frame : Frame
+  pub top : top_of s i ≡ Some frame
+  pub at : at p.accepted.insts frame.pc ≡ Some d
+
+-- what a step of the invocation is, by the effect that was worked out; nothing is said where memory ran out
+abbrev pub IsStepBy : Program → State → ℕ → Inst → Value → Result Effect (Fail Cause) → Type 0
+IsStepBy p s i d v (Ok e) = step_of p s i ≡ Moves (happening_of p.accepted i d.word (shown e v).store) (apply p.accepted i d.id (shown e v) s)
+IsStepBy p s i d v (Err (Refused cause)) = step_of p s i ≡ Faults (record { code = code_of cause; inv = i; word = d.word })
+IsStepBy p s i d v (Err NoMemory) = ⊤

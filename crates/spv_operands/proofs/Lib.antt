@@ -1,0 +1,11 @@
+pub mod ListLemmas
+pub mod FormLemmas
+pub mod FrontLemmas
+pub mod TargetLemmas
+pub mod VariableLemmas
+pub mod MeaningLemmas
+pub mod ConstantLemmas
+pub mod ShapeLemmas
+pub mod OperandLemmas
+pub mod FrameLemmas
+pub mod ReadingLemmas

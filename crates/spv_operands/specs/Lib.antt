@@ -1,0 +1,4 @@
+pub mod Values
+pub mod Shapes
+pub mod Operands
+pub mod Variables

@@ -1,0 +1,10 @@
+use Rattle.std.proofs.Common.{◌∙◌, ap}
+use Rattle.spv_typing.specs.Lanes.{lanes_of}
+use Rattle.spv_types.specs.Types.{Types}
+use Rattle.spv_results.proofs.LaneTypes.{narrow_lanes}
+use Rattle.spv_results.proofs.lanes.lane_width.Goals as goal
+
+pub width_in-requires : goal.width_in-requires
+width_in-requires c =
+    narrow_lanes c.args.accepted.now.types c.args.ty c.in-Some.lanes c.types_are_sound.ensures
+    (c.in-Some.ensures ∙ ap (λ (ts : Types). lanes_of ts c.args.ty) c.types.ensures)
