@@ -16,7 +16,7 @@ import tempfile
 import time
 from spirv import FUNCTION_TYPE, HEADER, MAIN, TOP, UINT, VOID, inst, text
 
-PROGRAM = os.path.join(TOP, "crates", "spvdbg", "out", "spvdbg")
+PROGRAM = os.environ.get("SPVDBG") or os.path.join(TOP, "crates", "spvdbg", "out", "spvdbg")
 POINTER, ONE_ID, VARIABLE, LABEL, FIRST = 4, 5, 6, 8, 10
 RUNS = 5
 

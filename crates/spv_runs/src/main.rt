@@ -37,20 +37,20 @@ fn call<L: Ledger, R: rt::Files + AllocGlobal>(
     blank: Blank,
     rt: &R,
     words: &[String],
-    input: &mut MemorySource,
+    commands: Vec<u8>,
     out: &mut MemorySink,
 ) -> Status
     requires name { blank.name ≡ L.name }
     requires parts { blank.parts ≡ L.parts }
     requires some { 0 < blank.parts }
-    requires input { input.old.faults < 2 ^ 64 - 1 }
     requires out { out.old.faults < 2 ^ 64 - 1 }
 {
     let alloc = rt.alloc();
     let kit: Vec<Box<dyn Probe>> = Vec::new(alloc);
     let mut files = RealFiles::new(alloc, rt);
+    let mut input = MemorySource::new(commands);
     let mut steps = Steps::<L>::new(blank);
-    debug_main(alloc, words, &mut files, input, out, kit, &mut steps)
+    debug_main(alloc, words, &mut files, &mut input, out, kit, &mut steps)
 }
 
 /// Says what `debug` writes for a module and some commands, and how it ends.
@@ -61,9 +61,9 @@ fn report<R: rt::Files + Print + AllocGlobal>(
     commands: &str,
 ) -> io::Result<()> {
     let words = words_for(rt.alloc(), module)?;
-    let mut input = MemorySource::new(fs::read(rt, commands)?);
+    let commands = fs::read(rt, commands)?;
     let mut out = MemorySink::new(rt.alloc());
-    let status = call::<Brand, _>(Blank::new(1), rt, &words, &mut input, &mut out);
+    let status = call::<Brand, _>(Blank::new(1), rt, &words, commands, &mut out);
     println!(rt; "{name}")?;
     io::writer(rt).write_all(&out.bytes)?;
     println!(rt; "status {}", status as u8)
