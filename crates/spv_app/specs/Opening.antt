@@ -9,7 +9,7 @@ use Rattle.spv_setup.specs.declared.settings.Settings.{Settings}
 use Rattle.spv_setup.specs.Settings.{settings_of}
 use Rattle.spv_setup.specs.Schedule.{Entries}
 use Rattle.spv_fit.specs.Fit.{fitted}
-use Rattle.spv_machine.specs.Program.{program_of}
+use Rattle.spv_state.specs.Program.{program_of}
 use Rattle.spv_session.specs.View.{View, first_view}
 use Rattle.spv_app.specs.declared.opening.OpeningRefusal.{OpeningRefusal}
 use Rattle.spv_app.specs.declared.opening.OpeningRefusal.TheVariants.{Module, Setup}

@@ -3,7 +3,7 @@ ghost use Rattle.std.specs.Prelude.{◌≡◌, ◌≤◌, ◌<◌, IfOk, OnOk, l
 ghost use Rattle.spv_base.specs.Answers.{Answers};
 ghost use Rattle.spv_setup.specs.Settings.{settings_of};
 ghost use Rattle.spv_valid.specs.Validity.{IsValid};
-ghost use Rattle.spv_machine.specs.Program.{program_of};
+ghost use Rattle.spv_state.specs.Program.{program_of};
 ghost use Rattle.spv_app.specs.Limits.{setup_limit};
 ghost use Rattle.spv_app.specs.Opening.{opening, accepted_in, invocations_of, schedule_for, started, of_setup, of_module};
 
@@ -11,7 +11,7 @@ use crate::acceptance::accepted_as;
 use spv_base::{Fail, Refusal, SetupRefusal};
 use spv_fit::fit;
 use spv_machine::Runnable;
-use spv_machine::laws::runs_start_with_all;
+use spv_state::laws::runs_start_with_all;
 use spv_session::Group;
 use spv_setup::{Schedule, Setup};
 use spv_valid::Module;
@@ -131,7 +131,7 @@ fn fit_setup(
 
 /// The module as it can be run with the setup, refused as a pair is. Refuses code 0 at word 5 where its workgroup has more than one
 /// invocation, or the machine can't do one of its executables yet.
-#[tactic(auto, unfolding(spv_machine::specs::Program::program_of))]
+#[tactic(auto, unfolding(spv_state::specs::Program::program_of))]
 fn run_module(accepted: Module, setup: Setup) -> Result<Runnable, Fail<OpeningRefusal>>
     ensures due { Answers (of_module (program_of accepted setup)) result }
     ensures same { IfOk result (λ program. program.accepted ≡ accepted) }

@@ -13,11 +13,11 @@ use Rattle.spv_index.specs.Positions.{Stand, stands_of}
 use Rattle.spv_initial.specs.Start.{invocations}
 use Rattle.spv_results.specs.Computations.{computation_of}
 use Rattle.spv_valid.specs.Acceptance.{Accepted}
-use Rattle.spv_machine.specs.Actions.{action_of}
-use Rattle.spv_machine.specs.Program.{is_built, is_done, is_open}
-use Rattle.spv_machine.specs.Sound.{IsCallOf, StandsIn}
-use Rattle.spv_machine.proofs.Known.{IsKnown}
-use Rattle.spv_machine.proofs.Standing.{Standing, at_standing, standing}
+use Rattle.spv_state.specs.Actions.{action_of}
+use Rattle.spv_state.specs.Program.{is_built, is_done, is_open}
+use Rattle.spv_state.specs.Sound.{IsCallOf, StandsIn}
+use Rattle.spv_state.proofs.Known.{IsKnown}
+use Rattle.spv_state.proofs.Standing.{Standing, at_standing, standing}
 
 call_undone : (i : Inst) → i.op ≡ 57 → is_done (action_of i) ≡ false
 unfolding action_of computation_of unary_op binary_op field_op extended_op vector_op

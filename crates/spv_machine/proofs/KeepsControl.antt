@@ -9,17 +9,17 @@ use Rattle.spv_frame.specs.Stacks.{Stacked, top}
 use Rattle.spv_statuses.specs.declared.invocations.Status.{Status}
 use Rattle.spv_statuses.specs.declared.invocations.Status.TheVariants.{Ready, Passed, Finished}
 use Rattle.spv_valid.specs.Acceptance.{Accepted}
-use Rattle.spv_machine.specs.Program.{Program, is_built}
-use Rattle.spv_machine.specs.Sound.{HasVariables, IsSound, IsSoundFrame, IsSoundStack, StandsAs, StandsIn}
-use Rattle.spv_machine.specs.State.{State, on_frame, on_frames, set_status, top_of, with_pc, without_last, without_locals, without_top}
+use Rattle.spv_state.specs.Program.{Program, is_built}
+use Rattle.spv_state.specs.Sound.{HasVariables, IsSound, IsSoundFrame, IsSoundStack, StandsAs, StandsIn}
+use Rattle.spv_state.specs.State.{State, on_frame, on_frames, set_status, top_of, with_pc, without_last, without_locals, without_top}
 use Rattle.spv_machine.specs.Step.{go, next_of}
-use Rattle.spv_machine.specs.declared.effects.Control.TheVariants.{Next, Leave}
+use Rattle.spv_actions.specs.declared.effects.Control.TheVariants.{Next, Leave}
 use Rattle.spv_machine.proofs.Calls.{no_call}
 use Rattle.spv_machine.proofs.KeepsFrames.{moved_kept}
 use Rattle.spv_machine.proofs.KeepsStacks.{AreSoundStacks, one_changed, top_kept}
-use Rattle.spv_machine.proofs.Known.{IsKnown}
-use Rattle.spv_machine.proofs.Lists.{change_none, length_change, set_is_change}
-use Rattle.spv_machine.proofs.Standing.{next_stands, standing, stands_there}
+use Rattle.spv_state.proofs.Known.{IsKnown}
+use Rattle.spv_state.proofs.Lists.{change_none, length_change, set_is_change}
+use Rattle.spv_state.proofs.Standing.{next_stands, standing, stands_there}
 
 -- ---- a sound state after a change of one invocation
 

@@ -10,10 +10,10 @@ use Rattle.spv_types.specs.Shapes.{HasShape}
 use Rattle.spv_frame.specs.Frames.{Held as Frame}
 use Rattle.spv_operands.specs.Shapes.{AreShaped, target_in}
 use Rattle.spv_valid.specs.Acceptance.{Accepted}
-use Rattle.spv_machine.specs.Fits.{LevelFits}
-use Rattle.spv_machine.specs.Sound.{IsSoundFrame, StandsIn}
-use Rattle.spv_machine.specs.State.{with_level, with_pc, with_register}
-use Rattle.spv_machine.proofs.Entries.{keys_stay, reads_written}
+use Rattle.spv_actions.specs.Fits.{LevelFits}
+use Rattle.spv_state.specs.Sound.{IsSoundFrame, StandsIn}
+use Rattle.spv_state.specs.State.{with_level, with_pc, with_register}
+use Rattle.spv_state.proofs.Entries.{keys_stay, reads_written}
 
 -- ---- a register takes a value or a pointer
 

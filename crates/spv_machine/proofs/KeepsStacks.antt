@@ -12,9 +12,9 @@ use Rattle.spv_frame.specs.Stacks.{Stacked, on_top, top}
 use Rattle.spv_statuses.specs.declared.invocations.Status.{Status}
 use Rattle.spv_statuses.specs.declared.invocations.Status.TheVariants.{Finished}
 use Rattle.spv_valid.specs.Acceptance.{Accepted}
-use Rattle.spv_machine.specs.Sound.{HasVariables, IsCallOf, IsSoundFrame, IsSoundStack, StandsAs}
-use Rattle.spv_machine.specs.State.{on_frames}
-use Rattle.spv_machine.proofs.Lists.{change_here, change_other, changed_from, length_change}
+use Rattle.spv_state.specs.Sound.{HasVariables, IsCallOf, IsSoundFrame, IsSoundStack, StandsAs}
+use Rattle.spv_state.specs.State.{on_frames}
+use Rattle.spv_state.proofs.Lists.{change_here, change_other, changed_from, length_change}
 
 -- ---- invocation by invocation
 

@@ -14,21 +14,21 @@ use Rattle.spv_frame.specs.Stacks.{Stacked, top}
 use Rattle.spv_statuses.specs.declared.invocations.Status.{Status}
 use Rattle.spv_statuses.specs.declared.invocations.Status.TheVariants.{Ready, Arrived, Passed, Finished}
 use Rattle.spv_valid.specs.Acceptance.{Accepted}
-use Rattle.spv_machine.specs.Effects.{effect_of}
-use Rattle.spv_machine.specs.Planned.{IsDue}
-use Rattle.spv_machine.specs.Program.{Program}
+use Rattle.spv_actions.specs.Instructions.{effect_of}
+use Rattle.spv_actions.specs.Planned.{IsDue}
+use Rattle.spv_state.specs.Program.{Program}
 use Rattle.spv_machine.specs.Reached.{IsReached, IsStepBy}
-use Rattle.spv_machine.specs.Sound.{IsBarrier, IsSound, IsSoundFrame, IsSoundStack, StandsAs}
-use Rattle.spv_machine.specs.State.{State, on_frame, on_frames, set_status, top_of, with_pc}
+use Rattle.spv_state.specs.Sound.{IsBarrier, IsSound, IsSoundFrame, IsSoundStack, StandsAs}
+use Rattle.spv_state.specs.State.{State, on_frame, on_frames, set_status, top_of, with_pc}
 use Rattle.spv_machine.specs.Step.{Idles, Moves, at_frame, at_inst, by_status, fault_in, go, next_of, outcome, past_frame, plain, step_of}
-use Rattle.spv_machine.specs.declared.causes.Cause.{Cause}
-use Rattle.spv_machine.specs.declared.effects.Control.TheVariants.{Next}
-use Rattle.spv_machine.specs.declared.effects.Effect.{Effect}
+use Rattle.spv_actions.specs.declared.causes.Cause.{Cause}
+use Rattle.spv_actions.specs.declared.effects.Control.TheVariants.{Next}
+use Rattle.spv_actions.specs.declared.effects.Effect.{Effect}
 use Rattle.spv_machine.proofs.KeepsControl.{top_at}
-use Rattle.spv_machine.proofs.Known.{IsKnown, goes_on}
-use Rattle.spv_machine.proofs.Lists.{change_same}
-use Rattle.spv_machine.proofs.Standing.{Standing, at_standing, standing}
-use Rattle.spv_machine.proofs.Stands.{class_is}
+use Rattle.spv_state.proofs.Known.{IsKnown, goes_on}
+use Rattle.spv_state.proofs.Lists.{change_same}
+use Rattle.spv_state.proofs.Standing.{Standing, at_standing, standing}
+use Rattle.spv_state.proofs.Stands.{class_is}
 
 -- ---- the top frame of an invocation that is not finished
 

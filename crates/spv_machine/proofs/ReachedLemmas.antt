@@ -14,25 +14,25 @@ use Rattle.spv_frame.specs.Frames.{Held as Frame}
 use Rattle.spv_frame.specs.Stacks.{Stacked, top}
 use Rattle.spv_statuses.specs.declared.invocations.Status.{Status}
 use Rattle.spv_statuses.specs.declared.invocations.Status.TheVariants.{Ready}
-use Rattle.spv_machine.specs.Effects.{Effect}
-use Rattle.spv_machine.specs.Fits.{ControlFits, Fits, LevelFits, ResultFits}
-use Rattle.spv_machine.specs.Planned.{IsTaken, gained}
-use Rattle.spv_machine.specs.Program.{Program, is_built}
+use Rattle.spv_actions.specs.Effects.{Effect}
+use Rattle.spv_actions.specs.Fits.{ControlFits, Fits, LevelFits, ResultFits}
+use Rattle.spv_actions.specs.Planned.{IsTaken, gained}
+use Rattle.spv_state.specs.Program.{Program, is_built}
 use Rattle.spv_machine.specs.Reached.{IsReached}
-use Rattle.spv_machine.specs.Sound.{IsSound, StandsAs}
-use Rattle.spv_machine.specs.State.{State, on_frame, on_frames, top_of, with_register}
+use Rattle.spv_state.specs.Sound.{IsSound, StandsAs}
+use Rattle.spv_state.specs.State.{State, on_frame, on_frames, top_of, with_register}
 use Rattle.spv_machine.specs.Step.{apply, go, put_result, put_store}
-use Rattle.spv_machine.specs.declared.effects.Control.{Control}
-use Rattle.spv_machine.specs.declared.effects.Control.TheVariants.{Next, Leave}
-use Rattle.spv_machine.specs.declared.effects.Gain.{Gain}
-use Rattle.spv_machine.specs.declared.effects.Gain.TheVariants.{Nothing, Row, Pointer as PointerTo}
+use Rattle.spv_actions.specs.declared.effects.Control.{Control}
+use Rattle.spv_actions.specs.declared.effects.Control.TheVariants.{Next, Leave}
+use Rattle.spv_actions.specs.declared.effects.Gain.{Gain}
+use Rattle.spv_actions.specs.declared.effects.Gain.TheVariants.{Nothing, Row, Pointer as PointerTo}
 use Rattle.spv_machine.proofs.KeepsControl.{frame_kept, left_kept, next_kept}
 use Rattle.spv_machine.proofs.KeepsFrames.{RegisterFits, register_kept, register_stays}
 use Rattle.spv_machine.proofs.KeepsStacks.{top_kept}
 use Rattle.spv_machine.proofs.KeepsStore.{store_kept}
-use Rattle.spv_machine.proofs.Known.{IsKnown}
-use Rattle.spv_machine.proofs.Lists.{change_here, changed_at, length_change}
-use Rattle.spv_machine.proofs.Stands.{Stood, stand_inst, stood}
+use Rattle.spv_state.proofs.Known.{IsKnown}
+use Rattle.spv_state.proofs.Lists.{change_here, changed_at, length_change}
+use Rattle.spv_state.proofs.Stands.{Stood, stand_inst, stood}
 
 -- ---- the store
 

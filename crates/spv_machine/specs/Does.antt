@@ -4,7 +4,7 @@ use Rattle.spv_machine.specs.declared.execution.Did.{Did}
 use Rattle.spv_machine.specs.declared.execution.Did.TheVariants.{Idle, Moved}
 use Rattle.spv_machine.specs.declared.execution.StepErr.{StepErr}
 use Rattle.spv_machine.specs.declared.execution.StepErr.TheVariants.{Fault as Faulted, NoMemory}
-use Rattle.spv_machine.specs.State.{State}
+use Rattle.spv_state.specs.State.{State}
 use Rattle.spv_machine.specs.Step.{Outcome, Idles, Moves, Faults}
 
 -- A call of step gives what is due, or finds no memory. Where it doesn't move, the state is as before.

@@ -1,14 +1,3 @@
-pub mod Actions
-pub mod Program
-pub mod State
-pub mod Rooms
-pub mod Effects
 pub mod Step
-pub mod Does
-pub mod Sound
-pub mod Fits
-pub mod Planned
 pub mod Reached
-pub mod Slots
-pub mod Sites
-pub mod Kept
+pub mod Does

@@ -8,14 +8,14 @@ use Rattle.std.specs.Prelude.{Result, Ok, Err}
 use Rattle.spv_index.specs.Definitions.{at}
 use Rattle.spv_frame.specs.Frames.{Held as Frame}
 use Rattle.spv_statuses.specs.declared.invocations.Status.TheVariants.{Ready}
-use Rattle.spv_machine.specs.Effects.{code_of}
-use Rattle.spv_machine.specs.Planned.{shown}
-use Rattle.spv_machine.specs.Program.{Program}
-use Rattle.spv_machine.specs.Sound.{IsSound}
-use Rattle.spv_machine.specs.State.{State, top_of}
+use Rattle.spv_actions.specs.Effects.{code_of}
+use Rattle.spv_actions.specs.Planned.{shown}
+use Rattle.spv_state.specs.Program.{Program}
+use Rattle.spv_state.specs.Sound.{IsSound}
+use Rattle.spv_state.specs.State.{State, top_of}
 use Rattle.spv_machine.specs.Step.{Moves, Faults, apply, happening_of, step_of}
-use Rattle.spv_machine.specs.declared.causes.Cause.{Cause}
-use Rattle.spv_machine.specs.declared.effects.Effect.{Effect}
+use Rattle.spv_actions.specs.declared.causes.Cause.{Cause}
+use Rattle.spv_actions.specs.declared.effects.Effect.{Effect}
 
 -- the top frame of a Ready invocation of a sound state stands at the instruction
 pub record IsReached (p : Program) (s : State) (i : ℕ) (d : Inst) : Type 0 where
@@ -27,6 +27,6 @@ pub record IsReached (p : Program) (s : State) (i : ℕ) (d : Inst) : Type 0 whe
 
 -- what a step of the invocation is, by the effect that was worked out; nothing is said where memory ran out
 abbrev pub IsStepBy : Program → State → ℕ → Inst → Value → Result Effect (Fail Cause) → Type 0
-IsStepBy p s i d v (Ok e) = step_of p s i ≡ Moves (happening_of p.accepted i d.word (shown e v).store) (apply p.accepted i d.id (shown e v) s)
+IsStepBy p s i d v (Ok e) = step_of p s i ≡ Moves (happening_of p.accepted s i d.word (shown e v)) (apply p.accepted i d (shown e v) s)
 IsStepBy p s i d v (Err (Refused cause)) = step_of p s i ≡ Faults (record { code = code_of cause; inv = i; word = d.word })
 IsStepBy p s i d v (Err NoMemory) = ⊤

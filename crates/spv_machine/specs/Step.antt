@@ -1,11 +1,11 @@
--- The start of a run, and one step of an invocation.
+-- One step of an invocation.
 use Rattle.std.specs.Prelude.{ℕ, ◌==◌, ◌||◌, if◌then◌else◌, Bool, false, List, [], ◌∷◌, ◌++◌, map, replicate, filter, unwrap_or, Option, Some, None, Result, Ok, Err, slice_get}
 use Rattle.std.specs.Option.{option_and_then, option_map_or}
 use Rattle.spv_base.specs.Entries.{reads}
 use Rattle.spv_base.specs.State.{Roots}
 use Rattle.spv_base.specs.declared.happenings.Fault.{Fault}
 use Rattle.spv_base.specs.declared.happenings.Happening.{Happening}
-use Rattle.spv_base.specs.declared.happenings.Kind.TheVariants.{Plain, Write}
+use Rattle.spv_base.specs.declared.happenings.Kind.TheVariants.{Plain, Write, Arrive, Opened}
 use Rattle.spv_base.specs.declared.instructions.Inst.{Inst}
 use Rattle.spv_base.specs.declared.values.Pointer.{Pointer}
 use Rattle.spv_base.specs.declared.values.Root.{Root}
@@ -22,41 +22,14 @@ use Rattle.spv_initial.specs.declared.variables.Declared.{Declared}
 use Rattle.spv_frame.specs.Frames.{Held as Frame, fresh}
 use Rattle.spv_plans.specs.Plans.{plan_of, plans_in}
 use Rattle.spv_operands.specs.Values.{storage_class}
+use Rattle.spv_statuses.specs.Group.{all_wait_at}
 use Rattle.spv_statuses.specs.declared.invocations.Status.{Status}
 use Rattle.spv_statuses.specs.declared.invocations.Status.TheVariants.{Ready, Arrived, Passed, Finished}
-use Rattle.spv_machine.specs.Effects.{Effect, code_of, effect_of}
-use Rattle.spv_machine.specs.Program.{Program, words_of}
-use Rattle.spv_machine.specs.State.{State, on_frame, on_memory, pop_frame, set_status, top_of, with_pc, with_register}
-use Rattle.spv_machine.specs.declared.causes.Cause.{Cause}
-use Rattle.spv_machine.specs.declared.effects.Control.{Control}
-use Rattle.spv_machine.specs.declared.effects.Control.TheVariants.{Next, Leave}
-
--- ---- the start
-
--- an id stands for a variable of a function
-abbrev pub is_local_of : ℕ → Meaning → Bool
-is_local_of function (Variable f) = f == function
-is_local_of function _ = false
-
-abbrev pub is_variable_of : Accepted → ℕ → Declared → Bool
-is_variable_of a function d = option_map_or (is_local_of function) (meaning_of a.insts d.id) false
-
--- the variables of a frame of a function, each with what it begins with
-abbrev pub frame_roots : Accepted → ℕ → Roots
-frame_roots a function = local_roots a (filter (is_variable_of a function) (variables a))
-
--- the memory that a run starts with, and in it the variables of the entry point's frame for each invocation
-abbrev pub begun : Accepted → Memory → Memory
-begun a m = record m { locals = map (λ (l : Levels). record l { list = l.list ++ frame_roots a a.entry ∷ [] }) m.locals }
-
--- Each invocation is Ready, and stands at the first executable of the entry function.
-unfoldable pub start_of : Program → State
-start_of p = record {
-  plans = plans_in p.accepted;
-  memory = begun p.accepted (starting p.accepted p.setup);
-  stacks = replicate (invocations p.accepted) (record { frames = fresh (plan_of p.accepted p.accepted.entry) ∷ []; room = p.accepted.depth });
-  statuses = record { list = replicate (invocations p.accepted) Ready; words = words_of p.accepted };
-}
+use Rattle.spv_actions.specs.Effects.{Control, Effect, Next, Jump, Enter, Leave, Wait, code_of}
+use Rattle.spv_actions.specs.Instructions.{effect_of}
+use Rattle.spv_state.specs.Program.{Program, words_of}
+use Rattle.spv_state.specs.State.{State, on_frame, open_barrier, pop_frame, push_frame, put_store, set_status, top_of, with_pc, with_register, with_registers}
+use Rattle.spv_actions.specs.declared.causes.Cause.{Cause}
 
 -- ---- an effect, done
 
@@ -64,21 +37,54 @@ start_of p = record {
 abbrev pub next_of : Accepted → ℕ → ℕ
 next_of a pc = unwrap_or (option_and_then (λ n. n) (reads pc a.flow.nexts)) 0
 
-abbrev pub put_store : ℕ → Option (Pointer × Value) → State → State
-put_store i None s = s
-put_store i (Some e) s = on_memory (stored i e.0 e.1) s
-
 abbrev pub put_result : ℕ → ℕ → Option Value → State → State
 put_result i id None s = s
 put_result i id (Some v) s = on_frame i (with_register id v) s
 
--- on to the next executable; a return of the entry point drops the frame with its variables, and the invocation is Finished
-abbrev pub go : Accepted → ℕ → Control → State → State
-go a i Next s = on_frame i (λ (f : Frame). with_pc (next_of a f.pc) f) s
-go a i Leave s = set_status i Finished (pop_frame i s)
+-- on to the next executable
+abbrev pub go_on : Accepted → ℕ → State → State
+go_on a i s = on_frame i (λ (f : Frame). with_pc (next_of a f.pc) f) s
 
-abbrev pub apply : Accepted → ℕ → ℕ → Effect → State → State
-apply a i id e s = go a i e.control (put_result i id e.result (put_store i e.store s))
+-- the first executable of the block with a label
+abbrev pub first_of : Accepted → ℕ → ℕ
+first_of a label = unwrap_or (reads label a.flow.blocks) 0
+
+-- to a block, whose phis take their values at once
+abbrev pub jump : Accepted → ℕ → ℕ → List (ℕ × Value) → State → State
+jump a i block phis s = on_frame i (λ (f : Frame). with_pc (first_of a block) (with_registers phis f)) s
+
+-- the id of the instruction at a word
+abbrev pub id_at : Accepted → ℕ → ℕ
+id_at a word = option_map_or (λ (d : Inst). d.id) (at a.insts word) 0
+
+-- Where a function was left: the call takes what it gave, and the caller moves past the call; where no frame is left, the entry point
+-- returned, and the invocation is Finished.
+abbrev pub resume : Accepted → ℕ → Option Value → State → Option Frame → State
+resume a i v s None = set_status i Finished s
+resume a i v s (Some f) = go_on a i (put_result i (id_at a f.pc) v s)
+
+abbrev pub leave : Accepted → ℕ → Option Value → State → State
+leave a i v s = resume a i v (pop_frame i s) (top_of (pop_frame i s) i)
+
+-- an arrival at the barrier at a word; where all invocations wait there then, it opens, and they all are Passed
+abbrev pub arrived : ℕ → ℕ → State → State
+arrived i word s = set_status i (Arrived word) s
+
+abbrev pub opens : ℕ → State → Bool
+opens word s = all_wait_at word s.statuses.list
+
+abbrev pub arrive : ℕ → ℕ → State → State
+arrive i word s = if opens word (arrived i word s) then open_barrier (arrived i word s) else arrived i word s
+
+abbrev pub go : Accepted → ℕ → ℕ → Control → State → State
+go a i word Next s = go_on a i s
+go a i word (Jump block phis) s = jump a i block phis s
+go a i word (Enter frame es) s = push_frame i frame es s
+go a i word (Leave v) s = leave a i v s
+go a i word Wait s = arrive i word s
+
+abbrev pub apply : Accepted → ℕ → Inst → Effect → State → State
+apply a i d e s = go a i d.word e.control (put_result i d.id e.result (put_store i e.store s))
 
 -- ---- a step
 
@@ -100,14 +106,29 @@ written a i word (Shared id) = if is_written a id then record { inv = i; kind = 
 written a i word (Private id) = plain i word
 written a i word (Local depth id) = plain i word
 
--- the event of an effect at a word
-abbrev pub happening_of : Accepted → ℕ → ℕ → Option (Pointer × Value) → Happening
-happening_of a i word None = plain i word
-happening_of a i word (Some e) = written a i word e.0.root
+-- an arrival at the barrier at a word, in the state before it
+abbrev pub arrival : ℕ → ℕ → State → Happening
+arrival i word s = record { inv = i; kind = if opens word (arrived i word s) then Opened else Arrive; word = word; root = 0; line = 0 }
+
+-- the event of a store at a word
+abbrev pub stored_at : Accepted → ℕ → ℕ → Option (Pointer × Value) → Happening
+stored_at a i word None = plain i word
+stored_at a i word (Some e) = written a i word e.0.root
+
+-- the event of an effect at a word, in the state before it, by where control goes
+abbrev pub by_control : Accepted → State → ℕ → ℕ → Effect → Control → Happening
+by_control a s i word e Next = stored_at a i word e.store
+by_control a s i word e (Jump block phis) = plain i word
+by_control a s i word e (Enter frame es) = plain i word
+by_control a s i word e (Leave v) = plain i word
+by_control a s i word e Wait = arrival i word s
+
+abbrev pub happening_of : Accepted → State → ℕ → ℕ → Effect → Happening
+happening_of a s i word e = by_control a s i word e e.control
 
 -- a fault changes nothing
 abbrev pub outcome : Program → State → ℕ → Inst → Result Effect Cause → Outcome
-outcome p s i d (Ok e) = Moves (happening_of p.accepted i d.word e.store) (apply p.accepted i d.id e s)
+outcome p s i d (Ok e) = Moves (happening_of p.accepted s i d.word e) (apply p.accepted i d e s)
 outcome p s i d (Err cause) = Faults (record { code = code_of cause; inv = i; word = d.word })
 
 -- a Ready invocation does the effect of the instruction at which its top frame stands
@@ -122,7 +143,7 @@ at_frame p s i (Some f) = at_inst p s i f (at p.accepted.insts f.pc)
 -- a Passed invocation moves past the barrier and is Ready
 abbrev pub past_frame : Program → State → ℕ → Option Frame → Outcome
 past_frame p s i None = Idles
-past_frame p s i (Some f) = Moves (plain i f.pc) (set_status i Ready (go p.accepted i Next s))
+past_frame p s i (Some f) = Moves (plain i f.pc) (set_status i Ready (go_on p.accepted i s))
 
 abbrev pub by_status : Program → State → ℕ → Option Status → Outcome
 by_status p s i (Some Ready) = at_frame p s i (top_of s i)

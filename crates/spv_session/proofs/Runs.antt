@@ -5,16 +5,17 @@ use Rattle.std.specs.Result.{IsErrAnd}
 use Rattle.std.specs.Prelude.{max, min, nat_lt, slice_get, is_some, option_map, IfSome, IsSome}
 use Rattle.std.proofs.lemmas.Bool.{cases_lt, eqb-false}
 use Rattle.std.proofs.lemmas.Option.{slice_get_past, slice_get_within, slice_get-get_or}
-use Rattle.spv_machine.specs.State.{State}
+use Rattle.spv_state.specs.State.{State}
 use Rattle.spv_base.specs.declared.causes.NoMemory.{NoMemory}
 use Rattle.spv_base.specs.declared.happenings.Happening.{Happening}
 use Rattle.spv_base.specs.declared.happenings.Fault.{Fault}
 use Rattle.spv_base.specs.declared.happenings.EndCause.{EndCause}
 use Rattle.spv_base.specs.declared.happenings.EndCause.TheVariants as end
 use Rattle.spv_setup.specs.Schedule.{Entries}
-use Rattle.spv_machine.specs.Program.{Program}
-use Rattle.spv_machine.specs.Step.{Idles, Moves, Faults, start_of, step_of, fault_in}
-use Rattle.spv_machine.specs.Sound.{IsSound}
+use Rattle.spv_state.specs.Program.{Program}
+use Rattle.spv_state.specs.Start.{start_of}
+use Rattle.spv_machine.specs.Step.{Idles, Moves, Faults, step_of, fault_in}
+use Rattle.spv_state.specs.Sound.{IsSound}
 use Rattle.spv_session.specs.Positions.{IsLeast}
 use Rattle.spv_session.specs.Run.{state_after, event, run, happening_in, happening_at, all_finished, is_stuck, next_cause, cause_in, cause_at, has_cause, end_of, idle_event}
 use Rattle.spv_session.specs.Costs.{BackCounts, run_cost}

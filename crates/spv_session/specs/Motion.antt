@@ -3,10 +3,11 @@ use Rattle.std.specs.Prelude.{◌≡◌, ℕ, ◌+◌, ◌<◌, ◌≤◌, List,
 use Rattle.spv_base.specs.declared.causes.NoMemory.{NoMemory}
 use Rattle.spv_base.specs.declared.happenings.Happening.{Happening}
 use Rattle.spv_setup.specs.Schedule.{Entries}
-use Rattle.spv_machine.specs.Program.{Program}
-use Rattle.spv_machine.specs.State.{State}
-use Rattle.spv_machine.specs.Step.{Faults, start_of, step_of, fault_in}
-use Rattle.spv_machine.specs.Sound.{IsSound}
+use Rattle.spv_state.specs.Program.{Program}
+use Rattle.spv_state.specs.State.{State}
+use Rattle.spv_state.specs.Start.{start_of}
+use Rattle.spv_machine.specs.Step.{Faults, step_of, fault_in}
+use Rattle.spv_state.specs.Sound.{IsSound}
 use Rattle.spv_machine.specs.declared.execution.StepErr.{StepErr}
 use Rattle.spv_machine.specs.declared.execution.StepErr.TheVariants as error
 use Rattle.spv_session.specs.declared.motion.Forth.{Forth}

@@ -3,7 +3,7 @@ use Rattle.std.specs.Prelude.{◌≡◌, ℕ, ◌==◌, Bool, true, false, List,
 use Rattle.spv_base.specs.declared.causes.CmdRefusal.{CmdRefusal}
 use Rattle.spv_valid.specs.Acceptance.{Accepted}
 use Rattle.spv_frame.specs.Frames.{Held as Frame}
-use Rattle.spv_machine.specs.State.{top_of}
+use Rattle.spv_state.specs.State.{top_of}
 use Rattle.spv_session.specs.declared.request.Request.{Request}
 use Rattle.spv_session.specs.declared.request.Request.TheVariants.{Nothing, Goto, Regs, Quit}
 use Rattle.spv_session.specs.Requests.{request_of}

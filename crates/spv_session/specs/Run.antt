@@ -5,9 +5,10 @@ use Rattle.spv_base.specs.declared.happenings.Happening.{Happening}
 use Rattle.spv_base.specs.declared.happenings.Kind.TheVariants.{Idle}
 use Rattle.spv_base.specs.declared.happenings.EndCause.{EndCause}
 use Rattle.spv_base.specs.declared.happenings.EndCause.TheVariants as end
-use Rattle.spv_machine.specs.Program.{Program}
-use Rattle.spv_machine.specs.State.{State}
-use Rattle.spv_machine.specs.Step.{Outcome, Idles, Moves, Faults, start_of, step_of, fault_in}
+use Rattle.spv_state.specs.Program.{Program}
+use Rattle.spv_state.specs.State.{State}
+use Rattle.spv_state.specs.Start.{start_of}
+use Rattle.spv_machine.specs.Step.{Outcome, Idles, Moves, Faults, step_of, fault_in}
 use Rattle.spv_statuses.specs.Group as statuses
 use Rattle.spv_session.specs.Positions.{least_of}
 

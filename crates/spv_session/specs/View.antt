@@ -2,8 +2,8 @@
 use Rattle.std.specs.Prelude.{ℕ, ◌==◌, min, if◌then◌else◌, List, Option, None}
 use Rattle.spv_base.specs.declared.happenings.EndCause.{EndCause}
 use Rattle.spv_setup.specs.Schedule.{Entries}
-use Rattle.spv_machine.specs.Program.{Program}
-use Rattle.spv_machine.specs.State.{State}
+use Rattle.spv_state.specs.Program.{Program}
+use Rattle.spv_state.specs.State.{State}
 use Rattle.spv_session.specs.Run.{run, cause_at, end_of}
 
 pub record View : Type 0 where

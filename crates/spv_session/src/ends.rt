@@ -1,8 +1,8 @@
 //! Why a run ends at a state.
 ghost use Rattle.std.specs.Prelude.{ℕ, true, List, ◌≡◌, ◌<◌, IfOk, length};
 ghost use Rattle.std.specs.Option.{ForSome};
-ghost use Rattle.spv_machine.specs.Program.{Program};
-ghost use Rattle.spv_machine.specs.Sound.{IsSound};
+ghost use Rattle.spv_state.specs.Program.{Program};
+ghost use Rattle.spv_state.specs.Sound.{IsSound};
 ghost use Rattle.spv_session.specs.Positions.{IsLeast};
 ghost use Rattle.spv_session.specs.Run.{all_finished, is_stuck, cause_in, has_cause, end_of};
 

@@ -1,7 +1,7 @@
 //! A run of a module that goes forth and back along its schedule.
 ghost use Rattle.std.specs.Prelude.{◌≡◌, ◌≤◌, ◌<◌, ◌+◌, IfOk, OnOk, length};
-ghost use Rattle.spv_machine.specs.Sound.{IsSound};
-ghost use Rattle.spv_machine.specs.Step.{start_of};
+ghost use Rattle.spv_state.specs.Sound.{IsSound};
+ghost use Rattle.spv_state.specs.Start.{start_of};
 ghost use Rattle.spv_session.specs.Costs.{ForthCounts, BackCounts, goto_cost};
 ghost use Rattle.spv_session.specs.Motion.{Goes, Returns};
 ghost use Rattle.spv_session.specs.View.{first_view, view_at, entries_in, state_in, end_in, end_cause_in, goto_target};
@@ -10,7 +10,7 @@ use crate::ends::cause_here;
 use crate::motion::{Back, Forth};
 use crate::run::Run;
 use spv_base::{EndCause, NoMemory, Steps};
-use spv_machine::laws::runs_start_with_all;
+use spv_state::laws::runs_start_with_all;
 use spv_machine::{Runnable, World};
 use spv_setup::Schedule;
 use std::alloc::Global;

@@ -1,7 +1,7 @@
 //! A run at a position, always by running on from the start.
 ghost use Rattle.std.specs.Prelude.{◌≡◌, ◌≤◌, ◌+◌, ◌-◌, ◌<◌, ◌^◌, length, slice_get, IfOk, OnErr, OnOk, IfSome, IsSome, max, min};
-ghost use Rattle.spv_machine.specs.Sound.{IsSound};
-ghost use Rattle.spv_machine.specs.Step.{start_of};
+ghost use Rattle.spv_state.specs.Sound.{IsSound};
+ghost use Rattle.spv_state.specs.Start.{start_of};
 ghost use Rattle.spv_session.specs.Motion.{IsRun, Makes, Goes};
 ghost use Rattle.spv_session.specs.Costs.{ForthCounts, run_cost};
 ghost use Rattle.spv_session.specs.Run.{end_of, idle_event};

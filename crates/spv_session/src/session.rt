@@ -12,7 +12,7 @@ use crate::registers::push_registers;
 use crate::request::Request;
 use crate::texts::{push_position, push_stop, refusal_line};
 use spv_base::{CmdRefusal, Fail, NoMemory, Probe, Steps};
-use spv_machine::laws::top_frames_are_sound;
+use spv_state::laws::top_frames_are_sound;
 use std::alloc::Global;
 use std::marker::Model;
 use std::sync::ledger::Ledger;

@@ -1,9 +1,9 @@
 use Rattle.std.proofs.Common.{◌≡◌, sym, subst}
-use Rattle.spv_machine.specs.Fits.{ResultFits}
-use Rattle.spv_machine.specs.Planned.{gained, shown}
+use Rattle.spv_actions.specs.Fits.{ResultFits}
+use Rattle.spv_actions.specs.Planned.{gained, shown}
 use Rattle.spv_machine.specs.Reached.{IsReached}
-use Rattle.spv_machine.specs.State.{State}
-use Rattle.spv_machine.proofs.Known.{IsKnown, known_as}
+use Rattle.spv_state.specs.State.{State}
+use Rattle.spv_state.proofs.Known.{IsKnown, known_as}
 use Rattle.spv_machine.proofs.ReachedLemmas.{same_gain, set_reached, stored_reached}
 use Rattle.spv_machine.proofs.execution.apply.Goals as goal
 

@@ -1,7 +1,7 @@
 use Rattle.std.proofs.Common.{ap, sym, ◌∙◌}
 use Rattle.spv_valid.specs.Acceptance.{Accepted}
 use Rattle.spv_machine.specs.Step.{go, next_of}
-use Rattle.spv_machine.specs.declared.effects.Control.{Control}
+use Rattle.spv_actions.specs.declared.effects.Control.{Control}
 use Rattle.spv_machine.proofs.Outcomes.{moved_is}
 use Rattle.spv_machine.proofs.ReachedLemmas.{word_is}
 use Rattle.spv_machine.proofs.execution.go.Goals as goal

@@ -3,12 +3,12 @@ use Rattle.spv_base.specs.Entries.{reads}
 use Rattle.spv_base.specs.declared.happenings.Happening.{Happening}
 use Rattle.spv_statuses.specs.declared.invocations.Status.TheVariants.{Passed, Ready}
 use Rattle.spv_valid.specs.Acceptance.{Accepted}
-use Rattle.spv_machine.specs.Sound.{IsSound}
-use Rattle.spv_machine.specs.State.{State, set_status}
+use Rattle.spv_state.specs.Sound.{IsSound}
+use Rattle.spv_state.specs.State.{State, set_status}
 use Rattle.spv_machine.specs.Step.{Moves, go, next_of, plain}
-use Rattle.spv_machine.specs.declared.effects.Control.TheVariants.{Next}
+use Rattle.spv_actions.specs.declared.effects.Control.TheVariants.{Next}
 use Rattle.spv_machine.proofs.KeepsControl.{past_kept}
-use Rattle.spv_machine.proofs.Known.{IsKnown, known_as}
+use Rattle.spv_state.proofs.Known.{IsKnown, known_as}
 use Rattle.spv_machine.proofs.Outcomes.{HasTop, barrier_next, has_top, moved_is, passed_step}
 use Rattle.spv_machine.proofs.execution.pass.Goals as goal
 

@@ -1,4 +1,4 @@
-use Rattle.spv_machine.proofs.Known.{IsKnown, known_as}
+use Rattle.spv_state.proofs.Known.{IsKnown, known_as}
 use Rattle.spv_machine.proofs.Outcomes.{reached_frame, reached_inside}
 use Rattle.spv_machine.proofs.ReachedLemmas.{result_shape}
 use Rattle.spv_machine.proofs.execution.put_result.Goals as goal

@@ -1,7 +1,7 @@
 use Rattle.std.proofs.Common.{sym, subst}
-use Rattle.spv_machine.specs.Planned.{shown}
-use Rattle.spv_machine.specs.Sound.{IsSound}
-use Rattle.spv_machine.proofs.Known.{IsKnown, known_as}
+use Rattle.spv_actions.specs.Planned.{shown}
+use Rattle.spv_state.specs.Sound.{IsSound}
+use Rattle.spv_state.proofs.Known.{IsKnown, known_as}
 use Rattle.spv_machine.proofs.ReachedLemmas.{applied_sound}
 use Rattle.spv_machine.proofs.execution.ready.Goals as goal
 

@@ -1,8 +1,8 @@
 use Rattle.std.proofs.Common.{◌≡◌, ◌∙◌, Option, Some, sym, ap, subst}
 use Rattle.spv_frame.specs.Frames.{Held as Frame}
-use Rattle.spv_machine.specs.Program.{Program}
-use Rattle.spv_machine.specs.Sound.{IsSoundFrame}
-use Rattle.spv_machine.specs.State.{top_of}
+use Rattle.spv_state.specs.Program.{Program}
+use Rattle.spv_state.specs.Sound.{IsSoundFrame}
+use Rattle.spv_state.specs.State.{top_of}
 use Rattle.std.specs.Prelude.{option_copied}
 use Rattle.spv_session.specs.Frames.{IsShown}
 use Rattle.spv_session.proofs.session.Session.push_registers.Goals as goal

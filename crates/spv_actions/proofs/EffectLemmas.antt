@@ -1,0 +1,146 @@
+-- What instructions that compute do, by what their computations give.
+use Rattle.std.proofs.Common.{◌≡◌, ◌∙◌, ℕ, Bool, true, false, List, [], ◌∷◌, Option, Some, None, Result, Ok, Err, ok_or, refl, sym, ap, subst}
+use Rattle.std.proofs.lemmas.Bool.{both_ways}
+use Rattle.std.specs.List.{AllByRecursion}
+use Rattle.std.specs.Option.{is_some, option_and_then, option_map, option_or, unwrap_or}
+use Rattle.spv_base.specs.Entries.{reads}
+use Rattle.spv_base.specs.declared.causes.Fail.{Fail}
+use Rattle.spv_base.specs.declared.causes.Fail.TheVariants.{Refused, NoMemory}
+use Rattle.spv_base.specs.declared.instructions.Inst.{Inst}
+use Rattle.spv_base.specs.declared.values.Pointer.{Pointer as Reference}
+use Rattle.spv_base.specs.declared.values.Value.{Value, Ptr, out-Value}
+use Rattle.spv_base.specs.declared.values.Value.TheOpen.{Value-F}
+use Rattle.spv_types.specs.Laws.{AreSound}
+use Rattle.spv_types.specs.Shapes.{pointer_in}
+use Rattle.spv_valid.specs.Acceptance.{Accepted}
+use Rattle.spv_operands.proofs.ShapeLemmas.{data_plain, out_pointer}
+use Rattle.spv_results.specs.Computations.{computation_of}
+use Rattle.spv_results.specs.Operands.{IsResult}
+use Rattle.spv_results.specs.Results.{result_by, result_of}
+use Rattle.spv_results.specs.declared.computations.Computation.{Computation}
+use Rattle.spv_state.specs.Actions.{action_of, named}
+use Rattle.spv_actions.specs.Effects as spec
+use Rattle.spv_actions.specs.Effects.{◌>>=◌, gives}
+use Rattle.spv_actions.specs.Instructions.{effect_of, row}
+use Rattle.spv_actions.specs.Fits.{LevelFits, ResultFits}
+use Rattle.spv_actions.specs.Planned.{IsDue, IsTaken, gained, shown}
+use Rattle.spv_actions.specs.Sites.{Computes, IsGain, Site, accepted, due, values}
+use Rattle.spv_state.specs.declared.actions.Action.{Action}
+use Rattle.spv_state.specs.declared.actions.Action.TheVariants.{Compute, Load, Store, Return, Other}
+use Rattle.spv_actions.specs.declared.causes.Cause.{Cause}
+use Rattle.spv_actions.specs.declared.causes.Cause.TheVariants.{NoValue}
+use Rattle.spv_actions.specs.declared.effects.Control.TheVariants.{Next}
+use Rattle.spv_actions.specs.declared.effects.Effect.{Effect}
+use Rattle.spv_actions.specs.declared.effects.Gain.{Gain}
+use Rattle.spv_actions.specs.declared.effects.Gain.TheVariants.{Nothing, Row, Pointer}
+use Rattle.spv_actions.proofs.ComputationLemmas.{read_there}
+
+-- ---- actions
+
+-- what an instruction of an opcode does that computes nothing
+abbrev IsNamed : ℕ → Action → Type 0
+IsNamed op (Compute c) = ⊥
+IsNamed op Load = op ≡ 61
+IsNamed op Store = op ≡ 62
+IsNamed op Return = op ≡ 253
+IsNamed op Other = ⊥
+
+named_are : AllByRecursion (λ (e : ℕ × Action). IsNamed e.0 e.1) named
+named_are = (refl, (refl, (refl, tt)))
+
+-- an action is that of its opcode, or that of a computation
+by_action : (i : Inst) (P : Action → Type 0) → ((x : Action) → IsNamed i.op x → P x) → ((c : Computation) → computation_of i ≡ Some c → P (Compute c)) → P Other → P (action_of i)
+unfolding action_of
+by_action i P by_name by_computation none = by_read (reads i.op named) refl (computation_of i) refl
+  where
+    by_read : (o : Option Action) → reads i.op named ≡ o → (p : Option Computation) → computation_of i ≡ p → P (unwrap_or (option_or o (option_map Compute p)) Other)
+    by_read None e None g = none
+    by_read None e (Some c) g = by_computation c g
+    by_read (Some x) e p g = by_name x (read_there IsNamed i.op x named named_are e)
+
+pub computing : (i : Inst) (c : Computation) → action_of i ≡ Compute c → computation_of i ≡ Some c
+computing i c is = by_action i (λ (x : Action). x ≡ Compute c → computation_of i ≡ Some c) by_name (λ d found same. let e : d ≡ c = cc in found ∙ ap Some e) (λ same. absurd (cc)) is
+  where
+    by_name : (x : Action) → IsNamed i.op x → x ≡ Compute c → computation_of i ≡ Some c
+    by_name (Compute d) h same = absurd h
+    by_name Load h same = absurd (cc)
+    by_name Store h same = absurd (cc)
+    by_name Return h same = absurd (cc)
+    by_name Other h same = absurd h
+
+pub loading : (i : Inst) → action_of i ≡ Load → i.op ≡ 61
+loading i is = by_action i (λ (x : Action). x ≡ Load → i.op ≡ 61) by_name (λ d found same. absurd (cc)) (λ same. absurd (cc)) is
+  where
+    by_name : (x : Action) → IsNamed i.op x → x ≡ Load → i.op ≡ 61
+    by_name (Compute d) h same = absurd h
+    by_name Load h same = h
+    by_name Store h same = absurd (cc)
+    by_name Return h same = absurd (cc)
+    by_name Other h same = absurd h
+
+pub storing : (i : Inst) → action_of i ≡ Store → i.op ≡ 62
+storing i is = by_action i (λ (x : Action). x ≡ Store → i.op ≡ 62) by_name (λ d found same. absurd (cc)) (λ same. absurd (cc)) is
+  where
+    by_name : (x : Action) → IsNamed i.op x → x ≡ Store → i.op ≡ 62
+    by_name (Compute d) h same = absurd h
+    by_name Load h same = absurd (cc)
+    by_name Store h same = h
+    by_name Return h same = absurd (cc)
+    by_name Other h same = absurd h
+
+-- what an instruction does, by its action
+pub due_by : (x : Site) (b : Action) → action_of x.inst ≡ b → due x ≡ row x.program x.state x.inv x.frame x.inst b
+unfolding effect_of
+due_by x b is = ap (row x.program x.state x.inv x.frame x.inst) is
+
+-- ---- what a computation gives
+
+result_is : (x : Site) (c : Computation) → computation_of x.inst ≡ Some c → result_of (accepted x) x.inst (values x) ≡ result_by (accepted x) x.inst (values x) c
+unfolding result_of
+result_is x c is = ap (option_and_then (result_by (accepted x) x.inst (values x))) is
+
+compute_due : (x : Site) (c : Computation) (o : Option Value) → action_of x.inst ≡ Compute c → result_by (accepted x) x.inst (values x) c ≡ o → due x ≡ (ok_or o NoValue >>= (λ v. Ok (gives v)))
+compute_due x c o is result =
+    due_by x (Compute c) is ∙ ap (λ (p : Option Value). ok_or p NoValue >>= (λ v. Ok (gives v))) (result_is x c (computing x.inst c is) ∙ result)
+
+-- the effect of a result
+abbrev pub planned : Gain → Effect
+planned gain = record { store = None; gain = gain; control = Next }
+
+pub computed_due : (x : Site) (c : Computation) (gain : Gain) (v : Value) → action_of x.inst ≡ Compute c → Computes x c v (Ok gain) → due x ≡ Ok (shown (planned gain) v)
+computed_due x c Nothing v is h = absurd h.1
+computed_due x c Row v is h = compute_due x c (Some v) is h.0
+computed_due x c (Pointer q) v is h = compute_due x c (Some (Ptr q)) is h.0
+
+pub computed_fault : (x : Site) (c : Computation) (v : Value) (r : Result Effect (Fail Cause)) (e : Fail Cause) → action_of x.inst ≡ Compute c → Computes x c v (Err e) → r ≡ Err e → IsDue (due x) v r
+computed_fault x c v r (Refused cause) is h same =
+    subst (λ (s : Result Effect (Fail Cause)). IsDue (due x) v s) (sym same) (compute_due x c None is h.0 ∙ ap (λ (k : Cause). Err k) (sym h.1))
+computed_fault x c v r NoMemory is h same = subst (λ (s : Result Effect (Fail Cause)). IsDue (due x) v s) (sym same) tt
+
+-- ---- what it fits
+
+none_of : (o : Option Reference) → is_some o ≡ false → o ≡ None
+none_of None h = refl
+none_of (Some q) h = absurd (cc)
+
+-- a result is no pointer, and has the instruction's type
+pub result_plain : (a : Accepted) (d : Inst) (v : Value) → AreSound a.types → IsResult a d v → pointer_in (out-Value v) ≡ None
+result_plain a d v sound h = none_of (pointer_in (out-Value v)) (data_plain a.types sound d.ty v h)
+
+pub result_fits : (a : Accepted) (d : Inst) (v : Value) → AreSound a.types → IsResult a d v → LevelFits a d.ty v (out-Value v)
+result_fits a d v sound h = by_level (out-Value v) (result_plain a d v sound h)
+  where
+    by_level : (l : Value-F Value) → pointer_in l ≡ None → LevelFits a d.ty v l
+    by_level (Value-F.Scalar c) plain = h
+    by_level (Value-F.List vs) plain = h
+    by_level (Value-F.Ptr q) plain = absurd (cc)
+
+pub gain_fits : (a : Accepted) (d : Inst) (gain : Gain) (v : Value) → AreSound a.types → IsGain a d gain v → ResultFits a d (gained gain v)
+gain_fits a d Nothing v sound h = absurd h
+gain_fits a d Row v sound h = result_fits a d v sound h
+gain_fits a d (Pointer q) v sound h = rw (out_pointer q) h
+
+pub gain_taken : (a : Accepted) (d : Inst) (gain : Gain) (v : Value) → AreSound a.types → IsGain a d gain v → IsTaken None gain v
+gain_taken a d Nothing v sound h = absurd h
+gain_taken a d Row v sound h = result_plain a d v sound h
+gain_taken a d (Pointer q) v sound h = tt

@@ -1,0 +1,12 @@
+pub mod StandLemmas
+pub mod RunLemmas
+pub mod ComputationLemmas
+pub mod DataLemmas
+pub mod CompositeLemmas
+pub mod ConstituentLemmas
+pub mod OperandLemmas
+pub mod PointerLemmas
+pub mod SiteLemmas
+pub mod KeptLemmas
+pub mod EffectLemmas
+pub mod AccessLemmas

@@ -1,0 +1,42 @@
+-- What each instruction does, a row an action.
+use Rattle.std.specs.Prelude.{ℕ, None, Result, Ok, Err, ok_or}
+use Rattle.spv_base.specs.declared.instructions.Inst.{Inst}
+use Rattle.spv_frame.specs.Frames.{Held as Frame}
+use Rattle.spv_operands.specs.Values.{operand_value}
+use Rattle.spv_results.specs.Results.{result_of}
+use Rattle.spv_state.specs.Actions.{action_of}
+use Rattle.spv_state.specs.Program.{Program}
+use Rattle.spv_state.specs.State.{State, depth_of}
+use Rattle.spv_state.specs.declared.actions.Action.{Action}
+use Rattle.spv_state.specs.declared.actions.Action.TheVariants.{Compute, Load, Store, CopyMemory, Chain, ArrayLength, Branch, BranchConditional, Switch, Call, Return, ReturnValue, Unreachable, ControlBarrier, MemoryBarrier, Atomic, Other}
+use Rattle.spv_actions.specs.Accesses.{load_effect, store_effect}
+use Rattle.spv_actions.specs.Effects.{Effect, Leave, ◌>>=◌, gives, goes}
+use Rattle.spv_actions.specs.declared.causes.Cause.{Cause}
+use Rattle.spv_actions.specs.declared.causes.Cause.TheVariants.{NoValue, Unreachable as Stops}
+
+-- those that compute (SPIR-V 1.6 sections 3.42.11 to 3.42.15)
+abbrev pub compute_effect : Program → State → ℕ → Frame → Inst → Result Effect Cause
+compute_effect p s i f d = ok_or (result_of p.accepted d (operand_value p.accepted f (depth_of s i) d)) NoValue >>= (λ v. Ok (gives v))
+
+-- No program has an executable of an action that isn't done yet, and none of the last row.
+abbrev pub row : Program → State → ℕ → Frame → Inst → Action → Result Effect Cause
+row p s i f d (Compute c) = compute_effect p s i f d
+row p s i f d Load = load_effect p s i f d
+row p s i f d Store = store_effect p s i f d
+row p s i f d CopyMemory = Err Stops
+row p s i f d Chain = Err Stops
+row p s i f d ArrayLength = Err Stops
+row p s i f d Branch = Err Stops
+row p s i f d BranchConditional = Err Stops
+row p s i f d Switch = Err Stops
+row p s i f d Call = Err Stops
+row p s i f d Return = Ok (goes (Leave None))
+row p s i f d ReturnValue = Err Stops
+row p s i f d Unreachable = Err Stops
+row p s i f d ControlBarrier = Err Stops
+row p s i f d MemoryBarrier = Err Stops
+row p s i f d (Atomic op) = Err Stops
+row p s i f d Other = Err Stops
+
+unfoldable pub effect_of : Program → State → ℕ → Frame → Inst → Result Effect Cause
+effect_of p s i f d = row p s i f d (action_of d)

@@ -1,0 +1,103 @@
+//! Loads and stores (SPIR-V 1.6 section 3.42.8, OpLoad and OpStore).
+ghost use Rattle.std.specs.Prelude.{◌≡◌, IfOk, OnOk};
+ghost use Rattle.spv_base.specs.Answers.{Answers};
+ghost use Rattle.spv_mem.specs.Memory.{IsMemory};
+ghost use Rattle.spv_state.specs.Actions.{action_of};
+ghost use Rattle.spv_actions.specs.Effects.{pointer};
+ghost use Rattle.spv_actions.specs.Planned.{IsDue, IsTaken, PlannedFits};
+ghost use Rattle.spv_actions.specs.Sites as spec;
+ghost use Rattle.spv_operands.specs.Operands.{IsPlain, shown};
+
+use spv_state::Action;
+use crate::causes::Cause;
+use crate::effects::{Control, Effect, Gain};
+use crate::kept::{load_is_kept, store_is_kept};
+use crate::sites::{Site, owned};
+use spv_base::{Fail, NoMemory, Pointer};
+use spv_effects::resize;
+use spv_mem::Memory;
+use spv_operands::Operand;
+use spv_values::{Part, Row};
+
+/// A fact, with nothing to run: each variable of a memory has a value of its type.
+fn variables_are_shaped(memory: &Memory)
+    ensures { ∥ IsMemory memory.now ∥₁ }
+{
+    memory.keeps_types();
+}
+
+/// The part of memory that an operand names. F3 where there is none.
+fn part<'a>(site: &Site<'a>, at: &Operand) -> Result<Part<'a>, Fail<Cause>>
+    requires { IsPlain at.now }
+    ensures { Answers (spec.part_of site.now (shown at.now)) result }
+{
+    let Some(reference) = at.pointer(site.alloc()) else {
+        return Err(Fail::Refused(Cause::OutOfBounds));
+    };
+    match site.memory().load(site.inv(), reference.pointer()) {
+        Ok(part) => Ok(part),
+        Err(_) => Err(Fail::Refused(Cause::OutOfBounds)),
+    }
+}
+
+/// The pointer that an operand is, owned. F3 where it is none.
+fn place(site: &Site, at: &Operand) -> Result<Pointer, Fail<Cause>>
+    requires { IsPlain at.now }
+    ensures { Answers (pointer (shown at.now)) result }
+{
+    let Some(reference) = at.pointer(site.alloc()) else {
+        return Err(Fail::Refused(Cause::OutOfBounds));
+    };
+    Ok(owned(site.alloc(), reference)?)
+}
+
+/// Copies a value into a row. It takes memory only where the row never had room for as many cells.
+pub(crate) fn copied(part: &Part, row: &mut Row) -> Result<(), NoMemory>
+    ensures { OnOk result (row.new ≡ part.now) }
+{
+    resize(row, part.cells().len())?;
+    spv_effects::copy(part, row);
+    Ok(())
+}
+
+/// OpLoad: the register takes the part that the pointer names.
+pub fn load(site: &Site, row: &mut Row) -> Result<Effect, Fail<Cause>>
+    requires { action_of site.now.inst ≡ Action.Load }
+    ensures due { IsDue (spec.due site.now) row.new result }
+    ensures fits { PlannedFits site.now.program site.now.state site.now.inv site.now.inst row.new result }
+    ensures taken { IfOk result (λ e. IsTaken site.now.state site.now.inv e row.new) }
+{
+    variables_are_shaped(site.memory());
+    load_is_kept(site);
+    site.is_reached();
+    let _insts = site.accepted().insts();
+    let at = site.operand(0)?;
+    copied(&part(site, &at)?, row)?;
+    Ok(Effect {
+        store: None,
+        gain: Gain::Row,
+        control: Control::Next,
+    })
+}
+
+/// OpStore: the part that the pointer names takes the object.
+pub fn store(site: &Site, row: &mut Row) -> Result<Effect, Fail<Cause>>
+    requires { action_of site.now.inst ≡ Action.Store }
+    ensures due { IsDue (spec.due site.now) row.new result }
+    ensures fits { PlannedFits site.now.program site.now.state site.now.inv site.now.inst row.new result }
+    ensures taken { IfOk result (λ e. IsTaken site.now.state site.now.inv e row.new) }
+{
+    store_is_kept(site);
+    site.is_reached();
+    let _insts = site.accepted().insts();
+    let at = site.operand(0)?;
+    let object = site.value(1)?;
+    let _part = part(site, &at)?;
+    copied(&object.part(), row)?;
+    let place = place(site, &at)?;
+    Ok(Effect {
+        store: Some(place),
+        gain: Gain::Nothing,
+        control: Control::Next,
+    })
+}

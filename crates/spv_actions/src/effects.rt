@@ -1,0 +1,108 @@
+//! What an instruction does to a world, before any of it is done.
+ghost use Rattle.std.specs.Prelude.{◌≡◌, ◌<◌, IfOk, Some, length};
+ghost use Rattle.spv_index.specs.Definitions.{at};
+ghost use Rattle.spv_actions.specs.Planned.{IsDue, IsTaken, PlannedFits};
+ghost use Rattle.spv_actions.specs.Instructions as spec;
+ghost use Rattle.spv_state.specs.Sound.{IsSound};
+ghost use Rattle.spv_state.specs.State as state;
+
+use crate::accesses::{load, store};
+use spv_state::Action;
+use crate::causes::Cause;
+use crate::computing::compute;
+use spv_state::Runnable;
+use crate::sites::Site;
+use spv_state::Whole;
+use spv_base::{Cell, Fail, Inst, Pointer};
+use spv_frame::Frame;
+use spv_mem::Locals;
+use spv_values::Row;
+use std::alloc::Global;
+
+/// The value that a phi takes.
+#[derive(Drop)]
+pub struct PhiValue {
+    pub id: u32,
+    pub row: Row,
+}
+
+/// Where control goes.
+#[derive(Drop)]
+pub enum Control {
+    /// To the next executable of the block.
+    Next,
+    /// To a block of the function, whose phis all take their values at once.
+    Jump { block: u32, phis: Vec<PhiValue> },
+    /// Into a function: a frame with its variables, above the one that calls.
+    Enter { frame: Frame, locals: Locals },
+    /// Out of the function, which gives nothing.
+    Leave,
+    /// Out of the function, which gives the value in the row at hand.
+    Give,
+    /// Nowhere: the invocation waits at the barrier.
+    Wait,
+}
+
+/// What the register of the instruction takes.
+#[derive(Drop)]
+pub enum Gain {
+    Nothing,
+    /// The value in the row at hand.
+    Row,
+    Pointer(Pointer),
+    /// The scalar that the store hands back.
+    Handed(Cell),
+}
+
+/// What an instruction does. A value that it stores, that its register takes or that it gives lies in a row beside it.
+#[derive(Drop)]
+pub struct Effect {
+    /// Where memory is set.
+    pub store: Option<Pointer>,
+    pub gain: Gain,
+    pub control: Control,
+}
+
+/// What an instruction does at which the top frame of an invocation stands, or why it faults. What it does can be done.
+pub fn effect_at(
+    alloc: Global,
+    m: &Runnable,
+    w: &Whole,
+    inv: u32,
+    frame: &Frame,
+    inst: &Inst,
+    row: &mut Row,
+) -> Result<Effect, Fail<Cause>>
+    requires inv { inv < length w.now.stacks }
+    requires sound { IsSound m.now w.now }
+    requires frame { state.top_of w.now inv ≡ Some frame.now }
+    requires inst { at m.now.accepted.insts frame.now.pc ≡ Some inst.now }
+    ensures due { IsDue (spec.effect_of m.now w.now inv frame.now inst.now) row.new result }
+    ensures fits { PlannedFits m.now w.now inv inst.now row.new result }
+    ensures taken { IfOk result (λ e. IsTaken w.now inv e row.new) }
+{
+    let site = Site::of(alloc, m, w, inv, frame, inst);
+    match Action::of(inst) {
+        Action::Compute(computation) => compute(&site, computation, row),
+        Action::Load => load(&site, row),
+        Action::Store => store(&site, row),
+        Action::Return => Ok(Effect {
+            store: None,
+            gain: Gain::Nothing,
+            control: Control::Leave,
+        }),
+        Action::CopyMemory | Action::Chain | Action::ArrayLength => {
+            Err(Fail::Refused(Cause::Unreachable))
+        }
+        Action::Branch | Action::BranchConditional | Action::Switch => {
+            Err(Fail::Refused(Cause::Unreachable))
+        }
+        Action::Call | Action::ReturnValue | Action::Unreachable => {
+            Err(Fail::Refused(Cause::Unreachable))
+        }
+        Action::ControlBarrier | Action::MemoryBarrier | Action::Atomic(_) => {
+            Err(Fail::Refused(Cause::Unreachable))
+        }
+        Action::Other => Err(Fail::Refused(Cause::Unreachable)),
+    }
+}

@@ -1,0 +1,14 @@
+//! What an instruction does to a state, worked out before any of it is done, or why it faults (SPIR-V 1.6 section 3.42).
+#![tactic(auto)]
+
+mod accesses;
+pub mod causes;
+mod computing;
+mod computing_composites;
+mod computing_lanes;
+pub mod effects;
+mod kept;
+pub mod sites;
+
+pub use causes::Cause;
+pub use effects::{Control, Effect, Gain, effect_at};

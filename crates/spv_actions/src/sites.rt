@@ -1,0 +1,207 @@
+//! Instructions where runs have come to them, and their operands.
+ghost use Rattle.std.specs.Prelude.{◌≡◌, ◌<◌, IfOk, IfSome, None, Some, length, option_map, true};
+ghost use Rattle.std.specs.Result.{result_map_both};
+ghost use Rattle.spv_index.specs.Definitions.{at};
+ghost use Rattle.spv_actions.specs.Sites as spec;
+ghost use Rattle.spv_actions.specs.Sites.{Finds, is_data_at};
+ghost use Rattle.spv_state.specs.Sound.{IsSound};
+ghost use Rattle.spv_state.specs.State as state;
+ghost use Rattle.spv_operands.specs.Operands.{IsPlain, pointer_of, referred, shown};
+ghost use Rattle.spv_results.specs.Operands.{IsOperand};
+
+use crate::causes::Cause;
+use spv_state::Runnable;
+use spv_state::Whole;
+use spv_base::{Fail, Inst, NoMemory, Pointer};
+use spv_frame::Frame;
+use spv_mem::Memory;
+use spv_operands::laws::operands_have_shapes;
+use spv_operands::{Operand, Reference, operand_of};
+use spv_valid::Module;
+use spv_values::Part;
+use std::alloc::Global;
+use std::marker::Model;
+
+/// An instruction that the top frame of an invocation has come to, in a sound state.
+#[derive(Drop)]
+pub struct Site<'a> {
+    alloc: Global,
+    m: &'a Runnable,
+    w: &'a Whole,
+    inv: u32,
+    depth: u32,
+    frame: &'a Frame,
+    inst: &'a Inst,
+}
+
+impl<'a> Model for Site<'a> {
+    ghost use Rattle.std.specs.Prelude.{◌≡◌};
+    ghost use Rattle.std.specs.Coded.{codes};
+    ghost use Rattle.spv_base.specs.contracts.values.Value as value;
+    ghost use Rattle.spv_actions.specs.Sites.{IsSite, Site as Seen};
+    ghost use Rattle.spv_state.specs.State.{depth_of};
+
+    ghost Value = { Seen };
+
+    ghost coded = { Prim.hlevel (codes, value.the_row.coded) };
+
+    ghost view = { λ s. record { program = s.m.now; state = s.w.now; inv = s.inv; frame = s.frame.now; inst = s.inst.now } };
+
+    ghost invariant = { λ s. (s.depth ≡ depth_of s.w.now s.inv)
+        × ∥ IsSite (record { program = s.m.now; state = s.w.now; inv = s.inv; frame = s.frame.now; inst = s.inst.now }) ∥₁ };
+}
+
+/// A value that an operand stands for, which is no pointer.
+#[derive(Drop)]
+pub struct Datum<'a> {
+    operand: Operand<'a>,
+}
+
+impl<'a> Model for Datum<'a> {
+    ghost use Rattle.std.specs.Prelude.{◌≡◌, None};
+    ghost use Rattle.spv_base.specs.contracts.values.Value.{the_row};
+    ghost use Rattle.spv_base.specs.declared.values.Value.{Value as Whole};
+    ghost use Rattle.spv_operands.specs.Operands.{IsPlain, pointer_of, shown};
+
+    ghost Value = { Whole };
+
+    ghost coded = { the_row.coded };
+
+    ghost view = { λ d. shown d.operand };
+
+    ghost invariant = { λ d. ∥ IsPlain d.operand × (pointer_of (shown d.operand) ≡ None) ∥₁ };
+}
+
+impl<'a> Datum<'a> {
+    /// The value, lent.
+    pub fn part(&self) -> Part<'_>
+        ensures { result ≡ self.now }
+    {
+        match self.operand.part() {
+            Some(part) => part,
+            None => unreachable!(),
+        }
+    }
+}
+
+/// A pointer, owned. It takes memory where the pointer is lent and its path has more than eight indexes.
+pub fn owned(alloc: Global, reference: Reference) -> Result<Pointer, NoMemory>
+    ensures { IfOk result (λ pointer. pointer ≡ referred reference.entry) }
+{
+    match reference {
+        Reference::Lent(pointer) => pointer.copy(alloc),
+        Reference::Made(pointer) => Ok(pointer),
+    }
+}
+
+impl<'a> Site<'a> {
+    /// The instruction that the top frame of an invocation stands at.
+    pub fn of(
+        alloc: Global,
+        m: &'a Runnable,
+        w: &'a Whole,
+        inv: u32,
+        frame: &'a Frame,
+        inst: &'a Inst,
+    ) -> Site<'a>
+        requires inv { inv < length w.now.stacks }
+        requires sound { IsSound m.now w.now }
+        requires frame { state.top_of w.now inv ≡ Some frame.now }
+        requires inst { at m.now.accepted.insts frame.now.pc ≡ Some inst.now }
+        ensures { result ≡ record { program = m.now; state = w.now; inv = inv; frame = frame.now; inst = inst.now } }
+    {
+        let depth = w.depth(inv);
+        Site {
+            alloc,
+            m,
+            w,
+            inv,
+            depth,
+            frame,
+            inst,
+        }
+    }
+
+    /// A fact, with nothing to run: the top frame stands at the instruction, in a sound state.
+    pub fn is_reached(&self)
+        ensures { ∥ spec.IsSite self.now ∥₁ }
+    {
+        let _inv = self.inv;
+    }
+
+    /// Where results find memory.
+    pub fn alloc(&self) -> Global {
+        self.alloc
+    }
+
+    /// The module.
+    pub fn accepted(&self) -> &'a Module
+        ensures { result.now ≡ self.now.program.accepted }
+    {
+        self.m.accepted()
+    }
+
+    /// The instruction.
+    pub fn inst(&self) -> &'a Inst
+        ensures { result.now ≡ self.now.inst }
+    {
+        self.inst
+    }
+
+    /// The variables.
+    pub fn memory(&self) -> &'a Memory
+        ensures { result.now ≡ self.now.state.memory }
+    {
+        self.w.memory()
+    }
+
+    /// The invocation.
+    pub fn inv(&self) -> u32
+        ensures { result ≡ self.now.inv }
+    {
+        self.inv
+    }
+
+    /// What the operand with a number stands for, if it stands for something, counted from 0 behind the result.
+    fn found(&self, n: usize) -> Result<Option<Operand<'a>>, NoMemory>
+        ensures value { IfOk result (λ o. option_map shown o ≡ spec.values self.now n) }
+        ensures plain { IfOk result (λ o. IfSome o IsPlain) }
+    {
+        let accepted = self.accepted();
+        operand_of(
+            self.alloc,
+            accepted,
+            self.w.plans(),
+            self.frame,
+            self.depth,
+            self.inst,
+            n,
+        )
+    }
+
+    /// What the operand with a number stands for. F4 where it has no value.
+    pub fn operand(&self, n: usize) -> Result<Operand<'a>, Fail<Cause>>
+        ensures value { Finds (spec.values self.now n) (result_map_both shown (λ e. e) result) }
+        ensures plain { IfOk result IsPlain }
+        ensures shape { IfOk result (λ o. spec.IsShaped self.now.program.accepted self.now.inst n (shown o)) }
+    {
+        operands_have_shapes();
+        self.is_reached();
+        let _insts = self.accepted().insts();
+        match self.found(n)? {
+            Some(operand) => Ok(operand),
+            None => Err(Fail::Refused(Cause::NoValue)),
+        }
+    }
+
+    /// The value of the operand with a number, whose type is no pointer type. F4 where it has none.
+    pub fn value(&self, n: usize) -> Result<Datum<'a>, Fail<Cause>>
+        requires { is_data_at self.now.program.accepted self.now.inst n ≡ true }
+        ensures value { Finds (spec.values self.now n) result }
+        ensures shape { IfOk result (IsOperand self.now.program.accepted self.now.inst n) }
+    {
+        let _insts = self.accepted().insts();
+        let operand = self.operand(n)?;
+        Ok(Datum { operand })
+    }
+}

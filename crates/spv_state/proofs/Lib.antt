@@ -1,0 +1,17 @@
+pub mod Stands
+pub mod Blocks
+pub mod Known
+pub mod Lists
+pub mod Entries
+pub mod Standing
+pub mod StartLemmas
+pub mod EntryLemmas
+pub mod VariableLemmas
+pub mod EnterLemmas
+pub mod SizeLemmas
+pub mod PlanLemmas
+pub mod StartSound
+pub mod BegunLemmas
+pub mod ChangeLemmas
+pub mod SlotLemmas
+pub mod TopLemmas

@@ -1,0 +1,157 @@
+-- The state at the start of a run is sound.
+use Rattle.std.proofs.Common.{◌≡◌, ◌∙◌, ℕ, zero, suc, ◌+◌, ◌==◌, Bool, true, false, cond, List, [], ◌∷◌, length, map, replicate, Option, Some, None, refl, sym, ap, subst, arith, slice_get}
+use Rattle.std.proofs.Math.Logic.{∥∥₁_elim}
+use Rattle.std.proofs.Props.{props}
+use Rattle.std.specs.Coded.{codes}
+use Rattle.std.specs.Prelude.{find}
+use Rattle.std.specs.List.{Contains, range_with_len}
+use Rattle.std.specs.Option.{option_map}
+use Rattle.spv_base.specs.Entries.{reads}
+use Rattle.spv_base.specs.declared.values.Pointer.{Pointer}
+use Rattle.spv_base.specs.declared.values.Value.{Value}
+use Rattle.spv_index.specs.Positions.{Stand}
+use Rattle.spv_valid.specs.Acceptance.{Accepted, IsAccepted}
+use Rattle.spv_valid.specs.Validity.{IsValid}
+use Rattle.spv_frame.specs.Frames.{Held as Frame, fresh, none}
+use Rattle.spv_frame.specs.Registers.{Planned, ids}
+use Rattle.spv_frame.specs.Stacks.{Stacked}
+use Rattle.spv_mem.specs.Memory.{Levels}
+use Rattle.spv_initial.specs.Start.{invocations, own_roots, starting, variables}
+use Rattle.spv_plans.specs.Members.{first_stop, is_stop, members}
+use Rattle.spv_plans.specs.Plans.{IsPlan, functions_in, plan_of}
+use Rattle.spv_operands.specs.Shapes.{AreShaped}
+use Rattle.spv_statuses.specs.declared.invocations.Status.{Status}
+use Rattle.spv_statuses.specs.declared.invocations.Status.TheVariants.{Ready}
+use Rattle.spv_state.specs.Program.{Program}
+use Rattle.spv_state.specs.Sound.{HasPlaces, IsSound, IsSoundFrame, IsSoundStack, StandsIn}
+use Rattle.spv_state.specs.Start.{frame_roots, start_of}
+use Rattle.spv_state.proofs.EntryLemmas.{entry_listed}
+
+-- ---- lists
+
+pub replicated : {A : Type 0} (n i : ℕ) (x y : A) → slice_get (replicate n x) i ≡ Some y → y ≡ x
+replicated zero i x y at = absurd (cc)
+replicated (suc n) zero x y at = cc
+replicated (suc n) (suc i) x y at = replicated n i x y at
+
+length_replicate : {A : Type 0} (n : ℕ) (x : A) → length (replicate n x) ≡ n
+length_replicate zero x = refl
+length_replicate (suc n) x = ap (λ (m : ℕ). suc m) (length_replicate n x)
+
+length_map : {A B : Type 0} (f : A → B) (xs : List A) → length (map f xs) ≡ length xs
+length_map f [] = refl
+length_map f (x ∷ xs) = ap (λ (m : ℕ). suc m) (length_map f xs)
+
+length_range : (from n : ℕ) → length (range_with_len from n) ≡ n
+length_range from zero = refl
+length_range from (suc n) = ap (λ (m : ℕ). suc m) (length_range (from + 1) n)
+
+mapped : {A B : Type 0} (f : A → B) (n i : ℕ) (x : A) (y : B) → slice_get (map f (replicate n x)) i ≡ Some y → y ≡ f x
+mapped f zero i x y at = absurd (cc)
+mapped f (suc n) zero x y at = cc
+mapped f (suc n) (suc i) x y at = mapped f n i x y at
+
+found_among : (p : Stand → Bool) (ss : List Stand) (s : Stand) → find p ss ≡ Some s → Contains ss s × (p s ≡ true)
+found_among p [] s h = absurd (cc)
+found_among p (t ∷ ts) s h = by_test (p t) refl h (λ g. found_among p ts s g)
+  where
+    by_test : (b : Bool) → p t ≡ b → cond b (Some t) (find p ts) ≡ Some s → (find p ts ≡ Some s → Contains ts s × (p s ≡ true)) → Contains (t ∷ ts) s × (p s ≡ true)
+    by_test true e g rest = let same : t ≡ s = cc in ((0, omega arith, same), subst (λ (x : Stand). p x ≡ true) same e)
+    by_test false e g rest = let later = rest g in ((suc later.0.0, omega (arith, later.0.1), later.0.2), later.1)
+
+-- ---- the first executable of the entry function
+
+stands_at : (a : Accepted) (function word : ℕ) → first_stop (members a.insts function) ≡ Some word → StandsIn a function word
+stands_at a function word h = by_found (find is_stop (members a.insts function)) refl h
+  where
+    by_found : (o : Option Stand) → find is_stop (members a.insts function) ≡ o → option_map (λ (s : Stand). s.inst.word) o ≡ Some word → StandsIn a function word
+    by_found None e g = absurd (cc)
+    by_found (Some s) e g =
+        let found = found_among is_stop (members a.insts function) s e in
+        record { stand = s; among = found.0; here = cc; stops = found.1 }
+
+-- each function has the plan that is read off the module
+abbrev pub HavePlans : Type 0
+HavePlans = (a : Accepted) (function : ℕ) → ∥ IsAccepted a ∥₁ → Contains (functions_in a) function → IsPlan a (plan_of a function)
+
+entry_first : HavePlans → (a : Accepted) → ∥ IsAccepted a ∥₁ → ∥ IsValid a ∥₁ → first_stop (members a.insts a.entry) ≡ Some (plan_of a a.entry).first
+unfolding plan_of
+entry_first has a accepted valid = ∥∥₁_elim valid (hlevel (props, codes)) (λ (v : IsValid a). (has a a.entry accepted (entry_listed a v)).first)
+
+-- ---- a fresh frame
+
+none_read : {X : Type 0} (id : ℕ) (ks : List ℕ) (x : Option X) → reads id (none ks) ≡ Some x → x ≡ None
+none_read id [] x at = absurd (cc)
+none_read {X} id (k ∷ ks) x at = by_test (k == id) at (λ g. none_read id ks x g)
+  where
+    by_test : (b : Bool) → cond b (Some None) (reads {X = Option X} id (none ks)) ≡ Some x → (reads {X = Option X} id (none ks) ≡ Some x → x ≡ None) → x ≡ None
+    by_test true g rest = cc
+    by_test false g rest = rest g
+
+none_ids : (X : Type 0) (ks : List ℕ) → map (λ (e : ℕ × Option X). e.0) (none ks) ≡ ks
+none_ids X [] = refl
+none_ids X (k ∷ ks) = ap (λ (ms : List ℕ). k ∷ ms) (none_ids X ks)
+
+fresh_places : (p : Planned) → HasPlaces (fresh p)
+fresh_places p = record { values = none_ids Value (ids p.values); pointers = none_ids Pointer p.pointers }
+
+fresh_shaped : (a : Accepted) (p : Planned) → AreShaped a (fresh p)
+fresh_shaped a p = record {
+  values = λ id ty v at of. absurd (let gone : Some v ≡ None = none_read id (ids p.values) (Some v) at in cc);
+  pointers = λ id ty q at of. absurd (let gone : Some q ≡ None = none_read id p.pointers (Some q) at in cc);
+}
+
+entry_frame : HavePlans → (a : Accepted) → ∥ IsAccepted a ∥₁ → ∥ IsValid a ∥₁ → IsSoundFrame a (fresh (plan_of a a.entry))
+unfolding plan_of
+entry_frame has a accepted valid = record {
+  plan = refl;
+  places = fresh_places (plan_of a a.entry);
+  stands = stands_at a a.entry (plan_of a a.entry).first (entry_first has a accepted valid);
+  shaped = fresh_shaped a (plan_of a a.entry);
+}
+
+-- ---- the stack of each invocation
+
+abbrev entry_stack : Accepted → Stacked
+entry_stack a = record { frames = fresh (plan_of a a.entry) ∷ []; room = a.depth }
+
+abbrev entry_levels : Accepted → Levels
+entry_levels a = record { list = frame_roots a a.entry ∷ []; room = a.depth }
+
+one_frame : (f g : Frame) (depth : ℕ) → slice_get (f ∷ []) depth ≡ Some g → g ≡ f
+one_frame f g zero at = cc
+one_frame f g (suc depth) at = absurd (cc)
+
+sound_stack : HavePlans → (a : Accepted) → ∥ IsAccepted a ∥₁ → ∥ IsValid a ∥₁ → IsSoundStack a Ready (entry_stack a) (entry_levels a)
+unfolding plan_of
+sound_stack has a accepted valid = record {
+  room = refl;
+  levels = refl;
+  finished = (λ e. absurd (cc), λ e. absurd (cc));
+  frames = λ depth f at. subst (IsSoundFrame a) (sym (one_frame (fresh (plan_of a a.entry)) f depth at)) (entry_frame has a accepted valid);
+  variables = (refl, tt);
+  first = λ f at. ap (λ (g : Frame). g.plan.function) (one_frame (fresh (plan_of a a.entry)) f 0 at);
+  calls = λ depth f g at above. absurd (cc);
+  waits = λ f at. tt;
+}
+
+-- ---- the state
+
+pub start_sound : HavePlans → (p : Program) → ∥ IsAccepted p.accepted ∥₁ → ∥ IsValid p.accepted ∥₁ → IsSound p (start_of p)
+unfolding start_of starting
+start_sound has p accepted valid =
+    let a : Accepted = p.accepted in
+    let count : ℕ = invocations a in
+    record {
+      plans = refl;
+      types = refl;
+      targets = refl;
+      words = refl;
+      stacks = length_replicate count (entry_stack a) ∙ sym (length_replicate count Ready);
+      levels = length_map _ _ ∙ length_replicate count (record { list = []; room = a.depth }) ∙ sym (length_replicate count Ready);
+      privates = length_map (own_roots a p.setup (variables a)) (range_with_len 0 count) ∙ length_range 0 count ∙ sym (length_replicate count Ready);
+      each = λ i t k l status stack level.
+          subst (λ (x : Status). IsSoundStack a x k l) (sym (replicated count i Ready t status))
+          (subst (λ (x : Stacked). IsSoundStack a Ready x l) (sym (replicated count i (entry_stack a) k stack))
+          (subst (IsSoundStack a Ready (entry_stack a)) (sym (mapped _ count i (record { list = []; room = a.depth }) l level)) (sound_stack has a accepted valid)));
+    }

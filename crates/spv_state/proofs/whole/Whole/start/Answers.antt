@@ -1,0 +1,13 @@
+use Rattle.std.proofs.Common.{subst, sym}
+use Rattle.spv_valid.specs.Acceptance.{Accepted, IsAccepted}
+use Rattle.spv_valid.specs.Validity.{IsValid}
+use Rattle.spv_state.specs.Sound.{IsSound}
+use Rattle.spv_state.proofs.StartSound.{start_sound}
+use Rattle.spv_state.proofs.whole.Whole.start.Goals as goal
+
+pub returns-clause-sound : goal.returns-clause-sound
+returns-clause-sound c =
+    let p = c.args.m.now in
+    let accepted = subst (λ (a : Accepted). ∥ IsAccepted a ∥₁) c.accepted.ensures.module c.insts-insts.ensures.accepted in
+    let valid = subst (λ (a : Accepted). ∥ IsValid a ∥₁) c.accepted.ensures.module c.insts-insts.ensures.valid in
+    subst (IsSound p) (sym c.whole.ensures) (start_sound c.functions_have_their_plans.ensures.has p accepted valid)

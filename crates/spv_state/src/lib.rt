@@ -1,0 +1,14 @@
+//! The state of a workgroup: the modules that can be run, the memory and the calls of each invocation, how a run starts, what holds at every
+//! position, and the primitive changes (SPIR-V 1.6 sections 2.4 and 2.18).
+#![tactic(auto)]
+
+pub mod actions;
+pub mod laws;
+pub mod registers;
+pub mod runnable;
+pub mod start;
+pub mod whole;
+
+pub use actions::{Action, AtomicOp};
+pub use runnable::Runnable;
+pub use whole::Whole;

@@ -1,0 +1,185 @@
+//! The registers of the top frame of an invocation, set in place. It takes no memory and can't fail.
+ghost use Rattle.std.specs.Prelude.{◌≡◌, ◌<◌, ℕ, IsSome, None, Some, length, option_copied, slice_get};
+ghost use Rattle.std.specs.Option.{IsSomeAnd};
+ghost use Rattle.spv_base.specs.declared.values.Value.{Ptr, out-Value};
+ghost use Rattle.spv_frame.specs.Stacks.{top};
+ghost use Rattle.spv_index.specs.Definitions.{result_type};
+ghost use Rattle.spv_state.specs.Slots.{HasPointerSlot, HasSlot};
+ghost use Rattle.spv_state.specs.Sound.{IsSoundFrame};
+ghost use Rattle.spv_state.specs.State as state;
+ghost use Rattle.spv_plans.specs.Plans.{id_at, plan_of, plans_in};
+ghost use Rattle.spv_plans.specs.Registered.{HasApart, HasNumber};
+ghost use Rattle.spv_types.specs.Rows.{no_roots};
+ghost use Rattle.spv_types.specs.Shapes.{HasShape, pointer_in};
+
+use crate::whole::Whole;
+use spv_base::Pointer;
+use spv_frame::{Place, Plan, Plans, PointerSlot, Slot, Stack};
+use spv_plans::laws::{
+    plans_are_of_functions, registers_are_apart, registers_have_types, registers_stand_once,
+};
+use spv_types::rows::rows_fill_types;
+use spv_valid::Module;
+use spv_values::Row;
+
+/// Where a register lies, if it is one of a value.
+fn value_slot(plan: &Plan, place: Place, id: u32) -> Option<&Slot>
+    requires stands { id_at plan.now.values plan.now.pointers place ≡ Some id }
+    requires apart { HasApart plan.now }
+    ensures { HasSlot plan.now.values id (option_copied result) }
+{
+    match place {
+        Place::Value(number) => Some(plan.slot(number)),
+        Place::Pointer(_) => None,
+    }
+}
+
+/// Where a register lies, if it is one of a pointer.
+fn pointer_slot(plan: &Plan, place: Place, id: u32) -> Option<PointerSlot>
+    requires stands { id_at plan.now.values plan.now.pointers place ≡ Some id }
+    requires apart { HasApart plan.now }
+    ensures { HasPointerSlot plan.now.pointers id result }
+{
+    match place {
+        Place::Value(_) => None,
+        Place::Pointer(number) => Some(plan.pointer_slot(number)),
+    }
+}
+
+/// The plan with a number.
+fn plan_at(plans: &Plans, number: usize) -> &Plan
+    requires { number < length plans.now }
+    ensures { slice_get plans.now number ≡ Some result.now }
+{
+    plans.list()[number].as_ref()
+}
+
+/// Where the register of a value with an id lies in the frames of a function, if they have it. In constant time.
+fn value_slot_of<'a>(
+    accepted: &Module,
+    plans: &'a Plans,
+    function: u32,
+    id: u32,
+) -> Option<&'a Slot>
+    requires plans { plans.now ≡ plans_in accepted.now }
+    requires function { HasNumber accepted.now function }
+    ensures { HasSlot (plan_of accepted.now function).values id (option_copied result) }
+{
+    plans_are_of_functions();
+    registers_are_apart();
+    registers_stand_once();
+    let _insts = accepted.insts();
+    let register = plans.register(id)?;
+    let plan = plan_at(plans, register.plan);
+    if plan.function() == function {
+        value_slot(plan, register.place, id)
+    } else {
+        None
+    }
+}
+
+/// Where the register of a pointer with an id lies in the frames of a function, if they have it. In constant time.
+fn pointer_slot_of(accepted: &Module, plans: &Plans, function: u32, id: u32) -> Option<PointerSlot>
+    requires plans { plans.now ≡ plans_in accepted.now }
+    requires function { HasNumber accepted.now function }
+    ensures { HasPointerSlot (plan_of accepted.now function).pointers id result }
+{
+    plans_are_of_functions();
+    registers_are_apart();
+    registers_stand_once();
+    let _insts = accepted.insts();
+    let register = plans.register(id)?;
+    let plan = plan_at(plans, register.plan);
+    if plan.function() == function {
+        pointer_slot(plan, register.place, id)
+    } else {
+        None
+    }
+}
+
+/// Exchanges the value of the register with an id of the top frame, which is one of a function, if the frame has this register.
+fn exchange_value(
+    accepted: &Module,
+    plans: &Plans,
+    stack: &mut Stack,
+    function: u32,
+    id: u32,
+    row: &mut Row,
+)
+    requires plans { plans.now ≡ plans_in accepted.now }
+    requires function { IsSomeAnd (top stack.old.frames) (λ f. f.plan.function ≡ function) }
+    requires frame { IsSomeAnd (top stack.old.frames) (IsSoundFrame accepted.now) }
+    requires plain { pointer_in (out-Value row.old) ≡ None }
+    requires value { (ty : ℕ) → result_type accepted.now.insts id ≡ Some ty → HasShape accepted.now.types no_roots ty row.old }
+    ensures { stack.new ≡ state.on_frames (state.with_register id row.old) stack.old }
+{
+    plans_are_of_functions();
+    registers_have_types();
+    rows_fill_types();
+    let _insts = accepted.insts();
+    if let Some(slot) = value_slot_of(accepted, plans, function, id) {
+        let mut has = true;
+        stack.exchange(slot, row, &mut has);
+    }
+}
+
+/// Exchanges the pointer of the register with an id of the top frame, which is one of a function, if the frame has this register.
+fn exchange_pointer(
+    accepted: &Module,
+    plans: &Plans,
+    stack: &mut Stack,
+    function: u32,
+    id: u32,
+    pointer: Pointer,
+)
+    requires plans { plans.now ≡ plans_in accepted.now }
+    requires function { IsSomeAnd (top stack.old.frames) (λ f. f.plan.function ≡ function) }
+    requires frame { IsSomeAnd (top stack.old.frames) (IsSoundFrame accepted.now) }
+    ensures { stack.new ≡ state.on_frames (state.with_register id (Ptr pointer)) stack.old }
+{
+    plans_are_of_functions();
+    if let Some(slot) = pointer_slot_of(accepted, plans, function, id) {
+        let mut held = Some(pointer);
+        stack.exchange_pointer(slot, &mut held);
+    }
+}
+
+impl Whole {
+    /// The function of the top frame of an invocation.
+    fn function(&self, i: u32) -> u32
+        requires inv { i < length self.now.stacks }
+        requires frame { IsSome (state.top_of self.now i) }
+        ensures { IsSomeAnd (state.top_of self.now i) (λ f. f.plan.function ≡ result) }
+    {
+        match self.top(i) {
+            Some(frame) => frame.function(),
+            None => unreachable!(),
+        }
+    }
+
+    /// Puts a value in the register with an id of the top frame of an invocation, if the frame has it; the old one is in the row then.
+    pub fn set_value(&mut self, accepted: &Module, i: u32, id: u32, row: &mut Row)
+        requires inv { i < length self.old.stacks }
+        requires plans { self.old.plans ≡ plans_in accepted.now }
+        requires frame { IsSomeAnd (state.top_of self.old i) (IsSoundFrame accepted.now) }
+        requires plain { pointer_in (out-Value row.old) ≡ None }
+        requires value { (ty : ℕ) → result_type accepted.now.insts id ≡ Some ty → HasShape accepted.now.types no_roots ty row.old }
+        ensures { self.new ≡ state.on_frame i (state.with_register id row.old) self.old }
+    {
+        let function = self.function(i);
+        let stack = &mut self.stacks[i as usize];
+        exchange_value(accepted, &self.plans, stack, function, id, row);
+    }
+
+    /// Puts a pointer in the register with an id of the top frame of an invocation, if the frame has it.
+    pub fn set_pointer(&mut self, accepted: &Module, i: u32, id: u32, pointer: Pointer)
+        requires inv { i < length self.old.stacks }
+        requires plans { self.old.plans ≡ plans_in accepted.now }
+        requires frame { IsSomeAnd (state.top_of self.old i) (IsSoundFrame accepted.now) }
+        ensures { self.new ≡ state.on_frame i (state.with_register id (Ptr pointer)) self.old }
+    {
+        let function = self.function(i);
+        let stack = &mut self.stacks[i as usize];
+        exchange_pointer(accepted, &self.plans, stack, function, id, pointer);
+    }
+}

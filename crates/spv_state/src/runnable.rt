@@ -1,0 +1,103 @@
+//! Accepted modules that can be run, with the setups that they run with.
+ghost use Rattle.std.specs.Prelude.{◌≡◌, true, not};
+ghost use Rattle.std.specs.List.{list_all};
+ghost use Rattle.spv_base.specs.Answers.{Answers};
+ghost use Rattle.spv_state.specs.Program as program;
+
+use crate::actions::Action;
+use spv_base::{Fail, Inst, Refusal};
+use spv_index::classes::Class;
+use spv_index::positions::Position;
+use spv_index::stands::Stands;
+use spv_initial::memory::invocations;
+use spv_setup::Setup;
+use spv_valid::Module;
+use std::marker::Model;
+
+/// An accepted module that can be run, and the setup that it runs with.
+#[derive(Drop)]
+pub struct Runnable {
+    accepted: Module,
+    setup: Setup,
+}
+
+impl Model for Runnable {
+    ghost use Rattle.std.specs.Prelude.{◌≡◌, true};
+    ghost use Rattle.spv_state.specs.Program.{Program, is_built};
+
+    ghost Value = { Program };
+
+    ghost view = { λ r. record { accepted = r.accepted; setup = r.setup } };
+
+    ghost invariant = { λ r. is_built r.accepted ≡ true };
+}
+
+/// Whether the machine can do what an instruction does.
+fn is_done(action: Action) -> bool
+    ensures { result ≡ program.is_done action }
+{
+    match action {
+        Action::Compute(_) | Action::Load | Action::Store | Action::Return => true,
+        Action::CopyMemory | Action::Chain | Action::ArrayLength => false,
+        Action::Branch | Action::BranchConditional | Action::Switch => false,
+        Action::Call | Action::ReturnValue | Action::Unreachable => false,
+        Action::ControlBarrier | Action::MemoryBarrier | Action::Atomic(_) => false,
+        Action::Other => false,
+    }
+}
+
+/// Whether a run would stop at an instruction of a class at a position, and the machine can't do it yet.
+fn is_open(position: Position, class: Class, inst: &Inst) -> bool
+    ensures { result ≡ program.is_open (record { position = position; class = class; inst = inst.now }) }
+{
+    class.is_executable() && position.stage.in_block() && !is_done(Action::of(inst))
+}
+
+/// Whether the machine can do each of some instructions at which a run stops.
+fn are_built(stands: &Stands) -> bool
+    ensures { result ≡ list_all (λ s. not (program.is_open s)) stands.now }
+{
+    for n in 0..stands.len() {
+        let stand = stands.at(n);
+        if is_open(stand.position, stand.class, stand.inst) {
+            return false;
+        }
+    }
+    true
+}
+
+/// Whether a module has one invocation, and the machine can do each of its executables.
+fn is_built(accepted: &Module) -> bool
+    ensures { result ≡ program.is_built accepted.now }
+{
+    invocations(accepted) == 1 && are_built(&accepted.index().stands())
+}
+
+impl Runnable {
+    /// This module with a setup, where it can be run; else refusal 0, at word 5, where the first instruction stands.
+    #[tactic(auto, unfolding(crate::specs::Program::program_of))]
+    pub fn of(accepted: Module, setup: Setup) -> Result<Runnable, Fail<Refusal>>
+        ensures { Answers (program.program_of accepted setup) result }
+    {
+        if is_built(&accepted) {
+            Ok(Runnable { accepted, setup })
+        } else {
+            Err(Fail::Refused(Refusal { code: 0, word: 5 }))
+        }
+    }
+
+    /// The module.
+    pub fn accepted(&self) -> &Module
+        ensures module { result.now ≡ self.now.accepted }
+        ensures built { program.is_built self.now.accepted ≡ true }
+    {
+        &self.accepted
+    }
+
+    /// The setup.
+    pub fn setup(&self) -> &Setup
+        ensures { result.now ≡ self.now.setup }
+    {
+        &self.setup
+    }
+}

@@ -1,0 +1,218 @@
+//! The state at the start of a run.
+ghost use Rattle.std.specs.Prelude.{◌≡◌, ◌<◌, ◌≤◌, ◌++◌, [], ◌∷◌, ℕ, IfOk, OnOk, Some, filter, length, map, replicate, slice_get};
+ghost use Rattle.spv_frame.specs.Frames.{fresh};
+ghost use Rattle.spv_frame.specs.Registers.{Planned};
+ghost use Rattle.spv_initial.specs.Start.{local_roots, starting, variables};
+ghost use Rattle.spv_initial.specs.Variables.{AreDeclared, HaveTargets};
+ghost use Rattle.spv_mem.specs.Memory.{Levels};
+ghost use Rattle.spv_plans.specs.Plans.{plan_of, plans_in};
+ghost use Rattle.spv_state.specs.Program as program;
+ghost use Rattle.spv_state.specs.Sound.{IsSound};
+ghost use Rattle.spv_state.specs.Start as spec;
+
+use crate::runnable::Runnable;
+use crate::whole::Whole;
+use spv_base::NoMemory;
+use spv_effects::reserved;
+use spv_frame::{Frame, Plan, Plans, Stack};
+use spv_initial::memory::invocations;
+use spv_initial::{Declared, declared_in, local_variables, starting};
+use spv_mem::Memory;
+use spv_plans::laws::{functions_are_apart, functions_have_their_plans, plans_are_of_functions};
+use spv_plans::plans_of;
+use spv_statuses::Statuses;
+use spv_valid::Module;
+use spv_valid::meanings::Meaning;
+use spv_values::Row;
+use std::alloc::Global;
+use std::rc::Rc;
+
+/// One more than the word of the last instruction.
+fn words_of(accepted: &Module) -> u32
+    ensures { result ≡ program.words_of accepted.now }
+{
+    match accepted.insts().last() {
+        Some(inst) => inst.word + 1,
+        None => 0,
+    }
+}
+
+/// Whether a meaning is that of a variable of a function.
+fn is_local_of(function: u32, meaning: Meaning) -> bool
+    ensures { result ≡ spec.is_local_of function meaning }
+{
+    match meaning {
+        Meaning::Variable(of) => of == function,
+        _ => false,
+    }
+}
+
+/// Whether a variable is one of a function.
+fn is_variable_of(accepted: &Module, function: u32, declared: Declared) -> bool
+    ensures { result ≡ spec.is_variable_of accepted.now function declared }
+{
+    match accepted.meaning(declared.id) {
+        Some(meaning) => is_local_of(function, meaning),
+        None => false,
+    }
+}
+
+/// Adds a variable to a list, where it is one of a function.
+fn push_if(
+    list: &mut Vec<Declared>,
+    accepted: &Module,
+    function: u32,
+    declared: Declared,
+) -> Result<(), NoMemory>
+    ensures { OnOk result (list.new.items ≡ list.old.items ++ filter (spec.is_variable_of accepted.now function) (declared ∷ [])) }
+{
+    if is_variable_of(accepted, function, declared) {
+        list.push(declared)?;
+    }
+    Ok(())
+}
+
+/// The variables of a function, in the order of the module.
+fn variables_of(alloc: Global, accepted: &Module, function: u32) -> Result<Vec<Declared>, NoMemory>
+    ensures { IfOk result (λ list. list.items ≡ filter (spec.is_variable_of accepted.now function) (variables accepted.now)) }
+{
+    let all = declared_in(alloc, accepted.types(), accepted.insts())?;
+    let mut list = Vec::new(alloc);
+    for declared in &all {
+        push_if(&mut list, accepted, function, *declared)?;
+    }
+    Ok(list)
+}
+
+/// Enters a frame with some variables for each of so many invocations.
+fn enter_each(
+    alloc: Global,
+    accepted: &Module,
+    list: &[Declared],
+    memory: &mut Memory,
+    count: u32,
+) -> Result<(), NoMemory>
+    requires count { length memory.old.locals ≡ count }
+    requires types { memory.old.types ≡ accepted.now.types }
+    requires are { ∥ AreDeclared accepted.now.types list.now ∥₁ }
+    requires targets { ∥ HaveTargets memory.old.targets list.now ∥₁ }
+    ensures { OnOk result (memory.new ≡ record memory.old { locals = map (λ (l : Levels). record l { list = l.list ++ local_roots accepted.now list.now ∷ [] }) memory.old.locals }) }
+{
+    for inv in 0..count {
+        let locals = local_variables(alloc, accepted, list)?;
+        memory.enter_locals(inv, locals)?;
+    }
+    Ok(())
+}
+
+/// The memory at the start of a run: each variable of the module, and for each invocation those of a frame of the entry function.
+fn memory(alloc: Global, m: &Runnable) -> Result<Memory, NoMemory>
+    ensures { IfOk result (λ memory. memory ≡ spec.begun m.now.accepted (starting m.now.accepted m.now.setup)) }
+{
+    let accepted = m.accepted();
+    let _insts = accepted.insts();
+    let list = variables_of(alloc, accepted, accepted.entry())?;
+    let mut memory = starting(alloc, accepted, m.setup())?;
+    enter_each(
+        alloc,
+        accepted,
+        list.as_slice(),
+        &mut memory,
+        invocations(accepted),
+    )?;
+    Ok(memory)
+}
+
+/// The plan of the entry function.
+fn entry_plan<'a>(accepted: &Module, plans: &'a Plans) -> &'a Rc<Plan>
+    requires { plans.now ≡ plans_in accepted.now }
+    ensures { result.now.value ≡ plan_of accepted.now accepted.now.entry }
+{
+    plans_are_of_functions();
+    functions_are_apart();
+    let _insts = accepted.insts();
+    match plans.number(accepted.entry()) {
+        Some(number) => &plans.list()[number],
+        None => unreachable!(),
+    }
+}
+
+/// The calls of an invocation at the start: one frame with a plan.
+fn stack(alloc: Global, plan: &Rc<Plan>, room: u32) -> Result<Stack, NoMemory>
+    requires { 0 < room }
+    ensures { IfOk result (λ stack. stack ≡ record { frames = fresh plan.now.value ∷ []; room = room }) }
+{
+    let mut stack = Stack::new(alloc, room)?;
+    stack.give_back(Frame::new(alloc, plan)?);
+    Ok(stack)
+}
+
+/// Those of so many invocations.
+fn stacks(alloc: Global, plan: &Rc<Plan>, room: u32, count: u32) -> Result<Vec<Stack>, NoMemory>
+    requires { 0 < room }
+    ensures { IfOk result (λ stacks. stacks.items ≡ replicate count (record { frames = fresh plan.now.value ∷ []; room = room })) }
+{
+    let mut stacks = Vec::with_capacity(alloc, count as usize)?;
+    for _number in 0..count {
+        stacks.push(stack(alloc, plan, room)?)?;
+    }
+    Ok(stacks)
+}
+
+/// The state at the start of a run.
+fn whole(alloc: Global, m: &Runnable) -> Result<Whole, NoMemory>
+    ensures { IfOk result (λ whole. whole ≡ spec.start_of m.now) }
+{
+    let accepted = m.accepted();
+    let _insts = accepted.insts();
+    let count = invocations(accepted);
+    let plans = plans_of(alloc, accepted)?;
+    let plan = entry_plan(accepted, &plans);
+    let stacks = stacks(alloc, plan, accepted.depth(), count)?;
+    Ok(Whole {
+        plans,
+        memory: memory(alloc, m)?,
+        stacks,
+        statuses: Statuses::new(alloc, count, words_of(accepted))?,
+    })
+}
+
+/// The most cells that a register of a plan has.
+fn most_cells(plan: &Plan) -> usize
+    ensures { (k : ℕ) (r : ℕ × ℕ) → slice_get plan.now.values k ≡ Some r → r.1 ≤ result }
+{
+    let mut most: usize = 0;
+    for number in 0..plan.value_count() {
+        most = most.max(plan.slot(number).len);
+    }
+    most
+}
+
+/// The most cells that a register of any of some plans has.
+fn most_cells_of(plans: &Plans) -> usize
+    ensures { (n k : ℕ) (p : Planned) (r : ℕ × ℕ) → slice_get plans.now n ≡ Some p → slice_get p.values k ≡ Some r → r.1 ≤ result }
+{
+    let list = plans.list();
+    let mut most: usize = 0;
+    for plan in list {
+        most = most.max(most_cells(plan));
+    }
+    most
+}
+
+impl Whole {
+    /// The state at the start of a run. It is sound.
+    pub fn start(alloc: Global, m: &Runnable) -> Result<Whole, NoMemory>
+        ensures start { IfOk result (λ w. w ≡ spec.start_of m.now) }
+        ensures sound { IfOk result (λ w. IsSound m.now w) }
+    {
+        functions_have_their_plans();
+        let _insts = m.accepted().insts();
+        whole(alloc, m)
+    }
+
+    /// A row with room for the value of the largest register of any function.
+    pub fn row(&self, alloc: Global) -> Result<Row, NoMemory> {
+        reserved(alloc, most_cells_of(&self.plans))
+    }
+}
