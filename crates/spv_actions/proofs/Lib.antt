@@ -10,3 +10,4 @@ pub mod SiteLemmas
 pub mod KeptLemmas
 pub mod EffectLemmas
 pub mod AccessLemmas
+pub mod KeepsFrames
