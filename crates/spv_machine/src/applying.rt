@@ -1,20 +1,22 @@
 //! What an effect does to a state. It takes no memory and can't fail.
-ghost use Rattle.std.specs.Prelude.{◌≡◌, ◌<◌, ℕ, None, Some, length, map};
+ghost use Rattle.std.specs.Prelude.{◌≡◌, ◌<◌, ℕ, None, Some, length, map, option_copied};
 ghost use Rattle.std.specs.List.{AllByRecursion};
-ghost use Rattle.std.specs.Option.{option_map};
-ghost use Rattle.std.specs.Option.{MatchOption};
+ghost use Rattle.std.specs.Option.{option_and_then, option_map};
 ghost use Rattle.spv_base.specs.Entries.{reads};
+ghost use Rattle.spv_base.specs.declared.values.Pointer.{Pointer as Reference};
+ghost use Rattle.spv_index.specs.Definitions.{at};
 ghost use Rattle.spv_mem.specs.Memory.{load_of};
 ghost use Rattle.spv_actions.specs.Effects as effects;
 ghost use Rattle.spv_actions.specs.Fits.{ControlFits, EnterFits, Fits, IsOfType, JumpFits, LeaveFits, ResultFits, StoreFits};
 ghost use Rattle.spv_actions.specs.Planned.{IsTaken, gained, gone, phi_value, shown};
-ghost use Rattle.spv_machine.specs.Reached.{IsCalling, IsHeld, IsReached};
+ghost use Rattle.spv_machine.specs.Reached.{IsHeld, IsReached};
 ghost use Rattle.spv_machine.specs.Step as spec;
 ghost use Rattle.spv_state.specs.Sound.{IsBarrier};
 ghost use Rattle.spv_state.specs.State as state;
 
 use crate::happenings::{arrival, plain, stored};
-use spv_actions::{Control, Effect, Gain, PhiValue};
+use spv_actions::effects::PhiValue;
+use spv_actions::{Control, Effect, Gain};
 use spv_base::{Happening, Inst, Pointer};
 use spv_frame::Frame;
 use spv_mem::Locals;
@@ -117,15 +119,13 @@ fn enter(m: &Runnable, whole: &mut Whole, inv: u32, inst: &Inst, frame: Frame, l
     whole.enter(inv, frame, locals);
 }
 
-/// The call at which the top frame of an invocation stands, where it has one; a frame above it was just left.
+/// The instruction at which the top frame of an invocation stands, where it has one.
 fn caller<'a>(m: &'a Runnable, whole: &Whole, inv: u32) -> Option<&'a Inst>
-    requires inv { inv < length whole.now.stacks }
-    requires calling { IsCalling m.now whole.now inv }
-    ensures { MatchOption result (state.top_of whole.now inv ≡ None) (λ call. spec.IsCaller m.now whole.now inv call.now) }
+    requires { inv < length whole.now.stacks }
+    ensures { option_copied result ≡ option_and_then (λ f. at m.now.accepted.insts f.pc) (state.top_of whole.now inv) }
 {
-    let accepted = m.accepted();
     let frame = whole.top(inv)?;
-    accepted.at(frame.pc())
+    m.accepted().at(frame.pc())
 }
 
 /// The caller takes what the function gave, and moves behind its call.
@@ -138,4 +138,105 @@ fn resume(m: &Runnable, whole: &mut Whole, inv: u32, call: &Inst, gain: Gain, ro
 {
     put_result(m, whole, inv, call, gain, row);
     go_on(m, whole, inv, call);
+}
+
+/// Out of a function: where a frame is left, its call goes on with what the function gave; else the invocation is Finished.
+fn leave(m: &Runnable, whole: &mut Whole, inv: u32, inst: &Inst, gain: Gain, row: &mut Row)
+    requires reached { IsReached m.now whole.old inv inst.now }
+    requires fits { LeaveFits m.now.accepted inst.now (gained gain row.old) }
+    requires held { IsHeld gain row.old }
+    ensures { whole.new ≡ spec.leave m.now.accepted inv (gained gain row.old) whole.old }
+{
+    let accepted = m.accepted();
+    let _insts = accepted.insts();
+    whole.leave(inv);
+    match caller(m, whole, inv) {
+        Some(call) => resume(m, whole, inv, call, gain, row),
+        None => whole.set_status(inv, Status::Finished),
+    }
+}
+
+/// An arrival at a barrier. Where all invocations wait there then, it opens.
+fn arrive(m: &Runnable, whole: &mut Whole, inv: u32, inst: &Inst) -> Happening
+    requires reached { IsReached m.now whole.old inv inst.now }
+    requires barrier { IsBarrier m.now.accepted inst.now.word }
+    ensures state { whole.new ≡ spec.arrive inv inst.now.word whole.old }
+    ensures event { result ≡ spec.arrival inv inst.now.word whole.old }
+{
+    let _insts = m.accepted().insts();
+    let word = inst.word;
+    whole.set_status(inv, Status::Arrived(word));
+    let opens = whole.statuses().all_wait_at(word);
+    if opens {
+        whole.open_barrier(word);
+    }
+    arrival(inv, word, opens)
+}
+
+/// Goes where control goes, and gives the event; `told` is that of the store.
+fn go(
+    m: &Runnable,
+    whole: &mut Whole,
+    inv: u32,
+    inst: &Inst,
+    control: Control,
+    told: Happening,
+    row: &mut Row,
+) -> Happening
+    requires reached { IsReached m.now whole.old inv inst.now }
+    requires fits { ControlFits m.now.accepted inst.now (gone control row.old) }
+    ensures state { whole.new ≡ spec.go m.now.accepted inv inst.now.word (gone control row.old) whole.old }
+    ensures event { result ≡ spec.by_control inv inst.now.word whole.old told (gone control row.old) }
+{
+    match control {
+        Control::Next => {
+            go_on(m, whole, inv, inst);
+            told
+        }
+        Control::Jump { block, phis } => {
+            jump(m, whole, inv, inst, block, phis);
+            plain(inv, inst.word)
+        }
+        Control::Enter { frame, locals } => {
+            enter(m, whole, inv, inst, frame, locals);
+            plain(inv, inst.word)
+        }
+        Control::Leave => {
+            leave(m, whole, inv, inst, Gain::Nothing, row);
+            plain(inv, inst.word)
+        }
+        Control::Give => {
+            leave(m, whole, inv, inst, Gain::Row, row);
+            plain(inv, inst.word)
+        }
+        Control::Wait => arrive(m, whole, inv, inst),
+    }
+}
+
+/// Does an effect, and gives its event.
+pub(crate) fn apply(
+    m: &Runnable,
+    whole: &mut Whole,
+    inv: u32,
+    inst: &Inst,
+    effect: Effect,
+    row: &mut Row,
+) -> Happening
+    requires reached { IsReached m.now whole.old inv inst.now }
+    requires fits { Fits m.now whole.old inv inst.now (shown effect row.old) }
+    requires taken { IsTaken whole.old inv effect row.old }
+    ensures state { whole.new ≡ spec.apply m.now.accepted inv inst.now (shown effect row.old) whole.old }
+    ensures event { result ≡ spec.happening_of m.now.accepted whole.old inv inst.now.word (shown effect row.old) }
+{
+    let accepted = m.accepted();
+    let _insts = accepted.insts();
+    let told = stored(accepted, inv, inst.word, &effect);
+    let Effect {
+        store,
+        gain,
+        control,
+    } = effect;
+    put_store(whole, inv, store, row);
+    put_result(m, whole, inv, inst, gain, row);
+    go(m, whole, inv, inst, control, told, row)
 }
