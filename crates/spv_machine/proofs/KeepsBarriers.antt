@@ -1,5 +1,5 @@
 -- Arrivals at barriers leave a sound state: an invocation that waits at a barrier, or has passed it, stands there.
-use Rattle.std.proofs.Common.{◌≡◌, ◌∙◌, ◌↔◌, ℕ, zero, suc, ◌<◌, ◌≤◌, ◌&&◌, Bool, true, false, List, [], ◌∷◌, Option, Some, None, length, length-set, replicate, slice_get, slice_set, refl, sym, ap, subst, arith}
+use Rattle.std.proofs.Common.{◌≡◌, ◌∙◌, ◌↔◌, ℕ, zero, suc, ◌-◌, ◌<◌, ◌≤◌, ◌&&◌, Bool, true, false, List, [], ◌∷◌, Option, Some, None, length, length-set, replicate, slice_get, slice_set, refl, sym, ap, subst, arith}
 use Rattle.std.proofs.Math.Logic.{∥∥₁_elim}
 use Rattle.std.proofs.Props.{props}
 use Rattle.std.proofs.lemmas.Bool.{and_parts, eqb-true}
@@ -135,11 +135,8 @@ words_ascend from (i ∷ is) zero (suc k) x y ascend g h le =
     let one : i ≡ x = cc in
     let low = ascend.0 in
     let a : i.word ≡ x.word = ap (λ (z : Inst). z.word) one in
-    let rest = later is k y ascend.1 h in
+    let rest = (words_ascend (suc i.word) is k k y y ascend.1 h h (omega arith)).0 in
     (omega arith, omega arith)
-  where
-    later : (js : List Inst) (n : ℕ) (z : Inst) → Ascend (suc i.word) js → slice_get js n ≡ Some z → suc i.word ≤ z.word
-    later js n z up at = (words_ascend (suc i.word) js n n z z up at at (omega arith)).0
 words_ascend from (i ∷ is) (suc j) zero x y ascend g h le = absurd (omega arith)
 words_ascend from (i ∷ is) (suc j) (suc k) x y ascend g h le =
     let rest = words_ascend (suc i.word) is j k x y ascend.1 g h (omega arith) in

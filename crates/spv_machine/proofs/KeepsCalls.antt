@@ -69,7 +69,12 @@ length_taken (suc n) (x ∷ xs) h = ap suc (length_taken n xs (omega (arith, h))
 
 empty_top : (fs : List Frame) → top fs ≡ None → fs ≡ []
 empty_top [] h = refl
-empty_top (f ∷ fs) h = let some = last_there f fs in absurd (cc)
+empty_top (f ∷ fs) h =
+    let place : length (f ∷ fs) - 1 ≡ length fs = omega arith in
+    let none : slice_get (f ∷ fs) (length fs) ≡ None = subst (λ (n : ℕ). slice_get (f ∷ fs) n ≡ None) place h in
+    let some = last_there f fs in
+    let clash : None ≡ Some some.0 = sym none ∙ some.1 in
+    absurd (cc)
   where
     last_there : (g : Frame) (gs : List Frame) → (x : Frame) × (slice_get (g ∷ gs) (length gs) ≡ Some x)
     last_there g [] = (g, refl)

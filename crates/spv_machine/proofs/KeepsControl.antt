@@ -82,10 +82,10 @@ next_there a pc h = by_read (reads pc a.flow.nexts) h
 -- an executable stands behind one that ends no block
 pub stands_before : (a : Accepted) (function pc : ℕ) (d : Inst) → IsKnown a → StandsIn a function pc → at a.insts pc ≡ Some d → is_terminator (class_of (sets_of a.insts) d) ≡ false
     → (word : ℕ) × (reads pc a.flow.nexts ≡ Some (Some word))
-stands_before a function pc d known stands here open =
+stands_before a function pc d known stands here ends =
     let s : Standing a function pc = standing a function pc stands in
     let same : s.stand.inst ≡ d = let own = at_standing a function pc known s in cc in
-    let goes : is_terminator s.stand.class ≡ false = ap is_terminator (class_is a.insts s.stand s.one ∙ ap (class_of (sets_of a.insts)) same) ∙ open in
+    let goes : is_terminator s.stand.class ≡ false = ap is_terminator (class_is a.insts s.stand s.one ∙ ap (class_of (sets_of a.insts)) same) ∙ ends in
     let next = next_there a s.stand.inst.word (known.goes_on s.stand s.one s.stops goes) in
     (next.0, subst (λ (n : ℕ). reads n a.flow.nexts ≡ Some (Some next.0)) s.here next.1)
 
