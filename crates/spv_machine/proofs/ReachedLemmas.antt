@@ -1,6 +1,8 @@
 -- An instruction stays reached while its effect is done, and the effect leaves a sound state.
-use Rattle.std.proofs.Common.{◌≡◌, ◌∙◌, ℕ, zero, suc, ◌-◌, ◌<◌, ◌≤◌, true, List, [], ◌∷◌, Option, Some, None, drop, length, length-set, map, slice_get, slice_set, refl, sym, ap, subst, arith, rules}
+use Rattle.std.proofs.Common.{◌≡◌, ◌∙◌, ℕ, zero, suc, ◌-◌, ◌<◌, ◌≤◌, Bool, true, false, List, [], ◌∷◌, Option, Some, None, drop, length, length-set, map, slice_get, slice_set, refl, sym, ap, subst, arith, rules}
+use Rattle.std.proofs.lemmas.List.{length-replicate}
 use Rattle.std.proofs.lemmas.Option.{slice_get_within}
+use Rattle.std.specs.Prelude.{if◌then◌else◌}
 use Rattle.std.specs.List.{AllByRecursion}
 use Rattle.std.specs.Option.{option_and_then, option_map, option_map_or}
 use Rattle.spv_base.specs.Entries.{change, reads}
@@ -24,7 +26,7 @@ use Rattle.spv_frame.specs.Frames.{Held as Frame}
 use Rattle.spv_frame.specs.Stacks.{Stacked, on_top, top}
 use Rattle.spv_statuses.specs.Group.{Held as Statuses, all_wait_at}
 use Rattle.spv_statuses.specs.declared.invocations.Status.{Status}
-use Rattle.spv_statuses.specs.declared.invocations.Status.TheVariants.{Ready, Arrived, Finished}
+use Rattle.spv_statuses.specs.declared.invocations.Status.TheVariants.{Ready, Arrived, Passed, Finished}
 use Rattle.spv_actions.specs.Effects.{Control, Effect, Next, Jump, Enter, Leave, Wait}
 use Rattle.spv_actions.specs.Fits.{ControlFits, EnterFits, Fits, IsOfType, JumpFits, LeaveFits, LevelFits, ResultFits}
 use Rattle.spv_actions.specs.Planned.{IsGained, IsGiven, gained, gone, phi_value, shown}
@@ -37,12 +39,12 @@ use Rattle.spv_actions.specs.declared.effects.Gain.TheVariants.{Nothing, Row, Po
 use Rattle.spv_actions.proofs.KeepsFrames.{RegisterFits, register_kept, register_stays}
 use Rattle.spv_state.specs.Program.{Program}
 use Rattle.spv_state.specs.Sound.{IsCallOf, IsSound, IsSoundFrame, IsSoundStack, StandsAs, StandsIn}
-use Rattle.spv_state.specs.State.{State, on_frame, on_frames, pop_frame, put_store, set_status, top_of, with_pc, with_register, with_registers, without_last, without_top}
+use Rattle.spv_state.specs.State.{State, on_frame, on_frames, open_barrier, pop_frame, put_store, set_status, top_of, with_pc, with_register, with_registers, without_last, without_top}
 use Rattle.spv_state.proofs.Known.{IsKnown, known_as}
 use Rattle.spv_state.proofs.Lists.{change_here, change_none, change_same, change_still, changed_at, length_change}
 use Rattle.spv_state.proofs.Stands.{Stood, stand_inst, stood}
 use Rattle.spv_machine.specs.Reached.{IsHeld, IsReached}
-use Rattle.spv_machine.specs.Step.{apply, arrival_with, by_control, first_of, go, go_on, happening_of, jump, leave, put_result, resume, stored_at}
+use Rattle.spv_machine.specs.Step.{apply, arrival_with, arrived, by_control, first_of, go, go_on, happening_of, jump, leave, opened, opens, put_result, resume, stored_at}
 use Rattle.spv_machine.proofs.CallTypes.{call_goes, call_to}
 use Rattle.spv_machine.proofs.KeepsBarriers.{arrive_sound, word_within}
 use Rattle.spv_machine.proofs.KeepsCalls.{Below, below, entered_sound, finished_sound, has_levels, has_room, popped_sound}
@@ -445,3 +447,28 @@ pub given_plain : (p : Program) → Facts p.accepted → (s : State) (i : ℕ) (
 given_plain p known s i d v r fits =
     let own = own_frame p known s i d r in
     (fits r.frame.plan.function (subst (StandsIn p.accepted r.frame.plan.function) (sym (word_is p s i d r)) own.stands)).plain
+
+-- ---- how many invocations there are
+
+resume_count : (a : Accepted) (i : ℕ) (v : Option Value) (s : State) (o : Option Frame) → length (resume a i v s o).statuses.list ≡ length s.statuses.list
+resume_count a i v s None = length-set s.statuses.list i Finished
+resume_count a i None s (Some f) = refl
+resume_count a i (Some v) s (Some f) = refl
+
+opened_count : (word : ℕ) (s : State) → length (opened word s).statuses.list ≡ length s.statuses.list
+opened_count word s = by_test (opens word s)
+  where
+    by_test : (b : Bool) → length (if b then open_barrier s else s).statuses.list ≡ length s.statuses.list
+    by_test true = length-replicate (length s.statuses.list) Passed
+    by_test false = refl
+
+gone_count : (a : Accepted) (i word : ℕ) (c : Control) (s : State) → length (go a i word c s).statuses.list ≡ length s.statuses.list
+gone_count a i word Next s = refl
+gone_count a i word (Jump block phis) s = refl
+gone_count a i word (Enter frame es) s = refl
+gone_count a i word (Leave v) s = resume_count a i v (pop_frame i s) (top_of (pop_frame i s) i)
+gone_count a i word Wait s = opened_count word (arrived i word s) ∙ length-set s.statuses.list i (Arrived word)
+
+pub applied_count : (a : Accepted) (i : ℕ) (d : Inst) (e : Effect) (s : State) → length (apply a i d e s).statuses.list ≡ length s.statuses.list
+applied_count a i d e s =
+    gone_count a i d.word e.control (put_result i d.id e.result (put_store i e.store s)) ∙ ap (λ (x : Statuses). length x.list) (statuses_stay i d.id e.store e.result s)
