@@ -1,5 +1,5 @@
 -- A call takes what the function that it names returns (SPIR-V 1.6 section 3.42.9, OpFunctionCall).
-use Rattle.std.proofs.Common.{◌≡◌, ◌≢◌, ◌∙◌, ℕ, zero, suc, ◌==◌, Bool, true, false, cond, List, [], ◌∷◌, Option, Some, None, drop, length, not, slice_get, refl, sym, ap, subst}
+use Rattle.std.proofs.Common.{◌≡◌, ◌∙◌, ℕ, zero, suc, ◌==◌, Bool, true, false, cond, List, [], ◌∷◌, Option, Some, None, drop, length, not, slice_get, refl, sym, ap, subst}
 use Rattle.std.proofs.Math.Logic.{∥∥₁_elim}
 use Rattle.std.proofs.Props.{props}
 use Rattle.std.proofs.lemmas.Bool.{eq-eqb, eqb-true}
@@ -18,12 +18,11 @@ use Rattle.spv_index.specs.Operands.{id_operand}
 use Rattle.spv_index.specs.Positions.{stands_of}
 use Rattle.spv_sections.specs.Ids.{has_type, head_of, is_type_id}
 use Rattle.spv_sections.specs.Laws.{IsInOrder}
-use Rattle.spv_types.specs.declared.forms.Form.{Form}
 use Rattle.spv_types.specs.declared.forms.Form.TheVariants.{Function}
 use Rattle.spv_bodies.specs.Bodies.{KeepsBody, KeepsRule}
 use Rattle.spv_bodies.specs.Calls.{KeepsCall, KeepsFunction, callee_form, form_by, function_form}
 use Rattle.spv_bodies.specs.Context.{Known}
-use Rattle.spv_bodies.specs.Places.{Placed, nowhere, place, placed_from, within_after}
+use Rattle.spv_bodies.specs.Places.{nowhere, place, placed_from, within_after}
 use Rattle.spv_bodies.specs.declared.within.Within.{Within}
 use Rattle.spv_bodies.specs.Rules.{atomic_rule, composite_rule, control_rule, memory_rule, other_rule, rule_of}
 use Rattle.spv_bodies.specs.declared.rules.Rule.{Rule}

@@ -1,12 +1,12 @@
 -- Calls and returns leave a sound state.
-use Rattle.std.proofs.Common.{◌≡◌, ◌≢◌, ◌⊎◌, ◌∙◌, inl, inr, ℕ, zero, suc, ◌-◌, ◌<◌, ◌≤◌, List, [], ◌∷◌, ◌++◌, Option, Some, None, length, length-append, length-set, slice_get, slice_set, take, refl, sym, ap, subst, arith}
+use Rattle.std.proofs.Common.{◌≡◌, ◌≢◌, ◌⊎◌, ◌∙◌, inl, inr, ℕ, zero, suc, ◌-◌, ◌<◌, ◌≤◌, List, [], ◌∷◌, ◌++◌, Option, Some, None, length, length-append, length-set, slice_get, take, refl, sym, ap, subst, arith}
 use Rattle.std.proofs.lemmas.Option.{slice_get_within}
 use Rattle.std.specs.List.{AllZip}
 use Rattle.std.specs.Option.{option_map_or}
 use Rattle.spv_base.specs.Entries.{change}
 use Rattle.spv_base.specs.State.{Roots}
 use Rattle.spv_base.specs.declared.instructions.Inst.{Inst}
-use Rattle.spv_mem.specs.Memory.{AreVariables, HasRoom, Levels}
+use Rattle.spv_mem.specs.Memory.{Levels}
 use Rattle.spv_frame.specs.Frames.{Held as Frame}
 use Rattle.spv_frame.specs.Stacks.{Stacked, top}
 use Rattle.spv_statuses.specs.declared.invocations.Status.{Status}
@@ -18,9 +18,7 @@ use Rattle.spv_state.specs.Program.{Program}
 use Rattle.spv_state.specs.Sound.{HasVariables, IsCallOf, IsSound, IsSoundFrame, IsSoundStack}
 use Rattle.spv_state.specs.State.{State, pop_frame, push_frame, set_status, top_of, with_top, without_last, without_locals, without_top}
 use Rattle.spv_state.proofs.Lists.{change_none, changed_at, length_change, set_is_change}
-use Rattle.spv_machine.specs.Reached.{IsReached}
 use Rattle.spv_machine.proofs.Depths.{AreCalls, AreSoundFrames, frames_within}
-use Rattle.spv_machine.proofs.KeepsControl.{top_at}
 use Rattle.spv_machine.proofs.KeepsStacks.{AreSoundStacks, one_changed}
 
 -- ---- lists with one more

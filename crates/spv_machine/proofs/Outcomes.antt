@@ -1,5 +1,5 @@
 -- What a step of an invocation is, by its status.
-use Rattle.std.proofs.Common.{◌≡◌, ◌≢◌, ◌∙◌, ℕ, zero, suc, ◌-◌, ◌<◌, Bool, false, true, List, [], ◌∷◌, Option, Some, None, Result, Ok, Err, length, slice_get, refl, sym, ap, subst, arith}
+use Rattle.std.proofs.Common.{◌≡◌, ◌≢◌, ◌∙◌, ℕ, ◌-◌, ◌<◌, Bool, false, List, [], ◌∷◌, Option, Some, None, Result, Ok, Err, length, slice_get, refl, sym, ap, subst, arith}
 use Rattle.std.proofs.lemmas.Option.{slice_get_within}
 use Rattle.std.specs.Option.{IsSomeAnd}
 use Rattle.spv_base.specs.Entries.{reads}
@@ -26,7 +26,7 @@ use Rattle.spv_actions.specs.declared.effects.Effect.{Effect}
 use Rattle.spv_machine.proofs.KeepsControl.{got, stands_before, top_at}
 use Rattle.spv_state.proofs.Known.{IsKnown}
 use Rattle.spv_state.proofs.Lists.{change_same}
-use Rattle.spv_state.proofs.Standing.{Standing, at_standing, standing}
+use Rattle.spv_state.proofs.Standing.{at_standing, standing}
 
 -- ---- the top frame of an invocation that is not finished
 

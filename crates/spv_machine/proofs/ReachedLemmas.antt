@@ -369,9 +369,11 @@ abbrev pub PhisLeft : Program → ℕ → Inst → List (ℕ × Value) → State
 PhisLeft p i d rs s end = IsReached p s i d × AllByRecursion (λ (r : ℕ × Value). IsOfType p.accepted r.0 r.1) rs × (on_frame i (with_registers rs) s ≡ end)
 
 pub phi_put : (p : Program) → Facts p.accepted → (i : ℕ) (d : Inst) (r : ℕ × Value) (rs : List (ℕ × Value)) (s new end : State) → PhisLeft p i d (r ∷ rs) s end → new ≡ on_frame i (with_register r.0 r.1) s → PhisLeft p i d rs new end
-phi_put p known i d r rs s new end left put =
-    (subst (λ (x : State). IsReached p x i d) (sym put) (register_reached p known.known s i d r.0 r.1 left.0 (type_fits p.accepted r.0 r.1 left.1.0)), left.1.1,
-      ap (on_frame i (with_registers rs)) put ∙ on_frame_twice i (with_registers rs) (with_register r.0 r.1) s ∙ left.2)
+phi_put p known i d r rs s new end left put = (
+  subst (λ (x : State). IsReached p x i d) (sym put) (register_reached p known.known s i d r.0 r.1 left.0 (type_fits p.accepted r.0 r.1 left.1.0)),
+  left.1.1,
+  ap (on_frame i (with_registers rs)) put ∙ on_frame_twice i (with_registers rs) (with_register r.0 r.1) s ∙ left.2,
+)
 
 -- the branch, where its phis have their values
 pub jump_is : (p : Program) (i block word : ℕ) (rs : List (ℕ × Value)) (s s1 : State) → s1 ≡ on_frame i (with_registers rs) s → word ≡ first_of p.accepted block → on_frame i (with_pc word) s1 ≡ jump p.accepted i block rs s

@@ -1,8 +1,7 @@
 -- One step of an invocation.
-use Rattle.std.specs.Prelude.{ℕ, ◌==◌, ◌||◌, if◌then◌else◌, Bool, false, List, [], ◌∷◌, ◌++◌, map, replicate, filter, unwrap_or, Option, Some, None, Result, Ok, Err, slice_get}
+use Rattle.std.specs.Prelude.{ℕ, ◌==◌, ◌||◌, if◌then◌else◌, Bool, false, List, unwrap_or, Option, Some, None, Result, Ok, Err, slice_get}
 use Rattle.std.specs.Option.{option_and_then, option_map_or}
 use Rattle.spv_base.specs.Entries.{reads}
-use Rattle.spv_base.specs.State.{Roots}
 use Rattle.spv_base.specs.declared.happenings.Fault.{Fault}
 use Rattle.spv_base.specs.declared.happenings.Happening.{Happening}
 use Rattle.spv_base.specs.declared.happenings.Kind.TheVariants.{Plain, Write, Arrive, Opened}
@@ -13,21 +12,15 @@ use Rattle.spv_base.specs.declared.values.Root.TheVariants.{Shared, Private, Loc
 use Rattle.spv_base.specs.declared.values.Value.{Value}
 use Rattle.spv_index.specs.Definitions.{at}
 use Rattle.spv_valid.specs.Acceptance.{Accepted}
-use Rattle.spv_mem.specs.Memory.{Held as Memory, Levels, stored}
-use Rattle.spv_valid.specs.Meanings.{meaning_of}
-use Rattle.spv_valid.specs.declared.meanings.Meaning.{Meaning}
-use Rattle.spv_valid.specs.declared.meanings.Meaning.TheVariants.{Variable}
-use Rattle.spv_initial.specs.Start.{invocations, local_roots, starting, variables}
-use Rattle.spv_initial.specs.declared.variables.Declared.{Declared}
-use Rattle.spv_frame.specs.Frames.{Held as Frame, fresh}
-use Rattle.spv_plans.specs.Plans.{plan_of, plans_in}
+use Rattle.spv_mem.specs.Memory.{stored}
+use Rattle.spv_frame.specs.Frames.{Held as Frame}
 use Rattle.spv_operands.specs.Values.{storage_class}
 use Rattle.spv_statuses.specs.Group.{all_wait_at}
 use Rattle.spv_statuses.specs.declared.invocations.Status.{Status}
 use Rattle.spv_statuses.specs.declared.invocations.Status.TheVariants.{Ready, Arrived, Passed, Finished}
 use Rattle.spv_actions.specs.Effects.{Control, Effect, Next, Jump, Enter, Leave, Wait, code_of}
 use Rattle.spv_actions.specs.Instructions.{effect_of}
-use Rattle.spv_state.specs.Program.{Program, words_of}
+use Rattle.spv_state.specs.Program.{Program}
 use Rattle.spv_state.specs.State.{State, on_frame, open_barrier, pop_frame, push_frame, put_store, set_status, top_of, with_pc, with_register, with_registers}
 use Rattle.spv_actions.specs.declared.causes.Cause.{Cause}
 

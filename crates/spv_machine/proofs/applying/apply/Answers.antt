@@ -1,7 +1,7 @@
-use Rattle.std.proofs.Common.{◌≡◌, ◌∙◌, ap, sym, subst}
+use Rattle.std.proofs.Common.{◌∙◌, ap, sym, subst}
 use Rattle.spv_valid.specs.Acceptance.{Accepted}
 use Rattle.spv_actions.specs.Fits.{ControlFits, ResultFits}
-use Rattle.spv_actions.specs.Planned.{gained, gone, shown}
+use Rattle.spv_actions.specs.Planned.{gained, shown}
 use Rattle.spv_state.specs.State.{State}
 use Rattle.spv_machine.specs.Reached.{IsReached}
 use Rattle.spv_machine.specs.Step.{stored_at}

@@ -1,7 +1,6 @@
-use Rattle.std.proofs.Common.{◌≡◌, ◌∙◌, ◌<◌, ℕ, ap, subst, sym}
-use Rattle.spv_state.specs.State.{State, set_status}
-use Rattle.spv_statuses.specs.declared.invocations.Status.TheVariants.{Arrived}
-use Rattle.spv_machine.specs.Step.{arrival_with, arrived, opened, opens}
+use Rattle.std.proofs.Common.{◌∙◌, ◌<◌, ap, subst, sym}
+use Rattle.spv_state.specs.State.{State}
+use Rattle.spv_machine.specs.Step.{arrival_with, opened, opens}
 use Rattle.spv_machine.proofs.ReachedLemmas.{Facts, facts, reached_word}
 use Rattle.spv_machine.proofs.applying.arrive.Goals as goal
 

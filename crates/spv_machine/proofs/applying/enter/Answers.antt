@@ -1,4 +1,3 @@
-use Rattle.std.proofs.Common.{◌≡◌, Some, subst, sym, slice_get}
 use Rattle.spv_machine.proofs.Outcomes.{reached_inside}
 use Rattle.spv_machine.proofs.ReachedLemmas.{Facts, enter_levels, enter_room, enter_variables, facts, levels_inside}
 use Rattle.spv_machine.proofs.applying.enter.Goals as goal
