@@ -42,14 +42,14 @@ use Rattle.spv_results.specs.Results.{all_of}
 use Rattle.spv_state.specs.Actions.{action_of}
 use Rattle.spv_state.specs.State.{depth_of}
 use Rattle.spv_state.specs.declared.actions.Action.TheVariants.{Chain}
-use Rattle.spv_actions.specs.Chains.{chained, indexes}
+use Rattle.spv_actions.specs.Chains.{chained, indexes, with_indexes}
 use Rattle.spv_actions.specs.Effects as spec
 use Rattle.spv_actions.specs.Effects.{◌>>=◌, gives, pointer}
 use Rattle.spv_actions.specs.Fits.{LevelFits}
 use Rattle.spv_actions.specs.Sites.{IsShaped, IsSite, Site, accepted, due, is_data, is_data_at, values}
 use Rattle.spv_actions.specs.declared.causes.Cause.{Cause}
 use Rattle.spv_actions.specs.declared.causes.Cause.TheVariants.{NoValue, UndefinedIndex}
-use Rattle.spv_actions.proofs.AccessLemmas.{in_turn, leads_there}
+use Rattle.spv_actions.proofs.AccessLemmas.{leads_there}
 use Rattle.spv_actions.proofs.EffectLemmas.{due_by}
 use Rattle.spv_actions.proofs.IndexLemmas.{IsIndex, behind, integer_cell, integer_form, lead_behind, reached_append, unsigned}
 use Rattle.spv_actions.proofs.OperandLemmas.{PointersHaveShapes, ValuesHaveShapes, operand_shape}
@@ -57,23 +57,10 @@ use Rattle.spv_actions.proofs.OperandLemmas.{PointersHaveShapes, ValuesHaveShape
 -- ---- what is due
 
 abbrev chain_from : Option Value → Result (List Lane) Cause → Result spec.Effect Cause
-chain_from o is =
-    ok_or o NoValue >>= (λ (at : Value). is >>= (λ (cs : List Lane). pointer at >>= (λ (q : Reference). chained q cs >>= (λ (r : Reference). Ok (gives (Ptr r))))))
+chain_from o is = ok_or o NoValue >>= (λ (at : Value). is >>= (λ (cs : List Lane). chained at cs >>= (λ (q : Reference). Ok (gives (Ptr q)))))
 
 chain_due : (x : Site) → action_of x.inst ≡ Chain → due x ≡ chain_from (values x 0) (indexes (values x) x.inst)
 chain_due x is = due_by x Chain is
-
--- the pointer that a value is, with further indexes
-abbrev pub longer : Value → List Lane → Result Reference Cause
-longer at cs = pointer at >>= (λ (q : Reference). chained q cs)
-
-chain_by : (x : Site) (at : Value) (cs : List Lane) → action_of x.inst ≡ Chain → values x 0 ≡ Some at → indexes (values x) x.inst ≡ Ok cs → due x ≡ (longer at cs >>= (λ (r : Reference). Ok (gives (Ptr r))))
-chain_by x at cs is base found =
-    chain_due x is ∙ ap (λ (o : Option Value). chain_from o (indexes (values x) x.inst)) base ∙ ap (chain_from (Some at)) found
-    ∙ sym (in_turn (pointer at) (λ (q : Reference). chained q cs) (λ (r : Reference). Ok (gives (Ptr r))))
-
-pub chain_gives : (x : Site) (at : Value) (cs : List Lane) (r : Reference) → action_of x.inst ≡ Chain → values x 0 ≡ Some at → indexes (values x) x.inst ≡ Ok cs → longer at cs ≡ Ok r → due x ≡ Ok (gives (Ptr r))
-chain_gives x at cs r is base found goes = chain_by x at cs is base found ∙ ap (λ (p : Result Reference Cause). p >>= (λ (q : Reference). Ok (gives (Ptr q)))) goes
 
 pub chain_missing : (x : Site) → action_of x.inst ≡ Chain → values x 0 ≡ None → due x ≡ Err NoValue
 chain_missing x is none = chain_due x is ∙ ap (λ (o : Option Value). chain_from o (indexes (values x) x.inst)) none
@@ -82,7 +69,13 @@ pub chain_without : (x : Site) (at : Value) (cause : Cause) → action_of x.inst
 chain_without x at cause is base none =
     chain_due x is ∙ ap (λ (o : Option Value). chain_from o (indexes (values x) x.inst)) base ∙ ap (chain_from (Some at)) none
 
-pub chain_fails : (x : Site) (at : Value) (cs : List Lane) (cause : Cause) → action_of x.inst ≡ Chain → values x 0 ≡ Some at → indexes (values x) x.inst ≡ Ok cs → longer at cs ≡ Err cause → due x ≡ Err cause
+chain_by : (x : Site) (at : Value) (cs : List Lane) → action_of x.inst ≡ Chain → values x 0 ≡ Some at → indexes (values x) x.inst ≡ Ok cs → due x ≡ (chained at cs >>= (λ (q : Reference). Ok (gives (Ptr q))))
+chain_by x at cs is base found = chain_due x is ∙ ap (λ (o : Option Value). chain_from o (indexes (values x) x.inst)) base ∙ ap (chain_from (Some at)) found
+
+pub chain_gives : (x : Site) (at : Value) (cs : List Lane) (r : Reference) → action_of x.inst ≡ Chain → values x 0 ≡ Some at → indexes (values x) x.inst ≡ Ok cs → chained at cs ≡ Ok r → due x ≡ Ok (gives (Ptr r))
+chain_gives x at cs r is base found goes = chain_by x at cs is base found ∙ ap (λ (p : Result Reference Cause). p >>= (λ (q : Reference). Ok (gives (Ptr q)))) goes
+
+pub chain_fails : (x : Site) (at : Value) (cs : List Lane) (cause : Cause) → action_of x.inst ≡ Chain → values x 0 ≡ Some at → indexes (values x) x.inst ≡ Ok cs → chained at cs ≡ Err cause → due x ≡ Err cause
 chain_fails x at cs cause is base found fails = chain_by x at cs is base found ∙ ap (λ (p : Result Reference Cause). p >>= (λ (q : Reference). Ok (gives (Ptr q)))) fails
 
 -- ---- the indexes are read one after another
@@ -124,7 +117,7 @@ all_read x cs n le so_far =
 
 integer_data : (ts : Types) (o : Option ℕ) → is_integer (option_and_then (form_of ts) o) ≡ true → is_data ts o ≡ true
 integer_data ts None h = absurd (cc)
-integer_data ts (Some ty) h = let form = integer_form (form_of ts ty) h in ap (λ (f : Option Form). not (is_pointer f)) form.2.1
+integer_data ts (Some ty) h = let form = integer_form (form_of ts ty) h in ap (λ (f : Option Form). not (is_pointer f)) form.2
 
 pub chain_data : (a : Accepted) (d : Inst) → KeepsChain (known a) d → (n : ℕ) → 1 ≤ n → n < length d.operands → is_data_at a d n ≡ true
 chain_data a d kept n low lt =
@@ -194,7 +187,7 @@ module _ (plains : ValuesHaveShapes) (pointers : PointersHaveShapes) (meant : Co
       }
 
   -- the pointer and its cells
-  path_is : (q : Reference) (cs : List Lane) (r : Reference) → chained q cs ≡ Ok r → record { root = q.root; path = extend q.path cs } ≡ r
+  path_is : (q : Reference) (cs : List Lane) (r : Reference) → with_indexes q cs ≡ Ok r → record { root = q.root; path = extend q.path cs } ≡ r
   path_is q cs r h = by_defined (all_defined cs) h
     where
       by_defined : (b : Bool) → (if b then Ok (record { root = q.root; path = extend q.path cs }) else Err UndefinedIndex) ≡ Ok r → record { root = q.root; path = extend q.path cs } ≡ r
@@ -216,25 +209,25 @@ module _ (plains : ValuesHaveShapes) (pointers : PointersHaveShapes) (meant : Co
         ap (λ (ls : List Lane). reached (accepted x).types kept.0.target (map extended ls)) (sym vs.2)
         ∙ lead_behind (known (accepted x)) (values x) x.inst.operands kept.0.target kept.2.0.target vs.0 is_index vs.1 kept.2.2.1
 
-    chained_leads : (q r : Reference) → LeadsTo (accepted x).types (target_in (accepted x)) q kept.0.target → chained q cs ≡ Ok r → LeadsTo (accepted x).types (target_in (accepted x)) r kept.2.0.target
-    chained_leads q r leads goes =
+    indexed_leads : (q r : Reference) → LeadsTo (accepted x).types (target_in (accepted x)) q kept.0.target → with_indexes q cs ≡ Ok r → LeadsTo (accepted x).types (target_in (accepted x)) r kept.2.0.target
+    indexed_leads q r leads goes =
         subst (λ (p : Reference). LeadsTo (accepted x).types (target_in (accepted x)) p kept.2.0.target) (path_is q cs r goes) (by_root (target_in (accepted x) q.root) leads)
       where
         by_root : (o : Option ℕ) → option_and_then (λ t. reached (accepted x).types t q.path) o ≡ Some kept.0.target → option_and_then (λ t. reached (accepted x).types t (extend q.path cs)) o ≡ Some kept.2.0.target
         by_root None h = absurd (cc)
         by_root (Some t) h = reached_append (accepted x).types q.path (map extended cs) t kept.0.target h ∙ goes_on
 
-    longer_leads : (r : Reference) → longer at cs ≡ Ok r → LeadsTo (accepted x).types (target_in (accepted x)) r kept.2.0.target
-    longer_leads r h = by_place (pointer at) refl h
+    chained_leads : (r : Reference) → chained at cs ≡ Ok r → LeadsTo (accepted x).types (target_in (accepted x)) r kept.2.0.target
+    chained_leads r h = by_place (pointer at) refl h
       where
-        by_place : (p : Result Reference Cause) → pointer at ≡ p → (p >>= (λ (q : Reference). chained q cs)) ≡ Ok r → LeadsTo (accepted x).types (target_in (accepted x)) r kept.2.0.target
+        by_place : (p : Result Reference Cause) → pointer at ≡ p → (p >>= (λ (q : Reference). with_indexes q cs)) ≡ Ok r → LeadsTo (accepted x).types (target_in (accepted x)) r kept.2.0.target
         by_place (Err cause) e h = absurd (cc)
-        by_place (Ok q) e h = chained_leads q r (leads_there (accepted x) sound x.inst 0 at shaped kept.0 kept.1 q e) h
+        by_place (Ok q) e h = indexed_leads q r (leads_there (accepted x) sound x.inst 0 at shaped kept.0 kept.1 q e) h
 
-    pub chain_fits : (r : Reference) → longer at cs ≡ Ok r → LevelFits (accepted x) x.inst.ty (Ptr r) (out-Value (Ptr r))
+    pub chain_fits : (r : Reference) → chained at cs ≡ Ok r → LevelFits (accepted x) x.inst.ty (Ptr r) (out-Value (Ptr r))
     chain_fits r h =
         let ts = (accepted x).types in
         let roots = target_in (accepted x) in
-        let leads : IsSomeAnd (pointer_in (out-Value (Ptr r))) (λ p. LeadsTo ts roots p kept.2.0.target) = rw (out_pointer r) (longer_leads r h) in
+        let leads : IsSomeAnd (pointer_in (out-Value (Ptr r))) (λ p. LeadsTo ts roots p kept.2.0.target) = rw (out_pointer r) (chained_leads r h) in
         let shape : HasShape ts roots x.inst.ty (Ptr r) = (shapes_are_by_forms ts roots sound x.inst.ty (PointerForm kept.2.0.class kept.2.0.target) (Ptr r) kept.2.1).1 leads in
         rw (out_pointer r) shape

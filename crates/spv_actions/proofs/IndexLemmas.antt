@@ -58,7 +58,8 @@ integer_cell ts roots ty v sound is shape =
 doubled : (bits width : ℕ) → bits < 2 ^ (width - 1) → 2 * bits < 2 ^ width
 doubled bits zero lt = let one : bits < 1 = lt in omega (arith, one)
 doubled bits (suc w) lt =
-    let less : bits < 2 ^ w = lt in
+    let one : suc w - 1 ≡ w = omega arith in
+    let less : bits < 2 ^ w = subst (λ (n : ℕ). bits < 2 ^ n) one lt in
     let twice : 2 ^ suc w ≡ 2 ^ w * 2 = pow-suc 2 w in
     omega (arith, less, twice)
 
@@ -81,11 +82,12 @@ unsigned c n h = by_defined c.defined h
 pub reached_append : (ts : Types) (xs ys : List ℕ) (t u : ℕ) → reached ts t xs ≡ Some u → reached ts t (xs ++ ys) ≡ reached ts u ys
 unfolding reached
 reached_append ts [] ys t u h = let same : t ≡ u = cc in ap (λ (s : ℕ). reached ts s ys) same
-reached_append ts (x ∷ xs) ys t u h = by_part (option_and_then (λ f. part_type f x) (form_of ts t)) h
+reached_append ts (x ∷ xs) ys t u h = by_part (λ s. reached_append ts xs ys s u) (option_and_then (λ f. part_type f x) (form_of ts t)) h
   where
-    by_part : (o : Option ℕ) → option_and_then (λ s. reached ts s xs) o ≡ Some u → option_and_then (λ s. reached ts s (xs ++ ys)) o ≡ reached ts u ys
-    by_part None h = absurd (cc)
-    by_part (Some s) h = reached_append ts xs ys s u h
+    by_part : ((s : ℕ) → reached ts s xs ≡ Some u → reached ts s (xs ++ ys) ≡ reached ts u ys) → (o : Option ℕ) → option_and_then (λ s. reached ts s xs) o ≡ Some u
+        → option_and_then (λ s. reached ts s (xs ++ ys)) o ≡ reached ts u ys
+    by_part rest None h = absurd (cc)
+    by_part rest (Some s) h = rest s h
 
 -- ---- indexes
 
@@ -120,6 +122,11 @@ stepped : (ts : Types) (ty t n : ℕ) (path : List ℕ) (o : Option ℕ) → opt
 unfolding reached
 stepped ts ty t n path o part rest = ap (option_and_then (λ s. reached ts s path)) part ∙ rest
 
+unmoved : (ts : Types) (ty target : ℕ) (vs : List Value) → Some [] ≡ Some vs → Some ty ≡ Some target → reached ts ty (cells vs) ≡ Some target
+unfolding reached
+unmoved ts ty target [] e h = h
+unmoved ts ty target (w ∷ ws) e h = absurd (cc)
+
 cells_step : (v : Value) (c : Lane) (vs : List Value) → leaves v ≡ c ∷ [] → cells (v ∷ vs) ≡ extended c ∷ cells vs
 cells_step v c vs row = ap (λ (cs : List Lane). map extended (cs ++ flat_map leaves vs)) row
 
@@ -128,43 +135,43 @@ module _ (k : Known) (v : ℕ → Option Value) (all : List Operand)
   -- the values of indexes lead as the indexes themselves do by their types
   pub lead : (os : List Operand) (n ty target : ℕ) (vs : List Value) → ((m : ℕ) → slice_get os m ≡ slice_get all (n + m)) → all_of v (range_with_len n (length os)) ≡ Some vs
       → rule.reached k ty os ≡ Some target → reached k.types ty (cells vs) ≡ Some target
-  lead [] n ty target vs at found h = by_none vs found
+  lead [] n ty target vs at found h = unmoved k.types ty target vs found h
+  lead (o ∷ os) n ty target vs at found h =
+      by_id (λ t ws. lead os (n + 1) t target ws (λ m. at (suc m) ∙ ap (slice_get all) (let next_one : n + suc m ≡ (n + 1) + m = omega arith in next_one))) (id_in o) refl h
     where
-      by_none : (vs : List Value) → Some [] ≡ Some vs → reached k.types ty (cells vs) ≡ Some target
-      unfolding reached
-      by_none [] e = h
-      by_none (w ∷ ws) e = absurd (cc)
-  lead (o ∷ os) n ty target vs at found h = by_id (id_in o) refl h
-    where
-      by_rest : (id t : ℕ) (w : Value) → IsIndex k id w → part_by k id (form_of k.types ty) ≡ Some t → rule.reached k t os ≡ Some target → (r : Option (List Value)) → all_of v (range_with_len (n + 1) (length os)) ≡ r
+      -- the indexes behind lead on
+      Rest : Type 0
+      Rest = (t : ℕ) (ws : List Value) → all_of v (range_with_len (n + 1) (length os)) ≡ Some ws → rule.reached k t os ≡ Some target → reached k.types t (cells ws) ≡ Some target
+
+      by_rest : Rest → (id t : ℕ) (w : Value) → IsIndex k id w → part_by k id (form_of k.types ty) ≡ Some t → rule.reached k t os ≡ Some target → (r : Option (List Value)) → all_of v (range_with_len (n + 1) (length os)) ≡ r
           → option_map (λ (ws : List Value). w ∷ ws) r ≡ Some vs → reached k.types ty (cells vs) ≡ Some target
-      by_rest id t w index part goes None e g = absurd (cc)
-      by_rest id t w index part goes (Some ws) e g =
+      by_rest rest id t w index part goes None e g = absurd (cc)
+      by_rest rest id t w index part goes (Some ws) e g =
           let same : w ∷ ws ≡ vs = cc in
-          let rest : reached k.types t (cells ws) ≡ Some target = lead os (n + 1) t target ws (λ m. at (suc m) ∙ ap (slice_get all) (let next : n + suc m ≡ (n + 1) + m = omega arith in next)) e goes in
           let path : cells vs ≡ extended index.cell ∷ cells ws = ap cells (sym same) ∙ cells_step w index.cell ws index.row in
-          ap (reached k.types ty) path ∙ stepped k.types ty t (extended index.cell) (cells ws) (Some target) (part_reached k id (form_of k.types ty) (extended index.cell) t index.number part) rest
+          ap (reached k.types ty) path
+          ∙ stepped k.types ty t (extended index.cell) (cells ws) (Some target) (part_reached k id (form_of k.types ty) (extended index.cell) t index.number part) (rest t ws e goes)
 
-      by_value : (id t : ℕ) → id_in o ≡ Some id → is_integer (form_in k id) ≡ true → part_by k id (form_of k.types ty) ≡ Some t → rule.reached k t os ≡ Some target → (r : Option Value) → v n ≡ r
+      by_value : Rest → (id t : ℕ) → id_in o ≡ Some id → is_integer (form_in k id) ≡ true → part_by k id (form_of k.types ty) ≡ Some t → rule.reached k t os ≡ Some target → (r : Option Value) → v n ≡ r
           → option_and_then (λ (w : Value). option_map (λ (ws : List Value). w ∷ ws) (all_of v (range_with_len (n + 1) (length os)))) r ≡ Some vs → reached k.types ty (cells vs) ≡ Some target
-      by_value id t is integer part goes None e g = absurd (cc)
-      by_value id t is integer part goes (Some w) e g =
+      by_value rest id t is integer part goes None e g = absurd (cc)
+      by_value rest id t is integer part goes (Some w) e g =
           let stands : slice_get all n ≡ Some o = ap (slice_get all) (let same : n ≡ n + 0 = omega arith in same) ∙ sym (at 0) in
-          by_rest id t w (each n id w (ap (option_and_then id_in) stands ∙ is) integer e) part goes (all_of v (range_with_len (n + 1) (length os))) refl g
+          by_rest rest id t w (each n id w (ap (option_and_then id_in) stands ∙ is) integer e) part goes (all_of v (range_with_len (n + 1) (length os))) refl g
 
-      by_part : (id : ℕ) → id_in o ≡ Some id → is_integer (form_in k id) ≡ true → (p : Option ℕ) → part_by k id (form_of k.types ty) ≡ p → option_and_then (λ t. rule.reached k t os) p ≡ Some target
+      by_part : Rest → (id : ℕ) → id_in o ≡ Some id → is_integer (form_in k id) ≡ true → (p : Option ℕ) → part_by k id (form_of k.types ty) ≡ p → option_and_then (λ t. rule.reached k t os) p ≡ Some target
           → reached k.types ty (cells vs) ≡ Some target
-      by_part id is integer None e g = absurd (cc)
-      by_part id is integer (Some t) e g = by_value id t is integer e g (v n) refl found
+      by_part rest id is integer None e g = absurd (cc)
+      by_part rest id is integer (Some t) e g = by_value rest id t is integer e g (v n) refl found
 
-      by_integer : (id : ℕ) → id_in o ≡ Some id → (b : Bool) → is_integer (form_in k id) ≡ b → option_and_then (λ t. rule.reached k t os) (if b then part_by k id (form_of k.types ty) else None) ≡ Some target
+      by_integer : Rest → (id : ℕ) → id_in o ≡ Some id → (b : Bool) → is_integer (form_in k id) ≡ b → option_and_then (λ t. rule.reached k t os) (if b then part_by k id (form_of k.types ty) else None) ≡ Some target
           → reached k.types ty (cells vs) ≡ Some target
-      by_integer id is false e g = absurd (cc)
-      by_integer id is true e g = by_part id is e (part_by k id (form_of k.types ty)) refl g
+      by_integer rest id is false e g = absurd (cc)
+      by_integer rest id is true e g = by_part rest id is e (part_by k id (form_of k.types ty)) refl g
 
-      by_id : (i : Option ℕ) → id_in o ≡ i → option_and_then (λ t. rule.reached k t os) (option_and_then (rule.inner k ty) i) ≡ Some target → reached k.types ty (cells vs) ≡ Some target
-      by_id None e g = absurd (cc)
-      by_id (Some id) e g = by_integer id e (is_integer (form_in k id)) refl g
+      by_id : Rest → (i : Option ℕ) → id_in o ≡ i → option_and_then (λ t. rule.reached k t os) (option_and_then (rule.inner k ty) i) ≡ Some target → reached k.types ty (cells vs) ≡ Some target
+      by_id rest None e g = absurd (cc)
+      by_id rest (Some id) e g = by_integer rest id e (is_integer (form_in k id)) refl g
 
 -- ---- the types of indexes
 
@@ -174,24 +181,28 @@ IsInteger k o = (id : ℕ) × (option_and_then id_in o ≡ Some id) × (is_integ
 
 integers : (k : Known) (os : List Operand) (m ty target : ℕ) → rule.reached k ty os ≡ Some target → m < length os → IsInteger k (slice_get os m)
 integers k [] m ty target h lt = absurd (omega arith)
-integers k (o ∷ os) m ty target h lt = by_id (id_in o) refl h m lt
+integers k (o ∷ os) m ty target h lt = by_id (λ n t. integers k os n t target) (id_in o) refl h m lt
   where
-    by_number : (id t : ℕ) → id_in o ≡ Some id → is_integer (form_in k id) ≡ true → rule.reached k t os ≡ Some target → (m : ℕ) → m < length (o ∷ os) → IsInteger k (slice_get (o ∷ os) m)
-    by_number id t is integer goes zero lt = (id, is, integer)
-    by_number id t is integer goes (suc m) lt = integers k os m t target goes (omega arith)
+    Rest : Type 0
+    Rest = (n t : ℕ) → rule.reached k t os ≡ Some target → n < length os → IsInteger k (slice_get os n)
 
-    by_part : (id : ℕ) → id_in o ≡ Some id → is_integer (form_in k id) ≡ true → (p : Option ℕ) → option_and_then (λ t. rule.reached k t os) p ≡ Some target → (m : ℕ) → m < length (o ∷ os) → IsInteger k (slice_get (o ∷ os) m)
-    by_part id is integer None g m lt = absurd (cc)
-    by_part id is integer (Some t) g m lt = by_number id t is integer g m lt
+    by_number : Rest → (id t : ℕ) → id_in o ≡ Some id → is_integer (form_in k id) ≡ true → rule.reached k t os ≡ Some target → (m : ℕ) → m < length (o ∷ os) → IsInteger k (slice_get (o ∷ os) m)
+    by_number rest id t is integer goes zero lt = (id, is, integer)
+    by_number rest id t is integer goes (suc m) lt = rest m t goes (omega arith)
 
-    by_integer : (id : ℕ) → id_in o ≡ Some id → (b : Bool) → is_integer (form_in k id) ≡ b → option_and_then (λ t. rule.reached k t os) (if b then part_by k id (form_of k.types ty) else None) ≡ Some target
+    by_part : Rest → (id : ℕ) → id_in o ≡ Some id → is_integer (form_in k id) ≡ true → (p : Option ℕ) → option_and_then (λ t. rule.reached k t os) p ≡ Some target → (m : ℕ) → m < length (o ∷ os)
+        → IsInteger k (slice_get (o ∷ os) m)
+    by_part rest id is integer None g m lt = absurd (cc)
+    by_part rest id is integer (Some t) g m lt = by_number rest id t is integer g m lt
+
+    by_integer : Rest → (id : ℕ) → id_in o ≡ Some id → (b : Bool) → is_integer (form_in k id) ≡ b → option_and_then (λ t. rule.reached k t os) (if b then part_by k id (form_of k.types ty) else None) ≡ Some target
         → (m : ℕ) → m < length (o ∷ os) → IsInteger k (slice_get (o ∷ os) m)
-    by_integer id is false e g m lt = absurd (cc)
-    by_integer id is true e g m lt = by_part id is e (part_by k id (form_of k.types ty)) g m lt
+    by_integer rest id is false e g m lt = absurd (cc)
+    by_integer rest id is true e g m lt = by_part rest id is e (part_by k id (form_of k.types ty)) g m lt
 
-    by_id : (i : Option ℕ) → id_in o ≡ i → option_and_then (λ t. rule.reached k t os) (option_and_then (rule.inner k ty) i) ≡ Some target → (m : ℕ) → m < length (o ∷ os) → IsInteger k (slice_get (o ∷ os) m)
-    by_id None e g m lt = absurd (cc)
-    by_id (Some id) e g m lt = by_integer id e (is_integer (form_in k id)) refl g m lt
+    by_id : Rest → (i : Option ℕ) → id_in o ≡ i → option_and_then (λ t. rule.reached k t os) (option_and_then (rule.inner k ty) i) ≡ Some target → (m : ℕ) → m < length (o ∷ os) → IsInteger k (slice_get (o ∷ os) m)
+    by_id rest None e g m lt = absurd (cc)
+    by_id rest (Some id) e g m lt = by_integer rest id e (is_integer (form_in k id)) refl g m lt
 
 -- the operands behind the first
 pub behind : (k : Known) (os : List Operand) (n ty target : ℕ) → rule.reached k ty (drop 1 os) ≡ Some target → 1 ≤ n → n < length os → IsInteger k (slice_get os n)
@@ -206,4 +217,4 @@ pub lead_behind : (k : Known) (v : ℕ → Option Value) (all : List Operand) (t
 lead_behind k v [] ty target vs each found h = lead k v [] each [] 1 ty target vs (λ m. refl) found h
 lead_behind k v (o ∷ os) ty target vs each found h =
     let many : length os ≡ length (o ∷ os) - 1 = omega arith in
-    lead k v (o ∷ os) each os 1 ty target vs (λ m. refl) (ap (λ (n : ℕ). all_of v (range_with_len 1 n)) many ∙ found) h
+    lead k v (o ∷ os) each os 1 ty target vs (λ m. ap (slice_get (o ∷ os)) (let same : suc m ≡ 1 + m = omega arith in same)) (ap (λ (n : ℕ). all_of v (range_with_len 1 n)) many ∙ found) h

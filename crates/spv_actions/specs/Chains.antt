@@ -6,7 +6,7 @@ use Rattle.std.specs.Option.{option_map}
 use Rattle.spv_base.specs.Lane.{Lane}
 use Rattle.spv_base.specs.declared.instructions.Inst.{Inst}
 use Rattle.spv_base.specs.declared.values.Pointer.{Pointer}
-use Rattle.spv_base.specs.declared.values.Value.{Ptr}
+use Rattle.spv_base.specs.declared.values.Value.{Value, Ptr}
 use Rattle.spv_types.specs.Rows.{leaves}
 use Rattle.spv_mem.specs.Chains.{all_defined, extend}
 use Rattle.spv_frame.specs.Frames.{Held as Frame}
@@ -23,10 +23,14 @@ abbrev pub indexes : Operands → Inst → Result (List Lane) Cause
 indexes v d = ok_or (option_map (flat_map leaves) (all_of v (range_with_len 1 (length d.operands - 1)))) NoValue
 
 -- the pointer with further indexes, each read as signed, in 64 bits; F2 where one isn't defined
-abbrev pub chained : Pointer → List Lane → Result Pointer Cause
-chained q cs = if all_defined cs then Ok (record { root = q.root; path = extend q.path cs }) else Err UndefinedIndex
+abbrev pub with_indexes : Pointer → List Lane → Result Pointer Cause
+with_indexes q cs = if all_defined cs then Ok (record { root = q.root; path = extend q.path cs }) else Err UndefinedIndex
+
+-- the same of the pointer that a value is
+abbrev pub chained : Value → List Lane → Result Pointer Cause
+chained v cs = pointer v >>= (λ q. with_indexes q cs)
 
 -- OpAccessChain and OpInBoundsAccessChain (base, indexes)
 abbrev pub chain_effect : Program → State → ℕ → Frame → Inst → Result Effect Cause
 chain_effect p s i f d =
-    operand p s i f d 0 >>= (λ at. indexes (operand_value p.accepted f (depth_of s i) d) d >>= (λ cs. pointer at >>= (λ q. chained q cs >>= (λ r. Ok (gives (Ptr r))))))
+    operand p s i f d 0 >>= (λ base. indexes (operand_value p.accepted f (depth_of s i) d) d >>= (λ cs. chained base cs >>= (λ q. Ok (gives (Ptr q)))))

@@ -6,7 +6,6 @@ ghost use Rattle.spv_base.specs.declared.values.Value.{Value};
 ghost use Rattle.spv_operands.specs.Operands.{IsPlain, shown};
 ghost use Rattle.spv_state.specs.Actions.{action_of};
 ghost use Rattle.spv_actions.specs.Chains as chains;
-ghost use Rattle.spv_actions.specs.Effects.{◌>>=◌, pointer};
 ghost use Rattle.spv_actions.specs.Planned.{IsDue, IsTaken, PlannedFits};
 ghost use Rattle.spv_actions.specs.Sites as spec;
 
@@ -35,7 +34,7 @@ fn indexes(site: &Site) -> Result<Vec<Cell>, Fail<Cause>>
 /// The pointer that an operand is, with further indexes. F2 where one of them is not defined.
 fn chained(site: &Site, at: &Operand, indexes: &[Cell]) -> Result<Pointer, Fail<Cause>>
     requires { IsPlain at.now }
-    ensures { Answers (pointer (shown at.now) >>= (λ q. chains.chained q indexes.now)) result }
+    ensures { Answers (chains.chained (shown at.now) indexes.now) result }
 {
     let Some(reference) = at.pointer(site.alloc()) else {
         return Err(Fail::Refused(Cause::OutOfBounds));
