@@ -9,6 +9,8 @@ use Rattle.spv_base.specs.Entries.{reads}
 use Rattle.spv_base.specs.Lane.{IsLane, Lane, defined_lane}
 use Rattle.spv_base.specs.Parts.{part_at, parts_in}
 use Rattle.spv_base.specs.State.{Roots}
+use Rattle.spv_base.specs.declared.causes.MemErr.{MemErr}
+use Rattle.spv_base.specs.declared.causes.MemErr.TheVariants.{UndefinedIndex, OutOfBounds as OutsideMemory, NoMemory}
 use Rattle.spv_base.specs.declared.values.Pointer.{Pointer as Reference}
 use Rattle.spv_base.specs.declared.values.Root.{Root}
 use Rattle.spv_base.specs.declared.values.Root.TheVariants.{Shared, Private, Local}
@@ -26,7 +28,7 @@ use Rattle.spv_types.specs.Types.{Types, form_of}
 use Rattle.spv_types.proofs.ShapeLemmas.{shapes_are_by_forms}
 use Rattle.spv_bodies.specs.Memory.{KeepsArrayLength, member_at}
 use Rattle.spv_consts.proofs.ScalarShapes.{is_scalar}
-use Rattle.spv_mem.specs.Memory.{Held as Memory, NamesArray, id_in, load_of, member_of, root_value}
+use Rattle.spv_mem.specs.Memory.{Held as Memory, Loads, NamesArray, id_in, load_of, member_of, root_value}
 use Rattle.spv_mem.specs.Targets.{count_in, is_array_at}
 use Rattle.spv_operands.specs.Shapes.{target_in}
 use Rattle.spv_results.specs.Operands.{IsResult, known}
@@ -65,11 +67,11 @@ length_gives x at n is value many =
 -- a path that goes on leads nowhere where its front leads nowhere
 front_none : (path : List ℕ) (k : ℕ) (v : Value) → part_at v path ≡ None → part_at v (path ++ k ∷ []) ≡ None
 front_none [] k v h = absurd (cc)
-front_none (i ∷ path) k v h = by_part (option_and_then (λ vs. slice_get vs i) (parts_in (out-Value v))) h
+front_none (i ∷ path) k v h = by_part (front_none path k) (option_and_then (λ vs. slice_get vs i) (parts_in (out-Value v))) h
   where
-    by_part : (o : Option Value) → option_and_then (λ u. part_at u path) o ≡ None → option_and_then (λ u. part_at u (path ++ k ∷ [])) o ≡ None
-    by_part None h = refl
-    by_part (Some u) h = front_none path k u h
+    by_part : ((u : Value) → part_at u path ≡ None → part_at u (path ++ k ∷ []) ≡ None) → (o : Option Value) → option_and_then (λ u. part_at u path) o ≡ None → option_and_then (λ u. part_at u (path ++ k ∷ [])) o ≡ None
+    by_part rest None h = refl
+    by_part rest (Some u) h = rest u h
 
 member_none : (m : Memory) (i : ℕ) (q : Reference) (k : ℕ) → load_of m i q ≡ None → load_of m i (member_of q k) ≡ None
 member_none m i q k h = by_value (root_value m i q.root) h
@@ -92,6 +94,12 @@ elements_outside x q k none = by_shared (is_shared q.root)
 pub elements_there : (x : Site) (q : Reference) (k n : ℕ) → is_shared q.root ≡ true → option_map count_in (load_of x.state.memory x.inv (member_of q k)) ≡ Some n → ok_or (elements_at x.state x.inv q k) OutOfBounds ≡ Ok n
 elements_there x q k n shared many =
     ap (λ (b : Bool). ok_or (if b then option_map count_in (load_of x.state.memory x.inv (member_of q k)) else None) OutOfBounds) shared ∙ ap (λ (o : Option ℕ). ok_or o OutOfBounds) many
+
+-- an answer that the part isn't there
+pub outside_none : (m : Memory) (i : ℕ) (q : Reference) (e : MemErr) → Loads m i q (Err e) → load_of m i q ≡ None
+outside_none m i q UndefinedIndex h = absurd h
+outside_none m i q OutsideMemory h = h
+outside_none m i q NoMemory h = absurd h
 
 -- ---- the block
 

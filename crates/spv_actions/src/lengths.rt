@@ -34,6 +34,7 @@ fn is_shared(root: Root) -> bool
 }
 
 /// Puts a scalar into a row. It takes memory only where the row never had room for a cell.
+#[tactic(auto, using(spv_values::proofs::RowLemmas::scalar_leaf))]
 fn put_scalar(cell: Cell, row: &mut Row) -> Result<(), NoMemory>
     ensures { OnOk result (row.new ≡ Scalar cell) }
 {
@@ -51,10 +52,13 @@ fn elements(site: &Site, p: &Pointer, member: u32) -> Result<u32, Fail<Cause>>
     ensures { Answers (ok_or (lengths.elements_at site.now.state site.now.inv p.now member) OutOfBounds) result }
 {
     let memory = site.memory();
-    if !is_shared(p.root) || memory.load(site.inv(), p).is_err() {
+    if !is_shared(p.root) {
         return Err(Fail::Refused(Cause::OutOfBounds));
     }
-    Ok(memory.array_length(p, member))
+    match memory.load(site.inv(), p) {
+        Ok(_) => Ok(memory.array_length(p, member)),
+        Err(_) => Err(Fail::Refused(Cause::OutOfBounds)),
+    }
 }
 
 /// The number that the register takes.
