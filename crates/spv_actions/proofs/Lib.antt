@@ -15,3 +15,4 @@ pub mod ChainLemmas
 pub mod MemoryKept
 pub mod LengthLemmas
 pub mod CopyLemmas
+pub mod KeepsFrames

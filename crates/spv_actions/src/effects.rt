@@ -96,15 +96,15 @@ pub fn effect_at(
         Action::CopyMemory => copy_memory(&site, row),
         Action::Chain => chain(&site),
         Action::ArrayLength => array_length(&site, row),
-        Action::Branch | Action::BranchConditional | Action::Switch => {
-            Err(Fail::Refused(Cause::Unreachable))
-        }
-        Action::Call | Action::ReturnValue | Action::Unreachable => {
-            Err(Fail::Refused(Cause::Unreachable))
-        }
-        Action::ControlBarrier | Action::MemoryBarrier | Action::Atomic(_) => {
-            Err(Fail::Refused(Cause::Unreachable))
-        }
+        Action::Branch => Err(Fail::Refused(Cause::Unreachable)),
+        Action::BranchConditional => Err(Fail::Refused(Cause::Unreachable)),
+        Action::Switch => Err(Fail::Refused(Cause::Unreachable)),
+        Action::Call => Err(Fail::Refused(Cause::Unreachable)),
+        Action::ReturnValue => Err(Fail::Refused(Cause::Unreachable)),
+        Action::Unreachable => Err(Fail::Refused(Cause::Unreachable)),
+        Action::ControlBarrier => Err(Fail::Refused(Cause::Unreachable)),
+        Action::MemoryBarrier => Err(Fail::Refused(Cause::Unreachable)),
+        Action::Atomic(_operation) => Err(Fail::Refused(Cause::Unreachable)),
         Action::Other => Err(Fail::Refused(Cause::Unreachable)),
     }
 }
