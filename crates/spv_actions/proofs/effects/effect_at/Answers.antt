@@ -1,5 +1,7 @@
-use Rattle.std.proofs.Common.{sym}
+use Rattle.std.proofs.Common.{IfOk, subst, sym}
 use Rattle.spv_state.specs.declared.actions.Action.TheVariants.{Branch, BranchConditional, Switch, Call, ReturnValue, Unreachable, ControlBarrier, MemoryBarrier, Atomic, Other, Return}
+use Rattle.spv_actions.specs.Planned.{IsDue, IsTaken, PlannedFits}
+use Rattle.spv_actions.specs.Sites.{Site, due}
 use Rattle.spv_actions.proofs.EffectLemmas.{due_by}
 use Rattle.spv_actions.proofs.effects.effect_at.Goals as goal
 
@@ -46,3 +48,14 @@ returns-in-MemoryBarrier-clause-due c =
 pub returns-in-Atomic-clause-due : goal.returns-in-Atomic-clause-due
 returns-in-Atomic-clause-due c =
     due_by (record { program = c.args.m.now; state = c.args.w.now; inv = c.args.inv; frame = c.args.frame.now; inst = c.args.inst.now }) (Atomic c.in-Atomic._operation) (sym c.in-Atomic.ensures)
+
+pub returns-in-Chain-clause-due : goal.returns-in-Chain-clause-due
+returns-in-Chain-clause-due c = subst (λ (x : Site). IsDue (due x) c.args.row.now c.chain.result) c.of-site.ensures (c.chain.ensures.due c.args.row.now)
+
+pub returns-in-Chain-clause-fits : goal.returns-in-Chain-clause-fits
+returns-in-Chain-clause-fits c =
+    subst (λ (x : Site). PlannedFits x.program x.state x.inv x.inst c.args.row.now c.chain.result) c.of-site.ensures (c.chain.ensures.fits c.args.row.now)
+
+pub returns-in-Chain-clause-taken : goal.returns-in-Chain-clause-taken
+returns-in-Chain-clause-taken c =
+    subst (λ (x : Site). IfOk c.chain.result (λ e. IsTaken x.state x.inv e c.args.row.now)) c.of-site.ensures (c.chain.ensures.taken c.args.row.now)
