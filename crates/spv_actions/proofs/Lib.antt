@@ -10,4 +10,9 @@ pub mod SiteLemmas
 pub mod KeptLemmas
 pub mod EffectLemmas
 pub mod AccessLemmas
+pub mod IndexLemmas
+pub mod ChainLemmas
+pub mod MemoryKept
+pub mod LengthLemmas
+pub mod CopyLemmas
 pub mod KeepsFrames

@@ -3,11 +3,13 @@
 
 mod accesses;
 pub mod causes;
+mod chains;
 mod computing;
 mod computing_composites;
 mod computing_lanes;
 pub mod effects;
 mod kept;
+mod lengths;
 pub mod sites;
 
 pub use causes::Cause;
