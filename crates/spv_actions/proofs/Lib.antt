@@ -10,3 +10,6 @@ pub mod SiteLemmas
 pub mod KeptLemmas
 pub mod EffectLemmas
 pub mod AccessLemmas
+pub mod ParameterLemmas
+pub mod WithinLemmas
+pub mod CallLemmas

@@ -1,7 +1,9 @@
 pub mod Effects
 pub mod Accesses
+pub mod Calls
 pub mod Instructions
 pub mod Fits
 pub mod Kept
 pub mod Planned
 pub mod Sites
+pub mod Passing

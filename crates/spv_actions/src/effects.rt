@@ -7,6 +7,7 @@ ghost use Rattle.spv_state.specs.Sound.{IsSound};
 ghost use Rattle.spv_state.specs.State as state;
 
 use crate::accesses::{load, store};
+use crate::calls::{call, return_value};
 use spv_state::Action;
 use crate::causes::Cause;
 use crate::computing::compute;
@@ -97,9 +98,9 @@ pub fn effect_at(
         Action::Branch | Action::BranchConditional | Action::Switch => {
             Err(Fail::Refused(Cause::Unreachable))
         }
-        Action::Call | Action::ReturnValue | Action::Unreachable => {
-            Err(Fail::Refused(Cause::Unreachable))
-        }
+        Action::Call => call(&site),
+        Action::ReturnValue => return_value(&site, row),
+        Action::Unreachable => Err(Fail::Refused(Cause::Unreachable)),
         Action::ControlBarrier | Action::MemoryBarrier | Action::Atomic(_) => {
             Err(Fail::Refused(Cause::Unreachable))
         }

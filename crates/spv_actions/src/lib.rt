@@ -2,12 +2,14 @@
 #![tactic(auto)]
 
 mod accesses;
+mod calls;
 pub mod causes;
 mod computing;
 mod computing_composites;
 mod computing_lanes;
 pub mod effects;
 mod kept;
+mod kept_calls;
 pub mod sites;
 
 pub use causes::Cause;

@@ -45,10 +45,11 @@ fn is_done(action: Action) -> bool
     ensures { result ≡ program.is_done action }
 {
     match action {
-        Action::Compute(_) | Action::Load | Action::Store | Action::Return => true,
+        Action::Compute(_) | Action::Load | Action::Store => true,
+        Action::Call | Action::Return | Action::ReturnValue => true,
         Action::CopyMemory | Action::Chain | Action::ArrayLength => false,
         Action::Branch | Action::BranchConditional | Action::Switch => false,
-        Action::Call | Action::ReturnValue | Action::Unreachable => false,
+        Action::Unreachable => false,
         Action::ControlBarrier | Action::MemoryBarrier | Action::Atomic(_) => false,
         Action::Other => false,
     }
