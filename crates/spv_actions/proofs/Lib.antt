@@ -13,3 +13,5 @@ pub mod AccessLemmas
 pub mod ParameterLemmas
 pub mod WithinLemmas
 pub mod CallLemmas
+pub mod KeepsFrames
+pub mod PassingLemmas
