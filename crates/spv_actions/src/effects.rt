@@ -92,18 +92,18 @@ pub fn effect_at(
             gain: Gain::Nothing,
             control: Control::Leave,
         }),
-        Action::CopyMemory | Action::Chain | Action::ArrayLength => {
-            Err(Fail::Refused(Cause::Unreachable))
-        }
-        Action::Branch | Action::BranchConditional | Action::Switch => {
-            Err(Fail::Refused(Cause::Unreachable))
-        }
+        Action::CopyMemory => Err(Fail::Refused(Cause::Unreachable)),
+        Action::Chain => Err(Fail::Refused(Cause::Unreachable)),
+        Action::ArrayLength => Err(Fail::Refused(Cause::Unreachable)),
+        Action::Branch => Err(Fail::Refused(Cause::Unreachable)),
+        Action::BranchConditional => Err(Fail::Refused(Cause::Unreachable)),
+        Action::Switch => Err(Fail::Refused(Cause::Unreachable)),
         Action::Call => call(&site),
         Action::ReturnValue => return_value(&site, row),
         Action::Unreachable => Err(Fail::Refused(Cause::Unreachable)),
-        Action::ControlBarrier | Action::MemoryBarrier | Action::Atomic(_) => {
-            Err(Fail::Refused(Cause::Unreachable))
-        }
+        Action::ControlBarrier => Err(Fail::Refused(Cause::Unreachable)),
+        Action::MemoryBarrier => Err(Fail::Refused(Cause::Unreachable)),
+        Action::Atomic(_operation) => Err(Fail::Refused(Cause::Unreachable)),
         Action::Other => Err(Fail::Refused(Cause::Unreachable)),
     }
 }
