@@ -13,5 +13,10 @@ pub mod AccessLemmas
 pub mod ParameterLemmas
 pub mod WithinLemmas
 pub mod CallLemmas
+pub mod IndexLemmas
+pub mod ChainLemmas
+pub mod MemoryKept
+pub mod LengthLemmas
+pub mod CopyLemmas
 pub mod KeepsFrames
 pub mod PassingLemmas

@@ -1,6 +1,8 @@
 pub mod Effects
 pub mod Accesses
 pub mod Calls
+pub mod Chains
+pub mod Lengths
 pub mod Instructions
 pub mod Fits
 pub mod Kept

@@ -6,11 +6,13 @@ ghost use Rattle.spv_actions.specs.Instructions as spec;
 ghost use Rattle.spv_state.specs.Sound.{IsSound};
 ghost use Rattle.spv_state.specs.State as state;
 
-use crate::accesses::{load, store};
 use crate::calls::{call, return_value};
+use crate::accesses::{copy_memory, load, store};
 use spv_state::Action;
 use crate::causes::Cause;
+use crate::chains::chain;
 use crate::computing::compute;
+use crate::lengths::array_length;
 use spv_state::Runnable;
 use crate::sites::Site;
 use spv_state::Whole;
@@ -92,9 +94,9 @@ pub fn effect_at(
             gain: Gain::Nothing,
             control: Control::Leave,
         }),
-        Action::CopyMemory => Err(Fail::Refused(Cause::Unreachable)),
-        Action::Chain => Err(Fail::Refused(Cause::Unreachable)),
-        Action::ArrayLength => Err(Fail::Refused(Cause::Unreachable)),
+        Action::CopyMemory => copy_memory(&site, row),
+        Action::Chain => chain(&site),
+        Action::ArrayLength => array_length(&site, row),
         Action::Branch => Err(Fail::Refused(Cause::Unreachable)),
         Action::BranchConditional => Err(Fail::Refused(Cause::Unreachable)),
         Action::Switch => Err(Fail::Refused(Cause::Unreachable)),

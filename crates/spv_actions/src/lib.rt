@@ -4,12 +4,14 @@
 mod accesses;
 mod calls;
 pub mod causes;
+mod chains;
 mod computing;
 mod computing_composites;
 mod computing_lanes;
 pub mod effects;
 mod kept;
 mod kept_calls;
+mod lengths;
 pub mod sites;
 
 pub use causes::Cause;

@@ -12,7 +12,6 @@ use spv_index::classes::Class;
 use spv_index::positions::Position;
 use spv_index::stands::Stands;
 use spv_initial::Declared;
-use spv_initial::memory::invocations;
 use spv_setup::Setup;
 use spv_valid::Module;
 use std::alloc::Global;
@@ -45,12 +44,12 @@ fn is_done(action: Action) -> bool
     ensures { result ≡ program.is_done action }
 {
     match action {
-        Action::Compute(_) | Action::Load | Action::Store => true,
-        Action::Call | Action::Return | Action::ReturnValue => true,
-        Action::CopyMemory | Action::Chain | Action::ArrayLength => false,
-        Action::Branch | Action::BranchConditional | Action::Switch => false,
-        Action::Unreachable => false,
-        Action::ControlBarrier | Action::MemoryBarrier | Action::Atomic(_) => false,
+        Action::Compute(_) => true,
+        Action::Load | Action::Store | Action::CopyMemory => true,
+        Action::Chain | Action::ArrayLength => true,
+        Action::Branch | Action::BranchConditional | Action::Switch => true,
+        Action::Call | Action::Return | Action::ReturnValue | Action::Unreachable => true,
+        Action::ControlBarrier | Action::MemoryBarrier | Action::Atomic(_) => true,
         Action::Other => false,
     }
 }
@@ -75,11 +74,11 @@ fn are_built(stands: &Stands) -> bool
     true
 }
 
-/// Whether a module has one invocation, and the machine can do each of its executables.
+/// Whether the machine can do each executable of a module.
 fn is_built(accepted: &Module) -> bool
     ensures { result ≡ program.is_built accepted.now }
 {
-    invocations(accepted) == 1 && are_built(&accepted.index().stands())
+    are_built(&accepted.index().stands())
 }
 
 impl Runnable {

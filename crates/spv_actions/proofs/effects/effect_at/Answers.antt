@@ -1,5 +1,5 @@
 use Rattle.std.proofs.Common.{sym}
-use Rattle.spv_state.specs.declared.actions.Action.TheVariants.{CopyMemory, Chain, ArrayLength, Branch, BranchConditional, Switch, Unreachable, ControlBarrier, MemoryBarrier, Atomic, Other, Return}
+use Rattle.spv_state.specs.declared.actions.Action.TheVariants.{Branch, BranchConditional, Switch, Unreachable, ControlBarrier, MemoryBarrier, Atomic, Other, Return}
 use Rattle.spv_actions.proofs.EffectLemmas.{due_by}
 use Rattle.spv_actions.proofs.effects.effect_at.Goals as goal
 
@@ -10,18 +10,6 @@ returns-in-Return-clause-due c =
 pub returns-in-Other-clause-due : goal.returns-in-Other-clause-due
 returns-in-Other-clause-due c =
     due_by (record { program = c.args.m.now; state = c.args.w.now; inv = c.args.inv; frame = c.args.frame.now; inst = c.args.inst.now }) Other (sym c.in-Other.ensures)
-
-pub returns-in-CopyMemory-clause-due : goal.returns-in-CopyMemory-clause-due
-returns-in-CopyMemory-clause-due c =
-    due_by (record { program = c.args.m.now; state = c.args.w.now; inv = c.args.inv; frame = c.args.frame.now; inst = c.args.inst.now }) CopyMemory (sym c.in-CopyMemory.ensures)
-
-pub returns-in-Chain-clause-due : goal.returns-in-Chain-clause-due
-returns-in-Chain-clause-due c =
-    due_by (record { program = c.args.m.now; state = c.args.w.now; inv = c.args.inv; frame = c.args.frame.now; inst = c.args.inst.now }) Chain (sym c.in-Chain.ensures)
-
-pub returns-in-ArrayLength-clause-due : goal.returns-in-ArrayLength-clause-due
-returns-in-ArrayLength-clause-due c =
-    due_by (record { program = c.args.m.now; state = c.args.w.now; inv = c.args.inv; frame = c.args.frame.now; inst = c.args.inst.now }) ArrayLength (sym c.in-ArrayLength.ensures)
 
 pub returns-in-Branch-clause-due : goal.returns-in-Branch-clause-due
 returns-in-Branch-clause-due c =
