@@ -10,9 +10,13 @@ pub mod SiteLemmas
 pub mod KeptLemmas
 pub mod EffectLemmas
 pub mod AccessLemmas
+pub mod ParameterLemmas
+pub mod WithinLemmas
+pub mod CallLemmas
 pub mod IndexLemmas
 pub mod ChainLemmas
 pub mod MemoryKept
 pub mod LengthLemmas
 pub mod CopyLemmas
 pub mod KeepsFrames
+pub mod PassingLemmas

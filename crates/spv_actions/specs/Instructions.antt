@@ -9,6 +9,7 @@ use Rattle.spv_state.specs.Program.{Program}
 use Rattle.spv_state.specs.State.{State, depth_of}
 use Rattle.spv_state.specs.declared.actions.Action.{Action}
 use Rattle.spv_state.specs.declared.actions.Action.TheVariants.{Compute, Load, Store, CopyMemory, Chain, ArrayLength, Branch, BranchConditional, Switch, Call, Return, ReturnValue, Unreachable, ControlBarrier, MemoryBarrier, Atomic, Other}
+use Rattle.spv_actions.specs.Calls.{call_effect, return_effect}
 use Rattle.spv_actions.specs.Accesses.{copy_memory_effect, load_effect, store_effect}
 use Rattle.spv_actions.specs.Chains.{chain_effect}
 use Rattle.spv_actions.specs.Effects.{Effect, Leave, ◌>>=◌, gives, goes}
@@ -31,9 +32,9 @@ row p s i f d ArrayLength = length_effect p s i f d
 row p s i f d Branch = Err Stops
 row p s i f d BranchConditional = Err Stops
 row p s i f d Switch = Err Stops
-row p s i f d Call = Err Stops
+row p s i f d Call = call_effect p s i f d
 row p s i f d Return = Ok (goes (Leave None))
-row p s i f d ReturnValue = Err Stops
+row p s i f d ReturnValue = return_effect p s i f d
 row p s i f d Unreachable = Err Stops
 row p s i f d ControlBarrier = Err Stops
 row p s i f d MemoryBarrier = Err Stops

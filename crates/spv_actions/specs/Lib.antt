@@ -1,5 +1,6 @@
 pub mod Effects
 pub mod Accesses
+pub mod Calls
 pub mod Chains
 pub mod Lengths
 pub mod Instructions
@@ -7,3 +8,4 @@ pub mod Fits
 pub mod Kept
 pub mod Planned
 pub mod Sites
+pub mod Passing

@@ -6,6 +6,7 @@ ghost use Rattle.spv_actions.specs.Instructions as spec;
 ghost use Rattle.spv_state.specs.Sound.{IsSound};
 ghost use Rattle.spv_state.specs.State as state;
 
+use crate::calls::{call, return_value};
 use crate::accesses::{copy_memory, load, store};
 use spv_state::Action;
 use crate::causes::Cause;
@@ -99,8 +100,8 @@ pub fn effect_at(
         Action::Branch => Err(Fail::Refused(Cause::Unreachable)),
         Action::BranchConditional => Err(Fail::Refused(Cause::Unreachable)),
         Action::Switch => Err(Fail::Refused(Cause::Unreachable)),
-        Action::Call => Err(Fail::Refused(Cause::Unreachable)),
-        Action::ReturnValue => Err(Fail::Refused(Cause::Unreachable)),
+        Action::Call => call(&site),
+        Action::ReturnValue => return_value(&site, row),
         Action::Unreachable => Err(Fail::Refused(Cause::Unreachable)),
         Action::ControlBarrier => Err(Fail::Refused(Cause::Unreachable)),
         Action::MemoryBarrier => Err(Fail::Refused(Cause::Unreachable)),

@@ -2,6 +2,7 @@
 #![tactic(auto)]
 
 mod accesses;
+mod calls;
 pub mod causes;
 mod chains;
 mod computing;
@@ -9,6 +10,7 @@ mod computing_composites;
 mod computing_lanes;
 pub mod effects;
 mod kept;
+mod kept_calls;
 mod lengths;
 pub mod sites;
 

@@ -1,5 +1,5 @@
 use Rattle.std.proofs.Common.{IfOk, subst, sym}
-use Rattle.spv_state.specs.declared.actions.Action.TheVariants.{Branch, BranchConditional, Switch, Call, ReturnValue, Unreachable, ControlBarrier, MemoryBarrier, Atomic, Other, Return}
+use Rattle.spv_state.specs.declared.actions.Action.TheVariants.{Branch, BranchConditional, Switch, Unreachable, ControlBarrier, MemoryBarrier, Atomic, Other, Return}
 use Rattle.spv_actions.specs.Planned.{IsDue, IsTaken, PlannedFits}
 use Rattle.spv_actions.specs.Sites.{Site, due}
 use Rattle.spv_actions.proofs.EffectLemmas.{due_by}
@@ -24,14 +24,6 @@ returns-in-BranchConditional-clause-due c =
 pub returns-in-Switch-clause-due : goal.returns-in-Switch-clause-due
 returns-in-Switch-clause-due c =
     due_by (record { program = c.args.m.now; state = c.args.w.now; inv = c.args.inv; frame = c.args.frame.now; inst = c.args.inst.now }) Switch (sym c.in-Switch.ensures)
-
-pub returns-in-Call-clause-due : goal.returns-in-Call-clause-due
-returns-in-Call-clause-due c =
-    due_by (record { program = c.args.m.now; state = c.args.w.now; inv = c.args.inv; frame = c.args.frame.now; inst = c.args.inst.now }) Call (sym c.in-Call.ensures)
-
-pub returns-in-ReturnValue-clause-due : goal.returns-in-ReturnValue-clause-due
-returns-in-ReturnValue-clause-due c =
-    due_by (record { program = c.args.m.now; state = c.args.w.now; inv = c.args.inv; frame = c.args.frame.now; inst = c.args.inst.now }) ReturnValue (sym c.in-ReturnValue.ensures)
 
 pub returns-in-Unreachable-clause-due : goal.returns-in-Unreachable-clause-due
 returns-in-Unreachable-clause-due c =
