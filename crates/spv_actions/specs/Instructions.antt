@@ -10,6 +10,7 @@ use Rattle.spv_state.specs.State.{State, depth_of}
 use Rattle.spv_state.specs.declared.actions.Action.{Action}
 use Rattle.spv_state.specs.declared.actions.Action.TheVariants.{Compute, Load, Store, CopyMemory, Chain, ArrayLength, Branch, BranchConditional, Switch, Call, Return, ReturnValue, Unreachable, ControlBarrier, MemoryBarrier, Atomic, Other}
 use Rattle.spv_actions.specs.Accesses.{load_effect, store_effect}
+use Rattle.spv_actions.specs.Branches.{branch_conditional_effect, branch_effect, switch_effect}
 use Rattle.spv_actions.specs.Effects.{Effect, Leave, ◌>>=◌, gives, goes}
 use Rattle.spv_actions.specs.declared.causes.Cause.{Cause}
 use Rattle.spv_actions.specs.declared.causes.Cause.TheVariants.{NoValue, Unreachable as Stops}
@@ -26,9 +27,9 @@ row p s i f d Store = store_effect p s i f d
 row p s i f d CopyMemory = Err Stops
 row p s i f d Chain = Err Stops
 row p s i f d ArrayLength = Err Stops
-row p s i f d Branch = Err Stops
-row p s i f d BranchConditional = Err Stops
-row p s i f d Switch = Err Stops
+row p s i f d Branch = branch_effect p s i f d
+row p s i f d BranchConditional = branch_conditional_effect p s i f d
+row p s i f d Switch = switch_effect p s i f d
 row p s i f d Call = Err Stops
 row p s i f d Return = Ok (goes (Leave None))
 row p s i f d ReturnValue = Err Stops

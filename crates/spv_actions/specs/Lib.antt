@@ -1,5 +1,7 @@
 pub mod Effects
 pub mod Accesses
+pub mod Phis
+pub mod Branches
 pub mod Instructions
 pub mod Fits
 pub mod Kept

@@ -7,6 +7,7 @@ ghost use Rattle.spv_state.specs.Sound.{IsSound};
 ghost use Rattle.spv_state.specs.State as state;
 
 use crate::accesses::{load, store};
+use crate::branches::{branch, branch_conditional, switch};
 use spv_state::Action;
 use crate::causes::Cause;
 use crate::computing::compute;
@@ -94,12 +95,11 @@ pub fn effect_at(
         Action::CopyMemory | Action::Chain | Action::ArrayLength => {
             Err(Fail::Refused(Cause::Unreachable))
         }
-        Action::Branch | Action::BranchConditional | Action::Switch => {
-            Err(Fail::Refused(Cause::Unreachable))
-        }
-        Action::Call | Action::ReturnValue | Action::Unreachable => {
-            Err(Fail::Refused(Cause::Unreachable))
-        }
+        Action::Branch => branch(&site),
+        Action::BranchConditional => branch_conditional(&site),
+        Action::Switch => switch(&site),
+        Action::Unreachable => Err(Fail::Refused(Cause::Unreachable)),
+        Action::Call | Action::ReturnValue => Err(Fail::Refused(Cause::Unreachable)),
         Action::ControlBarrier | Action::MemoryBarrier | Action::Atomic(_) => {
             Err(Fail::Refused(Cause::Unreachable))
         }

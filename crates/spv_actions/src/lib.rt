@@ -2,13 +2,17 @@
 #![tactic(auto)]
 
 mod accesses;
+mod branches;
 pub mod causes;
 mod computing;
 mod computing_composites;
 mod computing_lanes;
 pub mod effects;
 mod kept;
+mod kept_control;
+mod phis;
 pub mod sites;
+mod switches;
 
 pub use causes::Cause;
 pub use effects::{Control, Effect, Gain, effect_at};
