@@ -10,3 +10,9 @@ pub mod SiteLemmas
 pub mod KeptLemmas
 pub mod EffectLemmas
 pub mod AccessLemmas
+pub mod ControlCodes
+pub mod TargetLemmas
+pub mod PhiLemmas
+pub mod SwitchLemmas
+pub mod LeadingLemmas
+pub mod BranchLemmas
