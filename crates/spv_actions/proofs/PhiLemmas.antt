@@ -1,9 +1,12 @@
 -- The phis of a block: where they stand, the rule that they keep, and the values that they take.
-use Rattle.std.proofs.Common.{◌≡◌, ◌∙◌, ℕ, zero, suc, ◌+◌, ◌==◌, ◌&&◌, Bool, true, false, not, cond, List, [], ◌∷◌, ◌++◌, drop, map, slice_get, Option, Some, None, refl, sym, ap, subst, arith}
+use Rattle.std.proofs.Common.{◌≡◌, ◌∙◌, ℕ, zero, suc, ◌+◌, ◌<◌, ◌==◌, ◌&&◌, Bool, true, false, not, cond, get_or, length, List, [], ◌∷◌, ◌++◌, drop, map, slice_get, Option, Some, None, refl, sym, ap, subst, arith}
 use Rattle.std.proofs.Math.Logic.{∥∥₁_elim}
 use Rattle.std.proofs.Props.{props}
 use Rattle.std.proofs.lemmas.Bool.{and_parts, eqb-true}
 use Rattle.std.proofs.lemmas.List.Elements.{recursion_from_All}
+use Rattle.std.proofs.lemmas.Option.{slice_get-get_or}
+use Rattle.std.specs.Coded.{codes}
+use Rattle.std.specs.List.{All}
 use Rattle.std.specs.Prelude.{find, if◌then◌else◌}
 use Rattle.std.specs.List.{AllByRecursion, filter}
 use Rattle.std.specs.Option.{is_some, option_and_then, option_map, option_map_or}
@@ -18,10 +21,10 @@ use Rattle.spv_index.specs.declared.positions.Stage.{Stage}
 use Rattle.spv_index.specs.declared.positions.Stage.TheVariants.{Phis}
 use Rattle.spv_index.specs.declared.positions.Standing.{Standing}
 use Rattle.spv_index.specs.Classes.{class_of, is_label, sets_of}
-use Rattle.spv_index.specs.Definitions.{holds, number_of, result_type}
+use Rattle.spv_index.specs.Definitions.{holds, number_at, number_of, result_type, stands_at}
 use Rattle.spv_index.specs.Operands.{id_in}
 use Rattle.spv_index.specs.Positions.{Stand, in_block, in_function, is_head, outside, position_after, stand_of, standing, stands, stands_of}
-use Rattle.spv_index.proofs.StandingLemmas.{standing_of}
+use Rattle.spv_index.proofs.StandingLemmas.{standing_led, standing_of}
 use Rattle.spv_types.specs.Laws.{AreSound}
 use Rattle.spv_types.specs.Queries.{is_pointer}
 use Rattle.spv_types.specs.Rows.{no_roots}
@@ -44,7 +47,7 @@ use Rattle.spv_state.specs.State.{depth_of}
 use Rattle.spv_state.proofs.Known.{IsKnown}
 use Rattle.spv_state.proofs.Lists.{each_at}
 use Rattle.spv_actions.specs.Fits.{IsOfType}
-use Rattle.spv_actions.specs.Phis.{behind_label, comes_first, first_ones, is_phi, pairs, phi_value, phi_values, source_among}
+use Rattle.spv_actions.specs.Phis.{behind_label, block_at, comes_first, first_ones, is_phi, pairs, phi_value, phi_values, source_among}
 use Rattle.spv_actions.specs.Sites.{IsSite, Site, accepted, is_data}
 use Rattle.spv_actions.proofs.ControlCodes.{phi_kept}
 use Rattle.spv_actions.proofs.OperandLemmas.{ValuesHaveShapes}
@@ -145,6 +148,37 @@ module _ (a : Accepted) (accepts : IsAccepted a) (valid : IsValid a) (function l
   pub phi_keeps : (k : ℕ) (i : Inst) → slice_get (first_ones (sets_of a.insts) (behind_label a.insts label)) k ≡ Some i → is_phi i ≡ true → KeepsPhi (known a) i
   phi_keeps k i h phi = phi_kept (known a) i (kept_first k i h) (eqb-true i.op 245 phi)
 
+module _ (a b : Accepted) (same : b ≡ a) (accepts : ∥ IsAccepted b ∥₁) (valid : ∥ IsValid b ∥₁) (function label : ℕ) (target : is_target a.insts function label ≡ true) where
+  typed_prop : (ty : ℕ) (o : Operand) → IsProp (type_in (known a) o ≡ Some ty)
+  typed_prop ty o = hlevel (props, codes)
+
+  keeps_prop : (i : Inst) → IsProp (KeepsPhi (known a) i)
+  keeps_prop i = hlevel (props, typed_prop i.ty)
+
+  pub phis_keep : (k : ℕ) (i : Inst) → slice_get (first_ones (sets_of a.insts) (behind_label a.insts label)) k ≡ Some i → is_phi i ≡ true → KeepsPhi (known a) i
+  phis_keep k i h phi =
+      ∥∥₁_elim (subst (λ (x : Accepted). ∥ IsAccepted x ∥₁) same accepts) (keeps_prop i) (λ (g : IsAccepted a).
+      ∥∥₁_elim (subst (λ (x : Accepted). ∥ IsValid x ∥₁) same valid) (keeps_prop i) (λ (v : IsValid a).
+      phi_keeps a g v function label target k i h phi))
+
+-- ---- the block of a word
+
+led : (insts : List Inst) (word : ℕ) (number : Option ℕ) → number ≡ number_at insts word
+    → option_and_then (slice_get (map standing (stands_of insts))) number ≡ option_map standing (find (λ (s : Stand). stands_at word s.inst) (stands_of insts))
+unfolding number_at
+led insts word number h = standing_led (stands_at word) (sets_of insts) outside insts number h
+
+label_by : (o : Option Standing) (p : Option Stand) → o ≡ option_map standing p → option_map_or (λ (t : Standing). t.position.label) o 0 ≡ option_map_or (λ (s : Stand). s.position.label) p 0
+label_by o None h = ap (λ (x : Option Standing). option_map_or (λ (t : Standing). t.position.label) x 0) h
+label_by o (Some s) h = ap (λ (x : Option Standing). option_map_or (λ (t : Standing). t.position.label) x 0) h
+
+pub block_found : (insts : List Inst) (word n : ℕ) (us : List Standing) (d : Standing) → us ≡ map standing (stands_of insts) → Some n ≡ number_at insts word → n < length us → (get_or us n d).position.label ≡ block_at insts word
+block_found insts word n us d is number lt =
+    label_by (Some (get_or us n d)) (find (λ (s : Stand). stands_at word s.inst) (stands_of insts)) (sym (slice_get-get_or us n d lt) ∙ ap (λ (xs : List Standing). slice_get xs n) is ∙ led insts word (Some n) number)
+
+pub block_missing : (insts : List Inst) (word : ℕ) → None ≡ number_at insts word → 0 ≡ block_at insts word
+block_missing insts word number = label_by None (find (λ (s : Stand). stands_at word s.inst) (stands_of insts)) (led insts word None number)
+
 -- the first instructions of a block are among all
 dropped_at : {X : Type 0} (n k : ℕ) (xs : List X) (x : X) → slice_get (drop n xs) k ≡ Some x → slice_get xs (n + k) ≡ Some x
 dropped_at zero k xs x h = h
@@ -215,7 +249,7 @@ module _ (plains : ValuesHaveShapes) (x : Site) (accepts : ∥ IsAccepted (accep
 
   -- data has no pointer in it
   pub named_plain : (id : ℕ) (v : Value) → value_of (accepted x) x.frame (depth_of x.state x.inv) id ≡ Some v → is_data (accepted x).types (result_type (accepted x).insts id) ≡ true → pointer_in (out-Value v) ≡ None
-  named_plain id v value data = by_type (result_type (accepted x).insts id) refl data
+  named_plain id v value typed = by_type (result_type (accepted x).insts id) refl typed
     where
       not_false : (b : Bool) → not b ≡ true → b ≡ false
       not_false true h = absurd (cc)

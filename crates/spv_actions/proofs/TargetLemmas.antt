@@ -1,32 +1,50 @@
 -- Where the branch or the switch goes at which a run has stopped.
 use Rattle.std.proofs.Common.{◌≡◌, ◌∙◌, ℕ, zero, suc, ◌==◌, ◌&&◌, Bool, true, false, not, cond, List, [], ◌∷◌, ◌++◌, drop, map, slice_get, Option, Some, None, refl, sym, ap, subst}
-use Rattle.std.proofs.Math.Logic.{∥∥₁_elim}
+use Rattle.std.proofs.Math.Logic.{∥∥₁_elim, ∥∥₁_map}
 use Rattle.std.proofs.Props.{props}
 use Rattle.std.proofs.lemmas.Bool.{and_parts, eq-eqb, eqb-true}
 use Rattle.std.specs.Prelude.{find, if◌then◌else◌}
 use Rattle.std.specs.List.{AllByRecursion, flat_map, list_all}
-use Rattle.std.specs.Option.{is_some, option_map, option_or, option_to_list}
+use Rattle.std.specs.Coded.{codes}
+use Rattle.std.specs.Option.{IsSomeAnd, is_some, option_map, option_or, option_to_list}
 use Rattle.spv_base.specs.Entries.{reads}
 use Rattle.spv_base.specs.declared.instructions.Inst.{Inst}
+use Rattle.spv_base.specs.declared.values.Value.{Value, out-Value}
 use Rattle.spv_index.specs.Classes.{class_of, is_executable, is_terminator, sets_of}
 use Rattle.spv_index.specs.Definitions.{at, stands_at}
 use Rattle.spv_index.specs.Operands.{id_operand}
 use Rattle.spv_index.specs.Positions.{Stand, in_block, in_function, stands_of}
+use Rattle.spv_types.specs.declared.forms.Form.{Form}
+use Rattle.spv_types.specs.declared.forms.Form.TheVariants.{Bool as Boolean, Int}
+use Rattle.spv_types.specs.Laws.{AreSound}
+use Rattle.spv_types.specs.Queries.{is_pointer}
+use Rattle.spv_types.specs.Rows.{no_roots}
+use Rattle.spv_types.specs.Shapes.{HasShape, scalar_in, shape_step}
+use Rattle.spv_types.proofs.ShapeLemmas.{shapes_are_by_forms}
 use Rattle.spv_cfg.specs.Branches.{at_width, branch_breach, case_words, cases, has_targets, is_branch_right, is_switch_right, is_target, selector_width, targets_of}
 use Rattle.spv_cfg.specs.Flow.{Flow}
 use Rattle.spv_cfg.specs.Laws.{IsEntered}
 use Rattle.spv_cfg.specs.Operands.{is_literal}
 use Rattle.spv_cfg.proofs.FlowLemmas.{flow_accepted}
 use Rattle.spv_cfg.proofs.LayoutLemmas.{nil_parts}
+use Rattle.spv_bodies.specs.Context.{form_at, type_at}
 use Rattle.spv_valid.specs.Acceptance.{Accepted, IsAccepted, Passes}
 use Rattle.spv_valid.specs.Validity.{IsValid}
 use Rattle.spv_valid.proofs.AcceptedLemmas.{accepted_passes}
+use Rattle.spv_results.specs.Operands.{IsOperand, known as known_in}
+use Rattle.spv_results.proofs.OperandTypes.{HasForm, form_has_type}
+use Rattle.spv_results.proofs.SoundTypes.{sound_types}
 use Rattle.spv_state.specs.Sound.{StandsIn}
 use Rattle.spv_state.proofs.Known.{IsKnown, known}
 use Rattle.spv_state.proofs.Lists.{each_at}
 use Rattle.spv_state.proofs.Standing.{Standing, at_standing, standing}
-use Rattle.spv_state.proofs.Stands.{IsOne, class_is}
+use Rattle.spv_state.proofs.Stands.{IsOne, class_is, stood}
 use Rattle.spv_actions.specs.Branches.{case_of, picked, switched}
+use Rattle.spv_actions.specs.Sites.{IsSite, Site, accepted, is_data_at}
+use Rattle.spv_actions.proofs.ControlCodes.{branch_ends, condition_ends, condition_kept, selector_kept, switch_ends}
+use Rattle.spv_actions.proofs.DataLemmas.{typed_data}
+use Rattle.spv_actions.proofs.RunLemmas.{Runs}
+use Rattle.spv_actions.proofs.SiteLemmas.{frame_sound, site_runs}
 
 -- ---- the labels of each opcode
 
@@ -178,3 +196,80 @@ pub switch_words : (a : Accepted) → ∥ IsAccepted a ∥₁ → ∥ IsValid a 
     → is_terminator (class_of (sets_of a.insts) d) ≡ true → list_all is_literal (drop 2 d.operands) ≡ true
 switch_words a accepts valid d here function stands op last =
     ∥∥₁_elim accepts (hlevel props) (λ (h : IsAccepted a). literals_kept a h function d op (there a accepts valid d here function stands last))
+
+-- ---- at a site
+
+-- the condition and the selector
+some_and : {A : Type 0} (P : A → Type 0) (o : Option A) → IsSomeAnd o P → is_some o ≡ true
+some_and P None h = absurd h
+some_and P (Some x) h = refl
+
+module _ (a : Accepted) (d : Inst) (f : Form) (is : form_at (known_in a) d 0 ≡ Some f) where
+  formed : HasForm a.types (type_at (known_in a) d 0) f
+  formed = form_has_type a.types (type_at (known_in a) d 0) f is
+
+  form_data : not (is_pointer (Some f)) ≡ true → is_data_at a d 0 ≡ true
+  form_data plain = typed_data a.types (type_at (known_in a) d 0) formed.type formed.is (ap (λ (o : Option Form). not (is_pointer o)) formed.form ∙ plain)
+
+  form_step : AreSound a.types → (v : Value) → IsOperand a d 0 v → shape_step a.types no_roots (HasShape a.types no_roots) f v
+  form_step sound v shaped = (shapes_are_by_forms a.types no_roots sound formed.type f v formed.form).0 (shaped formed.type formed.is)
+
+pub site_stands : (x : Site) → ∥ IsSite x ∥₁ → ∥ StandsIn (accepted x) x.frame.plan.function x.inst.word ∥₁
+site_stands x site = ∥∥₁_map site (λ (is : IsSite x).
+    let s = stood (accepted x).insts x.frame.pc x.inst is.stands in
+    subst (StandsIn (accepted x) x.frame.plan.function) (sym s.here) (frame_sound x is).stands)
+
+-- a block to which every stand of the instruction leads is one of the function of the frame
+pub block_target : (x : Site) → ∥ IsSite x ∥₁ → (label : Option ℕ) (block : ℕ)
+    → ((b function : ℕ) → label ≡ Some b → StandsIn (accepted x) function x.inst.word → IsEntered (accepted x).insts (accepted x).flow function b) → label ≡ Some block
+    → is_target (accepted x).insts x.frame.plan.function block ≡ true
+block_target x site label block leads is =
+    ∥∥₁_elim (site_stands x site) (hlevel props) (λ (stands : StandsIn (accepted x) x.frame.plan.function x.inst.word). (leads block x.frame.plan.function is stands).0)
+
+module _ (x : Site) (m : Accepted) (same : m ≡ accepted x) (accepts : ∥ IsAccepted m ∥₁) (valid : ∥ IsValid m ∥₁) (site : ∥ IsSite x ∥₁) where
+  accepted_here : ∥ IsAccepted (accepted x) ∥₁
+  accepted_here = subst (λ (a : Accepted). ∥ IsAccepted a ∥₁) same accepts
+
+  valid_here : ∥ IsValid (accepted x) ∥₁
+  valid_here = subst (λ (a : Accepted). ∥ IsValid a ∥₁) same valid
+
+  found_here : at (accepted x).insts x.inst.word ≡ Some x.inst
+  found_here = ∥∥₁_elim site (hlevel (props, codes)) (λ (is : IsSite x).
+      let s = stood (accepted x).insts x.frame.pc x.inst is.stands in
+      subst (λ (w : ℕ). at (accepted x).insts w ≡ Some x.inst) (sym s.here) is.stands)
+
+  runs_here : ∥ Runs (accepted x) x.inst ∥₁
+  runs_here = site_runs x accepted_here valid_here site
+
+  pub branch_leads : x.inst.op ≡ 249 → (block function : ℕ) → id_operand x.inst 0 ≡ Some block → StandsIn (accepted x) function x.inst.word → IsEntered (accepted x).insts (accepted x).flow function block
+  branch_leads op block function is stands =
+      branch_entered (accepted x) accepted_here valid_here x.inst found_here function stands block op (branch_ends (sets_of (accepted x).insts) x.inst op) is
+
+  pub condition_leads : x.inst.op ≡ 250 → (n block function : ℕ) → picked x.inst n ≡ Some block → StandsIn (accepted x) function x.inst.word → IsEntered (accepted x).insts (accepted x).flow function block
+  condition_leads op n block function is stands =
+      condition_entered (accepted x) accepted_here valid_here x.inst found_here function stands n block op (condition_ends (sets_of (accepted x).insts) x.inst op) is
+
+  pub switch_leads : x.inst.op ≡ 251 → (n block function : ℕ) → switched (accepted x).insts x.inst n ≡ Some block → StandsIn (accepted x) function x.inst.word → IsEntered (accepted x).insts (accepted x).flow function block
+  switch_leads op n block function is stands =
+      switch_entered (accepted x) accepted_here valid_here x.inst found_here function stands n block op (switch_ends (sets_of (accepted x).insts) x.inst op) is
+
+  pub switch_literals : x.inst.op ≡ 251 → list_all is_literal (drop 2 x.inst.operands) ≡ true
+  switch_literals op = ∥∥₁_elim (site_stands x site) (hlevel props) (λ (stands : StandsIn (accepted x) x.frame.plan.function x.inst.word).
+      switch_words (accepted x) accepted_here valid_here x.inst found_here x.frame.plan.function stands op (switch_ends (sets_of (accepted x).insts) x.inst op))
+
+  pub condition_data : x.inst.op ≡ 250 → is_data_at (accepted x) x.inst 0 ≡ true
+  condition_data op = ∥∥₁_elim runs_here (hlevel props) (λ (r : Runs (accepted x) x.inst). form_data (accepted x) x.inst Boolean (condition_kept (known_in (accepted x)) x.inst r.kept op) refl)
+
+  pub condition_scalar : x.inst.op ≡ 250 → (v : Value) → IsOperand (accepted x) x.inst 0 v → is_some (scalar_in (out-Value v)) ≡ true
+  condition_scalar op v shaped = ∥∥₁_elim runs_here (hlevel props) (λ (r : Runs (accepted x) x.inst).
+      some_and _ (scalar_in (out-Value v)) (form_step (accepted x) x.inst Boolean (condition_kept (known_in (accepted x)) x.inst r.kept op) (sound_types (accepted x) valid_here) v shaped))
+
+  pub selector_data : x.inst.op ≡ 251 → is_data_at (accepted x) x.inst 0 ≡ true
+  selector_data op = ∥∥₁_elim runs_here (hlevel props) (λ (r : Runs (accepted x) x.inst).
+      let kept = selector_kept (known_in (accepted x)) x.inst r.kept op in
+      form_data (accepted x) x.inst (Int kept.0 kept.1) kept.2 refl)
+
+  pub selector_scalar : x.inst.op ≡ 251 → (v : Value) → IsOperand (accepted x) x.inst 0 v → is_some (scalar_in (out-Value v)) ≡ true
+  selector_scalar op v shaped = ∥∥₁_elim runs_here (hlevel props) (λ (r : Runs (accepted x) x.inst).
+      let kept = selector_kept (known_in (accepted x)) x.inst r.kept op in
+      some_and _ (scalar_in (out-Value v)) (form_step (accepted x) x.inst (Int kept.0 kept.1) kept.2 (sound_types (accepted x) valid_here) v shaped))

@@ -12,12 +12,13 @@ ghost use Rattle.spv_actions.specs.Sites as spec;
 
 use crate::causes::Cause;
 use crate::effects::{Control, Effect, Gain};
-use crate::kept_control::{branch_is_kept, condition_is_kept, switch_is_kept};
+use crate::kept_control::{branch_is_kept, condition_is_kept, phis_are_kept, switch_is_kept};
 use crate::phis::phi_values;
 use crate::sites::Site;
 use crate::switches::switched;
 use spv_base::{Cell, Fail, Inst};
 use spv_index::id_operand;
+use spv_operands::laws::operands_have_shapes;
 use spv_state::Action;
 use spv_values::Part;
 
@@ -29,10 +30,13 @@ fn jump(site: &Site, label: Option<u32>) -> Result<Effect, Fail<Cause>>
     ensures fits { (v : Value) → PlannedFits site.now.program site.now.state site.now.inv site.now.inst v result }
     ensures taken { (v : Value) → IfOk result (λ e. IsTaken site.now.state site.now.inv e v) }
 {
+    operands_have_shapes();
     site.is_reached();
+    let _insts = site.accepted().insts();
     let Some(block) = label else {
         return Err(Fail::Refused(Cause::NoValue));
     };
+    phis_are_kept(site, block);
     let phis = phi_values(site, block)?;
     Ok(Effect {
         store: None,
@@ -42,6 +46,7 @@ fn jump(site: &Site, label: Option<u32>) -> Result<Effect, Fail<Cause>>
 }
 
 /// The cell of a scalar.
+#[tactic(auto, using(spv_mem::proofs::CellLemmas::one_leaf, spv_mem::proofs::CellLemmas::is_scalar))]
 fn cell_of(part: &Part) -> Cell
     requires { IsSome (scalar_in (out-Value part.now)) }
     ensures { part.now ≡ Scalar result }

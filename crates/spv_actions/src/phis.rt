@@ -4,7 +4,6 @@ ghost use Rattle.std.specs.Option.{is_some};
 ghost use Rattle.std.specs.Result.{result_map_both};
 ghost use Rattle.spv_base.specs.declared.instructions.Inst.{Inst};
 ghost use Rattle.spv_bodies.specs.Control.{KeepsPhi};
-ghost use Rattle.spv_cfg.specs.Branches.{is_target};
 ghost use Rattle.spv_index.specs.Classes.{sets_of};
 ghost use Rattle.spv_index.specs.Definitions.{holds};
 ghost use Rattle.spv_index.specs.Operands as operands;
@@ -16,7 +15,6 @@ ghost use Rattle.spv_actions.specs.Sites.{Finds};
 
 use crate::causes::Cause;
 use crate::effects::PhiValue;
-use crate::kept_control::phis_are_kept;
 use crate::sites::Site;
 use spv_base::{Fail, Inst, Operand};
 use spv_index::classes::{Class, class_of};
@@ -118,10 +116,10 @@ fn values_of(site: &Site, insts: &[Inst], from: u32) -> Result<Vec<PhiValue>, Fa
 
 /// What the phis of a block take where the instruction goes there. F4 where one has no value.
 pub(crate) fn phi_values(site: &Site, block: u32) -> Result<Vec<PhiValue>, Fail<Cause>>
-    requires { is_target site.now.program.accepted.insts site.now.frame.plan.function block ≡ true }
+    requires { (k : ℕ) (phi : Inst) → slice_get (spec.first_ones (sets_of site.now.program.accepted.insts) (spec.behind_label site.now.program.accepted.insts block)) k ≡ Some phi
+        → spec.is_phi phi ≡ true → KeepsPhi (known site.now.program.accepted) phi }
     ensures { Finds (spec.phi_values site.now.program.accepted site.now.frame (depth_of site.now.state site.now.inv) (spec.block_at site.now.program.accepted.insts site.now.inst.word) (spec.phis_of site.now.program.accepted.insts block)) (result_map_both (λ vs. map phi_value vs.items) (λ e. e) result) }
 {
-    phis_are_kept(site, block);
     let accepted = site.accepted();
     let from = block_at(accepted, site.inst().word);
     let insts = first_ones(accepted.index().sets(), behind_label(accepted, block));

@@ -229,9 +229,9 @@ impl<'a> Site<'a> {
         operands_have_shapes();
         self.is_reached();
         let _insts = self.accepted().insts();
-        match self.found_by(id)? {
-            Some(operand) => Ok(Datum { operand }),
-            None => Err(Fail::Refused(Cause::NoValue)),
-        }
+        let Some(operand) = self.found_by(id)? else {
+            return Err(Fail::Refused(Cause::NoValue));
+        };
+        Ok(Datum { operand })
     }
 }

@@ -1,5 +1,5 @@
 //! The labels of switches (SPIR-V 1.6 section 3.42.17, OpSwitch).
-ghost use Rattle.std.specs.Prelude.{◌≡◌, ◌==◌, ℕ, drop, find, option_copied, option_map, true};
+ghost use Rattle.std.specs.Prelude.{◌≡◌, ◌==◌, [], ◌∷◌, ℕ, drop, find, option_copied, option_map, true};
 ghost use Rattle.std.specs.List.{list_all};
 ghost use Rattle.std.specs.Option.{option_and_then};
 ghost use Rattle.spv_cfg.specs.Branches as cfg;
