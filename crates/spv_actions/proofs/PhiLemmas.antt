@@ -1,5 +1,5 @@
 -- The phis of a block: where they stand, the rule that they keep, and the values that they take.
-use Rattle.std.proofs.Common.{◌≡◌, ◌∙◌, ℕ, zero, suc, ◌+◌, ◌<◌, ◌==◌, ◌&&◌, Bool, true, false, not, cond, get_or, length, List, [], ◌∷◌, ◌++◌, drop, map, slice_get, Option, Some, None, refl, sym, ap, subst, arith}
+use Rattle.std.proofs.Common.{◌≡◌, ◌∙◌, ℕ, zero, suc, ◌+◌, ◌<◌, ◌==◌, ◌&&◌, Bool, true, false, not, cond, get_or, length, List, [], ◌∷◌, ◌++◌, drop, drop-cons, add-one, map, slice_get, Result, Option, Some, None, refl, sym, ap, subst, arith}
 use Rattle.std.proofs.Math.Logic.{∥∥₁_elim}
 use Rattle.std.proofs.Props.{props}
 use Rattle.std.proofs.lemmas.Bool.{and_parts, eqb-true}
@@ -10,6 +10,7 @@ use Rattle.std.specs.List.{All}
 use Rattle.std.specs.Prelude.{find, if◌then◌else◌}
 use Rattle.std.specs.List.{AllByRecursion, filter}
 use Rattle.std.specs.Option.{is_some, option_and_then, option_map, option_map_or}
+use Rattle.spv_base.specs.declared.causes.Fail.{Fail}
 use Rattle.spv_base.specs.declared.instructions.Inst.{Inst}
 use Rattle.spv_base.specs.declared.instructions.Operand.{Operand}
 use Rattle.spv_base.specs.declared.values.Pointer.{Pointer as Reference}
@@ -48,7 +49,9 @@ use Rattle.spv_state.proofs.Known.{IsKnown}
 use Rattle.spv_state.proofs.Lists.{each_at}
 use Rattle.spv_actions.specs.Fits.{IsOfType}
 use Rattle.spv_actions.specs.Phis.{behind_label, block_at, comes_first, first_ones, is_phi, pairs, phi_value, phi_values, source_among}
-use Rattle.spv_actions.specs.Sites.{IsSite, Site, accepted, is_data}
+use Rattle.spv_actions.specs.Sites.{Finds, IsSite, Site, accepted, is_data}
+use Rattle.spv_actions.specs.declared.causes.Cause.{Cause}
+use Rattle.spv_actions.proofs.BranchLemmas.{joined}
 use Rattle.spv_actions.proofs.ControlCodes.{phi_kept}
 use Rattle.spv_actions.proofs.OperandLemmas.{ValuesHaveShapes}
 use Rattle.spv_actions.proofs.RunLemmas.{IsKept, kept_each}
@@ -85,12 +88,14 @@ walked P sets q (x ∷ is) stage each k i h =
 
 -- the stands behind one
 behind_stands : (sets : List (ℕ × Bool)) (q : Position) (insts : List Inst) (n : ℕ) (s : Stand) → slice_get (stands sets q insts) n ≡ Some s
-    → (k : ℕ) (t : Stand) → slice_get (stands sets (position_after s.position s.class s.inst) (drop (suc n) insts)) k ≡ Some t → slice_get (stands sets q insts) (suc n + k) ≡ Some t
+    → (k : ℕ) (t : Stand) → slice_get (stands sets (position_after s.position s.class s.inst) (drop (suc n) insts)) k ≡ Some t → (m : ℕ) × (slice_get (stands sets q insts) m ≡ Some t)
 behind_stands sets q [] n s h k t g = absurd (cc)
 behind_stands sets q (i ∷ insts) zero s h k t g =
     let same : (record { position = q; class = class_of sets i; inst = i }) ≡ s = cc in
-    subst (λ (u : Stand). slice_get (stands sets (position_after u.position u.class u.inst) insts) k ≡ Some t) (sym same) g
-behind_stands sets q (i ∷ insts) (suc n) s h k t g = behind_stands sets (position_after q (class_of sets i) i) insts n s h k t g
+    (suc k, subst (λ (u : Stand). slice_get (stands sets (position_after u.position u.class u.inst) insts) k ≡ Some t) (sym same) g)
+behind_stands sets q (i ∷ insts) (suc n) s h k t g =
+    let later = behind_stands sets (position_after q (class_of sets i) i) insts n s h k t g in
+    (suc later.0, later.1)
 
 -- the OpLabel of a block
 record Labels (insts : List Inst) (number : ℕ) : Type 0 where
@@ -136,7 +141,7 @@ module _ (a : Accepted) (accepts : IsAccepted a) (valid : IsValid a) (function l
       let there = labels_there a.insts function label n target number in
       let sets = sets_of a.insts in
       walked (IsKept (known a)) sets (position_after there.stand.position there.stand.class there.stand.inst) (drop (suc n) a.insts) (begun there.stand.position there.stand.class there.stand.inst there.label there.inside)
-      (λ j s g inside. each_at (InBlock (IsKept (known a))) (stands_of a.insts) (suc n + j) s (each_in_block (IsKept (known a)) sets outside a.insts refl (kept_each a accepts valid)) (behind_stands sets outside a.insts n there.stand there.is j s g) inside) k i h
+      (λ j s g inside. let m = behind_stands sets outside a.insts n there.stand there.is j s g in each_at (InBlock (IsKept (known a))) (stands_of a.insts) m.0 s (each_in_block (IsKept (known a)) sets outside a.insts refl (kept_each a accepts valid)) m.1 inside) k i h
 
   kept_first : (k : ℕ) (i : Inst) → slice_get (first_ones (sets_of a.insts) (behind_label a.insts label)) k ≡ Some i → IsKept (known a) i
   kept_first k i h = by_number (number_of a.insts label) refl h
@@ -180,17 +185,18 @@ pub block_missing : (insts : List Inst) (word : ℕ) → None ≡ number_at inst
 block_missing insts word number = label_by None (find (λ (s : Stand). stands_at word s.inst) (stands_of insts)) (led insts word None number)
 
 -- the first instructions of a block are among all
-dropped_at : {X : Type 0} (n k : ℕ) (xs : List X) (x : X) → slice_get (drop n xs) k ≡ Some x → slice_get xs (n + k) ≡ Some x
-dropped_at zero k xs x h = h
+dropped_at : {X : Type 0} (n k : ℕ) (xs : List X) (x : X) → slice_get (drop n xs) k ≡ Some x → (m : ℕ) × (slice_get xs m ≡ Some x)
+dropped_at zero k [] x h = absurd (cc)
+dropped_at zero k (y ∷ xs) x h = (k, h)
 dropped_at (suc n) k [] x h = absurd (cc)
-dropped_at (suc n) k (y ∷ xs) x h = dropped_at n k xs x h
+dropped_at (suc n) k (y ∷ xs) x h = let later = dropped_at n k xs x h in (suc later.0, later.1)
 
 first_there : (insts : List Inst) (label k : ℕ) (i : Inst) → slice_get (first_ones (sets_of insts) (behind_label insts label)) k ≡ Some i → (n : ℕ) × (slice_get insts n ≡ Some i)
 first_there insts label k i h = by_number (number_of insts label) (leading_at (λ (x : Inst). comes_first (class_of (sets_of insts) x)) (behind_label insts label) k i h)
   where
     by_number : (o : Option ℕ) → slice_get (option_map_or (λ (n : ℕ). drop (suc n) insts) o []) k ≡ Some i → (n : ℕ) × (slice_get insts n ≡ Some i)
     by_number None g = absurd (cc)
-    by_number (Some n) g = (suc n + k, dropped_at (suc n) k insts i g)
+    by_number (Some n) g = dropped_at (suc n) k insts i g
 
 -- ---- types
 
@@ -296,3 +302,36 @@ module _ (plains : ValuesHaveShapes) (x : Site) (accepts : ∥ IsAccepted (accep
     block_fits label rs keeps h = values_fit (filter is_phi (first_ones (sets_of (accepted x).insts) (behind_label (accepted x).insts label))) rs (λ k phi at.
         let f = filtered is_phi (first_ones (sets_of (accepted x).insts) (behind_label (accepted x).insts label)) k phi at in
         (first_there (accepted x).insts label f.0 phi f.1, keeps f.0 phi f.1 f.2)) h
+
+-- ---- the phis so far
+
+module _ (a : Accepted) (f : Frame) (depth from : ℕ) where
+  abbrev taken_from : List Inst → ℕ → Option (List (ℕ × Value))
+  taken_from insts n = phi_values a f depth from (filter is_phi (drop n insts))
+
+  next_taken : (insts : List Inst) (n : ℕ) (i : Inst) → n < length insts → i ≡ get_or insts n i → is_phi i ≡ true
+      → taken_from insts n ≡ option_and_then (λ (r : ℕ × Value). option_map (λ (rs : List (ℕ × Value)). r ∷ rs) (taken_from insts (n + 1))) (phi_value a f depth from i)
+  next_taken insts n i lt at phi = rw (drop-cons insts n i lt, ← at, phi, add-one) refl
+
+  pub one_taken : (all : Option (List (ℕ × Value))) (insts : List Inst) (n : ℕ) (i : Inst) (values : List (ℕ × Value)) (r : ℕ × Value) → n < length insts → i ≡ get_or insts n i → is_phi i ≡ true
+      → phi_value a f depth from i ≡ Some r → all ≡ option_map (λ (rs : List (ℕ × Value)). values ++ rs) (taken_from insts n)
+      → all ≡ option_map (λ (rs : List (ℕ × Value)). (values ++ r ∷ []) ++ rs) (taken_from insts (n + 1))
+  one_taken all insts n i values r lt at phi value so_far =
+      so_far ∙ ap (option_map (λ (rs : List (ℕ × Value)). values ++ rs)) (next_taken insts n i lt at phi
+      ∙ ap (option_and_then (λ (u : ℕ × Value). option_map (λ (rs : List (ℕ × Value)). u ∷ rs) (taken_from insts (n + 1)))) value)
+      ∙ joined values r (taken_from insts (n + 1))
+
+  pub one_missing : (all : Option (List (ℕ × Value))) (insts : List Inst) (n : ℕ) (i : Inst) (values : List (ℕ × Value)) → n < length insts → i ≡ get_or insts n i → is_phi i ≡ true
+      → phi_value a f depth from i ≡ None → all ≡ option_map (λ (rs : List (ℕ × Value)). values ++ rs) (taken_from insts n) → all ≡ None
+  one_missing all insts n i values lt at phi none so_far =
+      so_far ∙ ap (option_map (λ (rs : List (ℕ × Value)). values ++ rs)) (next_taken insts n i lt at phi
+      ∙ ap (option_and_then (λ (u : ℕ × Value). option_map (λ (rs : List (ℕ × Value)). u ∷ rs) (taken_from insts (n + 1)))) none)
+
+  pub other_taken : (insts : List Inst) (n : ℕ) (i : Inst) → n < length insts → i ≡ get_or insts n i → is_phi i ≡ false → taken_from insts n ≡ taken_from insts (n + 1)
+  other_taken insts n i lt at other = rw (drop-cons insts n i lt, ← at, other, add-one) refl
+
+-- the same under other names
+pub taken_as : (a : Accepted) (f : Frame) (depth from other : ℕ) (is js : List Inst) (r : Result (List (ℕ × Value)) (Fail Cause)) → from ≡ other → is ≡ js
+    → Finds (phi_values a f depth from (filter is_phi is)) r → Finds (phi_values a f depth other (filter is_phi js)) r
+taken_as a f depth from other is js r same list h =
+    subst (λ (ks : List Inst). Finds (phi_values a f depth other (filter is_phi ks)) r) list (subst (λ (b : ℕ). Finds (phi_values a f depth b (filter is_phi is)) r) same h)

@@ -1,5 +1,5 @@
 -- The cases of a switch, one after another.
-use Rattle.std.proofs.Common.{◌≡◌, ◌∙◌, ℕ, ◌+◌, ◌*◌, ◌^◌, ◌==◌, ◌&&◌, Bool, true, false, cond, List, [], ◌∷◌, ◌++◌, Option, Some, None, refl, sym, ap, subst}
+use Rattle.std.proofs.Common.{◌≡◌, ◌∙◌, ℕ, ◌+◌, ◌*◌, ◌-◌, ◌^◌, ◌==◌, ◌<◌, ◌≤◌, ◌&&◌, true, false, List, [], ◌∷◌, drop, get_or, length, take, Option, Some, None, refl, sym, ap, subst, arith}
 use Rattle.std.proofs.lemmas.Bool.{and_parts}
 use Rattle.std.specs.Prelude.{find}
 use Rattle.std.specs.List.{list_all}
@@ -8,6 +8,7 @@ use Rattle.spv_base.specs.declared.instructions.Operand.{Operand}
 use Rattle.spv_base.specs.declared.instructions.Operand.TheVariants.{Id, Lit, Text}
 use Rattle.spv_cfg.specs.Branches.{at_width, cases_by_two, cases_by_word}
 use Rattle.spv_cfg.specs.Operands.{is_literal, literals_in}
+use Rattle.spv_results.proofs.OperandTypes.{rest_is}
 
 -- the label of the first case of a number
 abbrev pub label_in : ℕ → ℕ → List (ℕ × ℕ) → Option ℕ
@@ -18,3 +19,68 @@ pub literal_first : (o : Operand) (w : ℕ) (os : List Operand) → literals_in 
 literal_first (Id id) w os h = absurd (cc)
 literal_first (Lit v) w os h = let same : v ≡ w = cc in ap (λ (n : ℕ). n ∷ literals_in os) same
 literal_first (Text bytes) w os h = absurd (cc)
+
+literals_two : (x y : Operand) (u w : ℕ) (os : List Operand) → literals_in (x ∷ []) ≡ u ∷ [] → literals_in (y ∷ []) ≡ w ∷ [] → literals_in (x ∷ y ∷ os) ≡ u ∷ w ∷ literals_in os
+literals_two x y u w os h g = literal_first x u (y ∷ os) h ∙ ap (λ (ws : List ℕ). u ∷ ws) (literal_first y w os g)
+
+literals_three : (x y z : Operand) (u w t : ℕ) (os : List Operand) → literals_in (x ∷ []) ≡ u ∷ [] → literals_in (y ∷ []) ≡ w ∷ [] → literals_in (z ∷ []) ≡ t ∷ [] → literals_in (x ∷ y ∷ z ∷ os) ≡ u ∷ w ∷ t ∷ literals_in os
+literals_three x y z u w t os h g k = literals_two x y u w (z ∷ os) h g ∙ ap (λ (ws : List ℕ). u ∷ w ∷ ws) (literal_first z t os k)
+
+module _ (width number : ℕ) where
+  -- a case of another number
+  pub word_more : (os : List Operand) (x y : Operand) (u w : ℕ) (due : Option ℕ) → 2 ≤ length os → x ≡ get_or os 0 x → y ≡ get_or os 1 y → literals_in (x ∷ []) ≡ u ∷ [] → literals_in (y ∷ []) ≡ w ∷ []
+      → (at_width width u == number) ≡ false → (list_all is_literal os ≡ true) × (label_in width number (cases_by_word (literals_in os)) ≡ due)
+      → (list_all is_literal (take (length os - 2) (drop 2 os)) ≡ true) × (label_in width number (cases_by_word (literals_in (take (length os - 2) (drop 2 os)))) ≡ due)
+  word_more [] x y u w due many first second h g other so_far = absurd (omega arith)
+  word_more (a ∷ []) x y u w due many first second h g other so_far = absurd (omega arith)
+  word_more (a ∷ b ∷ os) x y u w due many first second h g other so_far =
+      let all = and_parts (is_literal b) (list_all is_literal os) (and_parts (is_literal a) (is_literal b && list_all is_literal os) so_far.0).1 in
+      let own : literals_in (a ∷ []) ≡ u ∷ [] = subst (λ (o : Operand). literals_in (o ∷ []) ≡ u ∷ []) first h in
+      let next : literals_in (b ∷ []) ≡ w ∷ [] = subst (λ (o : Operand). literals_in (o ∷ []) ≡ w ∷ []) second g in
+      let words = literals_two a b u w os own next in
+      let here : label_in width number (cases_by_word (u ∷ w ∷ literals_in os)) ≡ label_in width number (cases_by_word (literals_in os)) = rw other refl in
+      let rest : take (length (a ∷ b ∷ os) - 2) (drop 2 (a ∷ b ∷ os)) ≡ os = rest_is (a ∷ b ∷ os) 2 in
+      subst (λ (ps : List Operand). (list_all is_literal ps ≡ true) × (label_in width number (cases_by_word (literals_in ps)) ≡ due)) (sym rest)
+      (all.1, sym here ∙ ap (λ (ws : List ℕ). label_in width number (cases_by_word ws)) (sym words) ∙ so_far.1)
+
+  pub two_more : (os : List Operand) (x y z : Operand) (u w t : ℕ) (due : Option ℕ) → 3 ≤ length os → x ≡ get_or os 0 x → y ≡ get_or os 1 y → z ≡ get_or os 2 z → literals_in (x ∷ []) ≡ u ∷ [] → literals_in (y ∷ []) ≡ w ∷ [] → literals_in (z ∷ []) ≡ t ∷ []
+      → (at_width width (u + w * 2 ^ 32) == number) ≡ false → (list_all is_literal os ≡ true) × (label_in width number (cases_by_two (literals_in os)) ≡ due)
+      → (list_all is_literal (take (length os - 3) (drop 3 os)) ≡ true) × (label_in width number (cases_by_two (literals_in (take (length os - 3) (drop 3 os)))) ≡ due)
+  two_more [] x y z u w t due many first second third h g k other so_far = absurd (omega arith)
+  two_more (a ∷ []) x y z u w t due many first second third h g k other so_far = absurd (omega arith)
+  two_more (a ∷ b ∷ []) x y z u w t due many first second third h g k other so_far = absurd (omega arith)
+  two_more (a ∷ b ∷ c ∷ os) x y z u w t due many first second third h g k other so_far =
+      let back = (and_parts (is_literal a) (is_literal b && (is_literal c && list_all is_literal os)) so_far.0).1 in
+      let all = and_parts (is_literal c) (list_all is_literal os) (and_parts (is_literal b) (is_literal c && list_all is_literal os) back).1 in
+      let own : literals_in (a ∷ []) ≡ u ∷ [] = subst (λ (o : Operand). literals_in (o ∷ []) ≡ u ∷ []) first h in
+      let next : literals_in (b ∷ []) ≡ w ∷ [] = subst (λ (o : Operand). literals_in (o ∷ []) ≡ w ∷ []) second g in
+      let last : literals_in (c ∷ []) ≡ t ∷ [] = subst (λ (o : Operand). literals_in (o ∷ []) ≡ t ∷ []) third k in
+      let words = literals_three a b c u w t os own next last in
+      let here : label_in width number (cases_by_two (u ∷ w ∷ t ∷ literals_in os)) ≡ label_in width number (cases_by_two (literals_in os)) = rw other refl in
+      let rest : take (length (a ∷ b ∷ c ∷ os) - 3) (drop 3 (a ∷ b ∷ c ∷ os)) ≡ os = rest_is (a ∷ b ∷ c ∷ os) 3 in
+      subst (λ (ps : List Operand). (list_all is_literal ps ≡ true) × (label_in width number (cases_by_two (literals_in ps)) ≡ due)) (sym rest)
+      (all.1, sym here ∙ ap (λ (ws : List ℕ). label_in width number (cases_by_two ws)) (sym words) ∙ so_far.1)
+
+  -- no case is left
+  pub word_none : (os : List Operand) → length os < 2 → None ≡ label_in width number (cases_by_word (literals_in os))
+  word_none [] lt = refl
+  word_none (Id id ∷ []) lt = refl
+  word_none (Lit w ∷ []) lt = refl
+  word_none (Text bytes ∷ []) lt = refl
+  word_none (a ∷ b ∷ os) lt = absurd (omega arith)
+
+  pub two_none : (os : List Operand) → length os < 3 → None ≡ label_in width number (cases_by_two (literals_in os))
+  two_none [] lt = refl
+  two_none (Id id ∷ []) lt = refl
+  two_none (Lit w ∷ []) lt = refl
+  two_none (Text bytes ∷ []) lt = refl
+  two_none (Id id ∷ Id other ∷ []) lt = refl
+  two_none (Id id ∷ Lit w ∷ []) lt = refl
+  two_none (Id id ∷ Text bytes ∷ []) lt = refl
+  two_none (Lit w ∷ Id id ∷ []) lt = refl
+  two_none (Lit w ∷ Lit t ∷ []) lt = refl
+  two_none (Lit w ∷ Text bytes ∷ []) lt = refl
+  two_none (Text bytes ∷ Id id ∷ []) lt = refl
+  two_none (Text bytes ∷ Lit w ∷ []) lt = refl
+  two_none (Text bytes ∷ Text others ∷ []) lt = refl
+  two_none (a ∷ b ∷ c ∷ os) lt = absurd (omega arith)

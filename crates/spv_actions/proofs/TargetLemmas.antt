@@ -57,12 +57,12 @@ front : (P : ℕ → Type 0) (o : Option ℕ) (rest : List ℕ) → AllByRecursi
 front P None rest all = (tt, all)
 front P (Some x) rest all = ((all.0, tt), all.1)
 
-of_two : (P : ℕ → Type 0) (yes no : Option ℕ) (n label : ℕ) → AllByRecursion P (option_to_list yes ++ option_to_list no) → (if n == 0 then no else yes) ≡ Some label → P label
-of_two P yes no n label all is = by_number (n == 0) is
+of_two : (P : ℕ → Type 0) (one other : Option ℕ) (n label : ℕ) → AllByRecursion P (option_to_list one ++ option_to_list other) → (if n == 0 then other else one) ≡ Some label → P label
+of_two P one other n label all is = by_number (n == 0) is
   where
-    by_number : (b : Bool) → (if b then no else yes) ≡ Some label → P label
-    by_number true e = of_one P no label (front P yes (option_to_list no) all).1 e
-    by_number false e = of_one P yes label (front P yes (option_to_list no) all).0 e
+    by_number : (b : Bool) → (if b then other else one) ≡ Some label → P label
+    by_number true e = of_one P other label (front P one (option_to_list other) all).1 e
+    by_number false e = of_one P one label (front P one (option_to_list other) all).0 e
 
 of_case : (P : ℕ → Type 0) (test : ℕ × ℕ → Bool) (cs : List (ℕ × ℕ)) (c : ℕ × ℕ) → AllByRecursion P (map (λ (x : ℕ × ℕ). x.1) cs) → find test cs ≡ Some c → P c.1
 of_case P test [] c all is = absurd (cc)

@@ -1,8 +1,9 @@
-use Rattle.std.proofs.Common.{◌∙◌, ap, subst, sym}
+use Rattle.std.proofs.Common.{◌∙◌, IfSome, Option, ap, subst, sym}
 use Rattle.std.specs.Option.{option_map}
 use Rattle.spv_valid.specs.Acceptance.{Accepted, IsAccepted}
 use Rattle.spv_valid.specs.Validity.{IsValid}
-use Rattle.spv_operands.specs.Operands.{shown}
+use Rattle.spv_operands.specs.Operands.{IsPlain, shown}
+use Rattle.spv_operands.specs.declared.operands.Operand.{Operand}
 use Rattle.spv_actions.proofs.PhiLemmas.{named_plain}
 use Rattle.spv_actions.proofs.sites.Site.named.Goals as goal
 
@@ -11,6 +12,6 @@ invariant_of-result c =
     let accepts = subst (λ (a : Accepted). ∥ IsAccepted a ∥₁) c.accepted.ensures c.insts-insts.ensures.accepted in
     let valid = subst (λ (a : Accepted). ∥ IsValid a ∥₁) c.accepted.ensures c.insts-insts.ensures.valid in
     ∣ (
-      c.in-Some.ensures.plain,
-      named_plain c.operands_have_shapes.ensures.values c.args.self.now accepts valid c.is_reached.ensures c.args.id (shown c.in-Some.operand) (sym c.in-Some.ensures.value) c.requires,
+      subst (λ (o : Option Operand). IfSome o IsPlain) c.operand.is c.in_ok-operand.ensures.plain,
+      named_plain c.operands_have_shapes.ensures.values c.args.self.now accepts valid c.is_reached.ensures c.args.id (shown c.operand.operand) (sym c.in_ok-operand.ensures.value ∙ ap (option_map shown) c.operand.is) c.requires,
     ) ∣₁
