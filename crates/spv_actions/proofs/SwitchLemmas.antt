@@ -1,6 +1,6 @@
 -- The cases of a switch, one after another.
 use Rattle.std.proofs.Common.{◌≡◌, ◌∙◌, ℕ, ◌+◌, ◌*◌, ◌-◌, ◌^◌, ◌==◌, ◌<◌, ◌≤◌, ◌&&◌, true, false, List, [], ◌∷◌, drop, get_or, length, take, Option, Some, None, refl, sym, ap, subst, arith}
-use Rattle.std.proofs.lemmas.Bool.{and_parts}
+use Rattle.std.proofs.lemmas.Bool.{and_parts, ne_eqb}
 use Rattle.std.specs.Prelude.{find}
 use Rattle.std.specs.List.{list_all}
 use Rattle.std.specs.Option.{option_map}
@@ -26,37 +26,47 @@ literals_two x y u w os h g = literal_first x u (y ∷ os) h ∙ ap (λ (ws : Li
 literals_three : (x y z : Operand) (u w t : ℕ) (os : List Operand) → literals_in (x ∷ []) ≡ u ∷ [] → literals_in (y ∷ []) ≡ w ∷ [] → literals_in (z ∷ []) ≡ t ∷ [] → literals_in (x ∷ y ∷ z ∷ os) ≡ u ∷ w ∷ t ∷ literals_in os
 literals_three x y z u w t os h g k = literals_two x y u w (z ∷ os) h g ∙ ap (λ (ws : List ℕ). u ∷ w ∷ ws) (literal_first z t os k)
 
+a_word : (o : Operand) → is_literal o ≡ true → (w : ℕ) × (literals_in (o ∷ []) ≡ w ∷ [])
+a_word (Id id) h = absurd (cc)
+a_word (Lit w) h = (w, refl)
+a_word (Text bytes) h = absurd (cc)
+
 module _ (width number : ℕ) where
+  missed : (n literal : ℕ) → n ≡ at_width width literal → (n ≡ number → ⊥) → (at_width width literal == number) ≡ false
+  missed n literal is other = subst (λ (m : ℕ). (m == number) ≡ false) is (ne_eqb n number other)
+
   -- a case of another number
-  pub word_more : (os : List Operand) (x y : Operand) (u w : ℕ) (due : Option ℕ) → 2 ≤ length os → x ≡ get_or os 0 x → y ≡ get_or os 1 y → literals_in (x ∷ []) ≡ u ∷ [] → literals_in (y ∷ []) ≡ w ∷ []
-      → (at_width width u == number) ≡ false → (list_all is_literal os ≡ true) × (label_in width number (cases_by_word (literals_in os)) ≡ due)
+  pub word_more : (os : List Operand) (x : Operand) (u n : ℕ) (due : Option ℕ) → 2 ≤ length os → x ≡ get_or os 0 x → literals_in (x ∷ []) ≡ u ∷ []
+      → n ≡ at_width width u → (n ≡ number → ⊥) → (list_all is_literal os ≡ true) × (label_in width number (cases_by_word (literals_in os)) ≡ due)
       → (list_all is_literal (take (length os - 2) (drop 2 os)) ≡ true) × (label_in width number (cases_by_word (literals_in (take (length os - 2) (drop 2 os)))) ≡ due)
-  word_more [] x y u w due many first second h g other so_far = absurd (omega arith)
-  word_more (a ∷ []) x y u w due many first second h g other so_far = absurd (omega arith)
-  word_more (a ∷ b ∷ os) x y u w due many first second h g other so_far =
+  word_more [] x u n due many first h is other so_far = absurd (omega arith)
+  word_more (a ∷ []) x u n due many first h is other so_far = absurd (omega arith)
+  word_more (a ∷ b ∷ os) x u n due many first h is other so_far =
       let all = and_parts (is_literal b) (list_all is_literal os) (and_parts (is_literal a) (is_literal b && list_all is_literal os) so_far.0).1 in
       let own : literals_in (a ∷ []) ≡ u ∷ [] = subst (λ (o : Operand). literals_in (o ∷ []) ≡ u ∷ []) first h in
-      let next : literals_in (b ∷ []) ≡ w ∷ [] = subst (λ (o : Operand). literals_in (o ∷ []) ≡ w ∷ []) second g in
-      let words = literals_two a b u w os own next in
-      let here : label_in width number (cases_by_word (u ∷ w ∷ literals_in os)) ≡ label_in width number (cases_by_word (literals_in os)) = rw other refl in
+      let label = a_word b all.0 in
+      let words = literals_two a b u label.0 os own label.1 in
+      let test : (at_width width u == number) ≡ false = missed n u is other in
+      let here : label_in width number (cases_by_word (u ∷ label.0 ∷ literals_in os)) ≡ label_in width number (cases_by_word (literals_in os)) = rw test refl in
       let rest : take (length (a ∷ b ∷ os) - 2) (drop 2 (a ∷ b ∷ os)) ≡ os = rest_is (a ∷ b ∷ os) 2 in
       subst (λ (ps : List Operand). (list_all is_literal ps ≡ true) × (label_in width number (cases_by_word (literals_in ps)) ≡ due)) (sym rest)
       (all.1, sym here ∙ ap (λ (ws : List ℕ). label_in width number (cases_by_word ws)) (sym words) ∙ so_far.1)
 
-  pub two_more : (os : List Operand) (x y z : Operand) (u w t : ℕ) (due : Option ℕ) → 3 ≤ length os → x ≡ get_or os 0 x → y ≡ get_or os 1 y → z ≡ get_or os 2 z → literals_in (x ∷ []) ≡ u ∷ [] → literals_in (y ∷ []) ≡ w ∷ [] → literals_in (z ∷ []) ≡ t ∷ []
-      → (at_width width (u + w * 2 ^ 32) == number) ≡ false → (list_all is_literal os ≡ true) × (label_in width number (cases_by_two (literals_in os)) ≡ due)
+  pub two_more : (os : List Operand) (x y : Operand) (u w n : ℕ) (due : Option ℕ) → 3 ≤ length os → x ≡ get_or os 0 x → y ≡ get_or os 1 y → literals_in (x ∷ []) ≡ u ∷ [] → literals_in (y ∷ []) ≡ w ∷ []
+      → n ≡ at_width width (u + w * 2 ^ 32) → (n ≡ number → ⊥) → (list_all is_literal os ≡ true) × (label_in width number (cases_by_two (literals_in os)) ≡ due)
       → (list_all is_literal (take (length os - 3) (drop 3 os)) ≡ true) × (label_in width number (cases_by_two (literals_in (take (length os - 3) (drop 3 os)))) ≡ due)
-  two_more [] x y z u w t due many first second third h g k other so_far = absurd (omega arith)
-  two_more (a ∷ []) x y z u w t due many first second third h g k other so_far = absurd (omega arith)
-  two_more (a ∷ b ∷ []) x y z u w t due many first second third h g k other so_far = absurd (omega arith)
-  two_more (a ∷ b ∷ c ∷ os) x y z u w t due many first second third h g k other so_far =
+  two_more [] x y u w n due many first second h g is other so_far = absurd (omega arith)
+  two_more (a ∷ []) x y u w n due many first second h g is other so_far = absurd (omega arith)
+  two_more (a ∷ b ∷ []) x y u w n due many first second h g is other so_far = absurd (omega arith)
+  two_more (a ∷ b ∷ c ∷ os) x y u w n due many first second h g is other so_far =
       let back = (and_parts (is_literal a) (is_literal b && (is_literal c && list_all is_literal os)) so_far.0).1 in
       let all = and_parts (is_literal c) (list_all is_literal os) (and_parts (is_literal b) (is_literal c && list_all is_literal os) back).1 in
       let own : literals_in (a ∷ []) ≡ u ∷ [] = subst (λ (o : Operand). literals_in (o ∷ []) ≡ u ∷ []) first h in
       let next : literals_in (b ∷ []) ≡ w ∷ [] = subst (λ (o : Operand). literals_in (o ∷ []) ≡ w ∷ []) second g in
-      let last : literals_in (c ∷ []) ≡ t ∷ [] = subst (λ (o : Operand). literals_in (o ∷ []) ≡ t ∷ []) third k in
-      let words = literals_three a b c u w t os own next last in
-      let here : label_in width number (cases_by_two (u ∷ w ∷ t ∷ literals_in os)) ≡ label_in width number (cases_by_two (literals_in os)) = rw other refl in
+      let label = a_word c all.0 in
+      let words = literals_three a b c u w label.0 os own next label.1 in
+      let test : (at_width width (u + w * 2 ^ 32) == number) ≡ false = missed n (u + w * 2 ^ 32) is other in
+      let here : label_in width number (cases_by_two (u ∷ w ∷ label.0 ∷ literals_in os)) ≡ label_in width number (cases_by_two (literals_in os)) = rw test refl in
       let rest : take (length (a ∷ b ∷ c ∷ os) - 3) (drop 3 (a ∷ b ∷ c ∷ os)) ≡ os = rest_is (a ∷ b ∷ c ∷ os) 3 in
       subst (λ (ps : List Operand). (list_all is_literal ps ≡ true) × (label_in width number (cases_by_two (literals_in ps)) ≡ due)) (sym rest)
       (all.1, sym here ∙ ap (λ (ws : List ℕ). label_in width number (cases_by_two ws)) (sym words) ∙ so_far.1)

@@ -12,6 +12,6 @@ invariant_of-result c =
     let accepts = subst (λ (a : Accepted). ∥ IsAccepted a ∥₁) c.accepted.ensures c.insts-insts.ensures.accepted in
     let valid = subst (λ (a : Accepted). ∥ IsValid a ∥₁) c.accepted.ensures c.insts-insts.ensures.valid in
     ∣ (
-      subst (λ (o : Option Operand). IfSome o IsPlain) c.operand.is c.in_ok-operand.ensures.plain,
-      named_plain c.operands_have_shapes.ensures.values c.args.self.now accepts valid c.is_reached.ensures c.args.id (shown c.operand.operand) (sym c.in_ok-operand.ensures.value ∙ ap (option_map shown) c.operand.is) c.requires,
+      subst (λ (o : Option Operand). IfSome o IsPlain) c.in-Some.is c.in_ok-operand.ensures.plain,
+      named_plain c.operands_have_shapes.ensures.values c.args.self.now accepts valid c.is_reached.ensures c.args.id (shown c.in-Some.operand) (sym c.in_ok-operand.ensures.value ∙ ap (option_map shown) c.in-Some.is) c.requires,
     ) ∣₁
