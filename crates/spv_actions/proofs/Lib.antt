@@ -20,3 +20,9 @@ pub mod LengthLemmas
 pub mod CopyLemmas
 pub mod KeepsFrames
 pub mod PassingLemmas
+pub mod ControlCodes
+pub mod TargetLemmas
+pub mod PhiLemmas
+pub mod SwitchLemmas
+pub mod LeadingLemmas
+pub mod BranchLemmas

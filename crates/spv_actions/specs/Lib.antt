@@ -3,6 +3,8 @@ pub mod Accesses
 pub mod Calls
 pub mod Chains
 pub mod Lengths
+pub mod Phis
+pub mod Branches
 pub mod Instructions
 pub mod Fits
 pub mod Kept

@@ -8,6 +8,7 @@ ghost use Rattle.spv_state.specs.State as state;
 
 use crate::calls::{call, return_value};
 use crate::accesses::{copy_memory, load, store};
+use crate::branches::{branch, branch_conditional, switch};
 use spv_state::Action;
 use crate::causes::Cause;
 use crate::chains::chain;
@@ -97,9 +98,9 @@ pub fn effect_at(
         Action::CopyMemory => copy_memory(&site, row),
         Action::Chain => chain(&site),
         Action::ArrayLength => array_length(&site, row),
-        Action::Branch => Err(Fail::Refused(Cause::Unreachable)),
-        Action::BranchConditional => Err(Fail::Refused(Cause::Unreachable)),
-        Action::Switch => Err(Fail::Refused(Cause::Unreachable)),
+        Action::Branch => branch(&site),
+        Action::BranchConditional => branch_conditional(&site),
+        Action::Switch => switch(&site),
         Action::Call => call(&site),
         Action::ReturnValue => return_value(&site, row),
         Action::Unreachable => Err(Fail::Refused(Cause::Unreachable)),

@@ -1,5 +1,5 @@
 use Rattle.std.proofs.Common.{IfOk, subst, sym}
-use Rattle.spv_state.specs.declared.actions.Action.TheVariants.{Branch, BranchConditional, Switch, Unreachable, ControlBarrier, MemoryBarrier, Atomic, Other, Return}
+use Rattle.spv_state.specs.declared.actions.Action.TheVariants.{Unreachable, ControlBarrier, MemoryBarrier, Atomic, Other, Return}
 use Rattle.spv_actions.specs.Planned.{IsDue, IsTaken, PlannedFits}
 use Rattle.spv_actions.specs.Sites.{Site, due}
 use Rattle.spv_actions.proofs.EffectLemmas.{due_by}
@@ -12,18 +12,6 @@ returns-in-Return-clause-due c =
 pub returns-in-Other-clause-due : goal.returns-in-Other-clause-due
 returns-in-Other-clause-due c =
     due_by (record { program = c.args.m.now; state = c.args.w.now; inv = c.args.inv; frame = c.args.frame.now; inst = c.args.inst.now }) Other (sym c.in-Other.ensures)
-
-pub returns-in-Branch-clause-due : goal.returns-in-Branch-clause-due
-returns-in-Branch-clause-due c =
-    due_by (record { program = c.args.m.now; state = c.args.w.now; inv = c.args.inv; frame = c.args.frame.now; inst = c.args.inst.now }) Branch (sym c.in-Branch.ensures)
-
-pub returns-in-BranchConditional-clause-due : goal.returns-in-BranchConditional-clause-due
-returns-in-BranchConditional-clause-due c =
-    due_by (record { program = c.args.m.now; state = c.args.w.now; inv = c.args.inv; frame = c.args.frame.now; inst = c.args.inst.now }) BranchConditional (sym c.in-BranchConditional.ensures)
-
-pub returns-in-Switch-clause-due : goal.returns-in-Switch-clause-due
-returns-in-Switch-clause-due c =
-    due_by (record { program = c.args.m.now; state = c.args.w.now; inv = c.args.inv; frame = c.args.frame.now; inst = c.args.inst.now }) Switch (sym c.in-Switch.ensures)
 
 pub returns-in-Unreachable-clause-due : goal.returns-in-Unreachable-clause-due
 returns-in-Unreachable-clause-due c =
