@@ -10,3 +10,5 @@ pub mod SiteLemmas
 pub mod KeptLemmas
 pub mod EffectLemmas
 pub mod AccessLemmas
+pub mod AtomicLemmas
+pub mod AtomicSteps

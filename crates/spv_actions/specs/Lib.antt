@@ -1,5 +1,8 @@
 pub mod Effects
 pub mod Accesses
+pub mod Atomics
+pub mod AtomicSites
+pub mod Barriers
 pub mod Instructions
 pub mod Fits
 pub mod Kept

@@ -7,6 +7,8 @@ ghost use Rattle.spv_state.specs.Sound.{IsSound};
 ghost use Rattle.spv_state.specs.State as state;
 
 use crate::accesses::{load, store};
+use crate::atomics::atomic;
+use crate::barriers::{control_barrier, memory_barrier};
 use spv_state::Action;
 use crate::causes::Cause;
 use crate::computing::compute;
@@ -100,9 +102,9 @@ pub fn effect_at(
         Action::Call | Action::ReturnValue | Action::Unreachable => {
             Err(Fail::Refused(Cause::Unreachable))
         }
-        Action::ControlBarrier | Action::MemoryBarrier | Action::Atomic(_) => {
-            Err(Fail::Refused(Cause::Unreachable))
-        }
+        Action::ControlBarrier => control_barrier(&site, row),
+        Action::MemoryBarrier => memory_barrier(&site, row),
+        Action::Atomic(operation) => atomic(&site, operation, row),
         Action::Other => Err(Fail::Refused(Cause::Unreachable)),
     }
 }

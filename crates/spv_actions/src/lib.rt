@@ -2,6 +2,8 @@
 #![tactic(auto)]
 
 mod accesses;
+mod atomics;
+mod barriers;
 pub mod causes;
 mod computing;
 mod computing_composites;
