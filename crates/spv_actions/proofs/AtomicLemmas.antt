@@ -4,7 +4,6 @@ use Rattle.std.proofs.Math.Logic.{∥∥₁_elim}
 use Rattle.std.proofs.Props.{props}
 use Rattle.std.specs.List.{AllByRecursion, list_all}
 use Rattle.std.specs.Option.{IsSomeAnd, option_and_then, option_map, option_or, unwrap_or}
-use Rattle.std.specs.Prelude.{⊤, ⊥}
 use Rattle.spv_base.specs.Entries.{reads}
 use Rattle.spv_base.specs.Lane.{IsLane, Lane}
 use Rattle.spv_base.specs.declared.instructions.Inst.{Inst}
@@ -31,14 +30,10 @@ use Rattle.spv_valid.specs.Acceptance.{Accepted}
 use Rattle.spv_initial.specs.Start.{variables}
 use Rattle.spv_initial.specs.Variables.{targets_of}
 use Rattle.spv_operands.specs.Shapes.{target_in}
-use Rattle.spv_results.specs.Computations.{computation_of}
 use Rattle.spv_results.specs.Operands.{known}
-use Rattle.spv_results.specs.declared.computations.Computation.{Computation}
 use Rattle.spv_results.proofs.LaneTypes.{width_fits}
 use Rattle.spv_results.proofs.ShapeProps.{shape_prop}
-use Rattle.spv_state.specs.Actions.{action_of, atomic_op, atomics, named}
-use Rattle.spv_state.specs.declared.actions.Action.{Action}
-use Rattle.spv_state.specs.declared.actions.Action.TheVariants.{Compute, Load, Store, CopyMemory, Chain, ArrayLength, Branch, BranchConditional, Switch, Call, Return, ReturnValue, Unreachable, ControlBarrier, MemoryBarrier, Atomic, Other}
+use Rattle.spv_state.specs.Actions.{atomic_op, atomics}
 use Rattle.spv_state.specs.declared.actions.AtomicOp.{AtomicOp}
 use Rattle.spv_state.specs.declared.actions.AtomicOp.TheVariants as atomic
 use Rattle.spv_actions.specs.AtomicSites.{IsTarget, KeepsRow, LeadsToInteger}
@@ -49,48 +44,6 @@ use Rattle.spv_actions.proofs.AccessLemmas.{leads_there, part_shape, targets_are
 use Rattle.spv_actions.proofs.ComputationLemmas.{key_passes, read_there}
 use Rattle.spv_actions.proofs.KeptLemmas.{is_plain_code}
 use Rattle.spv_actions.proofs.RunLemmas.{alone}
-
--- ---- opcodes
-
--- the opcodes of barriers, and no other instruction that is named is an atomic
-abbrev IsNamed : ℕ → Action → Type 0
-IsNamed op (Compute c) = ⊤
-IsNamed op Load = ⊤
-IsNamed op Store = ⊤
-IsNamed op CopyMemory = ⊤
-IsNamed op Chain = ⊤
-IsNamed op ArrayLength = ⊤
-IsNamed op Branch = ⊤
-IsNamed op BranchConditional = ⊤
-IsNamed op Switch = ⊤
-IsNamed op Call = ⊤
-IsNamed op Return = ⊤
-IsNamed op ReturnValue = ⊤
-IsNamed op Unreachable = ⊤
-IsNamed op ControlBarrier = op ≡ 224
-IsNamed op MemoryBarrier = op ≡ 225
-IsNamed op (Atomic x) = ⊥
-IsNamed op Other = ⊤
-
-named_are : AllByRecursion (λ (e : ℕ × Action). IsNamed e.0 e.1) named
-named_are = (tt, (tt, (tt, (tt, (tt, (tt, (tt, (refl, (refl, (tt, (tt, (tt, (tt, (tt, (tt, tt)))))))))))))))
-
-by_name : (op : ℕ) (x : Action) → reads op named ≡ Some x → IsNamed op x
-by_name op x h = read_there IsNamed op x named named_are h
-
--- what is named by none of three tables, or by the first that has it
-abbrev in_turn : Option Action → Option AtomicOp → Option Computation → Action
-in_turn n o c = unwrap_or (option_or (option_or n (option_map Atomic o)) (option_map Compute c)) Other
-
-pub atomic_is : (i : Inst) (x : AtomicOp) → action_of i ≡ Atomic x → atomic_op i.op ≡ Some x
-unfolding action_of
-atomic_is i x is = by_table (reads i.op named) (atomic_op i.op) (computation_of i) (by_name i.op) is
-  where
-    by_table : (n : Option Action) (o : Option AtomicOp) (c : Option Computation) → ((y : Action) → n ≡ Some y → IsNamed i.op y) → in_turn n o c ≡ Atomic x → o ≡ Some x
-    by_table (Some y) o c each h = absurd (subst (IsNamed i.op) h (each y refl))
-    by_table None (Some y) c each h = cc
-    by_table None None (Some d) each h = absurd (cc)
-    by_table None None None each h = absurd (cc)
 
 -- ---- the rules
 
@@ -125,10 +78,10 @@ unfolding atomic_op memory_rule atomic_rule composite_rule control_rule other_ru
 atomic_plain op x h = key_passes is_plain_code op x atomics refl h
 
 pub keeps_atomic : (a : Accepted) (i : Inst) (x : AtomicOp) → atomic_op i.op ≡ Some x → KeepsRule (known a) (alone i) (rule_of i.op) → KeepsRow a i (atomic_row x)
+unfolding atomic_row memory_rule atomic_rule composite_rule control_rule other_rule
 keeps_atomic a i x is kept = by_code x (subst (λ (op : ℕ). KeepsRule (known a) (alone i) (rule_of op)) (atomic_code i.op x is) kept)
   where
     by_code : (y : AtomicOp) → KeepsRule (known a) (alone i) (rule_of (code_of y)) → KeepsRow a i (atomic_row y)
-    unfolding atomic_row memory_rule atomic_rule composite_rule control_rule other_rule
     by_code atomic.Load h = h
     by_code atomic.Store h = h
     by_code atomic.Exchange h = h

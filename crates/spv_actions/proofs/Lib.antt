@@ -12,3 +12,4 @@ pub mod EffectLemmas
 pub mod AccessLemmas
 pub mod AtomicLemmas
 pub mod AtomicSteps
+pub mod BarrierLemmas

@@ -1,5 +1,5 @@
 -- What calls inside a step find at an atomic. No definition of a step speaks of it.
-use Rattle.std.specs.Prelude.{◌≡◌, ℕ, Some, Result, ⊤, ⊥}
+use Rattle.std.specs.Prelude.{◌≡◌, ℕ, Some, Result, ⊤}
 use Rattle.spv_base.specs.Lane.{Lane}
 use Rattle.spv_base.specs.declared.instructions.Inst.{Inst}
 use Rattle.spv_base.specs.declared.values.Pointer.{Pointer}
