@@ -40,7 +40,7 @@ use Rattle.spv_results.proofs.ShapeProps.{shape_prop}
 use Rattle.spv_results.proofs.SoundTypes.{sound_types}
 use Rattle.spv_state.specs.Actions.{action_of}
 use Rattle.spv_actions.specs.Effects as spec
-use Rattle.spv_actions.specs.Effects.{◌>>=◌, gives, loaded, pointer}
+use Rattle.spv_actions.specs.Effects.{Next, ◌>>=◌, gives, loaded, pointer}
 use Rattle.spv_actions.specs.Instructions.{row}
 use Rattle.spv_actions.specs.Fits.{StoreFits}
 use Rattle.spv_actions.specs.Planned.{IsDue, shown}
@@ -49,7 +49,6 @@ use Rattle.spv_state.specs.declared.actions.Action.{Action}
 use Rattle.spv_state.specs.declared.actions.Action.TheVariants.{Load, Store}
 use Rattle.spv_actions.specs.declared.causes.Cause.{Cause}
 use Rattle.spv_actions.specs.declared.causes.Cause.TheVariants.{NoValue, OutOfBounds}
-use Rattle.spv_actions.specs.declared.effects.Control.TheVariants.{Next}
 use Rattle.spv_actions.specs.declared.effects.Effect.{Effect}
 use Rattle.spv_actions.specs.declared.effects.Gain.TheVariants.{Nothing, Row}
 use Rattle.spv_actions.proofs.EffectLemmas.{due_by}

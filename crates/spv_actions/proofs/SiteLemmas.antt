@@ -14,11 +14,11 @@ use Rattle.spv_frame.specs.Stacks.{Stacked, top}
 use Rattle.spv_results.specs.Computations.{computation_of}
 use Rattle.spv_results.specs.Operands.{known}
 use Rattle.spv_results.specs.declared.computations.Computation.{Computation}
+use Rattle.spv_actions.specs.Effects.{Next}
 use Rattle.spv_actions.specs.Fits.{ControlFits}
 use Rattle.spv_actions.specs.Kept.{Keeps}
 use Rattle.spv_actions.specs.Sites.{IsSite, Site, accepted}
 use Rattle.spv_state.specs.Sound.{IsSoundFrame}
-use Rattle.spv_actions.specs.declared.effects.Control.TheVariants.{Next}
 use Rattle.spv_actions.proofs.ComputationLemmas.{computed}
 use Rattle.spv_actions.proofs.KeptLemmas.{computed_plain, is_plain_code, keeps, keeps_load, keeps_store, load_plain, plain_open, plain_own, store_plain}
 use Rattle.spv_actions.proofs.RunLemmas.{RulesAreTested, Runs, alone, is_run, rule_kept, runs_on, runs_there}
