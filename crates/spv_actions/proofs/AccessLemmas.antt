@@ -143,7 +143,7 @@ module _ (m : Memory) (a : Accepted) (types : m.types ≡ a.types) (targets : m.
       ap (λ (ts : Types). reached ts ty q.path) types ∙ sym (ap (option_and_then (λ (t : ℕ). reached a.types t q.path)) same) ∙ leads
 
   -- the part that a memory has there is one of the target type
-  part_shape : (i : ℕ) (v : Value) → IsMemory m → load_of m i q ≡ Some v → HasShape a.types no_roots target v
+  pub part_shape : (i : ℕ) (v : Value) → IsMemory m → load_of m i q ≡ Some v → HasShape a.types no_roots target v
   part_shape i v memory load = by_roots (roots_in m i q.root) refl load
     where
       by_value : (es : Roots) → roots_in m i q.root ≡ Some es → (o : Option Value) → reads (id_in q.root) es ≡ o → option_and_then (λ (w : Value). part_at w q.path) o ≡ Some v → HasShape a.types no_roots target v
@@ -167,10 +167,10 @@ module _ (m : Memory) (a : Accepted) (types : m.types ≡ a.types) (targets : m.
 
 -- ---- at a site
 
-types_are : (x : Site) → ∥ IsSite x ∥₁ → x.state.memory.types ≡ (accepted x).types
+pub types_are : (x : Site) → ∥ IsSite x ∥₁ → x.state.memory.types ≡ (accepted x).types
 types_are x site = ∥∥₁_elim site (hlevel (props, codes)) (λ (is : IsSite x). is.sound.types)
 
-targets_are : (x : Site) → ∥ IsSite x ∥₁ → x.state.memory.targets ≡ targets_of (variables (accepted x))
+pub targets_are : (x : Site) → ∥ IsSite x ∥₁ → x.state.memory.targets ≡ targets_of (variables (accepted x))
 targets_are x site = ∥∥₁_elim site (hlevel (props, codes)) (λ (is : IsSite x). is.sound.targets)
 
 ok_some : {A : Type 0} (o : Option A) (cause : Cause) (x : A) → ok_or o cause ≡ Ok x → o ≡ Some x

@@ -1,11 +1,15 @@
 -- What atomics do, and where their pointers lead.
-use Rattle.std.proofs.Common.{◌≡◌, ◌∙◌, ℕ, List, [], ◌∷◌, Option, Some, None, IsSome, Result, Ok, Err, ok_or, refl, sym, ap, subst}
+use Rattle.std.proofs.Common.{◌≡◌, ◌∙◌, ℕ, ◌<◌, ◌≤◌, ◌&&◌, Bool, true, List, [], ◌∷◌, Option, Some, None, IsSome, Result, Ok, Err, ok_or, slice_index_or, refl, sym, ap, subst, arith}
 use Rattle.std.proofs.Math.Logic.{∥∥₁_elim}
 use Rattle.std.proofs.Props.{props}
+use Rattle.std.proofs.lemmas.Bool.{and_parts}
+use Rattle.std.specs.Prelude.{nat_le}
 use Rattle.std.specs.List.{AllByRecursion, list_all}
 use Rattle.std.specs.Option.{IsSomeAnd, option_and_then, option_map, option_or, unwrap_or}
 use Rattle.spv_base.specs.Entries.{reads}
-use Rattle.spv_base.specs.Lane.{IsLane, Lane}
+use Rattle.spv_base.specs.Lane.{IsLane, Lane, undefined_lane}
+use Rattle.spv_effects.specs.Lanes.{lane_of, of_lanes}
+use Rattle.spv_values.proofs.RowLemmas.{scalar_leaf}
 use Rattle.spv_base.specs.declared.instructions.Inst.{Inst}
 use Rattle.spv_base.specs.declared.values.Pointer.{Pointer as Reference}
 use Rattle.spv_base.specs.declared.values.Root.{Root}
@@ -15,12 +19,14 @@ use Rattle.spv_types.specs.declared.forms.Form.TheVariants.{Int}
 use Rattle.spv_types.specs.declared.queries.Pointed.{Pointed}
 use Rattle.spv_types.specs.Laws.{AreSound}
 use Rattle.spv_types.specs.Rows.{no_roots}
+use Rattle.spv_types.specs.Rules.{is_width}
 use Rattle.spv_types.specs.Shapes.{HasShape, IsScalar, LeadsTo, reached, scalar_in}
 use Rattle.spv_types.specs.Types.{Types, form_of}
 use Rattle.spv_types.proofs.ShapeLemmas.{shapes_are_by_forms}
 use Rattle.spv_alu.specs.Integers.{IsWidth}
+use Rattle.spv_bodies.specs.Atomics.{KeepsAtomicCompare, KeepsAtomicRead, KeepsAtomicStore, KeepsAtomicUpdate}
 use Rattle.spv_bodies.specs.Bodies.{KeepsRule}
-use Rattle.spv_bodies.specs.Context.{IsPointerTo, PointsTo, form_at}
+use Rattle.spv_bodies.specs.Context.{HasType, IsPointerTo, PointsTo, form_at, type_at}
 use Rattle.spv_bodies.specs.Rules.{atomic_rule, composite_rule, control_rule, memory_rule, other_rule, rule_of}
 use Rattle.spv_mem.specs.Conditions.{integer_width, width_at}
 use Rattle.spv_mem.specs.Memory.{Held as Memory, IsMemory, IsScalarAt, MayStore, id_in, load_of}
@@ -30,15 +36,16 @@ use Rattle.spv_valid.specs.Acceptance.{Accepted}
 use Rattle.spv_initial.specs.Start.{variables}
 use Rattle.spv_initial.specs.Variables.{targets_of}
 use Rattle.spv_operands.specs.Shapes.{target_in}
-use Rattle.spv_results.specs.Operands.{known}
-use Rattle.spv_results.proofs.LaneTypes.{width_fits}
+use Rattle.spv_results.specs.Operands.{IsOperand, IsResult, known}
+use Rattle.spv_results.proofs.OperandTypes.{HasForm, form_has_type}
 use Rattle.spv_results.proofs.ShapeProps.{shape_prop}
 use Rattle.spv_state.specs.Actions.{atomic_op, atomics}
 use Rattle.spv_state.specs.declared.actions.AtomicOp.{AtomicOp}
 use Rattle.spv_state.specs.declared.actions.AtomicOp.TheVariants as atomic
-use Rattle.spv_actions.specs.AtomicSites.{IsTarget, KeepsRow, LeadsToInteger}
+use Rattle.spv_actions.specs.AtomicSites.{IsIntegerAt, IsTarget, KeepsRow, LeadsToInteger}
 use Rattle.spv_actions.specs.Atomics.{atomic_row}
 use Rattle.spv_actions.specs.Effects.{pointer}
+use Rattle.spv_actions.specs.Fits.{StoreFits}
 use Rattle.spv_actions.specs.Sites.{IsShaped, IsSite, Site, accepted}
 use Rattle.spv_actions.proofs.AccessLemmas.{leads_there, part_shape, targets_are, types_are}
 use Rattle.spv_actions.proofs.ComputationLemmas.{key_passes, read_there}
@@ -111,8 +118,17 @@ pub one_width : (ts : Types) (ty width sign : ℕ) (c d : Lane) → AreSound ts 
 one_width ts ty width sign c d sound is first second =
     (scalar_shape ts no_roots ty width sign c sound is first).0 ∙ sym (scalar_shape ts no_roots ty width sign d sound is second).0
 
+width_fits : (w : ℕ) → is_width w ≡ true → IsWidth w
+width_fits w h = (some w h, narrow w h)
+  where
+    some : (w : ℕ) → is_width w ≡ true → 0 < w
+    some w h = grind arith
+
+    narrow : (w : ℕ) → is_width w ≡ true → w ≤ 64
+    narrow w h = grind arith
+
 integer_fits : (ts : Types) (ty width sign : ℕ) → AreSound ts → form_of ts ty ≡ Some (Int width sign) → IsWidth width
-integer_fits ts ty width sign sound is = width_fits width sign (sound.kept ty (Int width sign) is)
+integer_fits ts ty width sign sound is = width_fits width (and_parts (is_width width) (nat_le sign 1) (sound.kept ty (Int width sign) is)).0
 
 then_is : (f g : ℕ → Option ℕ) (o : Option ℕ) (t : ℕ) → option_and_then f o ≡ Some t → option_and_then (λ (y : ℕ). option_and_then g (f y)) o ≡ g t
 then_is f g None t h = absurd (cc)
@@ -158,3 +174,57 @@ module _ (x : Site) (sound : AreSound (accepted x).types) (memory : ∥ IsMemory
         typed = λ p points.
           subst (λ (ty : ℕ). HasShape (accepted x).types no_roots ty (Scalar old)) (one_target (form_at (known (accepted x)) x.inst 0) rule.0 p rule.1 points) shape;
       }
+
+-- ---- scalars as lanes
+
+pub one_scalar : (c : Lane) → of_lanes (c ∷ []) ≡ Scalar c
+unfolding of_lanes
+one_scalar c = refl
+
+pub lane_scalar : (v : Value) (c : Lane) → v ≡ Scalar c → lane_of v ≡ c
+lane_scalar v c is = ap lane_of is ∙ ap (λ (ls : List Lane). slice_index_or ls 0 (undefined_lane 0)) (scalar_leaf c)
+
+-- an operand of an integer type is a scalar
+pub scalar_operand : (a : Accepted) (d : Inst) (n : ℕ) (v : Value) → AreSound a.types → IsIntegerAt a d n → IsOperand a d n v → IsSome (scalar_in (out-Value v))
+scalar_operand a d n v sound integer operand =
+    let form : HasForm a.types (type_at (known a) d n) (Int integer.0 integer.1) = form_has_type a.types (type_at (known a) d n) (Int integer.0 integer.1) integer.2 in
+    let scalar : IsScalar integer.0 v = (shapes_are_by_forms a.types no_roots sound form.type (Int integer.0 integer.1) v form.form).0 (operand form.type form.is) in
+    some_scalar (scalar_in (out-Value v)) scalar
+  where
+    some_scalar : (o : Option Lane) → IsSomeAnd o (λ d. (d.width ≡ integer.0) × IsLane d) → IsSome o
+    some_scalar None h = absurd h
+    some_scalar (Some c) h = refl
+
+-- ---- by the rules
+
+pub read_leads : (a : Accepted) (d : Inst) → KeepsAtomicRead (known a) d → LeadsToInteger a d
+read_leads a d rule = (rule.0, rule.1, rule.2.0)
+
+pub store_leads : (a : Accepted) (d : Inst) → KeepsAtomicStore (known a) d → LeadsToInteger a d
+store_leads a d rule = (rule.0, rule.1, rule.2.0)
+
+pub update_leads : (a : Accepted) (d : Inst) → KeepsAtomicUpdate (known a) d → LeadsToInteger a d
+update_leads a d rule = (rule.0, rule.1, rule.2.0)
+
+pub compare_leads : (a : Accepted) (d : Inst) → KeepsAtomicCompare (known a) d → LeadsToInteger a d
+compare_leads a d rule = (rule.0, rule.1, rule.2.0)
+
+-- an operand of the type to which the pointer leads is an integer
+pub integer_at : (a : Accepted) (d : Inst) (n : ℕ) (rule : LeadsToInteger a d) → HasType (known a) d n rule.0.target → IsIntegerAt a d n
+integer_at a d n rule type = (rule.2.1.0, rule.2.1.1, ap (option_and_then (form_of a.types)) type ∙ rule.2.1.2)
+
+module _ (x : Site) (sound : AreSound (accepted x).types) (rule : LeadsToInteger (accepted x) x.inst) (t : Reference × Lane) (is : IsTarget x t) where
+  -- it has the width of the integer there
+  pub value_width : (n : ℕ) (c : Lane) → HasType (known (accepted x)) x.inst n rule.0.target → IsOperand (accepted x) x.inst n (Scalar c) → c.width ≡ t.1.width
+  value_width n c type operand = one_width (accepted x).types rule.0.target rule.2.1.0 rule.2.1.1 c t.1 sound rule.2.1.2 (operand rule.0.target type) (is.typed rule.0 rule.1)
+
+  -- and so has the result
+  pub old_result : rule.0.target ≡ x.inst.ty → IsResult (accepted x) x.inst (Scalar t.1)
+  old_result same = subst (λ (ty : ℕ). HasShape (accepted x).types no_roots ty (Scalar t.1)) same (is.typed rule.0 rule.1)
+
+-- another integer of its width may be stored
+pub exchange_fits : (x : Site) (t : Reference × Lane) (is : IsTarget x t) (memory : ∥ IsMemory x.state.memory ∥₁) (new : Lane) (v : Value) → v ≡ Scalar new → IsLane new → new.width ≡ t.1.width → StoreFits x.state x.inv (Some (t.0, v))
+exchange_fits x t is memory new v put lane width = (
+      subst (λ (o : Option Value). IsSome o) (sym is.there) refl,
+      subst (λ (u : Value). ∥ MayStore x.state.memory x.inv t.0 u ∥₁) (sym put) (may_if x.state.memory t.0 (Some t.1.width) memory (sym is.leads) x.inv new width lane),
+    )

@@ -49,10 +49,10 @@ fails_with p q NoMemory each h = tt
 -- ---- the first of three operands
 
 module _ (x : Site) where
-  third : Value → Value → Result Value Cause
+  abbrev pub third : Value → Value → Result Value Cause
   third v u = operand x 2 >>= (λ (w : Value). Ok v)
 
-  second : Value → Result Value Cause
+  abbrev pub second : Value → Result Value Cause
   second v = operand x 1 >>= third v
 
   pub first_ok : (v u w : Value) → operand x 0 ≡ Ok v → operand x 1 ≡ Ok u → operand x 2 ≡ Ok w → first_of_three x ≡ Ok v
@@ -77,7 +77,7 @@ module _ (x : Site) where
 
   -- ---- where the pointer leads
 
-  there : Reference → Result (Reference × Lane) Cause
+  abbrev pub there : Reference → Result (Reference × Lane) Cause
   there q = loaded x.state x.inv q >>= (λ (v : Value). Ok (q, lane_of v))
 
   pub target_ok : (at v : Value) (q : Reference) (c : Lane) → pointer at ≡ Ok q → load_of x.state.memory x.inv q ≡ Some v → lane_of v ≡ c → target x at ≡ Ok (q, c)
@@ -96,10 +96,10 @@ module _ (x : Site) where
 
   -- ---- effects at the scalar to which the pointer leads
 
-  abbrev Done : Type 0
+  abbrev pub Done : Type 0
   Done = Reference × Lane → spec.Effect
 
-  after : Done → Value → Result spec.Effect Cause
+  abbrev pub after : Done → Value → Result spec.Effect Cause
   after e at = target x at >>= (λ (t : Reference × Lane). Ok (e t))
 
   after_ok : (e : Done) (at : Value) (t : Reference × Lane) → target x at ≡ Ok t → after e at ≡ Ok (e t)
@@ -123,7 +123,7 @@ module _ (x : Site) where
     reads_target at cause h g = ok_then (first_of_three x) (after e) at h ∙ after_err e at cause g
 
   -- by the value too
-  with_value : (Lane → Done) → Value → Result spec.Effect Cause
+  abbrev pub with_value : (Lane → Done) → Value → Result spec.Effect Cause
   with_value e at = scalar x 3 >>= (λ (v : Lane). after (e v) at)
 
   abbrev pub takes : (Lane → Done) → Result spec.Effect Cause
@@ -147,10 +147,10 @@ module _ (x : Site) where
       takes_target v cause h g = takes_at ∙ ok_then (scalar x 3) (λ (v : Lane). after (e v) at) v h ∙ after_err (e v) at cause g
 
   -- by the value and the comparator
-  with_comparator : (Lane → Lane → Done) → Value → Lane → Result spec.Effect Cause
+  abbrev pub with_comparator : (Lane → Lane → Done) → Value → Lane → Result spec.Effect Cause
   with_comparator e at v = scalar x 5 >>= (λ (c : Lane). after (e v c) at)
 
-  with_both : (Lane → Lane → Done) → Value → Result spec.Effect Cause
+  abbrev pub with_both : (Lane → Lane → Done) → Value → Result spec.Effect Cause
   with_both e at = operand x 3 >>= (λ (_ : Value). scalar x 4 >>= with_comparator e at)
 
   abbrev pub compares_by : (Lane → Lane → Done) → Result spec.Effect Cause

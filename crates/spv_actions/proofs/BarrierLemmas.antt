@@ -59,7 +59,7 @@ module _ (law : RulesAreTested) (x : Site) (m : Accepted) (same : m ≡ accepted
 
 -- the module keeps what is asked of the wait
 pub barrier_waits : (x : Site) → ∥ IsSite x ∥₁ → action_of x.inst ≡ ControlBarrier → ControlFits (accepted x) x.inst Wait
-barrier_waits x site is = (x.inst, (there, acting x.inst ControlBarrier is))
+barrier_waits x site is = (x.inst, there, acting x.inst ControlBarrier is)
   where
     there : at (accepted x).insts x.inst.word ≡ Some x.inst
     there = ∥∥₁_elim site (hlevel (props, codes)) (λ (s : IsSite x). ap (at (accepted x).insts) (at_word (accepted x).insts x.frame.pc x.inst s.stands) ∙ s.stands)

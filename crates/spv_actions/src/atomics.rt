@@ -244,6 +244,7 @@ fn update(site: &Site, operation: AtomicOp, row: &mut Row) -> Result<Effect, Fai
     ensures fits { PlannedFits site.now.program site.now.state site.now.inv site.now.inst row.new result }
     ensures taken { IfOk result (λ e. IsTaken site.now.state site.now.inv e row.new) }
 {
+    let _insts = site.accepted().insts();
     let at = first_of_three(site)?;
     let value = scalar(site, 3)?;
     let target = target(site, &at)?;
@@ -260,6 +261,7 @@ fn compare_exchange(site: &Site, row: &mut Row) -> Result<Effect, Fail<Cause>>
     ensures fits { PlannedFits site.now.program site.now.state site.now.inv site.now.inst row.new result }
     ensures taken { IfOk result (λ e. IsTaken site.now.state site.now.inv e row.new) }
 {
+    let _insts = site.accepted().insts();
     let at = first_of_three(site)?;
     let _unequal = site.operand(3)?;
     let value = scalar(site, 4)?;

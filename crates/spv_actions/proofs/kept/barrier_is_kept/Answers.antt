@@ -1,5 +1,5 @@
 use Rattle.spv_actions.proofs.BarrierLemmas.{barrier_waits}
 use Rattle.spv_actions.proofs.kept.barrier_is_kept.Goals as goal
 
-pub returns-clause : goal.returns-clause
-returns-clause c = barrier_waits c.args.site.now c.is_reached.ensures c.requires
+pub returns : goal.returns
+returns c = barrier_waits c.args.site.now c.is_reached.ensures c.requires
