@@ -26,3 +26,6 @@ pub mod PhiLemmas
 pub mod SwitchLemmas
 pub mod LeadingLemmas
 pub mod BranchLemmas
+pub mod AtomicLemmas
+pub mod AtomicSteps
+pub mod BarrierLemmas

@@ -5,6 +5,9 @@ pub mod Chains
 pub mod Lengths
 pub mod Phis
 pub mod Branches
+pub mod Atomics
+pub mod AtomicSites
+pub mod Barriers
 pub mod Instructions
 pub mod Fits
 pub mod Kept

@@ -9,6 +9,8 @@ ghost use Rattle.spv_state.specs.State as state;
 use crate::calls::{call, return_value};
 use crate::accesses::{copy_memory, load, store};
 use crate::branches::{branch, branch_conditional, switch};
+use crate::atomics::atomic;
+use crate::barriers::{control_barrier, memory_barrier};
 use spv_state::Action;
 use crate::causes::Cause;
 use crate::chains::chain;
@@ -104,9 +106,9 @@ pub fn effect_at(
         Action::Call => call(&site),
         Action::ReturnValue => return_value(&site, row),
         Action::Unreachable => Err(Fail::Refused(Cause::Unreachable)),
-        Action::ControlBarrier => Err(Fail::Refused(Cause::Unreachable)),
-        Action::MemoryBarrier => Err(Fail::Refused(Cause::Unreachable)),
-        Action::Atomic(_operation) => Err(Fail::Refused(Cause::Unreachable)),
+        Action::ControlBarrier => control_barrier(&site, row),
+        Action::MemoryBarrier => memory_barrier(&site, row),
+        Action::Atomic(operation) => atomic(&site, operation, row),
         Action::Other => Err(Fail::Refused(Cause::Unreachable)),
     }
 }

@@ -4,6 +4,8 @@
 mod accesses;
 mod calls;
 mod branches;
+mod atomics;
+mod barriers;
 pub mod causes;
 mod chains;
 mod computing;
