@@ -10,6 +10,12 @@ pub mod SiteLemmas
 pub mod KeptLemmas
 pub mod EffectLemmas
 pub mod AccessLemmas
+pub mod IndexLemmas
+pub mod ChainLemmas
+pub mod MemoryKept
+pub mod LengthLemmas
+pub mod CopyLemmas
+pub mod KeepsFrames
 pub mod ControlCodes
 pub mod TargetLemmas
 pub mod PhiLemmas

@@ -9,9 +9,11 @@ use Rattle.spv_state.specs.Program.{Program}
 use Rattle.spv_state.specs.State.{State, depth_of}
 use Rattle.spv_state.specs.declared.actions.Action.{Action}
 use Rattle.spv_state.specs.declared.actions.Action.TheVariants.{Compute, Load, Store, CopyMemory, Chain, ArrayLength, Branch, BranchConditional, Switch, Call, Return, ReturnValue, Unreachable, ControlBarrier, MemoryBarrier, Atomic, Other}
-use Rattle.spv_actions.specs.Accesses.{load_effect, store_effect}
+use Rattle.spv_actions.specs.Accesses.{copy_memory_effect, load_effect, store_effect}
 use Rattle.spv_actions.specs.Branches.{branch_conditional_effect, branch_effect, switch_effect}
+use Rattle.spv_actions.specs.Chains.{chain_effect}
 use Rattle.spv_actions.specs.Effects.{Effect, Leave, ◌>>=◌, gives, goes}
+use Rattle.spv_actions.specs.Lengths.{length_effect}
 use Rattle.spv_actions.specs.declared.causes.Cause.{Cause}
 use Rattle.spv_actions.specs.declared.causes.Cause.TheVariants.{NoValue, Unreachable as Stops}
 
@@ -24,9 +26,9 @@ abbrev pub row : Program → State → ℕ → Frame → Inst → Action → Res
 row p s i f d (Compute c) = compute_effect p s i f d
 row p s i f d Load = load_effect p s i f d
 row p s i f d Store = store_effect p s i f d
-row p s i f d CopyMemory = Err Stops
-row p s i f d Chain = Err Stops
-row p s i f d ArrayLength = Err Stops
+row p s i f d CopyMemory = copy_memory_effect p s i f d
+row p s i f d Chain = chain_effect p s i f d
+row p s i f d ArrayLength = length_effect p s i f d
 row p s i f d Branch = branch_effect p s i f d
 row p s i f d BranchConditional = branch_conditional_effect p s i f d
 row p s i f d Switch = switch_effect p s i f d

@@ -1,5 +1,7 @@
 pub mod Effects
 pub mod Accesses
+pub mod Chains
+pub mod Lengths
 pub mod Phis
 pub mod Branches
 pub mod Instructions

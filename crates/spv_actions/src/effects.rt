@@ -6,11 +6,13 @@ ghost use Rattle.spv_actions.specs.Instructions as spec;
 ghost use Rattle.spv_state.specs.Sound.{IsSound};
 ghost use Rattle.spv_state.specs.State as state;
 
-use crate::accesses::{load, store};
+use crate::accesses::{copy_memory, load, store};
 use crate::branches::{branch, branch_conditional, switch};
 use spv_state::Action;
 use crate::causes::Cause;
+use crate::chains::chain;
 use crate::computing::compute;
+use crate::lengths::array_length;
 use spv_state::Runnable;
 use crate::sites::Site;
 use spv_state::Whole;
@@ -92,17 +94,18 @@ pub fn effect_at(
             gain: Gain::Nothing,
             control: Control::Leave,
         }),
-        Action::CopyMemory | Action::Chain | Action::ArrayLength => {
-            Err(Fail::Refused(Cause::Unreachable))
-        }
+        Action::CopyMemory => copy_memory(&site, row),
+        Action::Chain => chain(&site),
+        Action::ArrayLength => array_length(&site, row),
         Action::Branch => branch(&site),
         Action::BranchConditional => branch_conditional(&site),
         Action::Switch => switch(&site),
+        Action::Call => Err(Fail::Refused(Cause::Unreachable)),
+        Action::ReturnValue => Err(Fail::Refused(Cause::Unreachable)),
         Action::Unreachable => Err(Fail::Refused(Cause::Unreachable)),
-        Action::Call | Action::ReturnValue => Err(Fail::Refused(Cause::Unreachable)),
-        Action::ControlBarrier | Action::MemoryBarrier | Action::Atomic(_) => {
-            Err(Fail::Refused(Cause::Unreachable))
-        }
+        Action::ControlBarrier => Err(Fail::Refused(Cause::Unreachable)),
+        Action::MemoryBarrier => Err(Fail::Refused(Cause::Unreachable)),
+        Action::Atomic(_operation) => Err(Fail::Refused(Cause::Unreachable)),
         Action::Other => Err(Fail::Refused(Cause::Unreachable)),
     }
 }

@@ -4,6 +4,7 @@
 mod accesses;
 mod branches;
 pub mod causes;
+mod chains;
 mod computing;
 mod computing_composites;
 mod computing_lanes;
@@ -11,6 +12,7 @@ pub mod effects;
 mod kept;
 mod kept_control;
 mod phis;
+mod lengths;
 pub mod sites;
 mod switches;
 

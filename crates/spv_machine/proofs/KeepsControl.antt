@@ -15,7 +15,7 @@ use Rattle.spv_state.specs.State.{State, on_frame, on_frames, set_status, top_of
 use Rattle.spv_machine.specs.Step.{go, next_of}
 use Rattle.spv_actions.specs.declared.effects.Control.TheVariants.{Next, Leave}
 use Rattle.spv_machine.proofs.Calls.{no_call}
-use Rattle.spv_machine.proofs.KeepsFrames.{moved_kept}
+use Rattle.spv_actions.proofs.KeepsFrames.{moved_kept}
 use Rattle.spv_machine.proofs.KeepsStacks.{AreSoundStacks, one_changed, top_kept}
 use Rattle.spv_state.proofs.Known.{IsKnown}
 use Rattle.spv_state.proofs.Lists.{change_none, length_change, set_is_change}

@@ -1,6 +1,5 @@
 pub mod Calls
 pub mod KeepsStacks
-pub mod KeepsFrames
 pub mod KeepsStore
 pub mod KeepsControl
 pub mod ReachedLemmas

@@ -27,7 +27,7 @@ use Rattle.spv_actions.specs.declared.effects.Control.TheVariants.{Next, Leave}
 use Rattle.spv_actions.specs.declared.effects.Gain.{Gain}
 use Rattle.spv_actions.specs.declared.effects.Gain.TheVariants.{Nothing, Row, Pointer as PointerTo}
 use Rattle.spv_machine.proofs.KeepsControl.{frame_kept, left_kept, next_kept}
-use Rattle.spv_machine.proofs.KeepsFrames.{RegisterFits, register_kept, register_stays}
+use Rattle.spv_actions.proofs.KeepsFrames.{RegisterFits, register_kept, register_stays}
 use Rattle.spv_machine.proofs.KeepsStacks.{top_kept}
 use Rattle.spv_machine.proofs.KeepsStore.{store_kept}
 use Rattle.spv_state.proofs.Known.{IsKnown}

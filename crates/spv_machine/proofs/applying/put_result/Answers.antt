@@ -1,7 +1,7 @@
 use Rattle.spv_state.proofs.Known.{IsKnown, known_as}
 use Rattle.spv_machine.proofs.Outcomes.{reached_frame, reached_inside}
 use Rattle.spv_machine.proofs.ReachedLemmas.{result_shape}
-use Rattle.spv_machine.proofs.execution.put_result.Goals as goal
+use Rattle.spv_machine.proofs.applying.put_result.Goals as goal
 
 pub set_value-requires-clause-frame : goal.set_value-requires-clause-frame
 set_value-requires-clause-frame c =

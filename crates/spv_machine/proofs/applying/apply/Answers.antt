@@ -5,7 +5,7 @@ use Rattle.spv_machine.specs.Reached.{IsReached}
 use Rattle.spv_state.specs.State.{State}
 use Rattle.spv_state.proofs.Known.{IsKnown, known_as}
 use Rattle.spv_machine.proofs.ReachedLemmas.{same_gain, set_reached, stored_reached}
-use Rattle.spv_machine.proofs.execution.apply.Goals as goal
+use Rattle.spv_machine.proofs.applying.apply.Goals as goal
 
 pub put_result-requires-clause-reached : goal.put_result-requires-clause-reached
 put_result-requires-clause-reached c =

@@ -4,7 +4,7 @@ use Rattle.spv_machine.specs.Step.{go, next_of}
 use Rattle.spv_actions.specs.declared.effects.Control.{Control}
 use Rattle.spv_machine.proofs.Outcomes.{moved_is}
 use Rattle.spv_machine.proofs.ReachedLemmas.{word_is}
-use Rattle.spv_machine.proofs.execution.go.Goals as goal
+use Rattle.spv_machine.proofs.applying.go.Goals as goal
 
 pub returns-in-Next : goal.returns-in-Next
 returns-in-Next c =
