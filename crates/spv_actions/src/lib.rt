@@ -11,8 +11,8 @@ mod computing_lanes;
 pub mod effects;
 mod kept;
 mod kept_control;
-mod phis;
 mod lengths;
+mod phis;
 pub mod sites;
 mod switches;
 
