@@ -2,7 +2,10 @@
 #![tactic(auto)]
 
 mod accesses;
+mod calls;
 mod branches;
+mod atomics;
+mod barriers;
 pub mod causes;
 mod chains;
 mod computing;
@@ -10,8 +13,9 @@ mod computing_composites;
 mod computing_lanes;
 pub mod effects;
 mod kept;
-mod kept_control;
+mod kept_calls;
 mod lengths;
+mod kept_control;
 mod phis;
 pub mod sites;
 mod switches;

@@ -1,6 +1,8 @@
 //! Instructions where runs have come to them, and their operands.
 ghost use Rattle.std.specs.Prelude.{◌≡◌, ◌<◌, IfOk, IfSome, None, Some, length, option_map, true};
+ghost use Rattle.std.specs.List.{Contains};
 ghost use Rattle.std.specs.Result.{result_map_both};
+ghost use Rattle.spv_plans.specs.Plans.{functions_in, plan_of};
 ghost use Rattle.spv_index.specs.Definitions.{at, result_type};
 ghost use Rattle.spv_actions.specs.Sites as spec;
 ghost use Rattle.spv_actions.specs.Sites.{Finds, is_data_at};
@@ -10,16 +12,18 @@ ghost use Rattle.spv_operands.specs.Operands.{IsPlain, pointer_of, referred, sho
 ghost use Rattle.spv_results.specs.Operands.{IsOperand};
 
 use crate::causes::Cause;
+use spv_state::Runnable;
+use spv_state::{Whole, plan_in};
 use spv_base::{Fail, Inst, NoMemory, Pointer};
-use spv_frame::Frame;
+use spv_frame::{Frame, Plan};
 use spv_mem::Memory;
 use spv_operands::laws::operands_have_shapes;
 use spv_operands::{Operand, Reference, operand as operand_by, operand_of};
-use spv_state::{Runnable, Whole};
 use spv_valid::Module;
 use spv_values::Part;
 use std::alloc::Global;
 use std::marker::Model;
+use std::rc::Rc;
 
 /// An instruction that the top frame of an invocation has come to, in a sound state.
 #[derive(Drop)]
@@ -138,6 +142,21 @@ impl<'a> Site<'a> {
         ensures { result.now ≡ self.now.program.accepted }
     {
         self.m.accepted()
+    }
+
+    /// The module, with its setup.
+    pub fn program(&self) -> &'a Runnable
+        ensures { result.now ≡ self.now.program }
+    {
+        self.m
+    }
+
+    /// The plan of a function of the module. In constant time.
+    pub fn plan(&self, function: u32) -> &'a Rc<Plan>
+        requires { ∥ Contains (functions_in self.now.program.accepted) function ∥₁ }
+        ensures { result.now.value ≡ plan_of self.now.program.accepted function }
+    {
+        plan_in(self.m.accepted(), self.w.plans(), function)
     }
 
     /// The instruction.
