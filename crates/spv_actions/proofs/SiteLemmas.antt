@@ -52,10 +52,10 @@ module _ (law : RulesAreTested) (x : Site) (m : Accepted) (same : m ≡ accepted
   runs : ∥ Runs (accepted x) x.inst ∥₁
   runs = site_runs x (subst (λ (a : Accepted). ∥ IsAccepted a ∥₁) same accepts) (subst (λ (a : Accepted). ∥ IsValid a ∥₁) same valid) site
 
-  body : is_plain_code x.inst.op ≡ true → KeepsBody (known (accepted x)) (alone x.inst)
+  pub body : is_plain_code x.inst.op ≡ true → KeepsBody (known (accepted x)) (alone x.inst)
   body plain = rule_kept law (accepted x) x.inst runs (plain_own x.inst.op plain)
 
-  plain_next : is_plain_code x.inst.op ≡ true → ControlFits (accepted x) x.inst Next
+  pub plain_next : is_plain_code x.inst.op ≡ true → ControlFits (accepted x) x.inst Next
   plain_next plain = runs_on (accepted x) x.inst runs (plain_open (sets_of (accepted x).insts) x.inst plain)
 
   pub computed_keeps : (c : Computation) → computation_of x.inst ≡ Some c → Keeps (accepted x) x.inst c
