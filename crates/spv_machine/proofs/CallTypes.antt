@@ -21,9 +21,7 @@ use Rattle.spv_sections.specs.Laws.{IsInOrder}
 use Rattle.spv_types.specs.declared.forms.Form.TheVariants.{Function}
 use Rattle.spv_bodies.specs.Bodies.{KeepsBody, KeepsRule}
 use Rattle.spv_bodies.specs.Calls.{KeepsCall, KeepsFunction, callee_form, form_by, function_form}
-use Rattle.spv_bodies.specs.Context.{Known}
-use Rattle.spv_bodies.specs.Places.{nowhere, place, placed_from, within_after}
-use Rattle.spv_bodies.specs.declared.within.Within.{Within}
+use Rattle.spv_bodies.specs.Places.{nowhere}
 use Rattle.spv_bodies.specs.Rules.{atomic_rule, composite_rule, control_rule, memory_rule, other_rule, rule_of}
 use Rattle.spv_bodies.specs.declared.rules.Rule.{Rule}
 use Rattle.spv_bodies.specs.declared.rules.Rule.TheVariants.{Control}
@@ -35,13 +33,9 @@ use Rattle.spv_state.specs.Sound.{StandsIn}
 use Rattle.spv_state.proofs.Known.{IsKnown}
 use Rattle.spv_state.proofs.Lists.{each_at}
 use Rattle.spv_state.proofs.Standing.{Standing, at_standing, standing}
-use Rattle.spv_actions.proofs.RunLemmas.{IsKept, Runs, runs_there}
+use Rattle.spv_actions.proofs.RunLemmas.{IsKept, Runs, each_kept, runs_there}
 
 -- ---- the rule of a function
-
-each_kept : (k : Known) (w : Within) (is : List Inst) → AllByRecursion (KeepsBody k) (placed_from w is) → AllByRecursion (IsKept k) is
-each_kept k w [] kept = tt
-each_kept k w (i ∷ is) kept = (record { placed = place i w is; same = refl; keeps = kept.0 }, each_kept k (within_after w i) is kept.1)
 
 first_kept : (a : Accepted) (is : List Inst) (n : ℕ) (i : Inst) → AllByRecursion (IsKept (known a)) (drop (length (before_functions is)) is) → slice_get is n ≡ Some i → i.op ≡ 54 → IsKept (known a) i
 unfolding before_functions

@@ -7,4 +7,7 @@ pub mod KeepsJumps
 pub mod KeepsCalls
 pub mod KeepsBarriers
 pub mod ReachedLemmas
+pub mod Leaves
+pub mod Phis
+pub mod Applied
 pub mod Outcomes

@@ -5,7 +5,8 @@ use Rattle.spv_actions.specs.Planned.{gained, shown}
 use Rattle.spv_state.specs.State.{State}
 use Rattle.spv_machine.specs.Reached.{IsReached}
 use Rattle.spv_machine.specs.Step.{stored_at}
-use Rattle.spv_machine.proofs.ReachedLemmas.{Facts, applied_is, event_is, facts, given_behind, held_behind, set_reached, stored_reached}
+use Rattle.spv_machine.proofs.Applied.{applied_is, event_is}
+use Rattle.spv_machine.proofs.ReachedLemmas.{Facts, facts, given_behind, held_behind, set_reached, stored_reached}
 use Rattle.spv_machine.proofs.applying.apply.Goals as goal
 
 pub put_result-requires-clause-reached : goal.put_result-requires-clause-reached

@@ -1,4 +1,5 @@
-use Rattle.spv_machine.proofs.ReachedLemmas.{Facts, facts, given_plain}
+use Rattle.spv_machine.proofs.Leaves.{given_plain}
+use Rattle.spv_machine.proofs.ReachedLemmas.{Facts, facts}
 use Rattle.spv_machine.proofs.applying.go.Goals as goal
 
 pub leave-requires-in-Give-clause-held : goal.leave-requires-in-Give-clause-held

@@ -5,7 +5,8 @@ use Rattle.spv_valid.specs.Acceptance.{Accepted}
 use Rattle.spv_actions.specs.declared.effects.PhiValue.{PhiValue}
 use Rattle.spv_state.specs.State.{on_frame, with_registers}
 use Rattle.spv_machine.specs.Step.{first_of}
-use Rattle.spv_machine.proofs.ReachedLemmas.{Facts, facts, jump_first, jump_is}
+use Rattle.spv_machine.proofs.Phis.{jump_first, jump_is}
+use Rattle.spv_machine.proofs.ReachedLemmas.{Facts, facts}
 use Rattle.spv_machine.proofs.applying.jump.Goals as goal
 
 pub first_word-requires : goal.first_word-requires

@@ -10,7 +10,8 @@ use Rattle.spv_statuses.specs.declared.invocations.Status.TheVariants.{Finished,
 use Rattle.spv_machine.specs.Reached.{IsReached}
 use Rattle.spv_machine.specs.Step.{go_on, put_result}
 use Rattle.spv_machine.proofs.Outcomes.{reached_inside}
-use Rattle.spv_machine.proofs.ReachedLemmas.{CalledBy, Facts, LeftAt, facts, left_finished, left_to, levels_inside}
+use Rattle.spv_machine.proofs.Leaves.{CalledBy, LeftAt, left_finished, left_to}
+use Rattle.spv_machine.proofs.ReachedLemmas.{Facts, facts, levels_inside}
 use Rattle.spv_machine.proofs.applying.leave.Goals as goal
 
 pub leave-requires-clause-stacks : goal.leave-requires-clause-stacks

@@ -1,5 +1,5 @@
 use Rattle.spv_machine.proofs.Outcomes.{reached_frame}
-use Rattle.spv_machine.proofs.ReachedLemmas.{phi_shape}
+use Rattle.spv_machine.proofs.Phis.{phi_shape}
 use Rattle.spv_machine.proofs.applying.put_phi.Goals as goal
 
 pub set_value-requires-clause-frame : goal.set_value-requires-clause-frame

@@ -3,7 +3,8 @@ use Rattle.std.proofs.lemmas.Option.{slice_get-get_or}
 use Rattle.spv_actions.specs.Planned.{phi_value}
 use Rattle.spv_actions.specs.declared.effects.PhiValue.{PhiValue}
 use Rattle.spv_state.specs.State.{on_frame, with_registers}
-use Rattle.spv_machine.proofs.ReachedLemmas.{Facts, facts, phis_end, phis_next}
+use Rattle.spv_machine.proofs.Phis.{phis_end, phis_next}
+use Rattle.spv_machine.proofs.ReachedLemmas.{Facts, facts}
 use Rattle.spv_machine.proofs.applying.put_phis.Goals as goal
 
 pub loop-number-preserved : goal.loop-number-preserved

@@ -1,7 +1,7 @@
 use Rattle.std.proofs.Common.{map}
 use Rattle.spv_actions.specs.Planned.{phi_value}
 use Rattle.spv_state.specs.State.{on_frame, with_registers}
-use Rattle.spv_machine.proofs.ReachedLemmas.{PhisGoing}
+use Rattle.spv_machine.proofs.Phis.{PhisGoing}
 use Rattle.spv_machine.proofs.applying.put_phis.Given as goal
 
 -- those so far have their values

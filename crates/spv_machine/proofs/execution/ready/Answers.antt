@@ -2,7 +2,8 @@ use Rattle.std.proofs.Common.{◌∙◌, ap, length, sym, subst}
 use Rattle.spv_actions.specs.Planned.{shown}
 use Rattle.spv_state.specs.Sound.{IsSound}
 use Rattle.spv_state.specs.State.{State}
-use Rattle.spv_machine.proofs.ReachedLemmas.{Facts, applied_count, applied_sound, facts}
+use Rattle.spv_machine.proofs.Applied.{applied_count, applied_sound}
+use Rattle.spv_machine.proofs.ReachedLemmas.{Facts, facts}
 use Rattle.spv_machine.proofs.execution.ready.Goals as goal
 
 pub returns-in-Ok-clause-sound : goal.returns-in-Ok-clause-sound

@@ -1,0 +1,119 @@
+-- An effect that fits is the definition's, piece by piece, and leaves a sound state.
+use Rattle.std.proofs.Common.{◌≡◌, ◌∙◌, ℕ, Bool, true, false, Option, Some, None, length, length-set, slice_set, refl, sym, ap, subst}
+use Rattle.std.proofs.lemmas.List.{length-replicate}
+use Rattle.std.specs.Prelude.{if◌then◌else◌}
+use Rattle.std.specs.Option.{option_map}
+use Rattle.spv_base.specs.Entries.{reads}
+use Rattle.spv_base.specs.declared.happenings.Happening.{Happening}
+use Rattle.spv_base.specs.declared.instructions.Inst.{Inst}
+use Rattle.spv_base.specs.declared.values.Pointer.{Pointer}
+use Rattle.spv_base.specs.declared.values.Value.{Value}
+use Rattle.spv_valid.specs.Acceptance.{Accepted}
+use Rattle.spv_frame.specs.Frames.{Held as Frame}
+use Rattle.spv_statuses.specs.Group.{Held as Statuses, all_wait_at}
+use Rattle.spv_statuses.specs.declared.invocations.Status.TheVariants.{Arrived, Passed, Finished}
+use Rattle.spv_actions.specs.Effects.{Control, Effect, Next, Jump, Enter, Leave, Wait}
+use Rattle.spv_actions.specs.Fits.{ControlFits, Fits, LeaveFits}
+use Rattle.spv_actions.specs.Planned.{gained, gone, shown}
+use Rattle.spv_actions.specs.declared.effects.Effect.{Effect as CodeEffect}
+use Rattle.spv_state.specs.Program.{Program}
+use Rattle.spv_state.specs.Sound.{IsSound}
+use Rattle.spv_state.specs.State.{State, open_barrier, pop_frame, put_store, top_of}
+use Rattle.spv_machine.specs.Reached.{IsReached}
+use Rattle.spv_machine.specs.Step.{apply, arrival_with, arrived, by_control, go, go_on, happening_of, leave, opened, opens, put_result, resume, stored_at}
+use Rattle.spv_machine.proofs.KeepsBarriers.{arrive_sound}
+use Rattle.spv_machine.proofs.KeepsCalls.{entered_sound, finished_sound}
+use Rattle.spv_machine.proofs.KeepsControl.{next_kept}
+use Rattle.spv_machine.proofs.KeepsJumps.{jump_kept}
+use Rattle.spv_machine.proofs.ReachedLemmas.{Facts, set_reached, stored_reached, word_is}
+use Rattle.spv_machine.proofs.Leaves.{CalledBy, LeftAt, left_all, left_finished, left_to}
+
+-- ---- a sound state behind each way of control
+
+module _ (p : Program) (known : Facts p.accepted) (s : State) (i : ℕ) (d : Inst) (r : IsReached p s i d) where
+  go_on_sound : ((word : ℕ) × (reads d.word p.accepted.flow.nexts ≡ Some (Some word))) → IsSound p (go_on p.accepted i s)
+  go_on_sound next =
+      next_kept p known.known s i next.0 r.frame r.sound r.ready r.top (subst (λ (n : ℕ). reads n p.accepted.flow.nexts ≡ Some (Some next.0)) (word_is p s i d r) next.1)
+
+module _ (p : Program) (known : Facts p.accepted) where
+  leave_sound : (s : State) (i : ℕ) (d : Inst) (o : Option Value) → IsReached p s i d → LeaveFits p.accepted d o → IsSound p (leave p.accepted i o s)
+  leave_sound s i d o r fits = by_left (LeftAt p s i) refl
+    where
+      by_left : (x : Option Inst) → LeftAt p s i ≡ x → IsSound p (leave p.accepted i o s)
+      by_left None e = subst (IsSound p) (sym (left_finished p known s i d r o e)) (finished_sound p s i r.sound r.ready (left_all p known s i d r e))
+      by_left (Some c) e =
+          let by : CalledBy p s i d c = left_to p known s i d r c e in
+          let two = set_reached p known.known (pop_frame i s) i c o by.reached (by.fits o fits) in
+          subst (IsSound p) (sym (by.leaves o)) (go_on_sound p known (put_result i c.id o (pop_frame i s)) i c two by.next)
+
+  pub gone_sound : (s : State) (i : ℕ) (d : Inst) (c : Control) → IsReached p s i d → ControlFits p.accepted d c → IsSound p (go p.accepted i d.word c s)
+  gone_sound s i d Next r fits = go_on_sound p known s i d r fits
+  gone_sound s i d (Jump block phis) r fits = jump_kept p s i d block phis known.accepted known.known r (word_is p s i d r) fits
+  gone_sound s i d (Enter frame es) r fits = entered_sound p s i r.sound r.ready d r.frame frame es r.top (word_is p s i d r) fits
+  gone_sound s i d (Leave o) r fits = leave_sound s i d o r fits
+  gone_sound s i d Wait r fits = arrive_sound p s i d.word r.frame r.sound r.ready r.top (sym (word_is p s i d r)) fits
+
+  -- an effect that fits leaves a sound state
+  pub applied_sound : (s : State) (i : ℕ) (d : Inst) (e : Effect) → IsReached p s i d → Fits p s i d e → IsSound p (apply p.accepted i d e s)
+  applied_sound s i d e r fits =
+      let first = put_store i e.store s in
+      let one = stored_reached p s i d e.store r in
+      let two = set_reached p known.known first i d e.result one fits.result in
+      gone_sound (put_result i d.id e.result first) i d e.control two fits.control
+
+-- ---- the event
+
+statuses_stay : (i id : ℕ) (store : Option (Pointer × Value)) (o : Option Value) (s : State) → (put_result i id o (put_store i store s)).statuses ≡ s.statuses
+statuses_stay i id None None s = refl
+statuses_stay i id None (Some v) s = refl
+statuses_stay i id (Some e) None s = refl
+statuses_stay i id (Some e) (Some v) s = refl
+
+pub event_before : (i word id : ℕ) (store : Option (Pointer × Value)) (o : Option Value) (s : State) (told : Happening) (c : Control)
+    → by_control i word (put_result i id o (put_store i store s)) told c ≡ by_control i word s told c
+event_before i word id store o s told Next = refl
+event_before i word id store o s told (Jump block phis) = refl
+event_before i word id store o s told (Enter frame es) = refl
+event_before i word id store o s told (Leave v) = refl
+event_before i word id store o s told Wait =
+    ap (λ (x : Statuses). arrival_with i word (all_wait_at word (slice_set x.list i (Arrived word)))) (statuses_stay i id store o s)
+
+-- ---- an effect, done piece by piece
+
+module _ (a : Accepted) (i : ℕ) (d : Inst) (e : CodeEffect) (v w x : Value) (s s1 s2 : State) (one : s1 ≡ put_store i (option_map (λ (q : Pointer). (q, v)) e.store) s) (two : s2 ≡ put_result i d.id (gained e.gain w) s1)
+    (gain : gained e.gain w ≡ gained e.gain v) (control : gone e.control x ≡ gone e.control v) where
+  before_control : s2 ≡ put_result i d.id (gained e.gain v) (put_store i (option_map (λ (q : Pointer). (q, v)) e.store) s)
+  before_control = two ∙ ap (λ (o : Option Value). put_result i d.id o s1) gain ∙ ap (put_result i d.id (gained e.gain v)) one
+
+  pub applied_is : go a i d.word (gone e.control x) s2 ≡ apply a i d (shown e v) s
+  applied_is = ap (λ (c : Control). go a i d.word c s2) control ∙ ap (go a i d.word (gone e.control v)) before_control
+
+  pub event_is : (told : Happening) → told ≡ stored_at a i d.word (shown e v).store → by_control i d.word s2 told (gone e.control x) ≡ happening_of a s i d.word (shown e v)
+  event_is told is =
+      ap (by_control i d.word s2 told) control ∙ ap (λ (y : State). by_control i d.word y told (gone e.control v)) before_control
+      ∙ event_before i d.word d.id (option_map (λ (q : Pointer). (q, v)) e.store) (gained e.gain v) s told (gone e.control v) ∙ ap (λ (t : Happening). by_control i d.word s t (gone e.control v)) is
+
+-- ---- how many invocations there are
+
+resume_count : (a : Accepted) (i : ℕ) (v : Option Value) (s : State) (o : Option Frame) → length (resume a i v s o).statuses.list ≡ length s.statuses.list
+resume_count a i v s None = length-set s.statuses.list i Finished
+resume_count a i None s (Some f) = refl
+resume_count a i (Some v) s (Some f) = refl
+
+opened_count : (word : ℕ) (s : State) → length (opened word s).statuses.list ≡ length s.statuses.list
+opened_count word s = by_test (opens word s)
+  where
+    by_test : (b : Bool) → length (if b then open_barrier s else s).statuses.list ≡ length s.statuses.list
+    by_test true = length-replicate (length s.statuses.list) Passed
+    by_test false = refl
+
+gone_count : (a : Accepted) (i word : ℕ) (c : Control) (s : State) → length (go a i word c s).statuses.list ≡ length s.statuses.list
+gone_count a i word Next s = refl
+gone_count a i word (Jump block phis) s = refl
+gone_count a i word (Enter frame es) s = refl
+gone_count a i word (Leave v) s = resume_count a i v (pop_frame i s) (top_of (pop_frame i s) i)
+gone_count a i word Wait s = opened_count word (arrived i word s) ∙ length-set s.statuses.list i (Arrived word)
+
+pub applied_count : (a : Accepted) (i : ℕ) (d : Inst) (e : Effect) (s : State) → length (apply a i d e s).statuses.list ≡ length s.statuses.list
+applied_count a i d e s =
+    gone_count a i d.word e.control (put_result i d.id e.result (put_store i e.store s)) ∙ ap (λ (x : Statuses). length x.list) (statuses_stay i d.id e.store e.result s)
