@@ -188,7 +188,7 @@ below a k l own f s is here =
 
 -- ---- states
 
-popped_top : (s : State) (i : ℕ) (k : Stacked) → slice_get s.stacks i ≡ Some k → top_of (pop_frame i s) i ≡ top (without_last k.frames)
+pub popped_top : (s : State) (i : ℕ) (k : Stacked) → slice_get s.stacks i ≡ Some k → top_of (pop_frame i s) i ≡ top (without_last k.frames)
 popped_top s i k at = ap (λ (o : Option Stacked). top (option_map_or (λ (x : Stacked). x.frames) o [])) (changed_at i without_top s.stacks k at)
 
 module _ (p : Program) (s : State) (i : ℕ) (sound : IsSound p s) (ready : slice_get s.statuses.list i ≡ Some Ready) where

@@ -25,7 +25,7 @@ use Rattle.spv_state.proofs.Stands.{stood}
 use Rattle.spv_machine.specs.Reached.{IsReached}
 use Rattle.spv_machine.specs.Step.{go_on, leave, put_result, resume}
 use Rattle.spv_machine.proofs.CallTypes.{call_goes, call_to}
-use Rattle.spv_machine.proofs.KeepsCalls.{Below, below, has_levels, has_room, popped_sound}
+use Rattle.spv_machine.proofs.KeepsCalls.{Below, below, has_levels, has_room, popped_sound, popped_top}
 use Rattle.spv_machine.proofs.KeepsControl.{got, stands_before}
 use Rattle.spv_machine.proofs.KeepsJumps.{type_fits}
 use Rattle.spv_machine.proofs.ReachedLemmas.{Facts, word_is}
@@ -61,7 +61,7 @@ module _ (p : Program) (known : Facts p.accepted) (s : State) (i : ℕ) (d : Ins
   called_by f c is here =
       let a = p.accepted in
       let own = own_stack in
-      let top_is : top (without_last own.0.frames) ≡ Some f = sym (ap (λ (o : Option Stacked). top (option_map_or (λ (x : Stacked). x.frames) o [])) (changed_at i without_top s.stacks own.0 own.1)) ∙ is in
+      let top_is : top (without_last own.0.frames) ≡ Some f = sym (popped_top s i own.0 own.1) ∙ is in
       let under : Below a r.frame.plan.function f = below a own.0 own.2 r.frame f own.4 own.5 top_is in
       let call = under.call in
       let same : call.0 ≡ c = let one = call.1 in cc in
@@ -83,7 +83,7 @@ module _ (p : Program) (known : Facts p.accepted) (s : State) (i : ℕ) (d : Ins
   stands_somewhere : (f : Frame) → top_of (pop_frame i s) i ≡ Some f → (c : Inst) × (at p.accepted.insts f.pc ≡ Some c)
   stands_somewhere f is =
       let own = own_stack in
-      let top_is : top (without_last own.0.frames) ≡ Some f = sym (ap (λ (o : Option Stacked). top (option_map_or (λ (x : Stacked). x.frames) o [])) (changed_at i without_top s.stacks own.0 own.1)) ∙ is in
+      let top_is : top (without_last own.0.frames) ≡ Some f = sym (popped_top s i own.0 own.1) ∙ is in
       let under : Below p.accepted r.frame.plan.function f = below p.accepted own.0 own.2 r.frame f own.4 own.5 top_is in
       (under.call.0, under.call.1)
 
