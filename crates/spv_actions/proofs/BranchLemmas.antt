@@ -48,9 +48,6 @@ jump_gives x label block phis is values = ap (jumps x) is ∙ ap (λ (o : Option
 abbrev pub jumps_by : Site → (ℕ → Option ℕ) → Result spec.Effect Cause
 jumps_by x label = ok_or (values x 0) NoValue >>= (λ (v : Value). decided v >>= (λ (n : ℕ). jumps x (label n)))
 
-
-
-
 module _ (x : Site) (label : ℕ → Option ℕ) where
   pub by_missing : values x 0 ≡ None → jumps_by x label ≡ Err NoValue
   by_missing none = ap (λ (o : Option Value). ok_or o NoValue >>= (λ (v : Value). decided v >>= (λ (n : ℕ). jumps x (label n)))) none

@@ -1,8 +1,6 @@
 -- The opcodes of branches and switches, and the rules that they and phis keep.
-use Rattle.std.proofs.Common.{◌≡◌, ◌∙◌, ℕ, ◌==◌, Bool, true, false, List, [], ◌∷◌, Option, Some, None, refl, sym, ap, subst}
-use Rattle.std.specs.List.{AllByRecursion}
-use Rattle.std.specs.Option.{option_map, option_or, unwrap_or}
-use Rattle.std.proofs.lemmas.Bool.{eqb-true}
+use Rattle.std.proofs.Common.{◌≡◌, ◌∙◌, ℕ, Bool, true, false, List, [], ◌∷◌, Option, Some, None, refl, sym, ap, subst}
+use Rattle.std.specs.Option.{unwrap_or}
 use Rattle.spv_base.specs.Entries.{reads}
 use Rattle.spv_base.specs.declared.instructions.Inst.{Inst}
 use Rattle.spv_index.specs.declared.classes.Class.TheVariants.{Executable}
@@ -11,50 +9,21 @@ use Rattle.spv_bodies.specs.Bodies.{KeepsRule}
 use Rattle.spv_bodies.specs.Context.{Known}
 use Rattle.spv_bodies.specs.Control.{KeepsBranch, KeepsPhi, KeepsSwitch}
 use Rattle.spv_bodies.specs.Rules.{atomic_rule, composite_rule, control_rule, memory_rule, other_rule, rule_of}
-use Rattle.spv_results.specs.Computations.{computation_of}
-use Rattle.spv_results.specs.declared.computations.Computation.{Computation}
-use Rattle.spv_state.specs.Actions.{action_of, atomic_op, named}
-use Rattle.spv_state.specs.declared.actions.Action.{Action}
-use Rattle.spv_state.specs.declared.actions.Action.TheVariants.{Compute, Branch, BranchConditional, Switch, Atomic, Other}
-use Rattle.spv_state.specs.declared.actions.AtomicOp.{AtomicOp}
-use Rattle.spv_actions.proofs.ComputationLemmas.{read_there}
+use Rattle.spv_state.specs.Actions.{action_of}
+use Rattle.spv_state.specs.declared.actions.Action.TheVariants.{Branch, BranchConditional, Switch}
+use Rattle.spv_actions.proofs.EffectLemmas.{IsActing, acts}
 use Rattle.spv_actions.proofs.RunLemmas.{IsKept}
 
 -- ---- actions
 
--- an opcode is that of a branch or a switch, where the action is one
-has_code : Action → ℕ → Bool
-has_code Branch op = op == 249
-has_code BranchConditional op = op == 250
-has_code Switch op = op == 251
-has_code other op = true
-
-named_have : AllByRecursion (λ (e : ℕ × Action). has_code e.1 e.0 ≡ true) named
-unfolding has_code
-named_have = (refl, (refl, (refl, (refl, (refl, (refl, (refl, (refl, (refl, (refl, (refl, (refl, (refl, (refl, (refl, tt)))))))))))))))
-
-coded : (i : Inst) → has_code (action_of i) i.op ≡ true
-unfolding action_of has_code
-coded i = by_read (reads i.op named) refl (atomic_op i.op) (computation_of i)
-  where
-    by_read : (o : Option Action) → reads i.op named ≡ o → (x : Option AtomicOp) (c : Option Computation)
-        → has_code (unwrap_or (option_or (option_or o (option_map Atomic x)) (option_map Compute c)) Other) i.op ≡ true
-    by_read (Some a) e x c = read_there (λ (op : ℕ) (b : Action). has_code b op ≡ true) i.op a named named_have e
-    by_read None e (Some x) c = refl
-    by_read None e None (Some c) = refl
-    by_read None e None None = refl
-
 pub branching : (i : Inst) → action_of i ≡ Branch → i.op ≡ 249
-unfolding has_code
-branching i is = eqb-true i.op 249 (ap (λ (a : Action). has_code a i.op) (sym is) ∙ coded i)
+branching i is = subst (IsActing i) is (acts i)
 
 pub branching_by : (i : Inst) → action_of i ≡ BranchConditional → i.op ≡ 250
-unfolding has_code
-branching_by i is = eqb-true i.op 250 (ap (λ (a : Action). has_code a i.op) (sym is) ∙ coded i)
+branching_by i is = subst (IsActing i) is (acts i)
 
 pub switching : (i : Inst) → action_of i ≡ Switch → i.op ≡ 251
-unfolding has_code
-switching i is = eqb-true i.op 251 (ap (λ (a : Action). has_code a i.op) (sym is) ∙ coded i)
+switching i is = subst (IsActing i) is (acts i)
 
 -- ---- classes
 

@@ -126,7 +126,7 @@ ends_there a known function d here last stands =
 targets_there : (a : Accepted) → IsValid a → (function : ℕ) (d : Inst) → Ends a function d → AllByRecursion (IsEntered a.insts a.flow function) (targets_of (selector_width a.insts d) d)
 targets_there a valid function d e =
     let targets = each_at (λ (s : Stand). (is_terminator s.class && in_block s.position.stage) ≡ true
-        → (has_targets s.inst ≡ true) × AllByRecursion (IsEntered a.insts a.flow s.position.function) (targets_of (selector_width a.insts s.inst) s.inst)) (stands_of a.insts) e.one.number e.stand valid.targets e.one.is e.ends in
+    → (has_targets s.inst ≡ true) × AllByRecursion (IsEntered a.insts a.flow s.position.function) (targets_of (selector_width a.insts s.inst) s.inst)) (stands_of a.insts) e.one.number e.stand valid.targets e.one.is e.ends in
     subst (λ (i : Inst). AllByRecursion (IsEntered a.insts a.flow function) (targets_of (selector_width a.insts i) i)) e.inst
     (subst (λ (f : ℕ). AllByRecursion (IsEntered a.insts a.flow f) (targets_of (selector_width a.insts e.stand.inst) e.stand.inst)) e.function_is targets.1)
 
