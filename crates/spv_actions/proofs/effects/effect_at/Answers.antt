@@ -27,3 +27,36 @@ returns-in-Chain-clause-fits c =
 pub returns-in-Chain-clause-taken : goal.returns-in-Chain-clause-taken
 returns-in-Chain-clause-taken c =
     subst (λ (x : Site). IfOk c.chain.result (λ e. IsTaken x.state x.inv e c.args.row.now)) c.of-site.ensures (c.chain.ensures.taken c.args.row.now)
+
+pub returns-in-Branch-clause-due : goal.returns-in-Branch-clause-due
+returns-in-Branch-clause-due c = subst (λ (x : Site). IsDue (due x) c.args.row.now c.branch-site.result) c.of-site.ensures (c.branch-site.ensures.due c.args.row.now)
+
+pub returns-in-Branch-clause-fits : goal.returns-in-Branch-clause-fits
+returns-in-Branch-clause-fits c =
+    subst (λ (x : Site). PlannedFits x.program x.state x.inv x.inst c.args.row.now c.branch-site.result) c.of-site.ensures (c.branch-site.ensures.fits c.args.row.now)
+
+pub returns-in-Branch-clause-taken : goal.returns-in-Branch-clause-taken
+returns-in-Branch-clause-taken c =
+    subst (λ (x : Site). IfOk c.branch-site.result (λ e. IsTaken x.state x.inv e c.args.row.now)) c.of-site.ensures (c.branch-site.ensures.taken c.args.row.now)
+
+pub returns-in-BranchConditional-clause-due : goal.returns-in-BranchConditional-clause-due
+returns-in-BranchConditional-clause-due c = subst (λ (x : Site). IsDue (due x) c.args.row.now c.branch_conditional.result) c.of-site.ensures (c.branch_conditional.ensures.due c.args.row.now)
+
+pub returns-in-BranchConditional-clause-fits : goal.returns-in-BranchConditional-clause-fits
+returns-in-BranchConditional-clause-fits c =
+    subst (λ (x : Site). PlannedFits x.program x.state x.inv x.inst c.args.row.now c.branch_conditional.result) c.of-site.ensures (c.branch_conditional.ensures.fits c.args.row.now)
+
+pub returns-in-BranchConditional-clause-taken : goal.returns-in-BranchConditional-clause-taken
+returns-in-BranchConditional-clause-taken c =
+    subst (λ (x : Site). IfOk c.branch_conditional.result (λ e. IsTaken x.state x.inv e c.args.row.now)) c.of-site.ensures (c.branch_conditional.ensures.taken c.args.row.now)
+
+pub returns-in-Switch-clause-due : goal.returns-in-Switch-clause-due
+returns-in-Switch-clause-due c = subst (λ (x : Site). IsDue (due x) c.args.row.now c.switch.result) c.of-site.ensures (c.switch.ensures.due c.args.row.now)
+
+pub returns-in-Switch-clause-fits : goal.returns-in-Switch-clause-fits
+returns-in-Switch-clause-fits c =
+    subst (λ (x : Site). PlannedFits x.program x.state x.inv x.inst c.args.row.now c.switch.result) c.of-site.ensures (c.switch.ensures.fits c.args.row.now)
+
+pub returns-in-Switch-clause-taken : goal.returns-in-Switch-clause-taken
+returns-in-Switch-clause-taken c =
+    subst (λ (x : Site). IfOk c.switch.result (λ e. IsTaken x.state x.inv e c.args.row.now)) c.of-site.ensures (c.switch.ensures.taken c.args.row.now)
