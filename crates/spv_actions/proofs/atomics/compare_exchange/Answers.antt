@@ -1,13 +1,8 @@
-use Rattle.std.proofs.Common.{◌≡◌, ◌∙◌, ℕ, Err, Ok, ap, rules, subst, sym}
-use Rattle.std.specs.Option.{option_and_then}
-use Rattle.spv_base.specs.declared.instructions.Inst.{Inst}
+use Rattle.std.proofs.Common.{◌≡◌, ◌∙◌, Err, Ok, ap, rules, subst, sym}
 use Rattle.spv_base.specs.Lane.{Lane}
 use Rattle.spv_types.specs.Laws.{AreSound}
-use Rattle.spv_types.specs.Types.{form_of}
-use Rattle.spv_bodies.specs.Context.{HasType, IsInteger, Known, form_at}
 use Rattle.spv_valid.specs.Acceptance.{Accepted}
 use Rattle.spv_operands.specs.Operands.{shown}
-use Rattle.spv_results.specs.Operands.{known}
 use Rattle.spv_results.proofs.SoundTypes.{sound_types}
 use Rattle.spv_actions.specs.AtomicSites.{first_of_three, scalar, target}
 use Rattle.spv_actions.specs.Atomics.{exchanges}
@@ -16,16 +11,6 @@ use Rattle.spv_actions.proofs.AccessLemmas.{outside_due}
 use Rattle.spv_actions.proofs.AtomicLemmas.{integer_at, value_width}
 use Rattle.spv_actions.proofs.AtomicSteps.{compare_is, compares_comparator, compares_first, compares_ok, compares_semantics, compares_target, compares_value, found_is, operand, swaps_by}
 use Rattle.spv_actions.proofs.atomics.compare_exchange.Goals as goal
-
--- an operand of an integer type is an integer
-integer_at : (k : Known) (i : Inst) (n ty : ℕ) → HasType k i n ty → IsInteger (form_of k.types ty) → IsInteger (form_at k i n)
-integer_at k i n ty h e = (e.0, e.1, ap (option_and_then (form_of k.types)) h ∙ e.2)
-
-pub scalar-requires : goal.scalar-requires
-scalar-requires c = integer_at (known c.args.site.now.program.accepted) c.args.site.now.inst 4 _ c.requires.rule.2.1.1.0.0 c.requires.rule.2.0.1
-
-pub scalar-requires-2 : goal.scalar-requires-2
-scalar-requires-2 c = integer_at (known c.args.site.now.program.accepted) c.args.site.now.inst 5 _ c.requires.rule.2.1.1.0.1 c.requires.rule.2.0.1
 
 pub returns-in_err-at-clause-due : goal.returns-in_err-at-clause-due
 returns-in_err-at-clause-due c =
