@@ -1,11 +1,10 @@
 -- What atomics do, and where their pointers lead.
-use Rattle.std.proofs.Common.{◌≡◌, ◌∙◌, ℕ, ◌<◌, ◌≤◌, ◌&&◌, Bool, true, List, [], ◌∷◌, Option, Some, None, IsSome, Result, Ok, Err, ok_or, slice_index_or, refl, sym, ap, subst, arith}
+use Rattle.std.proofs.Common.{◌≡◌, ◌∙◌, ℕ, ◌<◌, ◌≤◌, true, List, [], ◌∷◌, Option, Some, None, IsSome, Ok, slice_index_or, refl, sym, ap, subst, arith}
 use Rattle.std.proofs.Math.Logic.{∥∥₁_elim}
-use Rattle.std.proofs.Props.{props}
 use Rattle.std.proofs.lemmas.Bool.{and_parts}
 use Rattle.std.specs.Prelude.{nat_le}
-use Rattle.std.specs.List.{AllByRecursion, list_all}
-use Rattle.std.specs.Option.{IsSomeAnd, option_and_then, option_map, option_or, unwrap_or}
+use Rattle.std.specs.List.{AllByRecursion}
+use Rattle.std.specs.Option.{IsSomeAnd, option_and_then}
 use Rattle.spv_base.specs.Entries.{reads}
 use Rattle.spv_base.specs.Lane.{IsLane, Lane, undefined_lane}
 use Rattle.spv_effects.specs.Lanes.{lane_of, of_lanes}
@@ -25,7 +24,7 @@ use Rattle.spv_types.specs.Types.{Types, form_of}
 use Rattle.spv_types.proofs.ShapeLemmas.{shapes_are_by_forms}
 use Rattle.spv_alu.specs.Integers.{IsWidth}
 use Rattle.spv_bodies.specs.Bodies.{KeepsRule}
-use Rattle.spv_bodies.specs.Context.{HasType, IsPointerTo, PointsTo, form_at, type_at}
+use Rattle.spv_bodies.specs.Context.{HasType, IsPointerTo, form_at, type_at}
 use Rattle.spv_bodies.specs.Rules.{atomic_rule, composite_rule, control_rule, memory_rule, other_rule, rule_of}
 use Rattle.spv_mem.specs.Conditions.{integer_width, width_at}
 use Rattle.spv_mem.specs.Memory.{Held as Memory, IsMemory, IsScalarAt, MayStore, id_in, load_of}
@@ -164,14 +163,14 @@ module _ (x : Site) (sound : AreSound (accepted x).types) (memory : ∥ IsMemory
   is_target old there =
       let shape : HasShape (accepted x).types no_roots rule.0.target (Scalar old)
       = ∥∥₁_elim memory (shape_prop (accepted x).types no_roots rule.0.target (Scalar old)) (λ (m : IsMemory x.state.memory).
-        part_shape x.state.memory (accepted x) (types_are x site) (targets_are x site) q rule.0.target leads x.inv (Scalar old) m there) in
+      part_shape x.state.memory (accepted x) (types_are x site) (targets_are x site) q rule.0.target leads x.inv (Scalar old) m there) in
       let same : old.width ≡ rule.2.1.0 = (scalar_shape (accepted x).types no_roots rule.0.target rule.2.1.0 rule.2.1.1 old sound form shape).0 in
       record {
         there = there;
         leads = width ∙ ap (λ (n : ℕ). Some n) (sym same);
         width = subst IsWidth (sym same) (integer_fits (accepted x).types rule.0.target rule.2.1.0 rule.2.1.1 sound form);
         typed = λ p points.
-          subst (λ (ty : ℕ). HasShape (accepted x).types no_roots ty (Scalar old)) (one_target (form_at (known (accepted x)) x.inst 0) rule.0 p rule.1 points) shape;
+            subst (λ (ty : ℕ). HasShape (accepted x).types no_roots ty (Scalar old)) (one_target (form_at (known (accepted x)) x.inst 0) rule.0 p rule.1 points) shape;
       }
 
 -- ---- scalars as lanes
@@ -212,6 +211,6 @@ module _ (x : Site) (sound : AreSound (accepted x).types) (rule : LeadsToInteger
 -- another integer of its width may be stored
 pub exchange_fits : (x : Site) (t : Reference × Lane) (is : IsTarget x t) (memory : ∥ IsMemory x.state.memory ∥₁) (new : Lane) (v : Value) → v ≡ Scalar new → IsLane new → new.width ≡ t.1.width → StoreFits x.state x.inv (Some (t.0, v))
 exchange_fits x t is memory new v put lane width = (
-      subst (λ (o : Option Value). IsSome o) (sym is.there) refl,
-      subst (λ (u : Value). ∥ MayStore x.state.memory x.inv t.0 u ∥₁) (sym put) (may_if x.state.memory t.0 (Some t.1.width) memory (sym is.leads) x.inv new width lane),
-    )
+  subst (λ (o : Option Value). IsSome o) (sym is.there) refl,
+  subst (λ (u : Value). ∥ MayStore x.state.memory x.inv t.0 u ∥₁) (sym put) (may_if x.state.memory t.0 (Some t.1.width) memory (sym is.leads) x.inv new width lane),
+)

@@ -1,6 +1,5 @@
 -- What is due at an atomic, by what its operands are and where its pointer leads.
-use Rattle.std.proofs.Common.{◌≡◌, ◌∙◌, ℕ, Some, None, Option, Result, Ok, Err, ok_or, refl, sym, ap, subst}
-use Rattle.std.specs.Result.{result_map_both}
+use Rattle.std.proofs.Common.{◌≡◌, ◌∙◌, ℕ, Some, None, Option, Result, Ok, Err, ok_or, refl, sym, ap}
 use Rattle.spv_base.specs.Answers.{Answers}
 use Rattle.spv_base.specs.Lane.{Lane}
 use Rattle.spv_base.specs.declared.causes.Fail.{Fail}

@@ -14,14 +14,49 @@ use std::{fs, io, rt};
 
 /// The runs: a name, and the module, the setup and the commands in data/, in the order of the output.
 const RUNS: [(&str, &str, &str, &str); 8] = [
-    ("reduction", "reduction.spv", "reduction.setup", "reduction.commands"),
-    ("reduction-optimized", "reduction-optimized.spv", "reduction.setup", "reduction-optimized.commands"),
+    (
+        "reduction",
+        "reduction.spv",
+        "reduction.setup",
+        "reduction.commands",
+    ),
+    (
+        "reduction-optimized",
+        "reduction-optimized.spv",
+        "reduction.setup",
+        "reduction-optimized.commands",
+    ),
     ("prefix", "prefix.spv", "prefix.setup", "prefix.commands"),
-    ("prefix-optimized", "prefix-optimized.spv", "prefix.setup", "prefix-optimized.commands"),
-    ("histogram", "histogram.spv", "histogram.setup", "histogram.commands"),
-    ("histogram-optimized", "histogram-optimized.spv", "histogram.setup", "histogram-optimized.commands"),
-    ("transpose", "transpose.spv", "transpose.setup", "transpose.commands"),
-    ("transpose-optimized", "transpose-optimized.spv", "transpose.setup", "transpose-optimized.commands"),
+    (
+        "prefix-optimized",
+        "prefix-optimized.spv",
+        "prefix.setup",
+        "prefix-optimized.commands",
+    ),
+    (
+        "histogram",
+        "histogram.spv",
+        "histogram.setup",
+        "histogram.commands",
+    ),
+    (
+        "histogram-optimized",
+        "histogram-optimized.spv",
+        "histogram.setup",
+        "histogram-optimized.commands",
+    ),
+    (
+        "transpose",
+        "transpose.spv",
+        "transpose.setup",
+        "transpose.commands",
+    ),
+    (
+        "transpose-optimized",
+        "transpose-optimized.spv",
+        "transpose.setup",
+        "transpose-optimized.commands",
+    ),
 ];
 
 /// The words of a command line that debugs a module with a setup.

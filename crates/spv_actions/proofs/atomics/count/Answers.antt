@@ -1,4 +1,4 @@
-use Rattle.std.proofs.Common.{◌≡◌, ◌∙◌, Err, Ok, ap, rules, subst, sym}
+use Rattle.std.proofs.Common.{◌≡◌, ◌∙◌, Err, Ok, ap, rules, sym}
 use Rattle.spv_base.specs.Lane.{Lane}
 use Rattle.spv_operands.specs.Operands.{shown}
 use Rattle.spv_actions.specs.AtomicSites.{counted, first_of_three, target}

@@ -1,4 +1,4 @@
-use Rattle.std.proofs.Common.{◌≡◌, ◌∙◌, Err, Ok, ap, rules, subst, sym}
+use Rattle.std.proofs.Common.{◌≡◌, ◌∙◌, Err, Ok, rules}
 use Rattle.spv_base.specs.declared.values.Value.{Value}
 use Rattle.spv_operands.specs.Operands.{shown}
 use Rattle.spv_actions.specs.Effects.{passes, ◌>>=◌}
