@@ -8,7 +8,6 @@ ghost use Rattle.spv_actions.specs.Planned.{IsDue, IsTaken, PlannedFits};
 ghost use Rattle.spv_actions.specs.Sites as spec;
 ghost use Rattle.spv_operands.specs.Operands.{IsPlain, shown};
 
-use spv_state::Action;
 use crate::causes::Cause;
 use crate::effects::{Control, Effect, Gain};
 use crate::kept::{copy_memory_is_kept, load_is_kept, store_is_kept};
@@ -17,6 +16,7 @@ use spv_base::{Fail, NoMemory, Pointer};
 use spv_effects::resize;
 use spv_mem::Memory;
 use spv_operands::Operand;
+use spv_state::Action;
 use spv_values::{Part, Row};
 
 /// A fact, with nothing to run: each variable of a memory has a value of its type.

@@ -10,13 +10,12 @@ ghost use Rattle.spv_operands.specs.Operands.{IsPlain, pointer_of, referred, sho
 ghost use Rattle.spv_results.specs.Operands.{IsOperand};
 
 use crate::causes::Cause;
-use spv_state::Runnable;
-use spv_state::Whole;
 use spv_base::{Fail, Inst, NoMemory, Pointer};
 use spv_frame::Frame;
 use spv_mem::Memory;
 use spv_operands::laws::operands_have_shapes;
 use spv_operands::{Operand, Reference, operand_of};
+use spv_state::{Runnable, Whole};
 use spv_valid::Module;
 use spv_values::Part;
 use std::alloc::Global;
