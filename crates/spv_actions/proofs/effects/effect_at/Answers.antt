@@ -1,5 +1,5 @@
 use Rattle.std.proofs.Common.{IfOk, subst, sym}
-use Rattle.spv_state.specs.declared.actions.Action.TheVariants.{Branch, BranchConditional, Switch, Call, ReturnValue, Unreachable, ControlBarrier, MemoryBarrier, Atomic, Other, Return}
+use Rattle.spv_state.specs.declared.actions.Action.TheVariants.{Unreachable, Other, Return}
 use Rattle.spv_actions.specs.Planned.{IsDue, IsTaken, PlannedFits}
 use Rattle.spv_actions.specs.Sites.{Site, due}
 use Rattle.spv_actions.proofs.EffectLemmas.{due_by}
@@ -13,41 +13,9 @@ pub returns-in-Other-clause-due : goal.returns-in-Other-clause-due
 returns-in-Other-clause-due c =
     due_by (record { program = c.args.m.now; state = c.args.w.now; inv = c.args.inv; frame = c.args.frame.now; inst = c.args.inst.now }) Other (sym c.in-Other.ensures)
 
-pub returns-in-Branch-clause-due : goal.returns-in-Branch-clause-due
-returns-in-Branch-clause-due c =
-    due_by (record { program = c.args.m.now; state = c.args.w.now; inv = c.args.inv; frame = c.args.frame.now; inst = c.args.inst.now }) Branch (sym c.in-Branch.ensures)
-
-pub returns-in-BranchConditional-clause-due : goal.returns-in-BranchConditional-clause-due
-returns-in-BranchConditional-clause-due c =
-    due_by (record { program = c.args.m.now; state = c.args.w.now; inv = c.args.inv; frame = c.args.frame.now; inst = c.args.inst.now }) BranchConditional (sym c.in-BranchConditional.ensures)
-
-pub returns-in-Switch-clause-due : goal.returns-in-Switch-clause-due
-returns-in-Switch-clause-due c =
-    due_by (record { program = c.args.m.now; state = c.args.w.now; inv = c.args.inv; frame = c.args.frame.now; inst = c.args.inst.now }) Switch (sym c.in-Switch.ensures)
-
-pub returns-in-Call-clause-due : goal.returns-in-Call-clause-due
-returns-in-Call-clause-due c =
-    due_by (record { program = c.args.m.now; state = c.args.w.now; inv = c.args.inv; frame = c.args.frame.now; inst = c.args.inst.now }) Call (sym c.in-Call.ensures)
-
-pub returns-in-ReturnValue-clause-due : goal.returns-in-ReturnValue-clause-due
-returns-in-ReturnValue-clause-due c =
-    due_by (record { program = c.args.m.now; state = c.args.w.now; inv = c.args.inv; frame = c.args.frame.now; inst = c.args.inst.now }) ReturnValue (sym c.in-ReturnValue.ensures)
-
 pub returns-in-Unreachable-clause-due : goal.returns-in-Unreachable-clause-due
 returns-in-Unreachable-clause-due c =
     due_by (record { program = c.args.m.now; state = c.args.w.now; inv = c.args.inv; frame = c.args.frame.now; inst = c.args.inst.now }) Unreachable (sym c.in-Unreachable.ensures)
-
-pub returns-in-ControlBarrier-clause-due : goal.returns-in-ControlBarrier-clause-due
-returns-in-ControlBarrier-clause-due c =
-    due_by (record { program = c.args.m.now; state = c.args.w.now; inv = c.args.inv; frame = c.args.frame.now; inst = c.args.inst.now }) ControlBarrier (sym c.in-ControlBarrier.ensures)
-
-pub returns-in-MemoryBarrier-clause-due : goal.returns-in-MemoryBarrier-clause-due
-returns-in-MemoryBarrier-clause-due c =
-    due_by (record { program = c.args.m.now; state = c.args.w.now; inv = c.args.inv; frame = c.args.frame.now; inst = c.args.inst.now }) MemoryBarrier (sym c.in-MemoryBarrier.ensures)
-
-pub returns-in-Atomic-clause-due : goal.returns-in-Atomic-clause-due
-returns-in-Atomic-clause-due c =
-    due_by (record { program = c.args.m.now; state = c.args.w.now; inv = c.args.inv; frame = c.args.frame.now; inst = c.args.inst.now }) (Atomic c.in-Atomic._operation) (sym c.in-Atomic.ensures)
 
 pub returns-in-Chain-clause-due : goal.returns-in-Chain-clause-due
 returns-in-Chain-clause-due c = subst (λ (x : Site). IsDue (due x) c.args.row.now c.chain.result) c.of-site.ensures (c.chain.ensures.due c.args.row.now)
