@@ -379,7 +379,9 @@ REFUSED = [
 
 
 def setup_of(inputs, spec):
-    lines = ["spvdbg-setup 1"] + ["buffer %d %d hex %s" % (*key, data.hex()) for key, data in inputs["buffers"].items()]
+    lines = ["spvdbg-setup 1"]
+    for key, data in inputs["buffers"].items():
+        lines.append("buffer %d %d " % key + ("hex " + data.hex() if any(data) else "zero %d" % len(data)))
     lines += ["push hex " + inputs["push"].hex()] if inputs["push"] else []
     return lines + ["spec %d %d" % item for item in spec.items()] + ["rounds 1000"]
 
