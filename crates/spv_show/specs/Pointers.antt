@@ -1,6 +1,8 @@
--- The text of a pointer: `&%ROOT`, and `[I]` for each of its indexes.
+-- The text of a pointer: `&%ROOT`, and `[I]` for each of its indexes, which are read as signed.
 use Rattle.std.specs.Prelude.{ℕ, List, ◌++◌, codes, decimal, Option, Some, None}
+use Rattle.std.specs.Fmt.{signed_decimal}
 use Rattle.std.specs.List.{flat_map}
+use Rattle.spv_alu.specs.Integers.{signed}
 use Rattle.spv_base.specs.declared.values.Pointer.{Pointer}
 use Rattle.spv_base.specs.declared.values.Root.{Root}
 use Rattle.spv_base.specs.declared.values.Root.TheVariants.{Shared, Private, Local}
@@ -13,7 +15,7 @@ root_id (Private id) = id
 root_id (Local depth id) = id
 
 abbrev pub index_text : ℕ → List ℕ
-index_text index = codes "[" ++ decimal index ++ codes "]"
+index_text index = codes "[" ++ signed_decimal (signed 64 index) ++ codes "]"
 
 abbrev pub pointer_text : Pointer → List ℕ
 pointer_text p = codes "&%" ++ decimal (root_id p.root) ++ flat_map index_text p.path

@@ -9,11 +9,12 @@ ghost use Rattle.spv_show.specs.Pointers.{index_text, pointer_text, root_id};
 ghost use Rattle.spv_show.specs.Texts.{value_text};
 
 use crate::scalars::push_number;
+use spv_alu::integers::signed;
 use spv_base::{NoMemory, Pointer, Root};
 use std::alloc::Global;
 
-/// Appends the text of a pointer, which is that of the value at its type: `&%ROOT`, and `[I]` for each of its indexes. After want of
-/// memory nothing was appended.
+/// Appends the text of a pointer, which is that of the value at its type: `&%ROOT`, and `[I]` for each of its indexes, read as signed. After
+/// want of memory nothing was appended.
 #[tactic(auto, using(crate::proofs::PointerLemmas::pointer_is))]
 pub fn pointer_text(alloc: Global, pointer: &Pointer, out: &mut Vec<u8>) -> Result<(), NoMemory>
     ensures ok { OnOk result (out.new.items ≡ out.old.items ++ pointer_text pointer.now) }
@@ -46,12 +47,12 @@ fn push_pointer(alloc: Global, text: &mut Vec<u8>, pointer: &Pointer) -> Result<
     push_indexes(alloc, text, pointer.path.as_slice())
 }
 
-/// Appends an index.
+/// Appends an index, read as signed.
 fn push_index(alloc: Global, text: &mut Vec<u8>, index: u64) -> Result<(), NoMemory>
     ensures { OnOk result (text.new.items ≡ text.old.items ++ index_text index) }
 {
     text.extend_from_slice(b"[")?;
-    push_number(alloc, text, index)?;
+    text.extend_from_slice(signed(index, 64).to_string(alloc)?.as_bytes())?;
     text.extend_from_slice(b"]")?;
     Ok(())
 }
