@@ -20,3 +20,4 @@ pub mod LengthLemmas
 pub mod CopyLemmas
 pub mod KeepsFrames
 pub mod PassingLemmas
+pub mod EnterLemmas

@@ -24,6 +24,11 @@ use Rattle.spv_bodies.specs.Context.{type_at}
 use Rattle.spv_mem.specs.Memory.{AreVariables, IsVariable}
 use Rattle.spv_base.specs.State.{Roots}
 use Rattle.spv_valid.specs.Acceptance.{Accepted, IsAccepted}
+use Rattle.spv_initial.specs.Start.{variables}
+use Rattle.spv_initial.specs.Variables.{HaveTargets, targets_of}
+use Rattle.spv_initial.specs.declared.variables.Declared.{Declared}
+use Rattle.spv_state.specs.Variables.{is_variable_of, variables_of}
+use Rattle.spv_state.proofs.VariableLemmas.{kept_targets}
 use Rattle.spv_valid.specs.Validity.{IsValid}
 use Rattle.spv_frame.specs.declared.slots.Place.{Place}
 use Rattle.spv_frame.specs.declared.slots.Place.TheVariants.{Value, Pointer}
@@ -53,6 +58,7 @@ use Rattle.spv_actions.specs.Sites.{IsShaped, Site, accepted, values}
 use Rattle.spv_actions.specs.declared.causes.Cause.{Cause}
 use Rattle.spv_actions.specs.declared.causes.Cause.TheVariants.{NoValue}
 use Rattle.spv_actions.proofs.KeepsFrames.{RegisterFits, register_kept, register_stays}
+use Rattle.spv_actions.proofs.OperandLemmas.{plain_none}
 use Rattle.spv_actions.proofs.ParameterLemmas.{drop_here}
 use Rattle.spv_actions.proofs.PointerLemmas.{pointed, pointer_form, reference_shape}
 
@@ -99,10 +105,6 @@ level_pointer a ty v (Value-F.Scalar c) q is shape = absurd (cc)
 level_pointer a ty v (Value-F.List vs) q is shape = absurd (cc)
 level_pointer a ty v (Value-F.Ptr p) q is shape = shape
 
-plain_none : (o : Option Reference) → is_some o ≡ false → o ≡ None
-plain_none None h = refl
-plain_none (Some p) h = absurd (cc)
-
 module _ (with_values : ValuesHaveRegisters) (with_pointers : PointersHaveRegisters) (typed : ValuesHaveTypes) (fills : RowsFill)
     (a : Accepted) (accepts : ∥ IsAccepted a ∥₁) (known_is : IsKnown a) (sound : AreSound a.types) (function : ℕ) (among : Contains (functions_in a) function) (apart : HasApart (plan_of a function)) where
   module _ (n : ℕ) (i : Inst) (at : slice_get (parameters_in a function) n ≡ Some i) where
@@ -138,10 +140,10 @@ module _ (with_values : ValuesHaveRegisters) (with_pointers : PointersHaveRegist
 
     value_passed : (v : Whole) → is_pointer (form_of a.types i.ty) ≡ false → HasShape a.types no_roots i.ty v → IsPassed a (plan_of a function) i (place_of (plan_of a function) i.id) v
     unfolding place_of
-    value_passed v data shape =
+    value_passed v plain_type shape =
         let p : Planned = plan_of a function in
         let plain : pointer_of v ≡ None = plain_none (pointer_of v) (data_plain a.types sound i.ty v shape) in
-        let is_data : has_cells a.types i ≡ true = rw data refl in
+        let is_data : has_cells a.types i ≡ true = rw plain_type refl in
         let number = with_values a function own.stand member own.register (ap (λ (j : Inst). has_cells a.types j) own.is ∙ is_data) in
         let some : number_of i.id (ids p.values) ≡ Some number.0 = ap (λ (j : Inst). number_of j.id (ids p.values)) (sym own.is) ∙ number.1 in
         let there : slice_get (ids p.values) number.0 ≡ Some i.id = number_gets i.id (ids p.values) number.0 some in
@@ -252,3 +254,11 @@ variables_recovered ts targets es are id v at = by_type (reads id targets) refl
           let same : own.type ≡ ty = let named = own.named in cc in
           subst (λ (t : ℕ). HasShape ts no_roots t v) same own.shape);
     }
+
+-- those of a function, as they begin
+pub locals_are : (a b : Accepted) (function : ℕ) (ds : List Declared) (es : Roots) → b ≡ a → ∥ IsValid a ∥₁ → ds ≡ variables_of a function
+    → ((targets : List (ℕ × ℕ)) → HaveTargets targets ds → ∥ AreVariables b.types targets es ∥₁) → AreVariables a.types (targets_of (variables a)) es
+locals_are a b function ds es same valid are may =
+    let named : ∥ HaveTargets (targets_of (variables a)) ds ∥₁ = subst (λ (xs : List Declared). ∥ HaveTargets (targets_of (variables a)) xs ∥₁) (sym are) (kept_targets a (is_variable_of a function) valid) in
+    variables_recovered a.types (targets_of (variables a)) es
+    (subst (λ (x : Accepted). ∥ AreVariables x.types (targets_of (variables a)) es ∥₁) same (∥∥₁_elim named (hlevel props) (may (targets_of (variables a)))))
