@@ -1,4 +1,4 @@
-use Rattle.std.proofs.Common.{◌≡◌, ◌∙◌, ◌+◌, ◌<◌, ◌≤◌, ℕ, suc, Err, List, Option, Some, None, ap, arith, length, rules, subst, sym}
+use Rattle.std.proofs.Common.{◌≡◌, ◌∙◌, ◌+◌, ◌<◌, ◌≤◌, ℕ, suc, Err, List, Option, Some, None, ap, arith, get_or, length, rules, subst, sym}
 use Rattle.spv_base.specs.declared.values.Value.{Value as Whole}
 use Rattle.spv_frame.specs.declared.slots.Place.{Place}
 use Rattle.spv_frame.specs.declared.slots.Place.TheVariants.{Value}
@@ -37,7 +37,8 @@ put-requires-clause-suits c =
     let there = passed_at x c.args.function c.parameters-parameters.result.now are c.loop-number.number c.loop-number-test.true (Value 0) c.results_have_registers.ensures.values c.results_have_registers.ensures.pointers
         c.registers_have_types.ensures.values c.rows_fill_types.ensures c.registers_are_apart.ensures c.accepted.result.now c.accepted.ensures c.insts-insts.ensures.accepted c.insts-insts.ensures.valid c.requires.known
         c.requires.passes (shown c.in_ok-operand.operand) c.in_ok-operand.ensures.shape in
-    subst (λ (p : Planned). Suits p _ (shown c.in_ok-operand.operand)) (sym (c.deref-in-loop-number.ensures ∙ c.requires.plan)) there.passed.suits
+    let place : Place = get_or c.parameters-parameters.result.now c.loop-number.number (Value 0) in
+    subst (λ (p : Planned). Suits p place (shown c.in_ok-operand.operand)) (sym (c.deref-in-loop-number.ensures ∙ c.requires.plan)) there.passed.suits
 
 pub loop-number-preserved : goal.loop-number-preserved
 loop-number-preserved c =
@@ -50,7 +51,8 @@ loop-number-preserved c =
         c.requires.passes v c.in_ok-operand.ensures.shape in
     let next : suc n ≡ n + 1 = omega arith in
     let id = there.parameter.id in
-    let made = c.in_ok-put.ensures id (subst (λ (p : Planned). IsParameter p _ id) (sym (c.deref-in-loop-number.ensures ∙ c.requires.plan)) there.passed.is) in
+    let place : Place = get_or c.parameters-parameters.result.now n (Value 0) in
+    let made = c.in_ok-put.ensures id (subst (λ (p : Planned). IsParameter p place id) (sym (c.deref-in-loop-number.ensures ∙ c.requires.plan)) there.passed.is) in
     subst (λ (m : ℕ). Begins x c.args.function m c.put.new.frame) next
     (begins_next x c.args.function n c.loop-number.frame c.put.new.frame there.parameter v there.at (ap (values x) next ∙ c.in_ok-operand.ensures.value) there.passed.fits made c.loop-number.invariant)
 
