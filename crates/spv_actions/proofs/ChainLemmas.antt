@@ -90,12 +90,12 @@ none_read x = refl
 -- the next operand, and those behind it
 next_of : (x : Site) (cs : List Lane) (n : ℕ) (o : Option Value) → n < length x.inst.operands → values x n ≡ o → Reads x cs n
     → indexes (values x) x.inst ≡ ok_or (option_map (λ (us : List Value). cs ++ flat_map leaves us)
-        (option_and_then (λ (v : Value). option_map (λ (us : List Value). v ∷ us) (all_of (values x) (range_with_len (n + 1) (length x.inst.operands - (n + 1))))) o)) NoValue
+    (option_and_then (λ (v : Value). option_map (λ (us : List Value). v ∷ us) (all_of (values x) (range_with_len (n + 1) (length x.inst.operands - (n + 1))))) o)) NoValue
 next_of x cs n o lt value so_far =
     let more : length x.inst.operands - n ≡ suc (length x.inst.operands - (n + 1)) = omega arith in
     so_far ∙ ap (λ (k : ℕ). ok_or (option_map (λ (us : List Value). cs ++ flat_map leaves us) (all_of (values x) (range_with_len n k))) NoValue) more
     ∙ ap (λ (p : Option Value). ok_or (option_map (λ (us : List Value). cs ++ flat_map leaves us)
-      (option_and_then (λ (v : Value). option_map (λ (us : List Value). v ∷ us) (all_of (values x) (range_with_len (n + 1) (length x.inst.operands - (n + 1))))) p)) NoValue) value
+    (option_and_then (λ (v : Value). option_map (λ (us : List Value). v ∷ us) (all_of (values x) (range_with_len (n + 1) (length x.inst.operands - (n + 1))))) p)) NoValue) value
 
 moved : (cs : List Lane) (v : Value) (o : Option (List Value))
     → ok_or (option_map (λ (us : List Value). cs ++ flat_map leaves us) (option_map (λ (us : List Value). v ∷ us) o)) NoValue ≡ ok_or (option_map (λ (us : List Value). (cs ++ leaves v) ++ flat_map leaves us) o) NoValue
@@ -173,17 +173,17 @@ module _ (plains : ValuesHaveShapes) (pointers : PointersHaveShapes) (meant : Co
         cell = cell.0;
         row = cell.1;
         number = λ number h.
-          let constant = member_constant (known (accepted x)) id number h in
-          let row = constant_cell (accepted x).constants id constant.0 constant.1 in
-          let depth = depth_of x.state x.inv in
-          let means : value_of (accepted x) x.frame depth id ≡ Some (tree_of (accepted x).types row.0)
-          = sym (value_meant (accepted x) x.frame depth id Constant (meant (accepted x) id row.0 (subst (λ (a : Accepted). ∥ IsAccepted a ∥₁) same accepts) row.1))
+            let constant = member_constant (known (accepted x)) id number h in
+            let row = constant_cell (accepted x).constants id constant.0 constant.1 in
+            let depth = depth_of x.state x.inv in
+            let means : value_of (accepted x) x.frame depth id ≡ Some (tree_of (accepted x).types row.0)
+            = sym (value_meant (accepted x) x.frame depth id Constant (meant (accepted x) id row.0 (subst (λ (a : Accepted). ∥ IsAccepted a ∥₁) same accepts) row.1))
             ∙ ap (option_map (tree_of (accepted x).types)) row.1 in
-          let is : Some w ≡ Some (tree_of (accepted x).types row.0) = sym value ∙ ap (option_and_then (value_of (accepted x) x.frame depth)) named ∙ means in
-          let tree : w ≡ tree_of (accepted x).types row.0 = cc in
-          let cells : leaves w ≡ row.0.cells = constant_leaves (accepted x) id row.0 w valid (sym row.1) tree in
-          let one : cell.0 ≡ constant.0 = only_one row.0.cells cell.0 constant.0 (sym cells ∙ cell.1) row.2 in
-          ap extended one ∙ unsigned constant.0 number constant.2;
+            let is : Some w ≡ Some (tree_of (accepted x).types row.0) = sym value ∙ ap (option_and_then (value_of (accepted x) x.frame depth)) named ∙ means in
+            let tree : w ≡ tree_of (accepted x).types row.0 = cc in
+            let cells : leaves w ≡ row.0.cells = constant_leaves (accepted x) id row.0 w valid (sym row.1) tree in
+            let one : cell.0 ≡ constant.0 = only_one row.0.cells cell.0 constant.0 (sym cells ∙ cell.1) row.2 in
+            ap extended one ∙ unsigned constant.0 number constant.2;
       }
 
   -- the pointer and its cells

@@ -21,3 +21,12 @@ pub mod CopyLemmas
 pub mod KeepsFrames
 pub mod PassingLemmas
 pub mod EnterLemmas
+pub mod ControlCodes
+pub mod TargetLemmas
+pub mod PhiLemmas
+pub mod SwitchLemmas
+pub mod LeadingLemmas
+pub mod BranchLemmas
+pub mod AtomicLemmas
+pub mod AtomicSteps
+pub mod BarrierLemmas

@@ -3,6 +3,11 @@ pub mod Accesses
 pub mod Calls
 pub mod Chains
 pub mod Lengths
+pub mod Phis
+pub mod Branches
+pub mod Atomics
+pub mod AtomicSites
+pub mod Barriers
 pub mod Instructions
 pub mod Fits
 pub mod Kept

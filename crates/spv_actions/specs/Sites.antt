@@ -19,7 +19,7 @@ use Rattle.spv_frame.specs.Frames.{Held as Frame}
 use Rattle.spv_mem.specs.Memory.{Held as Memory, id_in}
 use Rattle.spv_mem.specs.Targets.{is_array_at}
 use Rattle.spv_operands.specs.Shapes.{target_in}
-use Rattle.spv_operands.specs.Values.{operand_value}
+use Rattle.spv_operands.specs.Values.{operand_value, value_of}
 use Rattle.spv_results.specs.Operands.{IsOperand, IsResult, known}
 use Rattle.spv_results.specs.Results.{result_by}
 use Rattle.spv_results.specs.declared.computations.Computation.{Computation}
@@ -65,6 +65,10 @@ part_of x v = pointer v >>= loaded x.state x.inv
 -- the value of each operand that has one, by its number
 abbrev pub values : Site → ℕ → Option Value
 values x = operand_value (accepted x) x.frame (depth_of x.state x.inv) x.inst
+
+-- what an id stands for, where it stands for a value
+abbrev pub named : Site → ℕ → Option Value
+named x id = value_of (accepted x) x.frame (depth_of x.state x.inv) id
 
 -- a type that is there, and is no pointer type
 abbrev pub is_data : Types → Option ℕ → Bool

@@ -8,7 +8,6 @@ ghost use Rattle.spv_actions.specs.Planned.{IsDue, IsTaken, PlannedFits};
 ghost use Rattle.spv_actions.specs.Sites as spec;
 ghost use Rattle.spv_operands.specs.Operands.{IsPlain, shown};
 
-use spv_state::Action;
 use crate::causes::Cause;
 use crate::effects::{Control, Effect, Gain};
 use crate::kept::{copy_memory_is_kept, load_is_kept, store_is_kept};
@@ -17,10 +16,11 @@ use spv_base::{Fail, NoMemory, Pointer};
 use spv_effects::resize;
 use spv_mem::Memory;
 use spv_operands::Operand;
+use spv_state::Action;
 use spv_values::{Part, Row};
 
 /// A fact, with nothing to run: each variable of a memory has a value of its type.
-fn variables_are_shaped(memory: &Memory)
+pub(crate) fn variables_are_shaped(memory: &Memory)
     ensures { ∥ IsMemory memory.now ∥₁ }
 {
     memory.keeps_types();
@@ -41,7 +41,7 @@ fn part<'a>(site: &Site<'a>, at: &Operand) -> Result<Part<'a>, Fail<Cause>>
 }
 
 /// The pointer that an operand is, owned. F3 where it is none.
-fn place(site: &Site, at: &Operand) -> Result<Pointer, Fail<Cause>>
+pub(crate) fn place(site: &Site, at: &Operand) -> Result<Pointer, Fail<Cause>>
     requires { IsPlain at.now }
     ensures { Answers (pointer (shown at.now)) result }
 {

@@ -8,6 +8,9 @@ ghost use Rattle.spv_state.specs.State as state;
 
 use crate::calls::{call, return_value};
 use crate::accesses::{copy_memory, load, store};
+use crate::branches::{branch, branch_conditional, switch};
+use crate::atomics::atomic;
+use crate::barriers::{control_barrier, memory_barrier};
 use spv_state::Action;
 use crate::causes::Cause;
 use crate::chains::chain;
@@ -97,15 +100,15 @@ pub fn effect_at(
         Action::CopyMemory => copy_memory(&site, row),
         Action::Chain => chain(&site),
         Action::ArrayLength => array_length(&site, row),
-        Action::Branch => Err(Fail::Refused(Cause::Unreachable)),
-        Action::BranchConditional => Err(Fail::Refused(Cause::Unreachable)),
-        Action::Switch => Err(Fail::Refused(Cause::Unreachable)),
+        Action::Branch => branch(&site),
+        Action::BranchConditional => branch_conditional(&site),
+        Action::Switch => switch(&site),
         Action::Call => call(&site),
         Action::ReturnValue => return_value(&site, row),
         Action::Unreachable => Err(Fail::Refused(Cause::Unreachable)),
-        Action::ControlBarrier => Err(Fail::Refused(Cause::Unreachable)),
-        Action::MemoryBarrier => Err(Fail::Refused(Cause::Unreachable)),
-        Action::Atomic(_operation) => Err(Fail::Refused(Cause::Unreachable)),
+        Action::ControlBarrier => control_barrier(&site, row),
+        Action::MemoryBarrier => memory_barrier(&site, row),
+        Action::Atomic(operation) => atomic(&site, operation, row),
         Action::Other => Err(Fail::Refused(Cause::Unreachable)),
     }
 }

@@ -20,8 +20,8 @@ use spv_base::{Cell, Fail, NoMemory, Pointer, Root};
 use spv_index::literal_operand;
 use spv_operands::Operand;
 use spv_state::Action;
-use spv_values::trees::scalar;
 use spv_values::Row;
+use spv_values::trees::scalar;
 
 /// Whether a variable is one that the workgroup shares.
 fn is_shared(root: Root) -> bool

@@ -3,6 +3,9 @@
 
 mod accesses;
 mod calls;
+mod branches;
+mod atomics;
+mod barriers;
 pub mod causes;
 mod chains;
 mod computing;
@@ -12,7 +15,10 @@ pub mod effects;
 mod kept;
 mod kept_calls;
 mod lengths;
+mod kept_control;
+mod phis;
 pub mod sites;
+mod switches;
 
 pub use causes::Cause;
 pub use effects::{Control, Effect, Gain, effect_at};

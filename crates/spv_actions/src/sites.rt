@@ -3,7 +3,7 @@ ghost use Rattle.std.specs.Prelude.{◌≡◌, ◌<◌, IfOk, IfSome, None, Some
 ghost use Rattle.std.specs.List.{Contains};
 ghost use Rattle.std.specs.Result.{result_map_both};
 ghost use Rattle.spv_plans.specs.Plans.{functions_in, plan_of};
-ghost use Rattle.spv_index.specs.Definitions.{at};
+ghost use Rattle.spv_index.specs.Definitions.{at, result_type};
 ghost use Rattle.spv_actions.specs.Sites as spec;
 ghost use Rattle.spv_actions.specs.Sites.{Finds, is_data_at};
 ghost use Rattle.spv_state.specs.Sound.{IsSound};
@@ -18,7 +18,7 @@ use spv_base::{Fail, Inst, NoMemory, Pointer};
 use spv_frame::{Frame, Plan};
 use spv_mem::Memory;
 use spv_operands::laws::operands_have_shapes;
-use spv_operands::{Operand, Reference, operand_of};
+use spv_operands::{Operand, Reference, operand as operand_by, operand_of};
 use spv_valid::Module;
 use spv_values::Part;
 use std::alloc::Global;
@@ -220,6 +220,36 @@ impl<'a> Site<'a> {
     {
         let _insts = self.accepted().insts();
         let operand = self.operand(n)?;
+        Ok(Datum { operand })
+    }
+
+    /// What an id stands for, if it stands for something.
+    fn found_by(&self, id: u32) -> Result<Option<Operand<'a>>, NoMemory>
+        ensures value { IfOk result (λ o. option_map shown o ≡ spec.named self.now id) }
+        ensures plain { IfOk result (λ o. IfSome o IsPlain) }
+    {
+        let accepted = self.accepted();
+        operand_by(
+            self.alloc,
+            accepted,
+            self.w.plans(),
+            self.frame,
+            self.depth,
+            id,
+        )
+    }
+
+    /// The value of an id whose type is no pointer type. F4 where it has none.
+    pub fn named(&self, id: u32) -> Result<Datum<'a>, Fail<Cause>>
+        requires { spec.is_data self.now.program.accepted.types (result_type self.now.program.accepted.insts id) ≡ true }
+        ensures { Finds (spec.named self.now id) result }
+    {
+        operands_have_shapes();
+        self.is_reached();
+        let _insts = self.accepted().insts();
+        let Some(operand) = self.found_by(id)? else {
+            return Err(Fail::Refused(Cause::NoValue));
+        };
         Ok(Datum { operand })
     }
 }

@@ -51,7 +51,7 @@ returns-clause-fits c =
     let sound = subst (λ (a : Accepted). AreSound a.types) c.accepted.ensures (sound_types c.accepted.result.now c.insts-insts.ensures.valid) in
     let valid = subst (λ (a : Accepted). ∥ IsValid a ∥₁) c.accepted.ensures c.insts-insts.ensures.valid in
     let fits = copy_fits c.args.site.now sound valid c.is_reached.ensures c.copy_memory_is_kept.ensures.rule (shown c.in_ok-target.target) (shown c.in_ok-source.source) c.in_ok-target.ensures.shape c.in_ok-source.ensures.shape
-        c.in_ok-_part._part c.in_ok-part.field-0 c.in_ok-place.place memory c.in_ok-_part.ensures c.in_ok-part.ensures c.in_ok-place.ensures in
+    c.in_ok-_part._part c.in_ok-part.field-0 c.in_ok-place.place memory c.in_ok-_part.ensures c.in_ok-part.ensures c.in_ok-place.ensures in
     record {
       store = subst (λ (v : Value). StoreFits c.args.site.now.state c.args.site.now.inv (Some (c.in_ok-place.place, v))) (sym c.in_ok-copied.ensures) fits;
       result = tt;

@@ -43,5 +43,5 @@ returns-clause-fits c = λ v.
     let sound = subst (λ (a : Accepted). AreSound a.types) c.accepted.ensures (sound_types c.accepted.result.now c.insts-insts.ensures.valid) in
     let valid = subst (λ (a : Accepted). ∥ IsValid a ∥₁) c.accepted.ensures c.insts-insts.ensures.valid in
     let fits = chain_fits c.operands_have_shapes.ensures.values c.operands_have_shapes.ensures.pointers c.constants_are_meant.ensures c.args.site.now c.accepted.result.now c.accepted.ensures c.insts-insts.ensures.accepted sound valid
-        c.is_reached.ensures c.chain_is_kept.ensures.rule (shown c.in_ok-base.base) c.in_ok-base.ensures.shape c.as_slice.result.now (c.in_ok-indexes.ensures ∙ ap Ok (sym cells)) c.in_ok-pointer.pointer c.in_ok-pointer.ensures in
+    c.is_reached.ensures c.chain_is_kept.ensures.rule (shown c.in_ok-base.base) c.in_ok-base.ensures.shape c.as_slice.result.now (c.in_ok-indexes.ensures ∙ ap Ok (sym cells)) c.in_ok-pointer.pointer c.in_ok-pointer.ensures in
     record { store = tt; result = fits; control = c.chain_is_kept.ensures.next }
