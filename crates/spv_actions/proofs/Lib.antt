@@ -20,6 +20,7 @@ pub mod LengthLemmas
 pub mod CopyLemmas
 pub mod KeepsFrames
 pub mod PassingLemmas
+pub mod EnterLemmas
 pub mod ControlCodes
 pub mod TargetLemmas
 pub mod PhiLemmas

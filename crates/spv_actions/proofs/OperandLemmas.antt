@@ -111,12 +111,12 @@ module _ (plains : ValuesHaveShapes) (pointers : PointersHaveShapes) (x : Site) 
 
 -- ---- data
 
-plain_none : (o : Option Reference) → is_some o ≡ false → o ≡ None
+pub plain_none : (o : Option Reference) → is_some o ≡ false → o ≡ None
 plain_none None h = refl
 plain_none (Some p) h = absurd (cc)
 
 -- an operand of a type that is no pointer type is no pointer
-data_type : (ts : Types) (o : Option ℕ) → is_data ts o ≡ true → (ty : ℕ) × (o ≡ Some ty) × (is_pointer (form_of ts ty) ≡ false)
+pub data_type : (ts : Types) (o : Option ℕ) → is_data ts o ≡ true → (ty : ℕ) × (o ≡ Some ty) × (is_pointer (form_of ts ty) ≡ false)
 data_type ts None h = absurd (cc)
 data_type ts (Some ty) h = (ty, refl, not-true (is_pointer (form_of ts ty)) h)
 

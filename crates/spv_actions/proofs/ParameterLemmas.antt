@@ -143,7 +143,9 @@ skipped ts i rest other = by_register (is_register ts i)
     by_register false = refl
 
 taken : (ts : Types) (i : Inst) (rest : List Inst) → is_parameter i ≡ true → has_result i ≡ true → filter is_parameter (register_in ts i ++ rest) ≡ i ∷ filter is_parameter rest
-taken ts i rest own result = rw (result, own) refl
+taken ts i rest own result =
+    let register : is_register ts i ≡ true = rw (result, own) refl in
+    rw register (rw own refl)
 
 parameters_from : Types → ℕ → List (ℕ × Bool) → Position → List Inst → List Inst
 parameters_from ts id sets position is = filter is_parameter (flat_map (register_of ts) (leading (stands_in id) (stands sets position is)))
@@ -152,57 +154,64 @@ parameter_kept : (k : Known) (i : Inst) (w : Within) (rest : List Inst) → Keep
 unfolding memory_rule atomic_rule composite_rule control_rule other_rule
 parameter_kept k i w rest kept op = subst (λ (n : ℕ). KeepsRule k (place i w rest) (rule_of n)) op kept.1
 
--- so many came before
-typed_from : (k : Known) (ts : Types) (id : ℕ) (sets : List (ℕ × Bool)) (position : Position) (w : Within) (is : List Inst) → AllByRecursion (λ (j : Inst). j.id ≢ id) is → AllByRecursion HasResult is
-    → AllByRecursion (KeepsBody k) (placed_from w is) → (m : ℕ) (i : Inst) → slice_get (parameters_from ts id sets position is) m ≡ Some i → parameter_type k (w.parameters + m) w.ty ≡ Some i.ty
-unfolding parameters_from
-typed_from k ts id sets position w [] apart results kept m i at = absurd (cc)
-typed_from k ts id sets position w (x ∷ is) apart results kept m i at =
-    by_within (is_within id position) at (x.op == 54) refl (x.op == 55) refl
-  where
-    after : Position
-    after = position_after position (class_of sets x) x
+-- where an instruction stands in the function, and those behind it are known
+module _ (k : Known) (ts : Types) (id : ℕ) (sets : List (ℕ × Bool)) (position : Position) (w : Within) (x : Inst) (is : List Inst) (apart : x.id ≢ id) (result : HasResult x) (kept : KeepsBody k (place x w is)) where
+  behind : List Inst
+  behind = flat_map (register_of ts) (leading (stands_in id) (stands sets (position_after position (class_of sets x) x) is))
 
-    rest : List Inst
-    rest = flat_map (register_of ts) (leading (stands_in id) (stands sets after is))
+  module _ (later : (n : ℕ) (j : Inst) → slice_get (filter is_parameter behind) n ≡ Some j → parameter_type k ((within_after w x).parameters + n) (within_after w x).ty ≡ Some j.ty) (m : ℕ) (i : Inst) where
+    next_typed : (v : Within) → within_after w x ≡ v → (n : ℕ) → slice_get (filter is_parameter behind) n ≡ Some i → parameter_type k (v.parameters + n) v.ty ≡ Some i.ty
+    next_typed v same n h = subst (λ (u : Within). parameter_type k (u.parameters + n) u.ty ≡ Some i.ty) same (later n i h)
 
-    own_next : (v : Within) → within_after w x ≡ v → (n : ℕ) (j : Inst) → slice_get (filter is_parameter rest) n ≡ Some j → parameter_type k (v.parameters + n) v.ty ≡ Some j.ty
-    own_next v same n j h = subst (λ (u : Within). parameter_type k (u.parameters + n) u.ty ≡ Some j.ty) same (typed_from k ts id sets after (within_after w x) is apart.1 results.1 kept.1 n j h)
+    none_behind : (js : List Inst) → (x.id == id) ≡ false → flat_map (register_of ts) (leading (stands_in id) (stands sets (begins x) js)) ≡ []
+    none_behind [] e = refl
+    none_behind (j ∷ js) e = rw e refl
 
-    function_ends : x.op ≡ 54 → rest ≡ []
+    function_ends : x.op ≡ 54 → behind ≡ []
+    unfolding behind
     function_ends op =
-        let here : after ≡ begins x = ap (λ (c : Class). position_after position c x) (function_class sets x op) in
-        ap (λ (p : Position). flat_map (register_of ts) (leading (stands_in id) (stands sets p is))) here ∙ none_behind is (ne_eqb x.id id apart.0)
-      where
-        none_behind : (js : List Inst) → (x.id == id) ≡ false → flat_map (register_of ts) (leading (stands_in id) (stands sets (begins x) js)) ≡ []
-        none_behind [] e = refl
-        none_behind (j ∷ js) e = rw e refl
+        let here : position_after position (class_of sets x) x ≡ begins x = ap (λ (c : Class). position_after position c x) (function_class sets x op) in
+        ap (λ (p : Position). flat_map (register_of ts) (leading (stands_in id) (stands sets p is))) here ∙ none_behind is (ne_eqb x.id id apart)
 
-    here_first : (n : ℕ) → x.op ≡ 55 → within_after w x ≡ record w { parameters = suc w.parameters } → slice_get (x ∷ filter is_parameter rest) n ≡ Some i → parameter_type k (w.parameters + n) w.ty ≡ Some i.ty
-    here_first zero op next h =
+    here_typed : (n : ℕ) → x.op ≡ 55 → within_after w x ≡ record w { parameters = suc w.parameters } → slice_get (x ∷ filter is_parameter behind) n ≡ Some i → parameter_type k (w.parameters + n) w.ty ≡ Some i.ty
+    here_typed zero op next h =
         let same : x ≡ i = cc in
         let zero_is : w.parameters ≡ w.parameters + 0 = omega arith in
-        subst (λ (n : ℕ). parameter_type k n w.ty ≡ Some i.ty) zero_is (parameter_kept k x w is kept.0 op ∙ ap (λ (j : Inst). Some j.ty) same)
-    here_first (suc n) op next h =
+        subst (λ (n : ℕ). parameter_type k n w.ty ≡ Some i.ty) zero_is (parameter_kept k x w is kept op ∙ ap (λ (j : Inst). Some j.ty) same)
+    here_typed (suc n) op next h =
         let next_is : suc w.parameters + n ≡ w.parameters + suc n = omega arith in
-        subst (λ (j : ℕ). parameter_type k j w.ty ≡ Some i.ty) next_is (own_next (record w { parameters = suc w.parameters }) next n i h)
+        subst (λ (j : ℕ). parameter_type k j w.ty ≡ Some i.ty) next_is (next_typed (record w { parameters = suc w.parameters }) next n h)
 
-    by_within : (b : Bool) → slice_get (filter is_parameter (flat_map (register_of ts) (cond b (record { position = position; class = class_of sets x; inst = x } ∷ leading (stands_in id) (stands sets after is)) []))) m ≡ Some i
+    by_within : (b : Bool) → slice_get (filter is_parameter (flat_map (register_of ts) (cond b (record { position = position; class = class_of sets x; inst = x } ∷ leading (stands_in id) (stands sets (position_after position (class_of sets x) x) is)) []))) m ≡ Some i
         → (c : Bool) → (x.op == 54) ≡ c → (e : Bool) → (x.op == 55) ≡ e → parameter_type k (w.parameters + m) w.ty ≡ Some i.ty
+    unfolding behind
     by_within false h c is54 e is55 = absurd (cc)
     by_within true h true is54 e is55 =
         let op : x.op ≡ 54 = eqb-true x.op 54 is54 in
         let other : is_parameter x ≡ false = rw op refl in
-        let none : slice_get (filter is_parameter rest) m ≡ Some i = subst (λ (l : List Inst). slice_get l m ≡ Some i) (skipped ts x rest other) h in
+        let none : slice_get (filter is_parameter behind) m ≡ Some i = subst (λ (l : List Inst). slice_get l m ≡ Some i) (skipped ts x behind other) h in
         let gone : slice_get (filter is_parameter []) m ≡ Some i = subst (λ (l : List Inst). slice_get (filter is_parameter l) m ≡ Some i) (function_ends op) none in
         absurd (cc)
     by_within true h false is54 true is55 =
         let op : x.op ≡ 55 = eqb-true x.op 55 is55 in
-        here_first m op (rw (is54, is55) refl) (subst (λ (l : List Inst). slice_get l m ≡ Some i) (taken ts x rest is55 (results.0 op)) h)
+        here_typed m op (rw (is54, is55) refl) (subst (λ (l : List Inst). slice_get l m ≡ Some i) (taken ts x behind is55 (result op)) h)
     by_within true h false is54 false is55 =
-        own_next w (rw (is54, is55) refl) m i (subst (λ (l : List Inst). slice_get l m ≡ Some i) (skipped ts x rest is55) h)
+        next_typed w (rw (is54, is55) refl) m (subst (λ (l : List Inst). slice_get l m ≡ Some i) (skipped ts x behind is55) h)
+
+-- so many came before
+typed_from : (k : Known) (ts : Types) (id : ℕ) (sets : List (ℕ × Bool)) (position : Position) (w : Within) (is : List Inst) → AllByRecursion (λ (j : Inst). j.id ≢ id) is → AllByRecursion HasResult is
+    → AllByRecursion (KeepsBody k) (placed_from w is) → (m : ℕ) (i : Inst) → slice_get (parameters_from ts id sets position is) m ≡ Some i → parameter_type k (w.parameters + m) w.ty ≡ Some i.ty
+unfolding parameters_from behind
+typed_from k ts id sets position w [] apart have kept m i at = absurd (cc)
+typed_from k ts id sets position w (x ∷ is) apart have kept m i at =
+    by_within k ts id sets position w x is apart.0 have.0 kept.0
+    (λ n j h. typed_from k ts id sets (position_after position (class_of sets x) x) (within_after w x) is apart.1 have.1 kept.1 n j h) m i
+    (is_within id position) at (x.op == 54) refl (x.op == 55) refl
 
 -- ---- the parameters of a function
+
+within_function : (w : Within) (f : Inst) → f.op ≡ 54 → within_after w f ≡ record { returns = Some f.ty; ty = id_operand f 1; parameters = 0 }
+within_function w f op = rw op refl
 
 pub parameters_typed : (a : Accepted) → IsAccepted a → IsValid a → (n : ℕ) (f : Inst) → slice_get a.insts n ≡ Some f → f.op ≡ 54
     → (m : ℕ) (i : Inst) → slice_get (filter is_parameter (registers_of a.types a.insts f.id)) m ≡ Some i → parameter_type (known a) m (id_operand f 1) ≡ Some i.ty
@@ -218,7 +227,7 @@ parameters_typed a accepted v n f at op m i h =
     let stood : members a.insts f.id ≡ leading (stands_in f.id) (stands (sets_of a.insts) (begins f) later)
     = facts_are.within ∙ ap (λ (j : ℕ). leading (stands_in f.id) (drop j (stands_of a.insts))) next ∙ ap (leading (stands_in f.id)) (behind_function (sets_of a.insts) outside a.insts n f at op) in
     let named = function_named (decoded_in a) f (result_here a n f v at) op in
-    let begun : within_after there.within f ≡ record { returns = Some f.ty; ty = id_operand f 1; parameters = 0 } = rw op refl in
+    let begun = within_function there.within f op in
     let types = typed_from k ts f.id (sets_of a.insts) (begins f) (within_after there.within f) later (later_apart a.insts n f facts_are.distinct at named) (each_drop HasResult (suc n) a.insts (have_results a v)) whole.1 m i
         (subst (λ (ss : List Stand). slice_get (filter is_parameter (flat_map (register_of ts) ss)) m ≡ Some i) stood h) in
     let zero_is : 0 + m ≡ m = omega arith in

@@ -1,12 +1,15 @@
 -- The arguments of a call in the registers of the parameters.
-use Rattle.std.proofs.Common.{◌≡◌, ◌∙◌, ℕ, zero, suc, ◌+◌, ◌<◌, ◌≤◌, Bool, true, false, cond, List, [], ◌∷◌, length, drop, map, Option, Some, None, Result, Ok, Err, ok_or, slice_get, refl, sym, ap, subst, arith}
+use Rattle.std.proofs.Common.{◌≡◌, ◌∙◌, ℕ, zero, suc, ◌+◌, ◌<◌, ◌≤◌, Bool, true, false, cond, List, [], ◌∷◌, length, drop, get_or, map, Option, Some, None, Result, Ok, Err, ok_or, slice_get, refl, sym, ap, subst, arith}
 use Rattle.std.proofs.Math.Logic.{∥∥₁_elim}
 use Rattle.std.proofs.Props.{props}
-use Rattle.std.proofs.lemmas.Option.{slice_get_within}
+use Rattle.std.proofs.lemmas.Option.{slice_get-get_or, slice_get_within}
 use Rattle.std.specs.List.{Contains, filter}
 use Rattle.std.specs.Option.{is_some}
 use Rattle.std.specs.Prelude.{if◌then◌else◌}
+use Rattle.spv_base.specs.Answers.{Answers}
 use Rattle.spv_base.specs.Entries.{reads}
+use Rattle.spv_base.specs.declared.causes.Fail.{Fail}
+use Rattle.spv_base.specs.declared.causes.Fail.TheVariants.{Refused, NoMemory}
 use Rattle.spv_base.specs.declared.instructions.Inst.{Inst}
 use Rattle.spv_base.specs.declared.values.Pointer.{Pointer as Reference}
 use Rattle.spv_base.specs.declared.values.Root.{Root}
@@ -24,6 +27,11 @@ use Rattle.spv_bodies.specs.Context.{type_at}
 use Rattle.spv_mem.specs.Memory.{AreVariables, IsVariable}
 use Rattle.spv_base.specs.State.{Roots}
 use Rattle.spv_valid.specs.Acceptance.{Accepted, IsAccepted}
+use Rattle.spv_initial.specs.Start.{variables}
+use Rattle.spv_initial.specs.Variables.{HaveTargets, targets_of}
+use Rattle.spv_initial.specs.declared.variables.Declared.{Declared}
+use Rattle.spv_state.specs.Variables.{is_variable_of, variables_of}
+use Rattle.spv_state.proofs.VariableLemmas.{kept_targets}
 use Rattle.spv_valid.specs.Validity.{IsValid}
 use Rattle.spv_frame.specs.declared.slots.Place.{Place}
 use Rattle.spv_frame.specs.declared.slots.Place.TheVariants.{Value, Pointer}
@@ -40,19 +48,21 @@ use Rattle.spv_operands.specs.Shapes.{target_in}
 use Rattle.spv_operands.proofs.ShapeLemmas.{data_plain}
 use Rattle.spv_results.specs.Operands.{known}
 use Rattle.spv_results.proofs.ShapeProps.{shape_prop}
+use Rattle.spv_results.proofs.SoundTypes.{sound_types}
 use Rattle.spv_state.specs.Sound.{IsSoundFrame}
 use Rattle.spv_state.specs.State.{with_level, with_register, with_registers}
-use Rattle.spv_state.proofs.Known.{IsKnown}
+use Rattle.spv_state.proofs.Known.{IsKnown, known_as}
 use Rattle.spv_state.proofs.SlotLemmas.{no_value}
 use Rattle.spv_state.proofs.Stands.{IsOne, member_one, stand_inst}
 use Rattle.spv_actions.specs.Calls.{arguments, called, parameters_of}
 use Rattle.spv_actions.specs.Effects.{◌>>=◌}
 use Rattle.spv_actions.specs.Fits.{LevelFits}
 use Rattle.spv_actions.specs.Passing.{IsParameter, Passes, Suits, frame_due, parameters_in}
-use Rattle.spv_actions.specs.Sites.{IsShaped, Site, accepted, values}
+use Rattle.spv_actions.specs.Sites.{Finds, IsShaped, Site, accepted, values}
 use Rattle.spv_actions.specs.declared.causes.Cause.{Cause}
 use Rattle.spv_actions.specs.declared.causes.Cause.TheVariants.{NoValue}
 use Rattle.spv_actions.proofs.KeepsFrames.{RegisterFits, register_kept, register_stays}
+use Rattle.spv_actions.proofs.OperandLemmas.{plain_none, recovered}
 use Rattle.spv_actions.proofs.ParameterLemmas.{drop_here}
 use Rattle.spv_actions.proofs.PointerLemmas.{pointed, pointer_form, reference_shape}
 
@@ -80,13 +90,13 @@ pub record IsPassed (a : Accepted) (p : Planned) (i : Inst) (place : Place) (v :
   pub is : IsParameter p place i.id
   pub fits : RegisterFits a i.id v (out-Value v)
 
-place_of : Planned → ℕ → Place
+abbrev pub place_of : Planned → ℕ → Place
 place_of p id = place_among p.values p.pointers id
 
 -- the places of parameters
 pub parameter_at : (a : Accepted) (function n : ℕ) (place : Place) → slice_get (plan_of a function).parameters n ≡ Some place
     → (i : Inst) × (slice_get (parameters_in a function) n ≡ Some i) × (place_of (plan_of a function) i.id ≡ place)
-unfolding plan_of place_of
+unfolding plan_of
 parameter_at a function n place at = map_from (λ (i : Inst). place_of (plan_of a function) i.id) (parameters_in a function) n place at
 
 level_plain : (a : Accepted) (ty : ℕ) (v : Whole) (level : Value-F Whole) → pointer_in level ≡ None → HasShape a.types no_roots ty v → LevelFits a ty v level
@@ -98,10 +108,6 @@ level_pointer : (a : Accepted) (ty : ℕ) (v : Whole) (level : Value-F Whole) (q
 level_pointer a ty v (Value-F.Scalar c) q is shape = absurd (cc)
 level_pointer a ty v (Value-F.List vs) q is shape = absurd (cc)
 level_pointer a ty v (Value-F.Ptr p) q is shape = shape
-
-plain_none : (o : Option Reference) → is_some o ≡ false → o ≡ None
-plain_none None h = refl
-plain_none (Some p) h = absurd (cc)
 
 module _ (with_values : ValuesHaveRegisters) (with_pointers : PointersHaveRegisters) (typed : ValuesHaveTypes) (fills : RowsFill)
     (a : Accepted) (accepts : ∥ IsAccepted a ∥₁) (known_is : IsKnown a) (sound : AreSound a.types) (function : ℕ) (among : Contains (functions_in a) function) (apart : HasApart (plan_of a function)) where
@@ -120,7 +126,6 @@ module _ (with_values : ValuesHaveRegisters) (with_pointers : PointersHaveRegist
         known_is.types one.number ty i (there ∙ ap (λ (j : Inst). Some j) own.is) h
 
     pointer_passed : (v : Whole) → is_pointer (form_of a.types i.ty) ≡ true → HasShape a.types (target_in a) i.ty v → IsPassed a (plan_of a function) i (place_of (plan_of a function) i.id) v
-    unfolding place_of
     pointer_passed v pointer shape =
         let p : Planned = plan_of a function in
         let form = pointer_form (form_of a.types i.ty) pointer in
@@ -137,11 +142,10 @@ module _ (with_values : ValuesHaveRegisters) (with_pointers : PointersHaveRegist
         })
 
     value_passed : (v : Whole) → is_pointer (form_of a.types i.ty) ≡ false → HasShape a.types no_roots i.ty v → IsPassed a (plan_of a function) i (place_of (plan_of a function) i.id) v
-    unfolding place_of
-    value_passed v data shape =
+    value_passed v plain_type shape =
         let p : Planned = plan_of a function in
         let plain : pointer_of v ≡ None = plain_none (pointer_of v) (data_plain a.types sound i.ty v shape) in
-        let is_data : has_cells a.types i ≡ true = rw data refl in
+        let is_data : has_cells a.types i ≡ true = rw plain_type refl in
         let number = with_values a function own.stand member own.register (ap (λ (j : Inst). has_cells a.types j) own.is ∙ is_data) in
         let some : number_of i.id (ids p.values) ≡ Some number.0 = ap (λ (j : Inst). number_of j.id (ids p.values)) (sym own.is) ∙ number.1 in
         let there : slice_get (ids p.values) number.0 ≡ Some i.id = number_gets i.id (ids p.values) number.0 some in
@@ -170,16 +174,18 @@ call_from x (id ∷ more) n g = ok_or (values x n) NoValue >>= (λ v. call_from 
 
 call_is : (x : Site) (is : List ℕ) (n : ℕ) (g : Frame) → call_from x is n g ≡ (arguments x.program x.state x.inv x.frame x.inst n is >>= (λ rs. Ok (with_registers rs g)))
 call_is x [] n g = refl
-call_is x (id ∷ more) n g = by_value (values x n)
+call_is x (id ∷ more) n g = by_value (values x n) (λ v. call_is x more (suc n) (with_register id v g))
   where
     by_rest : (v : Whole) (r : Result (List (ℕ × Whole)) Cause) → (r >>= (λ rs. Ok (with_registers rs (with_register id v g)))) ≡ ((r >>= (λ rs. Ok ((id, v) ∷ rs))) >>= (λ rs. Ok (with_registers rs g)))
     by_rest v (Ok rs) = refl
     by_rest v (Err cause) = refl
 
-    by_value : (o : Option Whole) → (ok_or o NoValue >>= (λ v. call_from x more (suc n) (with_register id v g)))
+    by_value : (o : Option Whole)
+        → ((v : Whole) → call_from x more (suc n) (with_register id v g) ≡ (arguments x.program x.state x.inv x.frame x.inst (suc n) more >>= (λ rs. Ok (with_registers rs (with_register id v g)))))
+        → (ok_or o NoValue >>= (λ v. call_from x more (suc n) (with_register id v g)))
         ≡ ((ok_or o NoValue >>= (λ v. arguments x.program x.state x.inv x.frame x.inst (suc n) more >>= (λ rs. Ok ((id, v) ∷ rs)))) >>= (λ rs. Ok (with_registers rs g)))
-    by_value None = refl
-    by_value (Some v) = call_is x more (suc n) (with_register id v g) ∙ by_rest v (arguments x.program x.state x.inv x.frame x.inst (suc n) more)
+    by_value None rest = refl
+    by_value (Some v) rest = rest v ∙ by_rest v (arguments x.program x.state x.inv x.frame x.inst (suc n) more)
 
 pub due_is : (x : Site) (function : ℕ) → frame_due x function ≡ call_from x (parameters_of (accepted x) function) 1 (fresh (plan_of (accepted x) function))
 due_is x function = sym (call_is x (parameters_of (accepted x) function) 1 (fresh (plan_of (accepted x) function)))
@@ -228,7 +234,7 @@ length_mapped f [] = refl
 length_mapped f (x ∷ xs) = ap (λ (m : ℕ). suc m) (length_mapped f xs)
 
 pub parameters_count : (a : Accepted) (function : ℕ) → length (plan_of a function).parameters ≡ length (parameters_of a function)
-unfolding plan_of place_of
+unfolding plan_of
 parameters_count a function =
     length_mapped (λ (i : Inst). place_of (plan_of a function) i.id) (parameters_in a function) ∙ sym (length_mapped (λ (i : Inst). i.id) (parameters_in a function))
 
@@ -252,3 +258,43 @@ variables_recovered ts targets es are id v at = by_type (reads id targets) refl
           let same : own.type ≡ ty = let named = own.named in cc in
           subst (λ (t : ℕ). HasShape ts no_roots t v) same own.shape);
     }
+
+-- those of a function, as they begin
+pub locals_are : (a b : Accepted) (function : ℕ) (ds : List Declared) (es : Roots) → b ≡ a → ∥ IsValid a ∥₁ → ds ≡ variables_of a function
+    → ((targets : List (ℕ × ℕ)) → HaveTargets targets ds → ∥ AreVariables b.types targets es ∥₁) → AreVariables a.types (targets_of (variables a)) es
+locals_are a b function ds es same valid are may =
+    let named : ∥ HaveTargets (targets_of (variables a)) ds ∥₁ = subst (λ (xs : List Declared). ∥ HaveTargets (targets_of (variables a)) xs ∥₁) (sym are) (kept_targets a (is_variable_of a function) valid) in
+    variables_recovered a.types (targets_of (variables a)) es
+    (subst (λ (x : Accepted). ∥ AreVariables x.types (targets_of (variables a)) es ∥₁) same (∥∥₁_elim named (hlevel props) (may (targets_of (variables a)))))
+
+-- ---- at a site
+
+-- the argument of the parameter with a number
+pub record PassedAt (x : Site) (function n : ℕ) (place : Place) (v : Whole) : Type 0 where
+  pub parameter : Inst
+  pub at : slice_get (parameters_in (accepted x) function) n ≡ Some parameter
+  pub passed : IsPassed (accepted x) (plan_of (accepted x) function) parameter place v
+
+abbrev pub AreApart : Type 0
+AreApart = (a : Accepted) (function : ℕ) → ∥ IsAccepted a ∥₁ → HasApart (plan_of a function)
+
+module _ (x : Site) (function : ℕ) (ps : List Place) (are : ps ≡ (plan_of (accepted x) function).parameters) (n : ℕ) (inside : n < length ps) (d : Place) where
+  own_place : slice_get (plan_of (accepted x) function).parameters n ≡ Some (get_or ps n d)
+  own_place = ap (λ (qs : List Place). slice_get qs n) (sym are) ∙ slice_get-get_or ps n d inside
+
+  pub parameter_there : (i : Inst) × (slice_get (parameters_in (accepted x) function) n ≡ Some i)
+  parameter_there = let at = parameter_at (accepted x) function n (get_or ps n d) own_place in (at.0, at.1)
+
+  pub passed_at : ValuesHaveRegisters → PointersHaveRegisters → ValuesHaveTypes → RowsFill → AreApart → (b : Accepted) → b ≡ accepted x → ∥ IsAccepted b ∥₁ → ∥ IsValid b ∥₁ → ∥ Contains (functions_in (accepted x)) function ∥₁
+      → Passes (accepted x) x.inst function → (v : Whole) → IsShaped (accepted x) x.inst (n + 1) v → PassedAt x function n (get_or ps n d) v
+  passed_at with_values with_pointers typed fills apart b same accepts valid among passes v shaped =
+      let at = parameter_at (accepted x) function n (get_or ps n d) own_place in
+      let own_accepts = subst (λ (a : Accepted). ∥ IsAccepted a ∥₁) same accepts in
+      let next : n + 1 ≡ suc n = omega arith in
+      let passed = argument_passed with_values with_pointers typed fills (accepted x) own_accepts (known_as (accepted x) b same accepts valid) (subst (λ (a : Accepted). AreSound a.types) same (sound_types b valid)) function
+          (recovered function (functions_in (accepted x)) among) (apart (accepted x) function own_accepts) n at.0 at.1 x.inst v passes (subst (λ (m : ℕ). IsShaped (accepted x) x.inst m v) next shaped) in
+      record { parameter = at.0; at = at.1; passed = subst (λ (place : Place). IsPassed (accepted x) (plan_of (accepted x) function) at.0 place v) at.2 passed }
+
+pub argument_missing : (o : Option Whole) (due : Result Frame Cause) (r : Result Frame (Fail Cause)) (e : Fail Cause) → (o ≡ None → due ≡ Err NoValue) → Finds {T = Whole} o (Err e) → r ≡ Err e → Answers due r
+argument_missing o due r (Refused cause) gives h same = subst (λ (s : Result Frame (Fail Cause)). Answers due s) (sym same) (gives h.0 ∙ ap (λ (k : Cause). Err k) (sym h.1))
+argument_missing o due r NoMemory gives h same = subst (λ (s : Result Frame (Fail Cause)). Answers due s) (sym same) tt
