@@ -3,18 +3,6 @@
 #![tactic(auto)]
 
 #[cfg(test)]
-mod bodies;
-#[cfg(test)]
-mod cfg;
-#[cfg(test)]
 mod consts;
 #[cfg(test)]
 mod fit;
-#[cfg(test)]
-mod sections;
-#[cfg(test)]
-mod types;
-#[cfg(test)]
-mod typing;
-#[cfg(test)]
-mod valid;
