@@ -108,3 +108,13 @@ def changed(insts, changes):
         made += [new for how, at, new in changes if how == "put" and at == n]
         made += [new for how, at, new in changes if how == "set" and at == n] or [inst]
     return made + [new for how, at, new in changes if how == "put" and at == len(insts)]
+
+
+def module_bytes(insts, bound=100):
+    """The module of instructions, for SPIR-V 1.6."""
+    words = [0x07230203, 0x00010600, 0, bound, 0]
+    for inst in insts:
+        words.append(inst.count() << 16 | FORMS[inst.name][0])
+        for operand in inst.operands:
+            words += string_words(operand) if isinstance(operand, str) else [operand]
+    return struct.pack("<%dI" % len(words), *words)

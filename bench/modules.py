@@ -6,13 +6,14 @@
 The compiled modules of data/ are of examples/check; whether one is accepted is what its compiler, the optimizer and the
 profile say. A line of the list `changes` is a module, a word of it and what it becomes, and how many bytes are left. The
 files of rules are listings of modules that keep a rule or break one, of rules_of_sections.py, rules_of_types.py and
-rules_of_blocks.py. Each outcome stands in these programs, as the rules have it: none is taken from the program that is tested.
+rules_of_blocks.py. A line of `instructions` is the words of one, of which the listing is shown. Each outcome stands in these programs, as the rules have it: none is taken from the program that is tested.
 """
 import os
 import struct
 import rules_of_blocks
 import rules_of_sections
 import rules_of_types
+import rules_of_words
 from listings import TOP
 
 FOLDER = os.path.join(TOP, "crates", "spv_modules")
@@ -172,6 +173,12 @@ def main():
     for name in ORDER:
         write(name + ".rules", "".join(rule.block() for rule in groups[name]))
         out += name + ".rules\n" + "".join(rule.reply() for rule in groups[name])
+    text, due = rules_of_words.texts()
+    write("texts.rules", text)
+    out += "texts.rules\n" + due
+    single = list(rules_of_words.instructions())
+    write("instructions", "".join(" ".join(map(str, words)) + "\n" for words, _ in single))
+    out += "instructions\n" + "".join(line + "\n" for _, line in single)
     with open(os.path.join(FOLDER, "stdout"), "w") as file:
         file.write(out)
 

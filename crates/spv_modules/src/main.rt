@@ -1,6 +1,6 @@
 //! Runs `check` on each module of data/, as a user would, and says what it writes and how it ends: shaders as compilers
 //! and the optimizer give them, whose sources stand in examples/check, modules with one word changed, and modules with one
-//! rule broken. Each module that is decoded is also read back from its listing. What is due is worked out by bench/modules.py.
+//! rule broken; and lists single instructions. Each module that is decoded is also read back from its listing. What is due is worked out by bench/modules.py.
 #![tactic(auto)]
 
 mod calls;
@@ -10,15 +10,15 @@ mod rules;
 
 use crate::calls::{check, check_in};
 use crate::changes::Change;
-use crate::read_back::is_read_back;
-use crate::rules::module_of;
+use crate::read_back::{is_read_back, listing_of};
+use crate::rules::{module_of, module_of_words};
 use spv_base::{Fail, RealFiles, Refusal};
 use std::alloc::Global;
 use std::io::Write;
 use std::{fs, io, rt};
 
 /// The files of modules as listings, in the order of the output.
-const RULES: [&str; 9] = [
+const RULES: [&str; 10] = [
     "sections.rules",
     "ids.rules",
     "capabilities.rules",
@@ -28,6 +28,7 @@ const RULES: [&str; 9] = [
     "bodies.rules",
     "blocks.rules",
     "entry.rules",
+    "texts.rules",
 ];
 
 /// What is told of a module's listing.
@@ -96,6 +97,18 @@ fn report_rules<R: rt::Files + Print + AllocGlobal>(rt: &R, file: &str) -> io::R
     Ok(())
 }
 
+/// Says how the instruction with these words is listed, or with which code it is refused.
+fn report_instruction<R: Print + AllocGlobal>(rt: &R, line: &str) -> io::Result<()> {
+    let Ok(module) = module_of_words(rt.alloc(), line) else {
+        return println!(rt; "out of memory");
+    };
+    match listing_of(rt.alloc(), &module) {
+        Ok(text) => io::writer(rt).write_all(text.as_slice()),
+        Err(Fail::Refused(Refusal { code, word })) => println!(rt; "M{code} at word {word}"),
+        Err(Fail::NoMemory) => println!(rt; "out of memory"),
+    }
+}
+
 fn main(rt: HostRuntime) -> io::Result<()> {
     let names = fs::read_to_string(&rt, "modules")?;
     for name in names.lines() {
@@ -104,6 +117,11 @@ fn main(rt: HostRuntime) -> io::Result<()> {
     report_changes(&rt, "changes")?;
     for file in RULES {
         report_rules(&rt, file)?;
+    }
+    println!(rt; "instructions")?;
+    let instructions = fs::read_to_string(&rt, "instructions")?;
+    for line in instructions.lines() {
+        report_instruction(&rt, line)?;
     }
     Ok(())
 }

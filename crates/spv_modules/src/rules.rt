@@ -1,4 +1,4 @@
-//! Modules as listings: the text of a group of them, in which each stands behind a line that says what it is.
+//! Modules as listings, and modules of one instruction.
 use spv_base::{Fail, NoMemory, RawInst, Refusal};
 use spv_ops::try_encode;
 use spv_text::read_listing;
@@ -12,7 +12,7 @@ const HEADER: [u32; 5] = [0x0723_0203, 0x0001_0600, 0, 1000, 0];
 
 /// The first word of an instruction: its opcode below, and how many words it has above.
 fn first_word(raw: &RawInst) -> u32 {
-    let count = (raw.rest.len() as u32).wrapping_add(1);
+    let count = u32::try_from(raw.rest.len()).unwrap_or(0).wrapping_add(1);
     count.wrapping_shl(16) | raw.op as u32
 }
 
@@ -35,6 +35,18 @@ pub fn module_of(alloc: Global, text: &[u8]) -> Result<Vec<u8>, Fail<Refusal>> {
         if let Some(raw) = try_encode(alloc, inst)? {
             push_words(&mut bytes, &[first_word(&raw)])?;
             push_words(&mut bytes, raw.rest.as_slice())?;
+        }
+    }
+    Ok(bytes)
+}
+
+/// The bytes of a module of one instruction, whose words are the numbers of a line.
+pub fn module_of_words(alloc: Global, line: &str) -> Result<Vec<u8>, NoMemory> {
+    let mut bytes = Vec::new(alloc);
+    push_words(&mut bytes, &HEADER)?;
+    for number in line.split(' ') {
+        if let Ok(word) = number.parse() {
+            push_words(&mut bytes, &[word])?;
         }
     }
     Ok(bytes)
