@@ -1,5 +1,5 @@
 //! One call of the program, on a counter of its own.
-ghost use Rattle.std.specs.Prelude.{◌≡◌, ◌<◌};
+ghost use Rattle.std.specs.Prelude.{◌≡◌, ◌<◌, IfOk};
 
 use spv_app::{Status, debug_main};
 use spv_base::{MemoryFiles, MemorySink, MemorySource, Probe, Steps};
@@ -11,7 +11,7 @@ use std::sync::ledger::{Blank, Ledger};
 
 /// The files `module` and `setup`.
 pub fn files_of(alloc: Global, module: Vec<u8>, setup: &str) -> io::Result<MemoryFiles>
-    ensures { result.faults ≡ 0 }
+    ensures { IfOk result (λ files. files.faults ≡ 0) }
 {
     let mut held = BTreeMap::new(alloc);
     held.insert(String::from_str(alloc, "module")?, module)?;
