@@ -84,6 +84,8 @@ ASSEMBLED = [
         "goto 9\ngoto 2\n",
         "stop: fault F4 i=0 word 60\n@2 i=0 %7 word 60\nstop: done, fault F4 i=0 word 60\n@2 i=0 %7 word 60\n",
     ),
+    # OpUnreachable in the place of the return
+    ("unreachable.spv", "goto 9\n", "stop: fault F5 i=0 word 65\n@3 i=0 %7 word 65\n"),
 ]
 
 # The words of the command line; a file that isn't there.
@@ -128,13 +130,11 @@ LISTING = """5: OpCapability 1
 # Modules that debug, check and text refuse with one line.
 REFUSED = [("magic.spv", "M2 at word 0"), ("opcode.spv", "M6 at word 60"), ("unended.spv", "M15 at word 42"), ("entry.spv", "M17 at word 0")]
 
-# What can't be run so far: refused behind the fit.
+# What can't be run so far: more than one invocation, which is looked at behind the fit.
 NOT_RUN = "module refused: M0 at word 5\n"
-UNBUILT = [
-    ("unreachable.spv", "spvdbg-setup 1\nmove 0 1\n", MODULE, NOT_RUN),
-    ("unreachable.spv", "spvdbg-setup 1\nspec 3 1\n", SETUP, "setup refused: S8 at line 2\n"),
-    ("two.spv", "spvdbg-setup 1\nrounds 20\n", MODULE, NOT_RUN),
-] + [("blocks.spv", setup, MODULE, NOT_RUN) for setup in setups.OF_TWO]
+UNBUILT = [("two.spv", "spvdbg-setup 1\nrounds 20\n"), ("blocks.spv", setups.HEAD + "spec 6 1024\n")] + [
+    ("blocks.spv", setup) for setup in setups.OF_TWO
+]
 
 
 def calls():
@@ -151,7 +151,7 @@ def calls():
     ]
     yield "setups.runs", [(what, name, DEBUG, *row) for what, name, *row in setups.calls()]
     yield "values.runs", [(what, name, DEBUG, *row) for what, name, *row in values.calls()]
-    yield "unbuilt.runs", [("unbuilt", name, DEBUG, setup, "goto 1\n", status, out) for name, setup, status, out in UNBUILT]
+    yield "unbuilt.runs", [("unbuilt", name, DEBUG, setup, "goto 1\n", MODULE, NOT_RUN) for name, setup in UNBUILT]
 
 
 # Lines with their canonical lines, or the code of their refusal, by hand from the manual's table of commands.

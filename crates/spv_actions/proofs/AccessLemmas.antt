@@ -40,7 +40,7 @@ use Rattle.spv_results.proofs.ShapeProps.{shape_prop}
 use Rattle.spv_results.proofs.SoundTypes.{sound_types}
 use Rattle.spv_state.specs.Actions.{action_of}
 use Rattle.spv_actions.specs.Effects as spec
-use Rattle.spv_actions.specs.Effects.{◌>>=◌, gives, loaded, pointer}
+use Rattle.spv_actions.specs.Effects.{Next, ◌>>=◌, gives, loaded, pointer}
 use Rattle.spv_actions.specs.Instructions.{row}
 use Rattle.spv_actions.specs.Fits.{StoreFits}
 use Rattle.spv_actions.specs.Planned.{IsDue, shown}
@@ -49,7 +49,6 @@ use Rattle.spv_state.specs.declared.actions.Action.{Action}
 use Rattle.spv_state.specs.declared.actions.Action.TheVariants.{Load, Store}
 use Rattle.spv_actions.specs.declared.causes.Cause.{Cause}
 use Rattle.spv_actions.specs.declared.causes.Cause.TheVariants.{NoValue, OutOfBounds}
-use Rattle.spv_actions.specs.declared.effects.Control.TheVariants.{Next}
 use Rattle.spv_actions.specs.declared.effects.Effect.{Effect}
 use Rattle.spv_actions.specs.declared.effects.Gain.TheVariants.{Nothing, Row}
 use Rattle.spv_actions.proofs.EffectLemmas.{due_by}
@@ -138,13 +137,13 @@ module _ (a : Accepted) (sound : AreSound a.types) (d : Inst) (n : ℕ) (at : Va
 
 -- the type of a variable, and that which a path reaches from it
 module _ (m : Memory) (a : Accepted) (types : m.types ≡ a.types) (targets : m.targets ≡ targets_of (variables a)) (q : Reference) (target : ℕ) (leads : LeadsTo a.types (target_in a) q target) where
-  reaches : (ty : ℕ) → reads (id_in q.root) m.targets ≡ Some ty → reached m.types ty q.path ≡ Some target
+  pub reaches : (ty : ℕ) → reads (id_in q.root) m.targets ≡ Some ty → reached m.types ty q.path ≡ Some target
   reaches ty named =
       let same : target_in a q.root ≡ Some ty = ap (reads (id_in q.root)) (sym targets) ∙ named in
       ap (λ (ts : Types). reached ts ty q.path) types ∙ sym (ap (option_and_then (λ (t : ℕ). reached a.types t q.path)) same) ∙ leads
 
   -- the part that a memory has there is one of the target type
-  part_shape : (i : ℕ) (v : Value) → IsMemory m → load_of m i q ≡ Some v → HasShape a.types no_roots target v
+  pub part_shape : (i : ℕ) (v : Value) → IsMemory m → load_of m i q ≡ Some v → HasShape a.types no_roots target v
   part_shape i v memory load = by_roots (roots_in m i q.root) refl load
     where
       by_value : (es : Roots) → roots_in m i q.root ≡ Some es → (o : Option Value) → reads (id_in q.root) es ≡ o → option_and_then (λ (w : Value). part_at w q.path) o ≡ Some v → HasShape a.types no_roots target v
@@ -159,7 +158,7 @@ module _ (m : Memory) (a : Accepted) (types : m.types ≡ a.types) (targets : m.
       by_roots (Some es) e h = by_value es e (reads (id_in q.root) es) refl h
 
   -- a value of the target type may be put there
-  may_put : (i : ℕ) (u : Value) → is_counted a.types target ≡ true → HasShape a.types no_roots target u → MayStore m i q u
+  pub may_put : (i : ℕ) (u : Value) → is_counted a.types target ≡ true → HasShape a.types no_roots target u → MayStore m i q u
   may_put i u counted shape = λ ty v named there t w leads_to part.
       let same : target ≡ t = let one = reaches ty named in cc in (
         subst (λ (k : ℕ). is_counted m.types k ≡ true) same (subst (λ (ts : Types). is_counted ts target ≡ true) (sym types) counted),
@@ -168,10 +167,10 @@ module _ (m : Memory) (a : Accepted) (types : m.types ≡ a.types) (targets : m.
 
 -- ---- at a site
 
-types_are : (x : Site) → ∥ IsSite x ∥₁ → x.state.memory.types ≡ (accepted x).types
+pub types_are : (x : Site) → ∥ IsSite x ∥₁ → x.state.memory.types ≡ (accepted x).types
 types_are x site = ∥∥₁_elim site (hlevel (props, codes)) (λ (is : IsSite x). is.sound.types)
 
-targets_are : (x : Site) → ∥ IsSite x ∥₁ → x.state.memory.targets ≡ targets_of (variables (accepted x))
+pub targets_are : (x : Site) → ∥ IsSite x ∥₁ → x.state.memory.targets ≡ targets_of (variables (accepted x))
 targets_are x site = ∥∥₁_elim site (hlevel (props, codes)) (λ (is : IsSite x). is.sound.targets)
 
 ok_some : {A : Type 0} (o : Option A) (cause : Cause) (x : A) → ok_or o cause ≡ Ok x → o ≡ Some x

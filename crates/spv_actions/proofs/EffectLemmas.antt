@@ -1,5 +1,6 @@
 -- What instructions that compute do, by what their computations give.
-use Rattle.std.proofs.Common.{◌≡◌, ◌∙◌, ℕ, Bool, true, false, List, [], ◌∷◌, Option, Some, None, Result, Ok, Err, ok_or, refl, sym, ap, subst}
+use Rattle.std.proofs.Common.{◌≡◌, ◌⊎◌, ◌∙◌, inl, inr, ℕ, Bool, true, false, List, [], ◌∷◌, Option, Some, None, Result, Ok, Err, ok_or, refl, sym, ap, subst}
+use Rattle.std.specs.Prelude.{⊤}
 use Rattle.std.proofs.lemmas.Bool.{both_ways}
 use Rattle.std.specs.List.{AllByRecursion}
 use Rattle.std.specs.Option.{is_some, option_and_then, option_map, option_or, unwrap_or}
@@ -18,7 +19,7 @@ use Rattle.spv_results.specs.Computations.{computation_of}
 use Rattle.spv_results.specs.Operands.{IsResult}
 use Rattle.spv_results.specs.Results.{result_by, result_of}
 use Rattle.spv_results.specs.declared.computations.Computation.{Computation}
-use Rattle.spv_state.specs.Actions.{action_of, named}
+use Rattle.spv_state.specs.Actions.{action_of, atomic_op, named}
 use Rattle.spv_actions.specs.Effects as spec
 use Rattle.spv_actions.specs.Effects.{◌>>=◌, gives}
 use Rattle.spv_actions.specs.Instructions.{effect_of, row}
@@ -26,67 +27,105 @@ use Rattle.spv_actions.specs.Fits.{LevelFits, ResultFits}
 use Rattle.spv_actions.specs.Planned.{IsDue, IsTaken, gained, shown}
 use Rattle.spv_actions.specs.Sites.{Computes, IsGain, Site, accepted, due, values}
 use Rattle.spv_state.specs.declared.actions.Action.{Action}
-use Rattle.spv_state.specs.declared.actions.Action.TheVariants.{Compute, Load, Store, Return, Other}
+use Rattle.spv_state.specs.declared.actions.Action.TheVariants.{Compute, Load, Store, CopyMemory, Chain, ArrayLength, Branch, BranchConditional, Switch, Call, Return, ReturnValue, Unreachable, ControlBarrier, MemoryBarrier, Atomic, Other}
+use Rattle.spv_state.specs.declared.actions.AtomicOp.{AtomicOp}
+use Rattle.spv_state.specs.State.{State}
 use Rattle.spv_actions.specs.declared.causes.Cause.{Cause}
 use Rattle.spv_actions.specs.declared.causes.Cause.TheVariants.{NoValue}
 use Rattle.spv_actions.specs.declared.effects.Control.TheVariants.{Next}
 use Rattle.spv_actions.specs.declared.effects.Effect.{Effect}
 use Rattle.spv_actions.specs.declared.effects.Gain.{Gain}
-use Rattle.spv_actions.specs.declared.effects.Gain.TheVariants.{Nothing, Row, Pointer}
+use Rattle.spv_actions.specs.declared.effects.Gain.TheVariants.{Nothing, Row, Pointer, Handed}
 use Rattle.spv_actions.proofs.ComputationLemmas.{read_there}
 
 -- ---- actions
 
--- what an instruction of an opcode does that computes nothing
+-- what an instruction of an opcode does that is neither an atomic nor computes
 abbrev IsNamed : ℕ → Action → Type 0
 IsNamed op (Compute c) = ⊥
 IsNamed op Load = op ≡ 61
 IsNamed op Store = op ≡ 62
+IsNamed op CopyMemory = op ≡ 63
+IsNamed op Chain = (op ≡ 65) ⊎ (op ≡ 66)
+IsNamed op ArrayLength = op ≡ 68
+IsNamed op Branch = op ≡ 249
+IsNamed op BranchConditional = op ≡ 250
+IsNamed op Switch = op ≡ 251
+IsNamed op Call = op ≡ 57
 IsNamed op Return = op ≡ 253
+IsNamed op ReturnValue = op ≡ 254
+IsNamed op Unreachable = op ≡ 255
+IsNamed op ControlBarrier = op ≡ 224
+IsNamed op MemoryBarrier = op ≡ 225
+IsNamed op (Atomic operation) = ⊥
 IsNamed op Other = ⊥
 
 named_are : AllByRecursion (λ (e : ℕ × Action). IsNamed e.0 e.1) named
-named_are = (refl, (refl, (refl, tt)))
+named_are =
+    (refl, (refl, (refl, (refl, (inl refl, (inr refl, (refl, (refl, (refl, (refl, (refl, (refl, (refl, (refl, (refl, tt)))))))))))))))
 
--- an action is that of its opcode, or that of a computation
-by_action : (i : Inst) (P : Action → Type 0) → ((x : Action) → IsNamed i.op x → P x) → ((c : Computation) → computation_of i ≡ Some c → P (Compute c)) → P Other → P (action_of i)
+-- what an instruction is that does something
+abbrev pub IsActing : Inst → Action → Type 0
+IsActing i (Compute c) = computation_of i ≡ Some c
+IsActing i Load = i.op ≡ 61
+IsActing i Store = i.op ≡ 62
+IsActing i CopyMemory = i.op ≡ 63
+IsActing i Chain = (i.op ≡ 65) ⊎ (i.op ≡ 66)
+IsActing i ArrayLength = i.op ≡ 68
+IsActing i Branch = i.op ≡ 249
+IsActing i BranchConditional = i.op ≡ 250
+IsActing i Switch = i.op ≡ 251
+IsActing i Call = i.op ≡ 57
+IsActing i Return = i.op ≡ 253
+IsActing i ReturnValue = i.op ≡ 254
+IsActing i Unreachable = i.op ≡ 255
+IsActing i ControlBarrier = i.op ≡ 224
+IsActing i MemoryBarrier = i.op ≡ 225
+IsActing i (Atomic operation) = atomic_op i.op ≡ Some operation
+IsActing i Other = ⊤
+
+named_acts : (i : Inst) (x : Action) → IsNamed i.op x → IsActing i x
+named_acts i (Compute c) h = absurd h
+named_acts i Load h = h
+named_acts i Store h = h
+named_acts i CopyMemory h = h
+named_acts i Chain h = h
+named_acts i ArrayLength h = h
+named_acts i Branch h = h
+named_acts i BranchConditional h = h
+named_acts i Switch h = h
+named_acts i Call h = h
+named_acts i Return h = h
+named_acts i ReturnValue h = h
+named_acts i Unreachable h = h
+named_acts i ControlBarrier h = h
+named_acts i MemoryBarrier h = h
+named_acts i (Atomic operation) h = absurd h
+named_acts i Other h = absurd h
+
+pub acts : (i : Inst) → IsActing i (action_of i)
 unfolding action_of
-by_action i P by_name by_computation none = by_read (reads i.op named) refl (computation_of i) refl
+acts i = by_read (reads i.op named) refl (atomic_op i.op) refl (computation_of i) refl
   where
-    by_read : (o : Option Action) → reads i.op named ≡ o → (p : Option Computation) → computation_of i ≡ p → P (unwrap_or (option_or o (option_map Compute p)) Other)
-    by_read None e None g = none
-    by_read None e (Some c) g = by_computation c g
-    by_read (Some x) e p g = by_name x (read_there IsNamed i.op x named named_are e)
+    by_read : (o : Option Action) → reads i.op named ≡ o → (q : Option AtomicOp) → atomic_op i.op ≡ q → (p : Option Computation) → computation_of i ≡ p
+        → IsActing i (unwrap_or (option_or (option_or o (option_map Atomic q)) (option_map Compute p)) Other)
+    by_read None e None a None g = tt
+    by_read None e None a (Some c) g = g
+    by_read None e (Some operation) a p g = a
+    by_read (Some x) e q a p g = named_acts i x (read_there IsNamed i.op x named named_are e)
+
+-- what an instruction is, by its action
+pub acting : (i : Inst) (x : Action) → action_of i ≡ x → IsActing i x
+acting i x is = subst (IsActing i) is (acts i)
 
 pub computing : (i : Inst) (c : Computation) → action_of i ≡ Compute c → computation_of i ≡ Some c
-computing i c is = by_action i (λ (x : Action). x ≡ Compute c → computation_of i ≡ Some c) by_name (λ d found same. let e : d ≡ c = cc in found ∙ ap Some e) (λ same. absurd (cc)) is
-  where
-    by_name : (x : Action) → IsNamed i.op x → x ≡ Compute c → computation_of i ≡ Some c
-    by_name (Compute d) h same = absurd h
-    by_name Load h same = absurd (cc)
-    by_name Store h same = absurd (cc)
-    by_name Return h same = absurd (cc)
-    by_name Other h same = absurd h
+computing i c is = acting i (Compute c) is
 
 pub loading : (i : Inst) → action_of i ≡ Load → i.op ≡ 61
-loading i is = by_action i (λ (x : Action). x ≡ Load → i.op ≡ 61) by_name (λ d found same. absurd (cc)) (λ same. absurd (cc)) is
-  where
-    by_name : (x : Action) → IsNamed i.op x → x ≡ Load → i.op ≡ 61
-    by_name (Compute d) h same = absurd h
-    by_name Load h same = h
-    by_name Store h same = absurd (cc)
-    by_name Return h same = absurd (cc)
-    by_name Other h same = absurd h
+loading i is = acting i Load is
 
 pub storing : (i : Inst) → action_of i ≡ Store → i.op ≡ 62
-storing i is = by_action i (λ (x : Action). x ≡ Store → i.op ≡ 62) by_name (λ d found same. absurd (cc)) (λ same. absurd (cc)) is
-  where
-    by_name : (x : Action) → IsNamed i.op x → x ≡ Store → i.op ≡ 62
-    by_name (Compute d) h same = absurd h
-    by_name Load h same = absurd (cc)
-    by_name Store h same = h
-    by_name Return h same = absurd (cc)
-    by_name Other h same = absurd h
+storing i is = acting i Store is
 
 -- what an instruction does, by its action
 pub due_by : (x : Site) (b : Action) → action_of x.inst ≡ b → due x ≡ row x.program x.state x.inv x.frame x.inst b
@@ -111,6 +150,7 @@ pub computed_due : (x : Site) (c : Computation) (gain : Gain) (v : Value) → ac
 computed_due x c Nothing v is h = absurd h.1
 computed_due x c Row v is h = compute_due x c (Some v) is h.0
 computed_due x c (Pointer q) v is h = compute_due x c (Some (Ptr q)) is h.0
+computed_due x c (Handed l) v is h = absurd h.1
 
 pub computed_fault : (x : Site) (c : Computation) (v : Value) (r : Result Effect (Fail Cause)) (e : Fail Cause) → action_of x.inst ≡ Compute c → Computes x c v (Err e) → r ≡ Err e → IsDue (due x) v r
 computed_fault x c v r (Refused cause) is h same =
@@ -139,8 +179,10 @@ pub gain_fits : (a : Accepted) (d : Inst) (gain : Gain) (v : Value) → AreSound
 gain_fits a d Nothing v sound h = absurd h
 gain_fits a d Row v sound h = result_fits a d v sound h
 gain_fits a d (Pointer q) v sound h = rw (out_pointer q) h
+gain_fits a d (Handed c) v sound h = absurd h
 
-pub gain_taken : (a : Accepted) (d : Inst) (gain : Gain) (v : Value) → AreSound a.types → IsGain a d gain v → IsTaken None gain v
-gain_taken a d Nothing v sound h = absurd h
-gain_taken a d Row v sound h = result_plain a d v sound h
-gain_taken a d (Pointer q) v sound h = tt
+pub gain_taken : (a : Accepted) (d : Inst) (s : State) (i : ℕ) (gain : Gain) (v : Value) → AreSound a.types → IsGain a d gain v → IsTaken s i (planned gain) v
+gain_taken a d s i Nothing v sound h = absurd h
+gain_taken a d s i Row v sound h = (result_plain a d v sound h, tt)
+gain_taken a d s i (Pointer q) v sound h = (tt, tt)
+gain_taken a d s i (Handed c) v sound h = absurd h

@@ -104,7 +104,7 @@ lane_plain op h =
     both : (p q : Bool) → p ≡ true → q ≡ true → (p && q) ≡ true
     both p q h g = rw (h, g) refl
 
-one_plain : (op n : ℕ) → op ≡ n → is_plain_code n ≡ true → is_plain_code op ≡ true
+pub one_plain : (op n : ℕ) → op ≡ n → is_plain_code n ≡ true → is_plain_code op ≡ true
 one_plain op n same plain = ap is_plain_code same ∙ plain
 
 pub computed_plain : (i : Inst) (c : Computation) → IsComputed i c → is_plain_code i.op ≡ true
@@ -158,7 +158,7 @@ no_debug sets i op runs =
 
 module _ (a : Accepted) (i : Inst) (kept : KeepsRule (known a) (alone i) (rule_of i.op)) where
   -- the rule of an opcode
-  kept_by : (n : ℕ) → i.op ≡ n → KeepsRule (known a) (alone i) (rule_of n)
+  pub kept_by : (n : ℕ) → i.op ≡ n → KeepsRule (known a) (alone i) (rule_of n)
   kept_by n is = subst (λ (op : ℕ). KeepsRule (known a) (alone i) (rule_of op)) is kept
 
   lanes_by : is_lane_code i.op ≡ true → KeepsLanes (known a) i

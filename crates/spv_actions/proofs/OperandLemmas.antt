@@ -55,7 +55,7 @@ numbered id (k ∷ ks) n h = by_head (k == id) refl h (numbered id ks)
     by_head false e g rest = by_rest (number_of id ks) refl g rest
 
 -- an id that is known to be among others is found there
-recovered : (id : ℕ) (ks : List ℕ) → ∥ Contains ks id ∥₁ → Contains ks id
+pub recovered : (id : ℕ) (ks : List ℕ) → ∥ Contains ks id ∥₁ → Contains ks id
 recovered id ks has = by_number (number_of id ks) refl (∥∥₁_elim has (hlevel props) (λ (h : Contains ks id). let at = contains_at ks id h in let n = number_there id ks at.0 at.1 in ap is_some n.1))
   where
     by_number : (o : Option ℕ) → number_of id ks ≡ o → is_some o ≡ true → Contains ks id

@@ -25,7 +25,7 @@ use Rattle.spv_operands.proofs.ShapeLemmas.{data_plain}
 use Rattle.spv_results.specs.Operands.{IsOperand, known}
 use Rattle.spv_actions.specs.Kept.{KeepsCopy}
 use Rattle.spv_actions.specs.Sites.{IsShaped}
-use Rattle.spv_machine.proofs.KeepsFrames.{pointer_by}
+use Rattle.spv_actions.proofs.KeepsFrames.{pointer_by}
 
 -- ---- values
 

@@ -36,7 +36,7 @@ pub record IsKept (k : Known) (i : Inst) : Type 0 where
   pub same : placed.inst ≡ i
   pub keeps : KeepsBody k placed
 
-each_kept : (k : Known) (w : Within) (is : List Inst) → AllByRecursion (KeepsBody k) (placed_from w is) → AllByRecursion (IsKept k) is
+pub each_kept : (k : Known) (w : Within) (is : List Inst) → AllByRecursion (KeepsBody k) (placed_from w is) → AllByRecursion (IsKept k) is
 each_kept k w [] kept = tt
 each_kept k w (i ∷ is) kept = (record { placed = place i w is; same = refl; keeps = kept.0 }, each_kept k (within_after w i) is kept.1)
 
@@ -80,7 +80,7 @@ abbrev RunsOn : Accepted → Stand → Type 0
 RunsOn a s = (is_executable s.class && in_block s.position.stage) ≡ true → is_terminator s.class ≡ false → HasNext a.flow s
 
 module _ (a : Accepted) (accepted : IsAccepted a) (valid : IsValid a) where
-  kept_each : AllByRecursion (IsKept (known a)) (drop (length (before_functions a.insts)) a.insts)
+  pub kept_each : AllByRecursion (IsKept (known a)) (drop (length (before_functions a.insts)) a.insts)
   kept_each = each_kept (known a) nowhere (drop (length (before_functions a.insts)) a.insts) (recursion_from_All (KeepsBody (known a)) _ valid.rules)
 
   -- what is so of each stand is so of one of a function

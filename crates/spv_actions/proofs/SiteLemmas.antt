@@ -14,11 +14,11 @@ use Rattle.spv_frame.specs.Stacks.{Stacked, top}
 use Rattle.spv_results.specs.Computations.{computation_of}
 use Rattle.spv_results.specs.Operands.{known}
 use Rattle.spv_results.specs.declared.computations.Computation.{Computation}
+use Rattle.spv_actions.specs.Effects.{Next}
 use Rattle.spv_actions.specs.Fits.{ControlFits}
 use Rattle.spv_actions.specs.Kept.{Keeps}
 use Rattle.spv_actions.specs.Sites.{IsSite, Site, accepted}
 use Rattle.spv_state.specs.Sound.{IsSoundFrame}
-use Rattle.spv_actions.specs.declared.effects.Control.TheVariants.{Next}
 use Rattle.spv_actions.proofs.ComputationLemmas.{computed}
 use Rattle.spv_actions.proofs.KeptLemmas.{computed_plain, is_plain_code, keeps, keeps_load, keeps_store, load_plain, plain_open, plain_own, store_plain}
 use Rattle.spv_actions.proofs.RunLemmas.{RulesAreTested, Runs, alone, is_run, rule_kept, runs_on, runs_there}
@@ -52,10 +52,10 @@ module _ (law : RulesAreTested) (x : Site) (m : Accepted) (same : m ≡ accepted
   runs : ∥ Runs (accepted x) x.inst ∥₁
   runs = site_runs x (subst (λ (a : Accepted). ∥ IsAccepted a ∥₁) same accepts) (subst (λ (a : Accepted). ∥ IsValid a ∥₁) same valid) site
 
-  body : is_plain_code x.inst.op ≡ true → KeepsBody (known (accepted x)) (alone x.inst)
+  pub body : is_plain_code x.inst.op ≡ true → KeepsBody (known (accepted x)) (alone x.inst)
   body plain = rule_kept law (accepted x) x.inst runs (plain_own x.inst.op plain)
 
-  plain_next : is_plain_code x.inst.op ≡ true → ControlFits (accepted x) x.inst Next
+  pub plain_next : is_plain_code x.inst.op ≡ true → ControlFits (accepted x) x.inst Next
   plain_next plain = runs_on (accepted x) x.inst runs (plain_open (sets_of (accepted x).insts) x.inst plain)
 
   pub computed_keeps : (c : Computation) → computation_of x.inst ≡ Some c → Keeps (accepted x) x.inst c

@@ -1,4 +1,4 @@
--- Loads and stores (SPIR-V 1.6 section 3.42.8). Where an operand has no value that is looked for first.
+-- Loads, stores and copies (SPIR-V 1.6 section 3.42.8). Where an operand has no value that is looked for first.
 use Rattle.std.specs.Prelude.{ℕ, Result, Ok}
 use Rattle.spv_base.specs.declared.instructions.Inst.{Inst}
 use Rattle.spv_frame.specs.Frames.{Held as Frame}
@@ -15,3 +15,8 @@ load_effect p s i f d = operand p s i f d 0 >>= (λ at. pointer at >>= (λ q. lo
 abbrev pub store_effect : Program → State → ℕ → Frame → Inst → Result Effect Cause
 store_effect p s i f d =
     operand p s i f d 0 >>= (λ at. operand p s i f d 1 >>= (λ v. pointer at >>= (λ q. loaded s i q >>= (λ _. Ok (sets q v)))))
+
+-- OpCopyMemory (target, source)
+abbrev pub copy_memory_effect : Program → State → ℕ → Frame → Inst → Result Effect Cause
+copy_memory_effect p s i f d =
+    operand p s i f d 0 >>= (λ to. operand p s i f d 1 >>= (λ from. pointer to >>= (λ q. loaded s i q >>= (λ _. pointer from >>= (λ r. loaded s i r >>= (λ v. Ok (sets q v)))))))

@@ -52,7 +52,7 @@ pub record JumpFits (a : Accepted) (d : Inst) (block : ℕ) (phis : List (ℕ ×
 pub record EnterFits (a : Accepted) (d : Inst) (frame : Frame) (es : Roots) : Type 0 where
   pub call : IsCallOf a d.word frame.plan.function
   pub sound : IsSoundFrame a frame
-  pub variables : HasVariables a frame es
+  pub locals : HasVariables a frame es
   pub values : AreVariables a.types (targets_of (variables a)) es
 
 -- what a function gives has the type that it returns

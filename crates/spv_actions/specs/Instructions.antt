@@ -9,8 +9,14 @@ use Rattle.spv_state.specs.Program.{Program}
 use Rattle.spv_state.specs.State.{State, depth_of}
 use Rattle.spv_state.specs.declared.actions.Action.{Action}
 use Rattle.spv_state.specs.declared.actions.Action.TheVariants.{Compute, Load, Store, CopyMemory, Chain, ArrayLength, Branch, BranchConditional, Switch, Call, Return, ReturnValue, Unreachable, ControlBarrier, MemoryBarrier, Atomic, Other}
-use Rattle.spv_actions.specs.Accesses.{load_effect, store_effect}
+use Rattle.spv_actions.specs.Calls.{call_effect, return_effect}
+use Rattle.spv_actions.specs.Accesses.{copy_memory_effect, load_effect, store_effect}
+use Rattle.spv_actions.specs.Chains.{chain_effect}
+use Rattle.spv_actions.specs.Branches.{branch_conditional_effect, branch_effect, switch_effect}
+use Rattle.spv_actions.specs.Atomics.{atomic_effect}
+use Rattle.spv_actions.specs.Barriers.{control_barrier_effect, memory_barrier_effect}
 use Rattle.spv_actions.specs.Effects.{Effect, Leave, ◌>>=◌, gives, goes}
+use Rattle.spv_actions.specs.Lengths.{length_effect}
 use Rattle.spv_actions.specs.declared.causes.Cause.{Cause}
 use Rattle.spv_actions.specs.declared.causes.Cause.TheVariants.{NoValue, Unreachable as Stops}
 
@@ -23,19 +29,19 @@ abbrev pub row : Program → State → ℕ → Frame → Inst → Action → Res
 row p s i f d (Compute c) = compute_effect p s i f d
 row p s i f d Load = load_effect p s i f d
 row p s i f d Store = store_effect p s i f d
-row p s i f d CopyMemory = Err Stops
-row p s i f d Chain = Err Stops
-row p s i f d ArrayLength = Err Stops
-row p s i f d Branch = Err Stops
-row p s i f d BranchConditional = Err Stops
-row p s i f d Switch = Err Stops
-row p s i f d Call = Err Stops
+row p s i f d CopyMemory = copy_memory_effect p s i f d
+row p s i f d Chain = chain_effect p s i f d
+row p s i f d ArrayLength = length_effect p s i f d
+row p s i f d Branch = branch_effect p s i f d
+row p s i f d BranchConditional = branch_conditional_effect p s i f d
+row p s i f d Switch = switch_effect p s i f d
+row p s i f d Call = call_effect p s i f d
 row p s i f d Return = Ok (goes (Leave None))
-row p s i f d ReturnValue = Err Stops
+row p s i f d ReturnValue = return_effect p s i f d
 row p s i f d Unreachable = Err Stops
-row p s i f d ControlBarrier = Err Stops
-row p s i f d MemoryBarrier = Err Stops
-row p s i f d (Atomic op) = Err Stops
+row p s i f d ControlBarrier = control_barrier_effect p s i f d
+row p s i f d MemoryBarrier = memory_barrier_effect p s i f d
+row p s i f d (Atomic op) = atomic_effect p s i f d op
 row p s i f d Other = Err Stops
 
 unfoldable pub effect_of : Program → State → ℕ → Frame → Inst → Result Effect Cause

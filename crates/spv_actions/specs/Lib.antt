@@ -1,7 +1,16 @@
 pub mod Effects
 pub mod Accesses
+pub mod Calls
+pub mod Chains
+pub mod Lengths
+pub mod Phis
+pub mod Branches
+pub mod Atomics
+pub mod AtomicSites
+pub mod Barriers
 pub mod Instructions
 pub mod Fits
 pub mod Kept
 pub mod Planned
 pub mod Sites
+pub mod Passing

@@ -2,20 +2,24 @@
 -- compute there. No definition of a step speaks of it.
 use Rattle.std.specs.Prelude.{◌≡◌, ℕ, ◌<◌, ◌&&◌, not, if◌then◌else◌, Bool, true, false, length, Option, Some, None, Result, Ok, Err, ⊤}
 use Rattle.std.specs.Option.{option_map_or}
+use Rattle.spv_base.specs.Entries.{reads}
 use Rattle.spv_base.specs.declared.causes.Fail.{Fail}
 use Rattle.spv_base.specs.declared.causes.Fail.TheVariants.{Refused, NoMemory}
 use Rattle.spv_base.specs.declared.instructions.Inst.{Inst}
+use Rattle.spv_base.specs.declared.values.Pointer.{Pointer as Reference}
 use Rattle.spv_base.specs.declared.values.Value.{Value, Ptr}
 use Rattle.spv_index.specs.Definitions.{at}
 use Rattle.spv_types.specs.Queries.{is_pointer}
 use Rattle.spv_types.specs.Rows.{no_roots}
-use Rattle.spv_types.specs.Shapes.{HasShape}
+use Rattle.spv_types.specs.Shapes.{HasShape, reached}
 use Rattle.spv_types.specs.Types.{Types, form_of}
 use Rattle.spv_bodies.specs.Context.{type_at}
 use Rattle.spv_valid.specs.Acceptance.{Accepted}
 use Rattle.spv_frame.specs.Frames.{Held as Frame}
+use Rattle.spv_mem.specs.Memory.{Held as Memory, id_in}
+use Rattle.spv_mem.specs.Targets.{is_array_at}
 use Rattle.spv_operands.specs.Shapes.{target_in}
-use Rattle.spv_operands.specs.Values.{operand_value}
+use Rattle.spv_operands.specs.Values.{operand_value, value_of}
 use Rattle.spv_results.specs.Operands.{IsOperand, IsResult, known}
 use Rattle.spv_results.specs.Results.{result_by}
 use Rattle.spv_results.specs.declared.computations.Computation.{Computation}
@@ -62,6 +66,10 @@ part_of x v = pointer v >>= loaded x.state x.inv
 abbrev pub values : Site → ℕ → Option Value
 values x = operand_value (accepted x) x.frame (depth_of x.state x.inv) x.inst
 
+-- what an id stands for, where it stands for a value
+abbrev pub named : Site → ℕ → Option Value
+named x id = value_of (accepted x) x.frame (depth_of x.state x.inv) id
+
 -- a type that is there, and is no pointer type
 abbrev pub is_data : Types → Option ℕ → Bool
 is_data ts ty = option_map_or (λ (t : ℕ). not (is_pointer (form_of ts t))) ty false
@@ -73,6 +81,14 @@ is_data_at a d n = is_data a.types (type_at (known a) d n)
 -- A value of the type of an operand: data has no pointer in it, and a pointer leads to what its type points to.
 abbrev pub IsShaped : Accepted → Inst → ℕ → Value → Type 0
 IsShaped a d n v = (ty : ℕ) → type_at (known a) d n ≡ Some ty → HasShape a.types (if is_pointer (form_of a.types ty) then target_in a else no_roots) ty v
+
+-- by the type of its variable a pointer leads to a block, and a member of the block is a runtime array
+pub record LeadsToArray (m : Memory) (q : Reference) (member : ℕ) : Type 0 where
+  pub type : ℕ
+  pub named : reads (id_in q.root) m.targets ≡ Some type
+  pub block : ℕ
+  pub leads : reached m.types type q.path ≡ Some block
+  pub array : is_array_at m.types (form_of m.types block) member ≡ true
 
 -- what is due, or there is none: the fault F4; or memory ran out
 abbrev pub Finds : {T : Type 0} → Option T → Result T (Fail Cause) → Type 0

@@ -1,4 +1,4 @@
-//! Loads and stores (SPIR-V 1.6 section 3.42.8, OpLoad and OpStore).
+//! Loads, stores and copies (SPIR-V 1.6 section 3.42.8, OpLoad, OpStore and OpCopyMemory).
 ghost use Rattle.std.specs.Prelude.{◌≡◌, IfOk, OnOk};
 ghost use Rattle.spv_base.specs.Answers.{Answers};
 ghost use Rattle.spv_mem.specs.Memory.{IsMemory};
@@ -8,19 +8,19 @@ ghost use Rattle.spv_actions.specs.Planned.{IsDue, IsTaken, PlannedFits};
 ghost use Rattle.spv_actions.specs.Sites as spec;
 ghost use Rattle.spv_operands.specs.Operands.{IsPlain, shown};
 
-use spv_state::Action;
 use crate::causes::Cause;
 use crate::effects::{Control, Effect, Gain};
-use crate::kept::{load_is_kept, store_is_kept};
+use crate::kept::{copy_memory_is_kept, load_is_kept, store_is_kept};
 use crate::sites::{Site, owned};
 use spv_base::{Fail, NoMemory, Pointer};
 use spv_effects::resize;
 use spv_mem::Memory;
 use spv_operands::Operand;
+use spv_state::Action;
 use spv_values::{Part, Row};
 
 /// A fact, with nothing to run: each variable of a memory has a value of its type.
-fn variables_are_shaped(memory: &Memory)
+pub(crate) fn variables_are_shaped(memory: &Memory)
     ensures { ∥ IsMemory memory.now ∥₁ }
 {
     memory.keeps_types();
@@ -41,7 +41,7 @@ fn part<'a>(site: &Site<'a>, at: &Operand) -> Result<Part<'a>, Fail<Cause>>
 }
 
 /// The pointer that an operand is, owned. F3 where it is none.
-fn place(site: &Site, at: &Operand) -> Result<Pointer, Fail<Cause>>
+pub(crate) fn place(site: &Site, at: &Operand) -> Result<Pointer, Fail<Cause>>
     requires { IsPlain at.now }
     ensures { Answers (pointer (shown at.now)) result }
 {
@@ -95,6 +95,29 @@ pub fn store(site: &Site, row: &mut Row) -> Result<Effect, Fail<Cause>>
     let _part = part(site, &at)?;
     copied(&object.part(), row)?;
     let place = place(site, &at)?;
+    Ok(Effect {
+        store: Some(place),
+        gain: Gain::Nothing,
+        control: Control::Next,
+    })
+}
+
+/// OpCopyMemory: the part that the target names takes the value of the part that the source names, with its marks.
+pub fn copy_memory(site: &Site, row: &mut Row) -> Result<Effect, Fail<Cause>>
+    requires { action_of site.now.inst ≡ Action.CopyMemory }
+    ensures due { IsDue (spec.due site.now) row.new result }
+    ensures fits { PlannedFits site.now.program site.now.state site.now.inv site.now.inst row.new result }
+    ensures taken { IfOk result (λ e. IsTaken site.now.state site.now.inv e row.new) }
+{
+    variables_are_shaped(site.memory());
+    copy_memory_is_kept(site);
+    site.is_reached();
+    let _insts = site.accepted().insts();
+    let target = site.operand(0)?;
+    let source = site.operand(1)?;
+    let _part = part(site, &target)?;
+    copied(&part(site, &source)?, row)?;
+    let place = place(site, &target)?;
     Ok(Effect {
         store: Some(place),
         gain: Gain::Nothing,

@@ -6,7 +6,6 @@ ghost use Rattle.spv_actions.specs.Planned.{IsDue, IsTaken, PlannedFits};
 ghost use Rattle.spv_actions.specs.Sites as spec;
 ghost use Rattle.spv_types.specs.Rules.{has_runtime};
 
-use spv_state::Action;
 use crate::causes::Cause;
 use crate::effects::{Control, Effect, Gain};
 use crate::kept::is_kept;
@@ -14,6 +13,7 @@ use crate::sites::Site;
 use crate::{computing_composites as composites, computing_lanes as lanes};
 use spv_base::Fail;
 use spv_results::Computation;
+use spv_state::Action;
 use spv_values::Row;
 
 /// What the register takes.

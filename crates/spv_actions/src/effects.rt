@@ -6,10 +6,16 @@ ghost use Rattle.spv_actions.specs.Instructions as spec;
 ghost use Rattle.spv_state.specs.Sound.{IsSound};
 ghost use Rattle.spv_state.specs.State as state;
 
-use crate::accesses::{load, store};
+use crate::calls::{call, return_value};
+use crate::accesses::{copy_memory, load, store};
+use crate::branches::{branch, branch_conditional, switch};
+use crate::atomics::atomic;
+use crate::barriers::{control_barrier, memory_barrier};
 use spv_state::Action;
 use crate::causes::Cause;
+use crate::chains::chain;
 use crate::computing::compute;
+use crate::lengths::array_length;
 use spv_state::Runnable;
 use crate::sites::Site;
 use spv_state::Whole;
@@ -91,18 +97,18 @@ pub fn effect_at(
             gain: Gain::Nothing,
             control: Control::Leave,
         }),
-        Action::CopyMemory | Action::Chain | Action::ArrayLength => {
-            Err(Fail::Refused(Cause::Unreachable))
-        }
-        Action::Branch | Action::BranchConditional | Action::Switch => {
-            Err(Fail::Refused(Cause::Unreachable))
-        }
-        Action::Call | Action::ReturnValue | Action::Unreachable => {
-            Err(Fail::Refused(Cause::Unreachable))
-        }
-        Action::ControlBarrier | Action::MemoryBarrier | Action::Atomic(_) => {
-            Err(Fail::Refused(Cause::Unreachable))
-        }
+        Action::CopyMemory => copy_memory(&site, row),
+        Action::Chain => chain(&site),
+        Action::ArrayLength => array_length(&site, row),
+        Action::Branch => branch(&site),
+        Action::BranchConditional => branch_conditional(&site),
+        Action::Switch => switch(&site),
+        Action::Call => call(&site),
+        Action::ReturnValue => return_value(&site, row),
+        Action::Unreachable => Err(Fail::Refused(Cause::Unreachable)),
+        Action::ControlBarrier => control_barrier(&site, row),
+        Action::MemoryBarrier => memory_barrier(&site, row),
+        Action::Atomic(operation) => atomic(&site, operation, row),
         Action::Other => Err(Fail::Refused(Cause::Unreachable)),
     }
 }

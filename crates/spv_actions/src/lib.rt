@@ -2,13 +2,23 @@
 #![tactic(auto)]
 
 mod accesses;
+mod calls;
+mod branches;
+mod atomics;
+mod barriers;
 pub mod causes;
+mod chains;
 mod computing;
 mod computing_composites;
 mod computing_lanes;
 pub mod effects;
 mod kept;
+mod kept_calls;
+mod lengths;
+mod kept_control;
+mod phis;
 pub mod sites;
+mod switches;
 
 pub use causes::Cause;
 pub use effects::{Control, Effect, Gain, effect_at};

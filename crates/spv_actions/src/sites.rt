@@ -1,7 +1,9 @@
 //! Instructions where runs have come to them, and their operands.
 ghost use Rattle.std.specs.Prelude.{◌≡◌, ◌<◌, IfOk, IfSome, None, Some, length, option_map, true};
+ghost use Rattle.std.specs.List.{Contains};
 ghost use Rattle.std.specs.Result.{result_map_both};
-ghost use Rattle.spv_index.specs.Definitions.{at};
+ghost use Rattle.spv_plans.specs.Plans.{functions_in, plan_of};
+ghost use Rattle.spv_index.specs.Definitions.{at, result_type};
 ghost use Rattle.spv_actions.specs.Sites as spec;
 ghost use Rattle.spv_actions.specs.Sites.{Finds, is_data_at};
 ghost use Rattle.spv_state.specs.Sound.{IsSound};
@@ -11,16 +13,17 @@ ghost use Rattle.spv_results.specs.Operands.{IsOperand};
 
 use crate::causes::Cause;
 use spv_state::Runnable;
-use spv_state::Whole;
+use spv_state::{Whole, plan_in};
 use spv_base::{Fail, Inst, NoMemory, Pointer};
-use spv_frame::Frame;
+use spv_frame::{Frame, Plan};
 use spv_mem::Memory;
 use spv_operands::laws::operands_have_shapes;
-use spv_operands::{Operand, Reference, operand_of};
+use spv_operands::{Operand, Reference, operand as operand_by, operand_of};
 use spv_valid::Module;
 use spv_values::Part;
 use std::alloc::Global;
 use std::marker::Model;
+use std::rc::Rc;
 
 /// An instruction that the top frame of an invocation has come to, in a sound state.
 #[derive(Drop)]
@@ -141,6 +144,21 @@ impl<'a> Site<'a> {
         self.m.accepted()
     }
 
+    /// The module, with its setup.
+    pub fn program(&self) -> &'a Runnable
+        ensures { result.now ≡ self.now.program }
+    {
+        self.m
+    }
+
+    /// The plan of a function of the module. In constant time.
+    pub fn plan(&self, function: u32) -> &'a Rc<Plan>
+        requires { ∥ Contains (functions_in self.now.program.accepted) function ∥₁ }
+        ensures { result.now.value ≡ plan_of self.now.program.accepted function }
+    {
+        plan_in(self.m.accepted(), self.w.plans(), function)
+    }
+
     /// The instruction.
     pub fn inst(&self) -> &'a Inst
         ensures { result.now ≡ self.now.inst }
@@ -202,6 +220,36 @@ impl<'a> Site<'a> {
     {
         let _insts = self.accepted().insts();
         let operand = self.operand(n)?;
+        Ok(Datum { operand })
+    }
+
+    /// What an id stands for, if it stands for something.
+    fn found_by(&self, id: u32) -> Result<Option<Operand<'a>>, NoMemory>
+        ensures value { IfOk result (λ o. option_map shown o ≡ spec.named self.now id) }
+        ensures plain { IfOk result (λ o. IfSome o IsPlain) }
+    {
+        let accepted = self.accepted();
+        operand_by(
+            self.alloc,
+            accepted,
+            self.w.plans(),
+            self.frame,
+            self.depth,
+            id,
+        )
+    }
+
+    /// The value of an id whose type is no pointer type. F4 where it has none.
+    pub fn named(&self, id: u32) -> Result<Datum<'a>, Fail<Cause>>
+        requires { spec.is_data self.now.program.accepted.types (result_type self.now.program.accepted.insts id) ≡ true }
+        ensures { Finds (spec.named self.now id) result }
+    {
+        operands_have_shapes();
+        self.is_reached();
+        let _insts = self.accepted().insts();
+        let Some(operand) = self.found_by(id)? else {
+            return Err(Fail::Refused(Cause::NoValue));
+        };
         Ok(Datum { operand })
     }
 }

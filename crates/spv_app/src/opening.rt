@@ -132,11 +132,15 @@ fn fit_setup(
 /// The module as it can be run with the setup, refused as a pair is. Refuses code 0 at word 5 where its workgroup has more than one
 /// invocation, or the machine can't do one of its executables yet.
 #[tactic(auto, unfolding(spv_state::specs::Program::program_of))]
-fn run_module(accepted: Module, setup: Setup) -> Result<Runnable, Fail<OpeningRefusal>>
+fn run_module(
+    alloc: Global,
+    accepted: Module,
+    setup: Setup,
+) -> Result<Runnable, Fail<OpeningRefusal>>
     ensures due { Answers (of_module (program_of accepted setup)) result }
     ensures same { IfOk result (λ program. program.accepted ≡ accepted) }
 {
-    match Runnable::of(accepted, setup) {
+    match Runnable::of(alloc, accepted, setup) {
         Ok(program) => Ok(program),
         Err(Fail::Refused(refusal)) => Err(Fail::Refused(OpeningRefusal::Module(refusal))),
         Err(Fail::NoMemory) => Err(Fail::NoMemory),
@@ -151,7 +155,7 @@ fn start(alloc: Global, accepted: Module, setup: Setup) -> Result<Group, Fail<Op
 {
     runs_start_with_all();
     let schedule = fit_setup(alloc, &accepted, &setup)?;
-    let program = run_module(accepted, setup)?;
+    let program = run_module(alloc, accepted, setup)?;
     Ok(Group::open(alloc, program, schedule)?)
 }
 

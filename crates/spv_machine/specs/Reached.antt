@@ -1,11 +1,12 @@
 -- An instruction that is due: what is known of a state where an invocation has reached it.
-use Rattle.std.specs.Prelude.{◌≡◌, ℕ, Some, ⊤, slice_get}
+use Rattle.std.specs.Prelude.{◌≡◌, ℕ, Some, None, ⊤, slice_get}
 use Rattle.spv_base.specs.declared.causes.Fail.{Fail}
 use Rattle.spv_base.specs.declared.causes.Fail.TheVariants.{Refused, NoMemory}
 use Rattle.spv_base.specs.declared.instructions.Inst.{Inst}
-use Rattle.spv_base.specs.declared.values.Value.{Value}
+use Rattle.spv_base.specs.declared.values.Value.{Value, Scalar, out-Value}
 use Rattle.std.specs.Prelude.{Result, Ok, Err}
 use Rattle.spv_index.specs.Definitions.{at}
+use Rattle.spv_types.specs.Shapes.{pointer_in}
 use Rattle.spv_frame.specs.Frames.{Held as Frame}
 use Rattle.spv_statuses.specs.declared.invocations.Status.TheVariants.{Ready}
 use Rattle.spv_actions.specs.Effects.{code_of}
@@ -16,6 +17,8 @@ use Rattle.spv_state.specs.State.{State, top_of}
 use Rattle.spv_machine.specs.Step.{Moves, Faults, apply, happening_of, step_of}
 use Rattle.spv_actions.specs.declared.causes.Cause.{Cause}
 use Rattle.spv_actions.specs.declared.effects.Effect.{Effect}
+use Rattle.spv_actions.specs.declared.effects.Gain.{Gain}
+use Rattle.spv_actions.specs.declared.effects.Gain.TheVariants.{Nothing, Row, Pointer, Handed}
 
 -- the top frame of a Ready invocation of a sound state stands at the instruction
 pub record IsReached (p : Program) (s : State) (i : ℕ) (d : Inst) : Type 0 where
@@ -30,3 +33,10 @@ abbrev pub IsStepBy : Program → State → ℕ → Inst → Value → Result Ef
 IsStepBy p s i d v (Ok e) = step_of p s i ≡ Moves (happening_of p.accepted s i d.word (shown e v)) (apply p.accepted i d (shown e v) s)
 IsStepBy p s i d v (Err (Refused cause)) = step_of p s i ≡ Faults (record { code = code_of cause; inv = i; word = d.word })
 IsStepBy p s i d v (Err NoMemory) = ⊤
+
+-- what a register takes lies in the row, where it takes a value
+abbrev pub IsHeld : Gain → Value → Type 0
+IsHeld Nothing v = ⊤
+IsHeld Row v = pointer_in (out-Value v) ≡ None
+IsHeld (Pointer q) v = ⊤
+IsHeld (Handed c) v = v ≡ Scalar c

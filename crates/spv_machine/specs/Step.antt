@@ -73,8 +73,11 @@ arrived i word s = set_status i (Arrived word) s
 abbrev pub opens : ℕ → State → Bool
 opens word s = all_wait_at word s.statuses.list
 
+abbrev pub opened : ℕ → State → State
+opened word s = if opens word s then open_barrier s else s
+
 abbrev pub arrive : ℕ → ℕ → State → State
-arrive i word s = if opens word (arrived i word s) then open_barrier (arrived i word s) else arrived i word s
+arrive i word s = opened word (arrived i word s)
 
 abbrev pub go : Accepted → ℕ → ℕ → Control → State → State
 go a i word Next s = go_on a i s
@@ -106,25 +109,29 @@ written a i word (Shared id) = if is_written a id then record { inv = i; kind = 
 written a i word (Private id) = plain i word
 written a i word (Local depth id) = plain i word
 
--- an arrival at the barrier at a word, in the state before it
+-- an arrival at the barrier at a word, which opens then, or doesn't
+abbrev pub arrival_with : ℕ → ℕ → Bool → Happening
+arrival_with i word opened = record { inv = i; kind = if opened then Opened else Arrive; word = word; root = 0; line = 0 }
+
+-- in the state before it
 abbrev pub arrival : ℕ → ℕ → State → Happening
-arrival i word s = record { inv = i; kind = if opens word (arrived i word s) then Opened else Arrive; word = word; root = 0; line = 0 }
+arrival i word s = arrival_with i word (opens word (arrived i word s))
 
 -- the event of a store at a word
 abbrev pub stored_at : Accepted → ℕ → ℕ → Option (Pointer × Value) → Happening
 stored_at a i word None = plain i word
 stored_at a i word (Some e) = written a i word e.0.root
 
--- the event of an effect at a word, in the state before it, by where control goes
-abbrev pub by_control : Accepted → State → ℕ → ℕ → Effect → Control → Happening
-by_control a s i word e Next = stored_at a i word e.store
-by_control a s i word e (Jump block phis) = plain i word
-by_control a s i word e (Enter frame es) = plain i word
-by_control a s i word e (Leave v) = plain i word
-by_control a s i word e Wait = arrival i word s
+-- the event of an effect at a word, in the state before it, by where control goes: where it goes on, that of its store
+abbrev pub by_control : ℕ → ℕ → State → Happening → Control → Happening
+by_control i word s stored Next = stored
+by_control i word s stored (Jump block phis) = plain i word
+by_control i word s stored (Enter frame es) = plain i word
+by_control i word s stored (Leave v) = plain i word
+by_control i word s stored Wait = arrival i word s
 
 abbrev pub happening_of : Accepted → State → ℕ → ℕ → Effect → Happening
-happening_of a s i word e = by_control a s i word e e.control
+happening_of a s i word e = by_control i word s (stored_at a i word e.store) e.control
 
 -- a fault changes nothing
 abbrev pub outcome : Program → State → ℕ → Inst → Result Effect Cause → Outcome

@@ -1,24 +1,19 @@
 //! One step of an invocation.
-ghost use Rattle.std.specs.Prelude.{◌≡◌, ◌<◌, ◌+◌, ℕ, IfOk, None, Some, length, slice_get};
-ghost use Rattle.std.specs.Option.{option_map};
-ghost use Rattle.spv_base.specs.Entries.{reads};
-ghost use Rattle.spv_base.specs.declared.values.Value.{Value};
+ghost use Rattle.std.specs.Prelude.{◌≡◌, ◌<◌, ◌+◌, IfOk, Some, length, slice_get};
 ghost use Rattle.spv_machine.specs.Does.{Does};
 ghost use Rattle.spv_actions.specs.Effects.{code_of};
-ghost use Rattle.spv_actions.specs.Fits.{ControlFits, Fits, ResultFits, StoreFits};
-ghost use Rattle.spv_actions.specs.Planned.{IsTaken, PlannedFits, gained, shown};
+ghost use Rattle.spv_actions.specs.Planned.{IsTaken, PlannedFits};
 ghost use Rattle.spv_machine.specs.Reached.{IsReached, IsStepBy};
 ghost use Rattle.spv_state.specs.Sound.{IsSound};
 ghost use Rattle.spv_machine.specs.Step as spec;
 
+use crate::applying::{apply, word_behind};
+use crate::happenings::plain;
 use crate::world::World;
-use spv_actions::{Cause, Control, Effect, Gain, effect_at};
-use spv_base::{Cell, Fail, Fault, Happening, Inst, Kind, NoMemory, Pointer, Root, Steps};
-use spv_index::literal_operand;
-use spv_ops::storage_class;
+use spv_actions::{Cause, Effect, effect_at};
+use spv_base::{Cell, Fail, Fault, Happening, Inst, NoMemory, Steps};
 use spv_state::{Runnable, Whole};
 use spv_statuses::Status;
-use spv_valid::Module;
 use spv_values::Row;
 use std::alloc::Global;
 use std::sync::ledger::Ledger;
@@ -38,60 +33,6 @@ pub enum StepErr {
     NoMemory,
 }
 
-/// An event that writes nothing that all invocations see.
-fn plain(inv: u32, word: u32) -> Happening
-    ensures { result ≡ spec.plain inv word }
-{
-    Happening {
-        inv,
-        kind: Kind::Plain,
-        word,
-        root: 0,
-        line: 0,
-    }
-}
-
-/// Whether a variable is one that all invocations see and write: of the class StorageBuffer or Workgroup.
-fn is_written(accepted: &Module, id: u32) -> bool
-    ensures { result ≡ spec.is_written accepted.now id }
-{
-    let Some(inst) = accepted.defining(id) else {
-        return false;
-    };
-    match literal_operand(inst, 0) {
-        Some(class) => {
-            class == storage_class::STORAGE_BUFFER || class == storage_class::WORKGROUP
-        }
-        None => false,
-    }
-}
-
-/// The event of a store in a variable.
-fn written(accepted: &Module, inv: u32, word: u32, root: Root) -> Happening
-    ensures { result ≡ spec.written accepted.now inv word root }
-{
-    match root {
-        Root::Shared(id) if is_written(accepted, id) => Happening {
-            inv,
-            kind: Kind::Write,
-            word,
-            root: id,
-            line: 0,
-        },
-        _ => plain(inv, word),
-    }
-}
-
-/// The event of an effect.
-fn happening(accepted: &Module, inv: u32, word: u32, effect: &Effect) -> Happening
-    ensures { (v : Value) → result ≡ spec.happening_of accepted.now inv word (shown effect.now v).store }
-{
-    match &effect.store {
-        Some(pointer) => written(accepted, inv, word, pointer.root),
-        None => plain(inv, word),
-    }
-}
-
 /// The fault at an instruction.
 fn fault(cause: Cause, inv: u32, word: u32) -> Fault
     ensures { result ≡ record { code = code_of cause; inv = inv; word = word } }
@@ -101,77 +42,6 @@ fn fault(cause: Cause, inv: u32, word: u32) -> Fault
         inv,
         word,
     }
-}
-
-/// Puts the value of a row where a store leads; the old one is in the row then.
-fn put_store(whole: &mut Whole, inv: u32, store: Option<Pointer>, row: &mut Row)
-    requires { StoreFits whole.old inv (option_map (λ q. (q, row.old)) store) }
-    ensures store { whole.new ≡ spec.put_store inv (option_map (λ q. (q, row.old)) store) whole.old }
-    ensures row { store ≡ None → row.new ≡ row.old }
-{
-    if let Some(pointer) = store {
-        whole.store(inv, &pointer, row);
-    }
-}
-
-/// Gives the register of an instruction what it takes.
-fn put_result(m: &Runnable, whole: &mut Whole, inv: u32, inst: &Inst, gain: Gain, row: &mut Row)
-    requires reached { IsReached m.now whole.old inv inst.now }
-    requires fits { ResultFits m.now.accepted inst.now (gained gain row.old) }
-    requires taken { IsTaken None gain row.old }
-    ensures { whole.new ≡ spec.put_result inv inst.now.id (gained gain row.old) whole.old }
-{
-    let accepted = m.accepted();
-    let _insts = accepted.insts();
-    match gain {
-        Gain::Nothing => {}
-        Gain::Row => whole.set_value(accepted, inv, inst.id, row),
-        Gain::Pointer(pointer) => whole.set_pointer(accepted, inv, inst.id, pointer),
-    }
-}
-
-/// The executable behind the one at a word, which is there.
-fn word_behind(accepted: &Module, pc: u32) -> u32
-    requires { (word : ℕ) × (reads pc accepted.now.flow.nexts ≡ Some (Some word)) }
-    ensures { result ≡ spec.next_of accepted.now pc }
-{
-    match accepted.next(pc) {
-        Some(word) => word,
-        None => unreachable!(),
-    }
-}
-
-/// Goes on to the next executable, or out of the function.
-fn go(m: &Runnable, whole: &mut Whole, inv: u32, inst: &Inst, control: Control)
-    requires reached { IsReached m.now whole.old inv inst.now }
-    requires fits { ControlFits m.now.accepted inst.now control }
-    ensures { whole.new ≡ spec.go m.now.accepted inv control whole.old }
-{
-    match control {
-        Control::Next => whole.set_pc(inv, word_behind(m.accepted(), inst.word)),
-        Control::Leave => {
-            whole.leave(inv);
-            whole.set_status(inv, Status::Finished);
-        }
-    }
-}
-
-/// Does an effect. It takes no memory and can't fail.
-fn apply(m: &Runnable, whole: &mut Whole, inv: u32, inst: &Inst, effect: Effect, row: &mut Row)
-    requires reached { IsReached m.now whole.old inv inst.now }
-    requires fits { Fits m.now whole.old inv inst.now (shown effect row.old) }
-    requires taken { IsTaken effect.store effect.gain row.old }
-    ensures { whole.new ≡ spec.apply m.now.accepted inv inst.now.id (shown effect row.old) whole.old }
-{
-    let _insts = m.accepted().insts();
-    let Effect {
-        store,
-        gain,
-        control,
-    } = effect;
-    put_store(whole, inv, store, row);
-    put_result(m, whole, inv, inst, gain, row);
-    go(m, whole, inv, inst, control);
 }
 
 /// The instruction that a Ready invocation has reached.
@@ -205,7 +75,7 @@ fn due(
     requires reached { IsReached m.now whole.now inv inst.now }
     ensures due { IsStepBy m.now whole.now inv inst.now row.new result }
     ensures fits { PlannedFits m.now whole.now inv inst.now row.new result }
-    ensures taken { IfOk result (λ e. IsTaken e.store e.gain row.new) }
+    ensures taken { IfOk result (λ e. IsTaken whole.now inv e row.new) }
 {
     match whole.top(inv) {
         Some(frame) => effect_at(alloc, m, whole, inv, frame, inst, row),
@@ -233,8 +103,7 @@ fn ready(
     let inst = reached(m, whole, inv);
     match due(alloc, m, whole, inv, inst, row) {
         Ok(effect) => {
-            let happening = happening(accepted, inv, inst.word, &effect);
-            apply(m, whole, inv, inst, effect, row);
+            let happening = apply(m, whole, inv, inst, effect, row);
             Ok(Did::Moved(happening))
         }
         Err(Fail::Refused(cause)) => Err(StepErr::Fault(fault(cause, inv, inst.word))),

@@ -1,7 +1,9 @@
 //! The machine: one step of an invocation (SPIR-V 1.6 sections 2.4 and 3.42).
 #![tactic(auto)]
 
+pub mod applying;
 pub mod execution;
+pub mod happenings;
 pub mod world;
 
 pub use execution::{Did, StepErr, fault_of, step};

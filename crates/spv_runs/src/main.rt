@@ -14,7 +14,7 @@ use std::{fs, io, rt};
 
 /// Groups of instructions: modules of data/ with the commands that they are debugged by, in the order of the output. The last one
 /// has lines of one byte.
-const GROUPS: [(&str, &str, &str); 8] = [
+const GROUPS: [(&str, &str, &str); 9] = [
     ("unary", "unary.spv", "unary.commands"),
     ("binary", "binary.spv", "binary.commands"),
     ("extended", "extended.spv", "extended.commands"),
@@ -22,6 +22,7 @@ const GROUPS: [(&str, &str, &str); 8] = [
     ("fields", "fields.spv", "fields.commands"),
     ("selections", "selections.spv", "selections.commands"),
     ("composites", "composites.spv", "composites.commands"),
+    ("atomics", "atomics.spv", "atomics.commands"),
     ("bytes", "first.spv", "bytes.commands"),
 ];
 

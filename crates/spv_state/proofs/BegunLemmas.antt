@@ -17,19 +17,19 @@ use Rattle.spv_statuses.specs.Group.{Held as Statuses}
 use Rattle.spv_statuses.specs.declared.invocations.Status.TheVariants.{Ready}
 use Rattle.spv_state.specs.Program.{Program, words_of}
 use Rattle.spv_state.specs.Rooms.{AreBounded, IsBounded}
-use Rattle.spv_state.specs.Start.{begun, is_variable_of, start_of}
+use Rattle.spv_state.specs.Start.{begun, start_of}
+use Rattle.spv_state.specs.Variables.{is_variable_of, variables_of}
 use Rattle.spv_state.proofs.ChangeLemmas.{seen}
 use Rattle.spv_state.proofs.EnterLemmas.{with_locals}
 use Rattle.spv_state.proofs.StartSound.{replicated}
 use Rattle.spv_state.proofs.VariableLemmas.{kept_are, kept_targets}
 
--- ---- the variables of the entry function
+-- ---- the variables of a function
 
-abbrev pub of_function : Accepted → ℕ → List Declared
-of_function a function = filter (is_variable_of a function) (variables a)
-
-pub function_are : (a : Accepted) (function : ℕ) (ds es : List Declared) → ∥ IsValid a ∥₁ → ds ≡ es → es ≡ of_function a function → ∥ AreDeclared a.types ds ∥₁
-function_are a function ds es valid same is = subst (λ (xs : List Declared). ∥ AreDeclared a.types xs ∥₁) (sym (same ∙ is)) (kept_are a (is_variable_of a function) valid)
+pub function_are : (b a : Accepted) (function : ℕ) (ds : List Declared) → b ≡ a → ∥ IsValid b ∥₁ → ds ≡ variables_of a function → ∥ AreDeclared b.types ds ∥₁
+function_are b a function ds same valid are =
+    let own : ds ≡ variables_of b function = are ∙ ap (λ (x : Accepted). variables_of x function) (sym same) in
+    subst (λ (xs : List Declared). ∥ AreDeclared b.types xs ∥₁) (sym own) (kept_are b (is_variable_of b function) valid)
 
 pub starting_types : (a : Accepted) (s : Settings) (m : Memory) → m ≡ starting a s → m.types ≡ a.types
 unfolding starting
@@ -43,20 +43,22 @@ pub starting_count : (a : Accepted) (s : Settings) (m : Memory) (count : ℕ) �
 unfolding starting
 starting_count a s m count is same = ap (λ (x : Memory). length x.locals) is ∙ length-replicate (invocations a) _ ∙ sym same
 
-pub function_targets : (a : Accepted) (s : Settings) (function : ℕ) (m : Memory) (ds es : List Declared) → ∥ IsValid a ∥₁ → m ≡ starting a s → ds ≡ es → es ≡ of_function a function → ∥ HaveTargets m.targets ds ∥₁
-function_targets a s function m ds es valid made same is =
-    subst (λ (targets : List (ℕ × ℕ)). ∥ HaveTargets targets ds ∥₁) (sym (starting_targets a s m made))
-    (subst (λ (xs : List Declared). ∥ HaveTargets (targets_of (variables a)) xs ∥₁) (sym (same ∙ is)) (kept_targets a (is_variable_of a function) valid))
+pub function_targets : (b a : Accepted) (s : Settings) (function : ℕ) (m : Memory) (ds : List Declared) → b ≡ a → ∥ IsValid b ∥₁ → m ≡ starting b s → ds ≡ variables_of a function
+    → ∥ HaveTargets m.targets ds ∥₁
+function_targets b a s function m ds same valid made are =
+    let own : ds ≡ variables_of b function = are ∙ ap (λ (x : Accepted). variables_of x function) (sym same) in
+    subst (λ (targets : List (ℕ × ℕ)). ∥ HaveTargets targets ds ∥₁) (sym (starting_targets b s m made))
+    (subst (λ (xs : List Declared). ∥ HaveTargets (targets_of (variables b)) xs ∥₁) (sym own) (kept_targets b (is_variable_of b function) valid))
 
 -- ---- the memory
 
 abbrev with_frames : Accepted → List Declared → Memory → Memory
 with_frames a ds m = record m { locals = map (with_locals (local_roots a ds)) m.locals }
 
-pub begun_is : (a b : Accepted) (s t : Settings) (function : ℕ) (ds es : List Declared) (m new : Memory) → b ≡ a → t ≡ s → function ≡ b.entry → ds ≡ es → es ≡ of_function b function → m ≡ starting b t
+pub begun_is : (a b : Accepted) (s t : Settings) (function : ℕ) (ds : List Declared) (m new : Memory) → b ≡ a → t ≡ s → function ≡ b.entry → ds ≡ variables_of a function → m ≡ starting b t
     → new ≡ with_frames b ds m → new ≡ begun a (starting a s)
-begun_is a b s t function ds es m new module_is setup_is function_is same are made entered =
-    entered ∙ ap (with_frames b ds) made ∙ ap (λ (xs : List Declared). with_frames b xs (starting b t)) (same ∙ are ∙ ap (of_function b) function_is)
+begun_is a b s t function ds m new module_is setup_is function_is are made entered =
+    entered ∙ ap (with_frames b ds) made ∙ ap (λ (xs : List Declared). with_frames b xs (starting b t)) (are ∙ ap (variables_of a) function_is ∙ ap (λ (x : Accepted). variables_of x b.entry) (sym module_is))
     ∙ ap (λ (x : Accepted). begun x (starting x t)) module_is ∙ ap (λ (x : Settings). begun a (starting a x)) setup_is
 
 -- ---- the stacks

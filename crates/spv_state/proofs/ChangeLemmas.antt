@@ -1,5 +1,5 @@
 -- The primitive changes of a state.
-use Rattle.std.proofs.Common.{◌≡◌, ◌≢◌, ◌∙◌, inl, inr, ℕ, zero, suc, ◌-◌, ◌<◌, ◌≤◌, List, [], ◌∷◌, ◌++◌, Option, Some, None, IsSome, Result, Ok, Err, length, take, get_or, refl, sym, ap, subst, arith, slice_get, slice_set}
+use Rattle.std.proofs.Common.{◌≡◌, ◌≢◌, ◌∙◌, inl, inr, ℕ, zero, suc, ◌-◌, ◌<◌, ◌≤◌, List, [], ◌∷◌, ◌++◌, Option, Some, None, IsSome, Result, Ok, Err, length, length-append, take, get_or, refl, sym, ap, subst, arith, slice_get, slice_set}
 use Rattle.std.specs.Option.{MatchOption, option_map_or}
 use Rattle.std.proofs.lemmas.Option.{slice_get-get_or}
 use Rattle.spv_base.specs.Entries.{change}
@@ -11,11 +11,11 @@ use Rattle.spv_base.specs.declared.values.Value.{Value}
 use Rattle.spv_frame.specs.Frames.{Held as Frame}
 use Rattle.spv_frame.specs.Registers.{Planned}
 use Rattle.spv_frame.specs.Stacks.{Stacked, top}
-use Rattle.spv_mem.specs.Memory.{Held as Memory, Leaves, Levels, Stores, load_of, stored}
+use Rattle.spv_mem.specs.Memory.{Held as Memory, Leaves, Levels, Stores, entered, load_of, stored}
 use Rattle.spv_mem.proofs.MemoryLemmas.{change_set, get_set}
 use Rattle.spv_statuses.specs.Group.{Held as Statuses}
 use Rattle.spv_state.specs.Rooms.{AreBounded, IsBounded}
-use Rattle.spv_state.specs.State.{State, on_frame, on_frames, on_memory, pop_frame, top_of, without_last, without_locals, without_top}
+use Rattle.spv_state.specs.State.{State, on_frame, on_frames, on_memory, pop_frame, push_frame, top_of, with_top, without_last, without_locals, without_top}
 
 -- ---- stacks of which one changes
 
@@ -81,6 +81,12 @@ left_bounded k new made bounded =
     let less : length (without_last k.frames) ≤ length k.frames = length_take (length k.frames - 1) k.frames in
     subst IsBounded (sym made) (record { within = omega (arith, less, bounded.within); narrow = bounded.narrow })
 
+-- a frame more keeps them, where there is room
+pub pushed_bounded : (f : Frame) (k new : Stacked) → new ≡ with_top f k → length k.frames < k.room → IsBounded k → IsBounded new
+pushed_bounded f k new made room bounded =
+    let count = length-append k.frames (f ∷ []) in
+    subst IsBounded (sym made) (record { within = omega (arith, count, room); narrow = bounded.narrow })
+
 -- ---- states
 
 -- a state of these parts
@@ -96,6 +102,16 @@ stored_is m i p u new handed result there stores = by_load (load_of m i p) there
         → MatchOption o ((result ≡ Err OutOfBounds) × (new ≡ m) × (handed ≡ u)) (λ w. (result ≡ Ok tt) × (new ≡ stored i p u m) × (handed ≡ w)) → new ≡ stored i p u m
     by_load None some h = absurd (cc)
     by_load (Some w) some h = h.1
+
+-- and what was there is handed back
+pub handed_is : (m : Memory) (i : ℕ) (p : Pointer) (u : Value) (new : Memory) (handed : Value) (result : Result (Unit {0}) MemErr)
+    → IsSome (load_of m i p) → Stores m i p u new handed result → load_of m i p ≡ Some handed
+handed_is m i p u new handed result there stores = by_load (load_of m i p) there stores
+  where
+    by_load : (o : Option Value) → IsSome o
+        → MatchOption o ((result ≡ Err OutOfBounds) × (new ≡ m) × (handed ≡ u)) (λ w. (result ≡ Ok tt) × (new ≡ stored i p u m) × (handed ≡ w)) → o ≡ Some handed
+    by_load None some h = absurd (cc)
+    by_load (Some w) some h = ap (λ (x : Value). Some x) (sym h.2)
 
 pub put_memory : (ps : List Planned) (m new : Memory) (ks : List Stacked) (ts : Statuses) (s : State) (g : Memory → Memory) → seen ps m ks ts ≡ s → new ≡ g m → seen ps new ks ts ≡ on_memory g s
 put_memory ps m new ks ts s g view made = ap (λ (x : Memory). seen ps x ks ts) made ∙ ap (on_memory g) view
@@ -128,6 +144,18 @@ pub drop_frame : (ps : List Planned) (m after : Memory) (ks : List Stacked) (ts 
 drop_frame ps m after ks ts s i k new view inside here made left =
     ap (λ (xs : List Stacked). seen ps after xs ts) (put_is ks i k new without_top inside here made)
     ∙ ap (λ (x : Memory). seen ps x (change i without_top ks) ts) left ∙ ap (pop_frame i) view
+
+-- a frame that is entered, with its variables
+pub add_frame : (ps : List Planned) (m after : Memory) (ks : List Stacked) (ts : Statuses) (s : State) (i : ℕ) (k new : Stacked) (f : Frame) (es : Roots) → seen ps m ks ts ≡ s → i < length ks → k ≡ get_or ks i k
+    → new ≡ with_top f k → after ≡ entered i es m → seen ps after (slice_set ks i new) ts ≡ push_frame i f es s
+add_frame ps m after ks ts s i k new f es view inside here made with_locals =
+    ap (λ (xs : List Stacked). seen ps after xs ts) (put_is ks i k new (with_top f) inside here made)
+    ∙ ap (λ (x : Memory). seen ps x (change i (with_top f) ks) ts) with_locals ∙ ap (push_frame i f es) view
+
+-- the stack of an invocation is one of the state
+pub stack_at : {ps : List Planned} {m : Memory} {ks : List Stacked} {ts : Statuses} {s : State} (i : ℕ) (k : Stacked) → seen ps m ks ts ≡ s → i < length ks → k ≡ get_or ks i k → slice_get s.stacks i ≡ Some k
+stack_at {ps} {m} {ks} {ts} {s} i k view inside here =
+    subst (λ (x : State). slice_get x.stacks i ≡ Some k) view (slice_get-get_or ks i k inside ∙ ap (λ (x : Stacked). Some x) (sym here))
 
 -- ---- the top frame
 

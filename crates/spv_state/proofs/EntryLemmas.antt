@@ -75,7 +75,7 @@ plain_at ts insts id h = by_id (is_id id) h
 next_contains : (k x : ℕ) (xs : List ℕ) → Contains xs x → Contains (k ∷ xs) x
 next_contains k x xs (n, inside, is) = (suc n, omega (arith, inside), is)
 
-listed : (id : ℕ) (insts : List Inst) (k : ℕ) (i : Inst) → slice_get insts k ≡ Some i → i.op ≡ 54 → i.id ≡ id → Contains (map (λ (f : ℕ × ℕ). f.0) (flat_map function_of insts)) id
+pub listed : (id : ℕ) (insts : List Inst) (k : ℕ) (i : Inst) → slice_get insts k ≡ Some i → i.op ≡ 54 → i.id ≡ id → Contains (map (λ (f : ℕ × ℕ). f.0) (flat_map function_of insts)) id
 listed id [] k i at op is = absurd (cc)
 listed id (j ∷ js) zero i at op is =
     let same : j ≡ i = cc in

@@ -1,6 +1,6 @@
--- The plan of the entry function, among those of the module.
-use Rattle.std.proofs.Common.{◌≡◌, ◌∙◌, ℕ, ◌<◌, List, Option, Some, None, length, map, get_or, refl, sym, ap, slice_get}
-use Rattle.std.proofs.Math.Logic.{∥∥₁_elim}
+-- The plan of a function, among those of the module.
+use Rattle.std.proofs.Common.{◌≡◌, ◌∙◌, ℕ, ◌<◌, List, Option, Some, None, length, map, get_or, refl, sym, ap, subst, slice_get}
+use Rattle.std.proofs.Math.Logic.{∥∥₁_elim, ∥∥₁_map}
 use Rattle.std.proofs.Props.{props}
 use Rattle.std.proofs.lemmas.Option.{slice_get-get_or, slice_get-map, slice_get_within}
 use Rattle.std.specs.List.{Contains}
@@ -39,10 +39,9 @@ map_is f xs n x y at is = some_same (f x) y (sym (at_number f xs n x (map_inside
 abbrev pub AreFound : Type 0
 AreFound = (a : Accepted) (function k : ℕ) → reads function (numbered 0 (plans_in a)) ≡ Some k → slice_get (plans_in a) k ≡ Some (plan_of a function)
 
-pub entry_at : AreFound → (a : Accepted) (ps qs : List Planned) (entry number : ℕ) → ps ≡ plans_in a → qs ≡ ps → entry ≡ a.entry → reads entry (numbered 0 ps) ≡ Some number → slice_get qs number ≡ Some (plan_of a a.entry)
-entry_at found a ps qs entry number are same is at =
-    ap (λ (xs : List Planned). slice_get xs number) (same ∙ are)
-    ∙ found a a.entry number (ap (λ (xs : List Planned). reads a.entry (numbered 0 xs)) (sym are) ∙ ap (λ (id : ℕ). reads id (numbered 0 ps)) (sym is) ∙ at)
+pub found_plan : AreFound → (a : Accepted) (ps qs : List Planned) (function number : ℕ) → ps ≡ plans_in a → qs ≡ ps → reads function (numbered 0 ps) ≡ Some number → slice_get qs number ≡ Some (plan_of a function)
+found_plan found a ps qs function number are same at =
+    ap (λ (xs : List Planned). slice_get xs number) (same ∙ are) ∙ found a function number (ap (λ (xs : List Planned). reads function (numbered 0 xs)) (sym are) ∙ at)
 
 -- each plan has a number, and is found by it
 abbrev pub HaveNumbers : Type 0
@@ -51,14 +50,19 @@ HaveNumbers = (a : Accepted) (function : ℕ) → Contains (functions_in a) func
 abbrev pub AreNumbered : Type 0
 AreNumbered = (a : Accepted) (k : ℕ) (p : Planned) → ∥ IsAccepted a ∥₁ → slice_get (plans_in a) k ≡ Some p → reads p.function (numbered 0 (plans_in a)) ≡ Some k
 
-pub entry_numbered : HaveNumbers → AreNumbered → (a : Accepted) (ps : List Planned) (entry : ℕ) → ps ≡ plans_in a → entry ≡ a.entry → ∥ IsAccepted a ∥₁ → ∥ IsValid a ∥₁ → reads entry (numbered 0 ps) ≡ None → ⊥
+pub has_plan : HaveNumbers → AreNumbered → (a : Accepted) (ps : List Planned) (function : ℕ) → ps ≡ plans_in a → ∥ IsAccepted a ∥₁ → ∥ Contains (functions_in a) function ∥₁
+    → reads function (numbered 0 ps) ≡ None → ⊥
 unfolding plan_of
-entry_numbered has numbers a ps entry are is accepted valid gone =
-    ∥∥₁_elim valid (hlevel props) (λ (v : IsValid a).
-    let n = has a a.entry (entry_listed a v) in
-    let there : reads a.entry (numbered 0 (plans_in a)) ≡ Some n.number = numbers a n.number (plan_of a a.entry) accepted n.at in
-    let none : reads a.entry (numbered 0 (plans_in a)) ≡ None = ap (λ (xs : List Planned). reads a.entry (numbered 0 xs)) (sym are) ∙ ap (λ (id : ℕ). reads id (numbered 0 ps)) (sym is) ∙ gone in
-    some_none (reads a.entry (numbered 0 (plans_in a))) n.number there none)
+has_plan has numbers a ps function are accepted known gone =
+    ∥∥₁_elim known (hlevel props) (λ (h : Contains (functions_in a) function).
+    let n = has a function h in
+    let there : reads function (numbered 0 (plans_in a)) ≡ Some n.number = numbers a n.number (plan_of a function) accepted n.at in
+    let none : reads function (numbered 0 (plans_in a)) ≡ None = ap (λ (xs : List Planned). reads function (numbered 0 xs)) (sym are) ∙ gone in
+    some_none (reads function (numbered 0 (plans_in a))) n.number there none)
   where
     some_none : (o : Option ℕ) (n : ℕ) → o ≡ Some n → o ≡ None → ⊥
     some_none o n some none = cc
+
+-- the entry function is one of the module
+pub entry_known : (a : Accepted) (entry : ℕ) → entry ≡ a.entry → ∥ IsValid a ∥₁ → ∥ Contains (functions_in a) entry ∥₁
+entry_known a entry is valid = ∥∥₁_map valid (λ (v : IsValid a). subst (Contains (functions_in a)) (sym is) (entry_listed a v))

@@ -1,22 +1,29 @@
 -- How many invocations a run starts with.
-use borrow.Author.Tests.{eqb-true}
-use Rattle.std.proofs.Common.{◌≡◌, Bool, true, false, not, ◌&&◌, length, refl, nat_eq}
+use Rattle.std.proofs.Common.{◌≡◌, ◌<◌, ℕ, zero, suc, Bool, true, false, ◌&&◌, nat_le, length, refl}
+use Rattle.std.proofs.Math.Nat.{mul-pos}
+use Rattle.std.proofs.lemmas.Bool.{leb-true}
 use Rattle.std.proofs.lemmas.List.{length-replicate}
-use Rattle.std.specs.List.{list_all}
-use Rattle.spv_index.specs.Positions.{stands_of}
 use Rattle.spv_initial.specs.Start.{invocations}
 use Rattle.spv_statuses.specs.declared.invocations.Status.TheVariants.{Ready}
 use Rattle.spv_valid.specs.Acceptance.{Accepted}
-use Rattle.spv_state.specs.Program.{Program, is_built, is_open}
+use Rattle.spv_valid.specs.Validity.{HasEntry, IsValid}
+use Rattle.spv_state.specs.Program.{Program}
 use Rattle.spv_state.specs.Start.{start_of}
 
 pub all_start : (p : Program) → length (start_of p).statuses.list ≡ invocations p.accepted
 unfolding start_of
 all_start p = length-replicate (invocations p.accepted) Ready
 
-pub one_of : (a : Accepted) → is_built a ≡ true → invocations a ≡ 1
-one_of a built = by (nat_eq (invocations a) 1) refl built
-  where
-    by : (b : Bool) → nat_eq (invocations a) 1 ≡ b → (b && list_all (λ s. not (is_open s)) (stands_of a.insts)) ≡ true → invocations a ≡ 1
-    by true e h = eqb-true (invocations a) 1 e
-    by false e h = cc
+both : (x y : Bool) → (x && y) ≡ true → (x ≡ true) × (y ≡ true)
+both true y h = (refl, h)
+both false y h = cc
+
+positive : (n : ℕ) → nat_le 1 n ≡ true → 0 < n
+positive n h = leb-true 1 n h
+
+pub some_start : (a : Accepted) → IsValid a → 0 < invocations a
+some_start a v =
+    let h = both _ _ v.entry.size in
+    let xs = both _ _ h.0 in
+    let ys = both _ _ xs.1 in
+    mul-pos (mul-pos (positive a.size.0 xs.0) (positive a.size.1 ys.0)) (positive a.size.2 ys.1)

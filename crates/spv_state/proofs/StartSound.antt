@@ -1,6 +1,6 @@
 -- The state at the start of a run is sound.
 use Rattle.std.proofs.Common.{◌≡◌, ◌∙◌, ℕ, zero, suc, ◌+◌, ◌==◌, Bool, true, false, cond, List, [], ◌∷◌, length, map, replicate, Option, Some, None, refl, sym, ap, subst, arith, slice_get}
-use Rattle.std.proofs.Math.Logic.{∥∥₁_elim}
+use Rattle.std.proofs.Math.Logic.{∥∥₁_elim, ∥∥₁_map}
 use Rattle.std.proofs.Props.{props}
 use Rattle.std.specs.Coded.{codes}
 use Rattle.std.specs.Prelude.{find}
@@ -59,7 +59,7 @@ found_among p (t ∷ ts) s h = by_test (p t) refl h (λ g. found_among p ts s g)
     by_test true e g rest = let same : t ≡ s = cc in ((0, omega arith, same), subst (λ (x : Stand). p x ≡ true) same e)
     by_test false e g rest = let later = rest g in ((suc later.0.0, omega (arith, later.0.1), later.0.2), later.1)
 
--- ---- the first executable of the entry function
+-- ---- the first executable of a function
 
 stands_at : (a : Accepted) (function word : ℕ) → first_stop (members a.insts function) ≡ Some word → StandsIn a function word
 stands_at a function word h = by_found (find is_stop (members a.insts function)) refl h
@@ -74,9 +74,9 @@ stands_at a function word h = by_found (find is_stop (members a.insts function))
 abbrev pub HavePlans : Type 0
 HavePlans = (a : Accepted) (function : ℕ) → ∥ IsAccepted a ∥₁ → Contains (functions_in a) function → IsPlan a (plan_of a function)
 
-entry_first : HavePlans → (a : Accepted) → ∥ IsAccepted a ∥₁ → ∥ IsValid a ∥₁ → first_stop (members a.insts a.entry) ≡ Some (plan_of a a.entry).first
+first_there : HavePlans → (a : Accepted) (function : ℕ) → ∥ IsAccepted a ∥₁ → ∥ Contains (functions_in a) function ∥₁ → first_stop (members a.insts function) ≡ Some (plan_of a function).first
 unfolding plan_of
-entry_first has a accepted valid = ∥∥₁_elim valid (hlevel (props, codes)) (λ (v : IsValid a). (has a a.entry accepted (entry_listed a v)).first)
+first_there has a function accepted known = ∥∥₁_elim known (hlevel (props, codes)) (λ (h : Contains (functions_in a) function). (has a function accepted h).first)
 
 -- ---- a fresh frame
 
@@ -101,14 +101,18 @@ fresh_shaped a p = record {
   pointers = λ id ty q at of. absurd (let gone : Some q ≡ None = none_read id p.pointers (Some q) at in cc);
 }
 
-entry_frame : HavePlans → (a : Accepted) → ∥ IsAccepted a ∥₁ → ∥ IsValid a ∥₁ → IsSoundFrame a (fresh (plan_of a a.entry))
+-- as a call or a run begins a function
+pub function_frame : HavePlans → (a : Accepted) (function : ℕ) → ∥ IsAccepted a ∥₁ → ∥ Contains (functions_in a) function ∥₁ → IsSoundFrame a (fresh (plan_of a function))
 unfolding plan_of
-entry_frame has a accepted valid = record {
+function_frame has a function accepted known = record {
   plan = refl;
-  places = fresh_places (plan_of a a.entry);
-  stands = stands_at a a.entry (plan_of a a.entry).first (entry_first has a accepted valid);
-  shaped = fresh_shaped a (plan_of a a.entry);
+  places = fresh_places (plan_of a function);
+  stands = stands_at a function (plan_of a function).first (first_there has a function accepted known);
+  shaped = fresh_shaped a (plan_of a function);
 }
+
+entry_frame : HavePlans → (a : Accepted) → ∥ IsAccepted a ∥₁ → ∥ IsValid a ∥₁ → IsSoundFrame a (fresh (plan_of a a.entry))
+entry_frame has a accepted valid = function_frame has a a.entry accepted (∥∥₁_map valid (λ (v : IsValid a). entry_listed a v))
 
 -- ---- the stack of each invocation
 

@@ -4,4 +4,5 @@ pub mod State
 pub mod Rooms
 pub mod Slots
 pub mod Sound
+pub mod Variables
 pub mod Start

@@ -23,28 +23,28 @@ abbrev pub is_done : Action → Bool
 is_done (Compute c) = true
 is_done Load = true
 is_done Store = true
-is_done CopyMemory = false
-is_done Chain = false
-is_done ArrayLength = false
-is_done Branch = false
-is_done BranchConditional = false
-is_done Switch = false
-is_done Call = false
+is_done CopyMemory = true
+is_done Chain = true
+is_done ArrayLength = true
+is_done Branch = true
+is_done BranchConditional = true
+is_done Switch = true
+is_done Call = true
 is_done Return = true
-is_done ReturnValue = false
-is_done Unreachable = false
-is_done ControlBarrier = false
-is_done MemoryBarrier = false
-is_done (Atomic op) = false
+is_done ReturnValue = true
+is_done Unreachable = true
+is_done ControlBarrier = true
+is_done MemoryBarrier = true
+is_done (Atomic op) = true
 is_done Other = false
 
 -- a run would stop at it, and the machine can't do it yet
 abbrev pub is_open : Stand → Bool
 is_open s = is_stop s && not (is_done (action_of s.inst))
 
--- A module of one invocation runs, if each of its executables can be done. Any other is refused by M0, at the first instruction's word.
+-- A module runs, if each of its executables can be done. Any other is refused by M0, at the first instruction's word.
 abbrev pub is_built : Accepted → Bool
-is_built a = invocations a == 1 && list_all (λ s. not (is_open s)) (stands_of a.insts)
+is_built a = list_all (λ s. not (is_open s)) (stands_of a.insts)
 
 unfoldable pub program_of : Accepted → Settings → Result Program Refusal
 program_of a s = if is_built a then Ok (record { accepted = a; setup = s }) else Err (record { code = 0; word = 5 })

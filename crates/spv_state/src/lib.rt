@@ -4,11 +4,14 @@
 
 pub mod actions;
 pub mod laws;
+mod plans;
 pub mod registers;
 pub mod runnable;
 pub mod start;
+mod variables;
 pub mod whole;
 
 pub use actions::{Action, AtomicOp};
+pub use plans::plan_in;
 pub use runnable::Runnable;
 pub use whole::Whole;

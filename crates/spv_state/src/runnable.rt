@@ -3,15 +3,19 @@ ghost use Rattle.std.specs.Prelude.{◌≡◌, true, not};
 ghost use Rattle.std.specs.List.{list_all};
 ghost use Rattle.spv_base.specs.Answers.{Answers};
 ghost use Rattle.spv_state.specs.Program as program;
+ghost use Rattle.spv_state.specs.Variables.{variables_of};
 
 use crate::actions::Action;
+use crate::variables::by_function;
 use spv_base::{Fail, Inst, Refusal};
 use spv_index::classes::Class;
 use spv_index::positions::Position;
 use spv_index::stands::Stands;
-use spv_initial::memory::invocations;
+use spv_initial::Declared;
 use spv_setup::Setup;
 use spv_valid::Module;
+use std::alloc::Global;
+use std::collections::BTreeMap;
 use std::marker::Model;
 
 /// An accepted module that can be run, and the setup that it runs with.
@@ -19,17 +23,20 @@ use std::marker::Model;
 pub struct Runnable {
     accepted: Module,
     setup: Setup,
+    /// The variables of each function, by its id.
+    variables: BTreeMap<u32, Vec<Declared>>,
 }
 
 impl Model for Runnable {
-    ghost use Rattle.std.specs.Prelude.{◌≡◌, true};
+    ghost use Rattle.std.specs.Prelude.{◌≡◌, ℕ, true};
     ghost use Rattle.spv_state.specs.Program.{Program, is_built};
+    ghost use Rattle.spv_state.specs.Variables.{under, variables_of};
 
     ghost Value = { Program };
 
     ghost view = { λ r. record { accepted = r.accepted; setup = r.setup } };
 
-    ghost invariant = { λ r. is_built r.accepted ≡ true };
+    ghost invariant = { λ r. (is_built r.accepted ≡ true) × ((function : ℕ) → under r.variables function ≡ variables_of r.accepted function) };
 }
 
 /// Whether the machine can do what an instruction does.
@@ -37,11 +44,12 @@ fn is_done(action: Action) -> bool
     ensures { result ≡ program.is_done action }
 {
     match action {
-        Action::Compute(_) | Action::Load | Action::Store | Action::Return => true,
-        Action::CopyMemory | Action::Chain | Action::ArrayLength => false,
-        Action::Branch | Action::BranchConditional | Action::Switch => false,
-        Action::Call | Action::ReturnValue | Action::Unreachable => false,
-        Action::ControlBarrier | Action::MemoryBarrier | Action::Atomic(_) => false,
+        Action::Compute(_) => true,
+        Action::Load | Action::Store | Action::CopyMemory => true,
+        Action::Chain | Action::ArrayLength => true,
+        Action::Branch | Action::BranchConditional | Action::Switch => true,
+        Action::Call | Action::Return | Action::ReturnValue | Action::Unreachable => true,
+        Action::ControlBarrier | Action::MemoryBarrier | Action::Atomic(_) => true,
         Action::Other => false,
     }
 }
@@ -66,24 +74,28 @@ fn are_built(stands: &Stands) -> bool
     true
 }
 
-/// Whether a module has one invocation, and the machine can do each of its executables.
+/// Whether the machine can do each executable of a module.
 fn is_built(accepted: &Module) -> bool
     ensures { result ≡ program.is_built accepted.now }
 {
-    invocations(accepted) == 1 && are_built(&accepted.index().stands())
+    are_built(&accepted.index().stands())
 }
 
 impl Runnable {
     /// This module with a setup, where it can be run; else refusal 0, at word 5, where the first instruction stands.
     #[tactic(auto, unfolding(crate::specs::Program::program_of))]
-    pub fn of(accepted: Module, setup: Setup) -> Result<Runnable, Fail<Refusal>>
+    pub fn of(alloc: Global, accepted: Module, setup: Setup) -> Result<Runnable, Fail<Refusal>>
         ensures { Answers (program.program_of accepted setup) result }
     {
-        if is_built(&accepted) {
-            Ok(Runnable { accepted, setup })
-        } else {
-            Err(Fail::Refused(Refusal { code: 0, word: 5 }))
+        if !is_built(&accepted) {
+            return Err(Fail::Refused(Refusal { code: 0, word: 5 }));
         }
+        let variables = by_function(alloc, &accepted)?;
+        Ok(Runnable {
+            accepted,
+            setup,
+            variables,
+        })
     }
 
     /// The module.
@@ -92,6 +104,16 @@ impl Runnable {
         ensures built { program.is_built self.now.accepted ≡ true }
     {
         &self.accepted
+    }
+
+    /// The variables of a function, in the order of the module: none where it has none. The module isn't walked for them.
+    pub fn variables(&self, function: u32) -> &[Declared]
+        ensures { result.now ≡ variables_of self.now.accepted function }
+    {
+        match self.variables.get(&function) {
+            Some(list) => list.as_slice(),
+            None => &[],
+        }
     }
 
     /// The setup.

@@ -1,8 +1,8 @@
 //! The state at the start of a run.
-ghost use Rattle.std.specs.Prelude.{◌≡◌, ◌<◌, ◌≤◌, ◌++◌, [], ◌∷◌, ℕ, IfOk, OnOk, Some, filter, length, map, replicate, slice_get};
+ghost use Rattle.std.specs.Prelude.{◌≡◌, ◌<◌, ◌≤◌, ◌++◌, [], ◌∷◌, ℕ, IfOk, OnOk, Some, length, map, replicate, slice_get};
 ghost use Rattle.spv_frame.specs.Frames.{fresh};
 ghost use Rattle.spv_frame.specs.Registers.{Planned};
-ghost use Rattle.spv_initial.specs.Start.{local_roots, starting, variables};
+ghost use Rattle.spv_initial.specs.Start.{local_roots, starting};
 ghost use Rattle.spv_initial.specs.Variables.{AreDeclared, HaveTargets};
 ghost use Rattle.spv_mem.specs.Memory.{Levels};
 ghost use Rattle.spv_plans.specs.Plans.{plan_of, plans_in};
@@ -10,19 +10,19 @@ ghost use Rattle.spv_state.specs.Program as program;
 ghost use Rattle.spv_state.specs.Sound.{IsSound};
 ghost use Rattle.spv_state.specs.Start as spec;
 
+use crate::plans::plan_in;
 use crate::runnable::Runnable;
 use crate::whole::Whole;
 use spv_base::NoMemory;
 use spv_effects::reserved;
 use spv_frame::{Frame, Plan, Plans, Stack};
 use spv_initial::memory::invocations;
-use spv_initial::{Declared, declared_in, local_variables, starting};
+use spv_initial::{Declared, local_variables, starting};
 use spv_mem::Memory;
-use spv_plans::laws::{functions_are_apart, functions_have_their_plans, plans_are_of_functions};
+use spv_plans::laws::functions_have_their_plans;
 use spv_plans::plans_of;
 use spv_statuses::Statuses;
 use spv_valid::Module;
-use spv_valid::meanings::Meaning;
 use spv_values::Row;
 use std::alloc::Global;
 use std::rc::Rc;
@@ -35,53 +35,6 @@ fn words_of(accepted: &Module) -> u32
         Some(inst) => inst.word + 1,
         None => 0,
     }
-}
-
-/// Whether a meaning is that of a variable of a function.
-fn is_local_of(function: u32, meaning: Meaning) -> bool
-    ensures { result ≡ spec.is_local_of function meaning }
-{
-    match meaning {
-        Meaning::Variable(of) => of == function,
-        _ => false,
-    }
-}
-
-/// Whether a variable is one of a function.
-fn is_variable_of(accepted: &Module, function: u32, declared: Declared) -> bool
-    ensures { result ≡ spec.is_variable_of accepted.now function declared }
-{
-    match accepted.meaning(declared.id) {
-        Some(meaning) => is_local_of(function, meaning),
-        None => false,
-    }
-}
-
-/// Adds a variable to a list, where it is one of a function.
-fn push_if(
-    list: &mut Vec<Declared>,
-    accepted: &Module,
-    function: u32,
-    declared: Declared,
-) -> Result<(), NoMemory>
-    ensures { OnOk result (list.new.items ≡ list.old.items ++ filter (spec.is_variable_of accepted.now function) (declared ∷ [])) }
-{
-    if is_variable_of(accepted, function, declared) {
-        list.push(declared)?;
-    }
-    Ok(())
-}
-
-/// The variables of a function, in the order of the module.
-fn variables_of(alloc: Global, accepted: &Module, function: u32) -> Result<Vec<Declared>, NoMemory>
-    ensures { IfOk result (λ list. list.items ≡ filter (spec.is_variable_of accepted.now function) (variables accepted.now)) }
-{
-    let all = declared_in(alloc, accepted.types(), accepted.insts())?;
-    let mut list = Vec::new(alloc);
-    for declared in &all {
-        push_if(&mut list, accepted, function, *declared)?;
-    }
-    Ok(list)
 }
 
 /// Enters a frame with some variables for each of so many invocations.
@@ -111,15 +64,9 @@ fn memory(alloc: Global, m: &Runnable) -> Result<Memory, NoMemory>
 {
     let accepted = m.accepted();
     let _insts = accepted.insts();
-    let list = variables_of(alloc, accepted, accepted.entry())?;
+    let list = m.variables(accepted.entry());
     let mut memory = starting(alloc, accepted, m.setup())?;
-    enter_each(
-        alloc,
-        accepted,
-        list.as_slice(),
-        &mut memory,
-        invocations(accepted),
-    )?;
+    enter_each(alloc, accepted, list, &mut memory, invocations(accepted))?;
     Ok(memory)
 }
 
@@ -128,13 +75,8 @@ fn entry_plan<'a>(accepted: &Module, plans: &'a Plans) -> &'a Rc<Plan>
     requires { plans.now ≡ plans_in accepted.now }
     ensures { result.now.value ≡ plan_of accepted.now accepted.now.entry }
 {
-    plans_are_of_functions();
-    functions_are_apart();
     let _insts = accepted.insts();
-    match plans.number(accepted.entry()) {
-        Some(number) => &plans.list()[number],
-        None => unreachable!(),
-    }
+    plan_in(accepted, plans, accepted.entry())
 }
 
 /// The calls of an invocation at the start: one frame with a plan.

@@ -1,13 +1,15 @@
 //! The state of a workgroup, and its primitive changes. Each takes no memory and can't fail.
-ghost use Rattle.std.specs.Prelude.{◌≡◌, ◌<◌, IsSome, Some, length, slice_get, option_copied};
-ghost use Rattle.spv_mem.specs.Memory.{MayStore, load_of};
+ghost use Rattle.std.specs.Prelude.{◌≡◌, ◌<◌, IsSome, Some, length, slice_get, option_copied, true};
+ghost use Rattle.spv_frame.specs.Stacks.{Stacked};
+ghost use Rattle.spv_mem.specs.Memory.{AreVariables, HasRoom, MayStore, load_of};
+ghost use Rattle.spv_statuses.specs.Group.{all_wait_at};
 ghost use Rattle.spv_statuses.specs.Invocations.{IsWithin};
 ghost use Rattle.spv_state.specs.Rooms.{IsBounded};
 ghost use Rattle.spv_state.specs.State as state;
 
 use spv_base::Pointer;
 use spv_frame::{Frame, Plans, Stack};
-use spv_mem::Memory;
+use spv_mem::{Locals, Memory};
 use spv_statuses::{Status, Statuses};
 use spv_values::Row;
 use std::marker::Model;
@@ -96,7 +98,8 @@ impl Whole {
     pub fn store(&mut self, i: u32, pointer: &Pointer, row: &mut Row)
         requires there { IsSome (load_of self.old.memory i pointer.now) }
         requires may { ∥ MayStore self.old.memory i pointer.now row.old ∥₁ }
-        ensures { self.new ≡ state.put_store i (Some (pointer.now, row.old)) self.old }
+        ensures after { self.new ≡ state.put_store i (Some (pointer.now, row.old)) self.old }
+        ensures handed { load_of self.old.memory i pointer.now ≡ Some row.new }
     {
         let _stored = self.memory.store(i, pointer, row);
     }
@@ -127,5 +130,27 @@ impl Whole {
     {
         let _frame = self.stacks[i as usize].leave();
         let _locals = self.memory.leave_locals(i);
+    }
+
+    /// Makes a frame with its variables the top one of an invocation, where there is room for them.
+    pub fn enter(&mut self, i: u32, frame: Frame, locals: Locals)
+        requires stacks { i < length self.old.stacks }
+        requires room { (k : Stacked) → slice_get self.old.stacks i ≡ Some k → length k.frames < k.room }
+        requires levels { i < length self.old.memory.locals }
+        requires level { HasRoom self.old.memory i }
+        requires variables { ∥ AreVariables self.old.memory.types self.old.memory.targets locals ∥₁ }
+        ensures { self.new ≡ state.push_frame i frame locals self.old }
+    {
+        self.stacks[i as usize].give_back(frame);
+        self.memory.give_back_locals(i, locals);
+    }
+
+    /// Opens the barrier at a word, at which all invocations wait: each has passed it then.
+    pub fn open_barrier(&mut self, word: u32)
+        requires waiting { all_wait_at word self.old.statuses.list ≡ true }
+        requires within { word < self.old.statuses.words }
+        ensures { self.new ≡ state.open_barrier self.old }
+    {
+        self.statuses.open(word);
     }
 }

@@ -43,4 +43,4 @@ returns-clause-taken c =
     let memory : ∥ IsMemory c.args.site.now.state.memory ∥₁ = subst (λ (m : Memory). ∥ IsMemory m ∥₁) c.memory.ensures c.variables_are_shaped.ensures in
     let shape = load_shape c.args.site.now (subst (λ (a : Accepted). AreSound a.types) c.accepted.ensures (sound_types c.accepted.result.now c.insts-insts.ensures.valid)) (subst (λ (a : Accepted). ∥ IsValid a ∥₁) c.accepted.ensures c.insts-insts.ensures.valid) c.is_reached.ensures (shown c.in_ok-at.at) c.in_ok-at.ensures.shape c.in_ok-part.field-0 c.load_is_kept.ensures.rule memory c.in_ok-part.ensures in
     let own : IsResult c.args.site.now.program.accepted c.args.site.now.inst c.copied.new.row = subst (IsResult c.args.site.now.program.accepted c.args.site.now.inst) (sym c.in_ok-copied.ensures) shape in
-    result_plain c.args.site.now.program.accepted c.args.site.now.inst c.copied.new.row (subst (λ (a : Accepted). AreSound a.types) c.accepted.ensures (sound_types c.accepted.result.now c.insts-insts.ensures.valid)) own
+    (result_plain c.args.site.now.program.accepted c.args.site.now.inst c.copied.new.row (subst (λ (a : Accepted). AreSound a.types) c.accepted.ensures (sound_types c.accepted.result.now c.insts-insts.ensures.valid)) own, tt)

@@ -24,4 +24,4 @@ returns-clause-fits c =
 pub returns-clause-taken : goal.returns-clause-taken
 returns-clause-taken c =
     let sound = subst (λ (a : Accepted). AreSound a.types) c.accepted.ensures (sound_types c.accepted.result.now c.insts-insts.ensures.valid) in
-    gain_taken c.args.site.now.program.accepted c.args.site.now.inst c.in_ok-gain.gain c.gain.new.row sound c.in_ok-gain.ensures.1
+    gain_taken c.args.site.now.program.accepted c.args.site.now.inst c.args.site.now.state c.args.site.now.inv c.in_ok-gain.gain c.gain.new.row sound c.in_ok-gain.ensures.1

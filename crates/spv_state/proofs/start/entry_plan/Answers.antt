@@ -1,28 +1,10 @@
-use Rattle.std.proofs.Common.{◌∙◌, ◌<◌, length, sym, rules}
+use Rattle.std.proofs.Common.{◌∙◌, ap}
 use Rattle.spv_plans.specs.Plans.{plan_of}
-use Rattle.spv_state.proofs.PlanLemmas.{entry_at, entry_numbered, map_inside, map_is}
+use Rattle.spv_state.proofs.PlanLemmas.{entry_known}
 use Rattle.spv_state.proofs.start.entry_plan.Goals as goal
 
-pub offset_bounds-list-number : goal.offset_bounds-list-number
-offset_bounds-list-number c =
-    let a = c.args.accepted.now in
-    let at = entry_at c.plans_are_of_functions.ensures.found a c.args.plans.now _ c.entry.result c.in-Some.number c.requires c.list.ensures c.entry.ensures.entry (sym c.number.ensures ∙ c.in-Some.is) in
-    let inside : c.in-Some.number < length c.list.result.now = map_inside (λ plan. plan.value) c.list.result.now c.in-Some.number (plan_of a a.entry) at in
-    search rules
-
-pub bounds-list-number : goal.bounds-list-number
-bounds-list-number c =
-    let a = c.args.accepted.now in
-    let at = entry_at c.plans_are_of_functions.ensures.found a c.args.plans.now _ c.entry.result c.in-Some.number c.requires c.list.ensures c.entry.ensures.entry (sym c.number.ensures ∙ c.in-Some.is) in
-    map_inside (λ plan. plan.value) c.list.result.now c.in-Some.number (plan_of a a.entry) at
-
-pub unreachable-requires : goal.unreachable-requires
-unreachable-requires c =
-    entry_numbered c.plans_are_of_functions.ensures.numbers c.functions_are_apart.ensures.numbers c.args.accepted.now c.args.plans.now c.entry.result c.requires c.entry.ensures.entry
-    c.insts-insts.ensures.accepted c.insts-insts.ensures.valid (sym c.number.ensures ∙ c.in-None.is)
+pub plan_in-requires-clause-function : goal.plan_in-requires-clause-function
+plan_in-requires-clause-function c = entry_known c.args.accepted.now c.entry.result c.entry.ensures.entry c.insts-insts.ensures.valid
 
 pub returns : goal.returns
-returns c =
-    let a = c.args.accepted.now in
-    let at = entry_at c.plans_are_of_functions.ensures.found a c.args.plans.now _ c.entry.result c.in-Some.number c.requires c.list.ensures c.entry.ensures.entry (sym c.number.ensures ∙ c.in-Some.is) in
-    map_is (λ plan. plan.value) c.list.result.now c.in-Some.number c.index-list-number.result (plan_of a a.entry) at c.index-list-number.is
+returns c = c.plan_in.ensures ∙ ap (plan_of c.args.accepted.now) c.entry.ensures.entry

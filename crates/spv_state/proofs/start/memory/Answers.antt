@@ -10,14 +10,14 @@ enter_each-requires-clause-types c = starting_types c.accepted-accepted.result.n
 
 pub enter_each-requires-clause-are : goal.enter_each-requires-clause-are
 enter_each-requires-clause-are c =
-    function_are c.accepted-accepted.result.now c.entry.result c.as_slice.result.now c.in_ok-list.list.items c.insts-insts.ensures.valid c.as_slice.ensures.value c.in_ok-list.ensures
+    function_are c.accepted-accepted.result.now c.args.m.now.accepted c.entry.result c.variables-list.result.now c.accepted-accepted.ensures.module c.insts-insts.ensures.valid c.variables-list.ensures
 
 pub enter_each-requires-clause-targets : goal.enter_each-requires-clause-targets
 enter_each-requires-clause-targets c =
-    function_targets c.accepted-accepted.result.now c.setup.result.now c.entry.result c.in_ok-memory.memory c.as_slice.result.now c.in_ok-list.list.items c.insts-insts.ensures.valid c.in_ok-memory.ensures
-    c.as_slice.ensures.value c.in_ok-list.ensures
+    function_targets c.accepted-accepted.result.now c.args.m.now.accepted c.setup.result.now c.entry.result c.in_ok-memory.memory c.variables-list.result.now c.accepted-accepted.ensures.module
+    c.insts-insts.ensures.valid c.in_ok-memory.ensures c.variables-list.ensures
 
 pub returns : goal.returns
 returns c =
-    begun_is c.args.m.now.accepted c.accepted-accepted.result.now c.args.m.now.setup c.setup.result.now c.entry.result c.as_slice.result.now c.in_ok-list.list.items c.in_ok-memory.memory c.enter_each.new.memory
-    c.accepted-accepted.ensures.module c.setup.ensures c.entry.ensures.entry c.as_slice.ensures.value c.in_ok-list.ensures c.in_ok-memory.ensures c.in_ok-enter_each.ensures
+    begun_is c.args.m.now.accepted c.accepted-accepted.result.now c.args.m.now.setup c.setup.result.now c.entry.result c.variables-list.result.now c.in_ok-memory.memory c.enter_each.new.memory
+    c.accepted-accepted.ensures.module c.setup.ensures c.entry.ensures.entry c.variables-list.ensures c.in_ok-memory.ensures c.in_ok-enter_each.ensures

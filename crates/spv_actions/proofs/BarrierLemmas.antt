@@ -1,0 +1,65 @@
+-- What is kept by atomics and barriers at which a run has come.
+use Rattle.std.proofs.Common.{◌≡◌, ◌∙◌, ℕ, Bool, true, false, cond, List, [], ◌∷◌, find, Option, Some, None, refl, sym, ap, subst}
+use Rattle.std.specs.Prelude.{◌==◌}
+use Rattle.std.proofs.Math.Logic.{∥∥₁_elim}
+use Rattle.std.proofs.Props.{props}
+use Rattle.std.specs.Coded.{codes}
+use Rattle.std.proofs.lemmas.Bool.{eqb-true}
+use Rattle.spv_base.specs.declared.instructions.Inst.{Inst}
+use Rattle.spv_index.specs.Definitions.{at, stands_at}
+use Rattle.spv_bodies.specs.Rules.{atomic_rule, composite_rule, control_rule, memory_rule, other_rule}
+use Rattle.spv_valid.specs.Acceptance.{Accepted, IsAccepted}
+use Rattle.spv_valid.specs.Validity.{IsValid}
+use Rattle.spv_state.specs.Actions.{action_of}
+use Rattle.spv_state.specs.declared.actions.Action.TheVariants.{Atomic, ControlBarrier, MemoryBarrier}
+use Rattle.spv_state.specs.declared.actions.AtomicOp.{AtomicOp}
+use Rattle.spv_actions.specs.AtomicSites.{KeepsRow}
+use Rattle.spv_actions.specs.Atomics.{atomic_row}
+use Rattle.spv_actions.specs.Effects.{Next, Wait}
+use Rattle.spv_actions.specs.Fits.{ControlFits}
+use Rattle.spv_actions.specs.Sites.{IsSite, Site, accepted}
+use Rattle.spv_actions.proofs.AtomicLemmas.{atomic_plain, keeps_atomic}
+use Rattle.spv_actions.proofs.EffectLemmas.{acting}
+use Rattle.spv_actions.proofs.KeptLemmas.{is_plain_code}
+use Rattle.spv_actions.proofs.RunLemmas.{RulesAreTested}
+use Rattle.spv_actions.proofs.SiteLemmas.{body, plain_next}
+
+-- ---- words
+
+-- the instruction that is found at a word stands there
+found_here : (insts : List Inst) (word : ℕ) (d : Inst) → find (stands_at word) insts ≡ Some d → d.word ≡ word
+found_here [] word d h = absurd (cc)
+found_here (i ∷ is) word d h = by_test (i.word == word) refl h (found_here is word d)
+  where
+    by_test : (b : Bool) → (i.word == word) ≡ b → cond b (Some i) (find (stands_at word) is) ≡ Some d → (find (stands_at word) is ≡ Some d → d.word ≡ word) → d.word ≡ word
+    by_test true e h rest = let same : i ≡ d = cc in ap (λ (j : Inst). j.word) (sym same) ∙ eqb-true i.word word e
+    by_test false e h rest = rest h
+
+at_word : (insts : List Inst) (word : ℕ) (d : Inst) → at insts word ≡ Some d → d.word ≡ word
+unfolding at
+at_word insts word d h = found_here insts word d h
+
+-- ---- at a site
+
+module _ (law : RulesAreTested) (x : Site) (m : Accepted) (same : m ≡ accepted x) (accepts : ∥ IsAccepted m ∥₁) (valid : ∥ IsValid m ∥₁) (site : ∥ IsSite x ∥₁) where
+  pub atomic_keeps : (op : AtomicOp) → action_of x.inst ≡ Atomic op → KeepsRow (accepted x) x.inst (atomic_row op)
+  atomic_keeps op is =
+      let own = acting x.inst (Atomic op) is in
+      keeps_atomic (accepted x) x.inst op own (body law x m same accepts valid site (atomic_plain x.inst.op op own)).1
+
+  pub atomic_next : (op : AtomicOp) → action_of x.inst ≡ Atomic op → ControlFits (accepted x) x.inst Next
+  atomic_next op is = plain_next law x m same accepts valid site (atomic_plain x.inst.op op (acting x.inst (Atomic op) is))
+
+  fence_plain : (op : ℕ) → op ≡ 225 → is_plain_code op ≡ true
+  unfolding memory_rule atomic_rule composite_rule control_rule other_rule
+  fence_plain op is = ap is_plain_code is
+
+  pub fence_next : action_of x.inst ≡ MemoryBarrier → ControlFits (accepted x) x.inst Next
+  fence_next is = plain_next law x m same accepts valid site (fence_plain x.inst.op (acting x.inst MemoryBarrier is))
+
+-- the module keeps what is asked of the wait
+pub barrier_waits : (x : Site) → ∥ IsSite x ∥₁ → action_of x.inst ≡ ControlBarrier → ControlFits (accepted x) x.inst Wait
+barrier_waits x site is = (x.inst, there, acting x.inst ControlBarrier is)
+  where
+    there : at (accepted x).insts x.inst.word ≡ Some x.inst
+    there = ∥∥₁_elim site (hlevel (props, codes)) (λ (s : IsSite x). ap (at (accepted x).insts) (at_word (accepted x).insts x.frame.pc x.inst s.stands) ∙ s.stands)

@@ -1,0 +1,18 @@
+use Rattle.std.proofs.Common.{subst}
+use Rattle.spv_base.specs.declared.values.Value.{Scalar}
+use Rattle.spv_types.specs.Laws.{AreSound}
+use Rattle.spv_mem.specs.Memory.{Held as Memory, IsMemory}
+use Rattle.spv_valid.specs.Acceptance.{Accepted}
+use Rattle.spv_results.proofs.SoundTypes.{sound_types}
+use Rattle.spv_actions.proofs.AtomicLemmas.{exchange_fits}
+use Rattle.spv_actions.proofs.EffectLemmas.{result_fits}
+use Rattle.spv_actions.proofs.atomics.exchange.Goals as goal
+
+pub returns-clause-fits : goal.returns-clause-fits
+returns-clause-fits c =
+    let sound = (subst (λ (a : Accepted). AreSound a.types) c.accepted.ensures (sound_types c.accepted.result.now c.insts-insts.ensures.valid)) in
+    record {
+      store = exchange_fits c.args.site.now c.args.target c.requires.target (subst (λ (m : Memory). ∥ IsMemory m ∥₁) c.memory.ensures c.variables_are_shaped.ensures) c.args.new c.put.new.row c.in_ok-put.ensures c.is_lane.ensures c.requires.width;
+      result = result_fits c.args.site.now.program.accepted c.args.site.now.inst (Scalar c.args.target.1) sound c.requires.result;
+      control = c.requires.next;
+    }

@@ -1,0 +1,15 @@
+use Rattle.std.proofs.Common.{◌≡◌, subst, Ok}
+use Rattle.spv_types.specs.Laws.{AreSound}
+use Rattle.spv_valid.specs.Acceptance.{Accepted}
+use Rattle.spv_results.proofs.SoundTypes.{sound_types}
+use Rattle.spv_actions.proofs.AtomicLemmas.{lane_scalar, scalar_operand}
+use Rattle.spv_actions.proofs.AtomicSteps.{found_is, scalar_ok}
+use Rattle.spv_actions.proofs.atomics.scalar.Goals as goal
+
+pub cell_of-requires : goal.cell_of-requires
+cell_of-requires c =
+    scalar_operand c.args.site.now.program.accepted c.args.site.now.inst c.args.n c.in_ok-datum.datum (subst (λ (a : Accepted). AreSound a.types) c.accepted.ensures (sound_types c.accepted.result.now c.insts-insts.ensures.valid)) c.requires c.in_ok-datum.ensures.shape
+
+pub returns-clause-value : goal.returns-clause-value
+returns-clause-value c =
+    scalar_ok c.args.site.now c.args.n c.in_ok-datum.datum c.cell_of.result (found_is c.args.site.now c.args.n (Ok c.in_ok-datum.datum) c.in_ok-datum.ensures.value) (lane_scalar c.in_ok-datum.datum c.cell_of.result c.cell_of.ensures)
