@@ -1,7 +1,5 @@
-#!/usr/bin/env python3
-"""Modules that compute, and the registers that `debug` has to show for them, worked out here apart from the program.
-
-    bench/arithmetic.py     writes crates/spv_runs/data/ and crates/spv_runs/stdout
+"""Modules that compute, and the registers that `debug` has to show for them, worked out here apart from the program (runs.py
+writes them).
 
 Each module has one block of instructions of one group over constants: the operands and results of bench/lanes.py, each lane
 once as a scalar and, four of one width together, as a vector; composites, whose results stand here; and atomics (bench/atomics.py).
@@ -267,7 +265,8 @@ def atomics():
     return atomic_rows.module(Module((12,), len(atomic_rows.WIDTHS)), shown)
 
 
-def main():
+def written():
+    """Writes the modules and their commands, and gives what is due for them."""
     groups = [unary, binary, extended, glsl, fields, selections, composites, atomics]
     os.makedirs(os.path.join(FOLDER, "data"), exist_ok=True)
     out = ""
@@ -280,9 +279,4 @@ def main():
         out += name + "\n" + made.transcript() + "status 0\n"
     with open(os.path.join(FOLDER, "data", "setup"), "w") as file:
         file.write("spvdbg-setup 1\nrounds 4194304\n")
-    with open(os.path.join(FOLDER, "stdout"), "w") as file:
-        file.write(out)
-
-
-if __name__ == "__main__":
-    main()
+    return out

@@ -1,7 +1,6 @@
-#!/usr/bin/env python3
-"""Operands and results of the operations on lanes, worked out here apart from the program.
+"""Operands and results of the operations on lanes, worked out here apart from the program, for arithmetic.py.
 
-Writes crates/spv_word_rows/src/alu/vectors.rt to standard output. Integers are Python's, of any size; each result is cut to
+Integers are Python's, of any size; each result is cut to
 its width at the end. Opcodes and meanings are those of SPIR-V 1.6, sections 3.42.11 to 3.42.15, and of GLSL.std.450.
 """
 
@@ -190,37 +189,3 @@ def rows_of_fields():
             (64, ODD[64], 0, 64, 1),
         ]:
             yield opcode, width, base, insert, offset, count, field(opcode, width, base, insert, offset, count)
-
-
-def written(row):
-    text = "(" + ", ".join(str(item) for item in row) + ")"
-    if len(text) <= 60:
-        return f"    {text},\n"
-    return "    (\n" + "".join(f"        {item},\n" for item in row) + "    ),\n"
-
-
-def table(doc, name, types, rows):
-    rows = list(rows)
-    return f"\n/// {doc}\npub const {name}: [({types}); {len(rows)}] = [\n" + "".join(map(written, rows)) + "];\n"
-
-
-
-def main():
-    print("//! Operands and results of the operations on lanes, as `bench/lanes.py` works them out; -1 where none is defined.")
-    print(
-        table("An opcode, the operands' width, two operands, the result.", "BINARY", "u16, u8, u64, u64, i128", rows_of_binary())
-        + table("An opcode, the operand's width, the operand, the result's width, the result.", "UNARY", "u16, u8, u64, u8, u64", rows_of_unary())
-        + table("An opcode, the operands' width, two operands, both results.", "EXTENDED", "u16, u8, u64, u64, u64, u64", rows_of_extended())
-        + table("A number, the operands' width, three operands, the result.", "GLSL", "u32, u8, u64, u64, u64, i128", rows_of_glsl())
-        + table(
-            "An opcode, the base's width, the base, what is inserted, the offset, the count, the result.",
-            "FIELDS",
-            "u16, u8, u64, u64, u64, u64, i128",
-            rows_of_fields(),
-        ),
-        end="",
-    )
-
-
-if __name__ == "__main__":
-    main()

@@ -1,9 +1,15 @@
 #!/usr/bin/env python3
 """Works out where the scalars of blocks lie in bytes, apart from the program.
 
-Reads the modules of crates/spv_layouts/data, and writes src/cases.rt and stdout of that crate. It writes blocks.spv first, of
-the words of crates/spv_rows/src/layouts.rt; the other modules are of the shaders of examples/check. Each Offset and
-ArrayStride is compared with what the rules of std140, std430 and scalar give.
+Reads the modules of crates/spv_layouts/data, and writes src/cases.rt and stdout of that crate. Each Offset and ArrayStride is
+compared with what the rules of std140, std430 and scalar give. The modules are of the shaders of examples/check, but for
+blocks.spv, which `glslangValidator -g0 --target-env vulkan1.2` made of
+
+    struct S { uint a; uvec3 b; uvec2 c[3]; };
+    layout(set = 0, binding = 0, std140) uniform U { uint x; S s[2]; uvec2 t; } u;
+    layout(set = 0, binding = 1, std430) buffer B { uint x; S s[2]; uvec2 t; uint rest[]; } b;
+    layout(set = 0, binding = 2, scalar) buffer C { uint x; S s[2]; uvec2 t; } c;
+    void main() { b.x = u.s[1].c[2].y + c.t.x + u.x; }
 """
 import os
 import re
@@ -171,17 +177,7 @@ def run_rows(name, blocks):
     return lines, row + ["        ],", "    ),"]
 
 
-def write_blocks():
-    """Writes blocks.spv, of the words of the test of compiled blocks."""
-    source = open(os.path.join(TOP, "crates", "spv_rows", "src", "layouts.rt")).read()
-    listed = re.search(r"const COMPILED: &\[u32\] = &\[(.*?)\];", source, re.S).group(1)
-    words = [int(word.replace("_", ""), 0) for word in listed.replace("\n", " ").split(",") if word.strip()]
-    with open(os.path.join(CRATE, "data", "blocks.spv"), "wb") as file:
-        file.write(struct.pack(f"<{len(words)}I", *words))
-
-
 def main():
-    write_blocks()
     lines, cases = [], []
     for name, blocks in RUNS:
         more, row = run_rows(name, blocks)

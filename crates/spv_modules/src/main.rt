@@ -1,83 +1,35 @@
 //! Runs `check` on each module of data/, as a user would, and says what it writes and how it ends: shaders as compilers
-//! and the optimizer give them, and modules with one rule broken. Their sources stand in examples/check. Each module that
-//! is decoded is also read back from its listing.
+//! and the optimizer give them, whose sources stand in examples/check, modules with one word changed, and modules with one
+//! rule broken; and lists single instructions. Each module that is decoded is also read back from its listing. What is due is worked out by bench/modules.py.
 #![tactic(auto)]
 
+mod calls;
+mod changes;
 mod read_back;
+mod rules;
 
-ghost use Rattle.std.specs.Prelude.{◌≡◌, ◌<◌, ◌-◌, ◌^◌};
-
-use crate::read_back::is_read_back;
-use spv_app::{Status, debug_main};
-use spv_base::{Fail, MemorySink, MemorySource, Probe, RealFiles, Steps};
+use crate::calls::{check, check_in};
+use crate::changes::Change;
+use crate::read_back::{is_read_back, listing_of};
+use crate::rules::{module_of, module_of_words};
+use spv_base::{Fail, RealFiles, Refusal};
 use std::alloc::Global;
 use std::io::Write;
-use std::marker::Brand;
-use std::sync::ledger::{Blank, Ledger};
 use std::{fs, io, rt};
 
-/// The modules of data/, in the order of the output. The name of a module with a rule broken says which word of the
-/// module before it was changed to which number.
-const MODULES: [&str; 29] = [
-    "first.spv",
-    "loops-1.3.spv",
-    "loops-1.6-gVS.spv",
-    "loops-vk11-opt.spv",
-    "shared-1.4.spv",
-    "shared-glslc.spv",
-    "shared-1.6-gVS-opt.spv",
-    "structs-1.6.spv",
-    "structs-1.3-gVS.spv",
-    "structs-glslc-opt.spv",
-    "widths-1.5.spv",
-    "widths-1.3-opt.spv",
-    "floats-1.6.spv",
-    "loops-plain.spv",
-    "structs-1.6-word-1185-is-1.spv",
-    "structs-1.6-word-783-is-262297.spv",
-    "structs-1.6-word-1348-is-262206.spv",
-    "structs-1.6-word-953-is-0.spv",
-    "structs-1.6-word-693-is-7.spv",
-    "structs-1.6-word-1208-is-226.spv",
-    "shared-1.4-word-7-is-393228.spv",
-    "structs-1.6-word-6-is-2.spv",
-    "structs-1.6-word-396-is-14.spv",
-    "structs-1.6-word-966-is-2.spv",
-    "structs-1.6-word-242-is-39.spv",
-    "structs-1.6-word-453-is-10.spv",
-    "structs-1.6-word-650-is-3.spv",
-    "structs-1.6-word-311-is-0.spv",
-    "shared-1.4-word-165-is-21.spv",
+/// The files of modules as listings, in the order of the output.
+const RULES: [&str; 10] = [
+    "sections.rules",
+    "ids.rules",
+    "capabilities.rules",
+    "types.rules",
+    "layouts.rules",
+    "operations.rules",
+    "bodies.rules",
+    "blocks.rules",
+    "entry.rules",
+    "texts.rules",
 ];
-
-/// The words of a command line that checks a module.
-fn words_for(alloc: Global, name: &str) -> io::Result<Vec<String>> {
-    let mut words = Vec::new(alloc);
-    for word in ["spvdbg", "check", name] {
-        words.push(String::from_str(alloc, word)?)?;
-    }
-    Ok(words)
-}
-
-/// Does what the words say, on a counter of its own, and tells how it ends.
-fn call<L: Ledger, R: rt::Files + AllocGlobal>(
-    blank: Blank,
-    rt: &R,
-    words: &[String],
-    out: &mut MemorySink,
-) -> Status
-    requires name { blank.name ≡ L.name }
-    requires parts { blank.parts ≡ L.parts }
-    requires some { 0 < blank.parts }
-    requires out { out.old.faults < 2 ^ 64 - 1 }
-{
-    let alloc = rt.alloc();
-    let kit: Vec<Box<dyn Probe>> = Vec::new(alloc);
-    let mut files = RealFiles::new(alloc, rt);
-    let mut input = MemorySource::new(Vec::new(alloc));
-    let mut steps = Steps::<L>::new(blank);
-    debug_main(alloc, words, &mut files, &mut input, out, kit, &mut steps)
-}
 
 /// What is told of a module's listing.
 fn of_listing(alloc: Global, bytes: &[u8]) -> &'static str {
@@ -91,17 +43,85 @@ fn of_listing(alloc: Global, bytes: &[u8]) -> &'static str {
 
 /// Says what `check` writes for a module and how it ends, and whether the module is read back from its listing.
 fn report<R: rt::Files + Print + AllocGlobal>(rt: &R, name: &str) -> io::Result<()> {
-    let words = words_for(rt.alloc(), name)?;
-    let mut out = MemorySink::new(rt.alloc());
-    let status = call::<Brand, _>(Blank::new(1), rt, &words, &mut out);
-    let listed = of_listing(rt.alloc(), &fs::read(rt, name)?);
+    let alloc = rt.alloc();
+    let (status, written) = check_in(alloc, name, &mut RealFiles::new(alloc, rt))?;
+    let listed = of_listing(alloc, &fs::read(rt, name)?);
     print!(rt; "{name}: status {}, {listed}, ", status as u8)?;
-    io::writer(rt).write_all(&out.bytes)
+    io::writer(rt).write_all(&written)
+}
+
+/// Says what `check` writes for a module with each change of a list, and how it ends.
+fn report_changes<R: rt::Files + Print + AllocGlobal>(rt: &R, list: &str) -> io::Result<()> {
+    let text = fs::read_to_string(rt, list)?;
+    for line in text.lines() {
+        if let Some((name, numbers)) = line.split_once(' ') {
+            let mut module = fs::read(rt, name)?;
+            if let Some(change) = Change::of(numbers) {
+                change.apply(&mut module);
+            }
+            let listed = of_listing(rt.alloc(), &module);
+            let (status, written) = check(rt.alloc(), module)?;
+            print!(rt; "{line}: status {}, {listed}, ", status as u8)?;
+            io::writer(rt).write_all(&written)?;
+        }
+    }
+    Ok(())
+}
+
+/// Says what `check` writes for the module of a listing.
+fn report_rule<R: rt::Files + Print + AllocGlobal>(
+    rt: &R,
+    what: &str,
+    listing: &str,
+) -> io::Result<()> {
+    print!(rt; "{what}: ")?;
+    match module_of(rt.alloc(), listing.as_bytes()) {
+        Ok(module) => {
+            let (_, written) = check(rt.alloc(), module)?;
+            io::writer(rt).write_all(&written)
+        }
+        Err(Fail::Refused(Refusal { code, word })) => println!(rt; "X{code} at line {word}"),
+        Err(Fail::NoMemory) => println!(rt; "out of memory"),
+    }
+}
+
+/// Says what `check` writes for each module of a file of listings.
+fn report_rules<R: rt::Files + Print + AllocGlobal>(rt: &R, file: &str) -> io::Result<()> {
+    let text = fs::read_to_string(rt, file)?;
+    println!(rt; "{file}")?;
+    for rule in text.split("== ") {
+        if let Some((what, listing)) = rule.split_once('\n') {
+            report_rule(rt, what, listing)?;
+        }
+    }
+    Ok(())
+}
+
+/// Says how the instruction with these words is listed, or with which code it is refused.
+fn report_instruction<R: Print + AllocGlobal>(rt: &R, line: &str) -> io::Result<()> {
+    let Ok(module) = module_of_words(rt.alloc(), line) else {
+        return println!(rt; "out of memory");
+    };
+    match listing_of(rt.alloc(), &module) {
+        Ok(text) => io::writer(rt).write_all(text.as_slice()),
+        Err(Fail::Refused(Refusal { code, word })) => println!(rt; "M{code} at word {word}"),
+        Err(Fail::NoMemory) => println!(rt; "out of memory"),
+    }
 }
 
 fn main(rt: HostRuntime) -> io::Result<()> {
-    for name in MODULES {
+    let names = fs::read_to_string(&rt, "modules")?;
+    for name in names.lines() {
         report(&rt, name)?;
+    }
+    report_changes(&rt, "changes")?;
+    for file in RULES {
+        report_rules(&rt, file)?;
+    }
+    println!(rt; "instructions")?;
+    let instructions = fs::read_to_string(&rt, "instructions")?;
+    for line in instructions.lines() {
+        report_instruction(&rt, line)?;
     }
     Ok(())
 }

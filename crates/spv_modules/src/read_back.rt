@@ -1,5 +1,5 @@
 //! Modules that are read back from their listings.
-use spv_base::{Fail, Inst, NoMemory, RawInst, Refusal};
+use spv_base::{Fail, Inst, NoMemory, RawInst, Refusal, Text};
 use spv_ops::{decode_all, try_encode};
 use spv_text::{listing, read_listing};
 use spv_words::{raw, words};
@@ -36,6 +36,13 @@ fn are_words_of(alloc: Global, words: &[u32], insts: &[Inst]) -> Result<bool, No
         left = more;
     }
     Ok(left.is_empty())
+}
+
+/// The listing of the instructions of a module of these bytes. Refuses bytes that aren't decoded.
+pub fn listing_of(alloc: Global, bytes: &[u8]) -> Result<Text, Fail<Refusal>> {
+    let list = words(alloc, bytes)?;
+    let insts = decode_all(alloc, &raw(alloc, &list)?)?;
+    Ok(listing(alloc, &insts)?)
 }
 
 /// Whether a module of these bytes is read back from its listing, word for word. Refuses bytes that aren't decoded.

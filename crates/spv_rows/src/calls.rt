@@ -2,9 +2,7 @@
 ghost use Rattle.std.specs.Prelude.{◌≡◌, ◌<◌};
 
 use spv_app::{Status, debug_main};
-use spv_base::{
-    Files, MemoryFiles, MemorySink, MemorySource, NoMemory, Probe, Sink, Source, Steps,
-};
+use spv_base::{Files, NoMemory, Probe, Sink, Source, Steps};
 use std::alloc::Global;
 use std::collections::BTreeMap;
 use std::marker::Brand;
@@ -81,11 +79,11 @@ const SUM: [u32; 67] = [
     0x0001_0038,
 ];
 
-/// The line that tells which words there are.
-pub const USAGE: &str = "usage: spvdbg debug MODULE SETUP | check MODULE | make N | text MODULE\n";
-
-/// The words of each call that is not about words.
+/// The words of a call that debugs.
 pub const DEBUG: &str = "spvdbg debug module.spv module.setup";
+
+/// The words of a call that checks.
+pub const CHECK: &str = "spvdbg check module.spv";
 
 /// The name of the module in each call.
 pub const MODULE: &str = "module.spv";
@@ -96,26 +94,11 @@ pub const SETUP: &str = "module.setup";
 /// A setup of ten rounds.
 pub const TEN_ROUNDS: &str = "spvdbg-setup 1\nrounds 10\n";
 
-/// The bytes of the shader, with one word changed; a place past its end changes none.
-pub(crate) fn sum_with(alloc: Global, place: usize, word: u32) -> Result<Vec<u8>, NoMemory> {
-    let mut bytes = Vec::new(alloc);
-    for (i, item) in SUM.iter().enumerate() {
-        let item = if i == place { word } else { *item };
-        bytes.extend_from_slice(&item.to_le_bytes())?;
-    }
-    Ok(bytes)
-}
-
 /// The bytes of the shader.
 pub(crate) fn sum(alloc: Global) -> Result<Vec<u8>, NoMemory> {
-    sum_with(alloc, SUM.len(), 0)
-}
-
-/// The bytes of the shader with those of each word reversed.
-pub(crate) fn reversed(alloc: Global) -> Result<Vec<u8>, NoMemory> {
-    let mut bytes = sum(alloc)?;
-    for word in bytes.chunks_exact_mut(4) {
-        word.reverse();
+    let mut bytes = Vec::new(alloc);
+    for word in &SUM {
+        bytes.extend_from_slice(&word.to_le_bytes())?;
     }
     Ok(bytes)
 }
@@ -176,34 +159,4 @@ pub(crate) fn call<F: Files, I: Source, K: Sink>(
     requires out { K.faults out.old ≡ 0 }
 {
     call_counted::<F, I, K, Brand>(alloc, words, files, input, out, Blank::new(1))
-}
-
-/// The status of one call over these bytes, and what it wrote.
-fn outcome(
-    alloc: Global,
-    line: &str,
-    module: Vec<u8>,
-    setup: &str,
-    commands: &[u8],
-) -> Result<(Status, Vec<u8>), NoMemory> {
-    let mut held = MemoryFiles::new(alloc, files(alloc, module, setup)?);
-    let mut input = MemorySource::new(commands.to_vec(alloc)?);
-    let mut out = MemorySink::new(alloc);
-    let words = words(alloc, line)?;
-    let status = call(alloc, &words, &mut held, &mut input, &mut out);
-    Ok((status, out.bytes))
-}
-
-/// Whether a call over these bytes ends with a status and has written just this text.
-pub(crate) fn answers(
-    alloc: Global,
-    line: &str,
-    module: Vec<u8>,
-    setup: &str,
-    commands: &[u8],
-    due: Status,
-    written: &str,
-) -> Result<bool, NoMemory> {
-    let (status, bytes) = outcome(alloc, line, module, setup, commands)?;
-    Ok(status == due && bytes.as_slice() == written.as_bytes())
 }

@@ -1,5 +1,5 @@
 //! Files, input and output that fail, or give and take little at a call.
-use crate::calls::{DEBUG, MODULE, SETUP, TEN_ROUNDS, call, files, sum, words};
+use crate::calls::{CHECK, DEBUG, MODULE, SETUP, TEN_ROUNDS, call, files, sum, words};
 use spv_app::Status;
 use spv_base::{FailingFiles, FailingSink, FailingSource};
 use std::test::Fail;
@@ -87,6 +87,39 @@ fn files_fail(rt: HostRuntime) -> Result<(), Fail> {
         assert_eq!(rt; out.held.bytes.as_slice(), written.as_bytes());
         assert_eq!(rt; held.held.failed_name.as_str(), name);
         assert_eq!(rt; input.calls, reads);
+    }
+    Ok(())
+}
+
+/// What `check` writes for the shader.
+const ACCEPTED: &str = "accepted: words 67, instructions 18\n";
+
+/// The numbers of the readings and of the writes that fail, the most bytes of a write, how the call ends, and the name
+/// that failed.
+const CHECKS: [(&[u64], &[u64], usize, Status, &str, &str); 5] = [
+    (&[], &[], 4096, Status::Done, ACCEPTED, ""),
+    (&[1], &[1], 4096, Status::Done, ACCEPTED, ""),
+    (&[0], &[], 4096, Status::FileFault, "", MODULE),
+    (&[], &[0], 4096, Status::WriteFault, "", ""),
+    (&[], &[8], 1, Status::WriteFault, "accepted", ""),
+];
+
+#[test]
+fn checks_fail(rt: HostRuntime) -> Result<(), Fail> {
+    let alloc = rt.alloc();
+    let words = words(alloc, CHECK)?;
+    for (readings, writes, most_written, status, written, name) in CHECKS {
+        let held = files(alloc, sum(alloc)?, TEN_ROUNDS)?;
+        let mut held = FailingFiles::new(alloc, held, readings.to_vec(alloc)?);
+        let mut input = FailingSource::new(b"goto 3\n".to_vec(alloc)?, 1, Vec::new(alloc));
+        let mut out = FailingSink::new(alloc, most_written.max(1), writes.to_vec(alloc)?);
+        assert_eq!(rt;
+            call(alloc, &words, &mut held, &mut input, &mut out),
+            status
+        );
+        assert_eq!(rt; out.held.bytes.as_slice(), written.as_bytes());
+        assert_eq!(rt; held.held.failed_name.as_str(), name);
+        assert_eq!(rt; input.calls, 0);
     }
     Ok(())
 }

@@ -1,19 +1,20 @@
-//! Runs `debug` on each module of data/, as a user would, and says what it writes and how it ends: one block of instructions of each
-//! group that computes, and of atomics, over operands and results that `bench/arithmetic.py` works out.
+//! Calls the program as a user would, and says what it writes and how it ends: blocks of instructions of each group that computes,
+//! and calls that stand in files with their words, setups and commands. What is due is worked out by `bench/runs.py`.
 #![tactic(auto)]
 
-ghost use Rattle.std.specs.Prelude.{◌≡◌, ◌<◌, ◌-◌, ◌^◌};
+mod calls;
 
-use spv_app::{Status, debug_main};
-use spv_base::{MemorySink, MemorySource, Probe, RealFiles, Steps};
-use std::alloc::Global;
+ghost use Rattle.std.specs.Prelude.{◌≡◌};
+
+use crate::calls::{call, files_of, words_of};
+use spv_base::{Fail, MemoryFiles};
+use spv_cmd::{parse, print};
 use std::io::Write;
-use std::marker::Brand;
-use std::sync::ledger::{Blank, Ledger};
 use std::{fs, io, rt};
 
-/// The modules of data/ with the commands that they are debugged by, in the order of the output.
-const GROUPS: [(&str, &str, &str); 8] = [
+/// Groups of instructions: modules of data/ with the commands that they are debugged by, in the order of the output. The last one
+/// has lines of one byte.
+const GROUPS: [(&str, &str, &str); 9] = [
     ("unary", "unary.spv", "unary.commands"),
     ("binary", "binary.spv", "binary.commands"),
     ("extended", "extended.spv", "extended.commands"),
@@ -22,57 +23,109 @@ const GROUPS: [(&str, &str, &str); 8] = [
     ("selections", "selections.spv", "selections.commands"),
     ("composites", "composites.spv", "composites.commands"),
     ("atomics", "atomics.spv", "atomics.commands"),
+    ("bytes", "first.spv", "bytes.commands"),
 ];
 
-/// The words of a command line that debugs a module.
-fn words_for(alloc: Global, module: &str) -> io::Result<Vec<String>> {
-    let mut words = Vec::new(alloc);
-    for word in ["spvdbg", "debug", module, "setup"] {
-        words.push(String::from_str(alloc, word)?)?;
-    }
-    Ok(words)
-}
+/// The files of calls, in the order of the output.
+const CALLS: [&str; 5] = [
+    "commands.runs",
+    "words.runs",
+    "setups.runs",
+    "values.runs",
+    "unbuilt.runs",
+];
 
-/// Does what the words say, on a counter of its own, and tells how it ends.
-fn call<L: Ledger, R: rt::Files + AllocGlobal>(
-    blank: Blank,
+/// Says what a call writes, and how it ends.
+fn report<R: rt::Files + Print + AllocGlobal>(
     rt: &R,
-    words: &[String],
+    line: &str,
+    files: &mut MemoryFiles,
     commands: Vec<u8>,
-    out: &mut MemorySink,
-) -> Status
-    requires name { blank.name ≡ L.name }
-    requires parts { blank.parts ≡ L.parts }
-    requires some { 0 < blank.parts }
-    requires out { out.old.faults < 2 ^ 64 - 1 }
+) -> io::Result<()>
+    requires { files.old.faults ≡ 0 }
 {
     let alloc = rt.alloc();
-    let kit: Vec<Box<dyn Probe>> = Vec::new(alloc);
-    let mut files = RealFiles::new(alloc, rt);
-    let mut input = MemorySource::new(commands);
-    let mut steps = Steps::<L>::new(blank);
-    debug_main(alloc, words, &mut files, &mut input, out, kit, &mut steps)
+    let (status, written) = call(alloc, &words_of(alloc, line)?, files, commands);
+    io::writer(rt).write_all(&written)?;
+    println!(rt; "status {}", status as u8)
 }
 
 /// Says what `debug` writes for a module and some commands, and how it ends.
-fn report<R: rt::Files + Print + AllocGlobal>(
+fn report_group<R: rt::Files + Print + AllocGlobal>(
     rt: &R,
     name: &str,
     module: &str,
     commands: &str,
 ) -> io::Result<()> {
-    let words = words_for(rt.alloc(), module)?;
-    let commands = fs::read(rt, commands)?;
-    let mut out = MemorySink::new(rt.alloc());
-    let status = call::<Brand, _>(Blank::new(1), rt, &words, commands, &mut out);
     println!(rt; "{name}")?;
-    io::writer(rt).write_all(&out.bytes)?;
-    println!(rt; "status {}", status as u8)
+    let setup = fs::read_to_string(rt, "setup")?;
+    let mut files = files_of(rt.alloc(), fs::read(rt, module)?, &setup)?;
+    report(
+        rt,
+        "spvdbg debug module setup",
+        &mut files,
+        fs::read(rt, commands)?,
+    )
+}
+
+/// Says what the call of a line `WHAT: MODULE: WORDS` writes, and how it ends.
+fn report_call<R: rt::Files + Print + AllocGlobal>(
+    rt: &R,
+    line: &str,
+    setup: &str,
+    commands: &str,
+) -> io::Result<()> {
+    println!(rt; "{line}")?;
+    if let Some((_, rest)) = line.split_once(": ") {
+        if let Some((module, words)) = rest.split_once(": ") {
+            let mut files = files_of(rt.alloc(), fs::read(rt, module)?, setup)?;
+            let commands = Vec::from_slice(rt.alloc(), commands.as_bytes())?;
+            report(rt, words, &mut files, commands)?;
+        }
+    }
+    Ok(())
+}
+
+/// Says what each call of a file writes, and how it ends.
+fn report_calls<R: rt::Files + Print + AllocGlobal>(rt: &R, file: &str) -> io::Result<()> {
+    println!(rt; "{file}")?;
+    let text = fs::read_to_string(rt, file)?;
+    for part in text.split("== ") {
+        if let Some((line, rest)) = part.split_once('\n') {
+            if let Some((setup, commands)) = rest.split_once("-- commands\n") {
+                report_call(rt, line, setup, commands)?;
+            }
+        }
+    }
+    Ok(())
+}
+
+/// Says what command a line is, as its canonical line, or with which code it is refused.
+fn report_line<R: Print + AllocGlobal>(rt: &R, line: &str) -> io::Result<()> {
+    match parse(rt.alloc(), line.as_bytes()) {
+        Ok(command) => {
+            let Ok(text) = print(rt.alloc(), &command) else {
+                return println!(rt; "out of memory");
+            };
+            io::writer(rt).write_all(text.as_slice())?;
+            println!(rt; "")
+        }
+        Err(Fail::Refused(refusal)) => println!(rt; "C{}", refusal.code),
+        Err(Fail::NoMemory) => println!(rt; "out of memory"),
+    }
 }
 
 fn main(rt: HostRuntime) -> io::Result<()> {
     for (name, module, commands) in GROUPS {
-        report(&rt, name, module, commands)?;
+        report_group(&rt, name, module, commands)?;
+    }
+    for file in CALLS {
+        report_calls(&rt, file)?;
+    }
+    println!(rt; "lines")?;
+    let lines = fs::read_to_string(&rt, "lines")?;
+    for line in lines.split_terminator('\n') {
+        report_line(&rt, line)?;
     }
     Ok(())
 }

@@ -1,0 +1,331 @@
+#!/usr/bin/env python3
+"""Calls of the program, and what they write and how they end.
+
+    bench/runs.py           writes the modules, lists and stored output of crates/spv_runs
+
+A call of a file `*.runs` is a line `== WHAT: MODULE: WORDS`, the text of the setup, and behind `-- commands` the input. The
+transcripts are worked out by hand from the manual, docs/SETUP.md and the standard; the numbers in runs_of_values.py and
+arithmetic.py by Python. None is taken from the program that is tested.
+"""
+import os
+import struct
+import arithmetic
+import runs_of_setups as setups
+import runs_of_values as values
+from listings import TOP
+
+FOLDER = os.path.join(TOP, "crates", "spv_runs")
+DATA = os.path.join(FOLDER, "data")
+DONE, USAGE, MODULE, SETUP, FILE = 0, 2, 3, 4, 5
+DEBUG = "spvdbg debug module setup"
+TEN_ROUNDS = "spvdbg-setup 1\nrounds 10\n"
+USAGE_LINE = "usage: spvdbg debug MODULE SETUP | check MODULE | make N | text MODULE\n"
+UNKNOWN = "refused: C1 unknown command\n"
+ARGUMENTS = "refused: C2 arguments\n"
+
+# The commands to the shader that adds 40 and 2, under ten rounds, and all that is written.
+COMMANDS = [
+    ("goto 3\nregs\ngoto 9\nquit\n", "stop: done\n@3 i=0 %7 word 65\n%10 = 40\n%11 = 42\nstop: all finished\n@4 i=0 finished\n"),
+    (
+        "goto 4\nregs\ngoto 0\nwhere\n",
+        "stop: done, all finished\n@4 i=0 finished\nrefused: C12 focus finished\nstop: done, start\n@0 i=0 %7 word 53\n" + UNKNOWN,
+    ),
+    ("where 5\njump\nGoto 1\n", 3 * UNKNOWN),
+    ("", ""),
+    ("\n\n   \n", ""),
+    ("regs\n", ""),
+    ("goto 2", "stop: done\n@2 i=0 %7 word 60\n"),
+    ("goto 2\nregs", "stop: done\n@2 i=0 %7 word 60\n%10 = 40\n"),
+    ("  goto   1  \n", "stop: done\n@1 i=0 %7 word 56\n"),
+    ("goto 000000000000000000000000001\n", "stop: done\n@1 i=0 %7 word 56\n"),
+    ("goto 4294967295\n", "stop: all finished\n@4 i=0 finished\n"),
+    ("goto 4294967296\n", ARGUMENTS),
+    ("goto 99999999999999999999999999\n", ARGUMENTS),
+    ("goto\n", ARGUMENTS),
+    ("goto 1 2\n", ARGUMENTS),
+    ("goto -1\n", ARGUMENTS),
+    ("goto 1\r\n", ARGUMENTS),
+    ("regs 1\n", ARGUMENTS),
+    ("quit now\nquit\ngoto 1\n", ARGUMENTS),
+    (" " * 4096 + "\n", ""),
+    (" " * 4097 + "\n", "refused: C11 line too long\n"),
+    ("x" * 4096 + "\n", UNKNOWN),
+    ("x" * 4097 + "\n", "refused: C11 line too long\n"),
+]
+
+# Setups of the shader in the other byte order, commands under them, and all that is written.
+SCHEDULES = [
+    (
+        "spvdbg-setup 1\nrounds 2",
+        "goto 3\n goto  0001 \ngoto 4294967295\n",
+        "stop: schedule ended\n@2 i=0 %7 word 60\nstop: done\n@1 i=0 %7 word 56\nstop: schedule ended\n@2 i=0 %7 word 60\n",
+    ),
+    (
+        "spvdbg-setup 1\nrounds 0",
+        "goto 1\ngoto 0\nregs\n",
+        "stop: start, schedule ended\n@0 i=0 %7 word 53\nstop: done, start, schedule ended\n@0 i=0 %7 word 53\n",
+    ),
+    (TEN_ROUNDS, "goto 0\n", "stop: done, start\n@0 i=0 %7 word 53\n"),
+]
+
+# Modules of spirv-as, commands under twenty rounds, and all that is written.
+ASSEMBLED = [
+    (
+        "adds.spv",
+        "goto 0\ngoto 8\nregs\ngoto 4\nregs\ngoto 9\n",
+        "stop: done, start\n@0 i=0 %1 word 57\nstop: done\n@8 i=0 %1 word 90\n%11 = <undefined>\n%12 = 4294967295\n%13 = 1\n%14 = 1\n"
+        "%15 = 2\n%16 = <undefined>\nstop: done\n@4 i=0 %1 word 73\n%11 = <undefined>\n%12 = 4294967295\n%13 = 1\n"
+        "stop: done, all finished\n@9 i=0 finished\n",
+    ),
+    ("returns.spv", "goto 0\nregs\ngoto 2\n", "stop: done, start\n@0 i=0 %1 word 44\nstop: all finished\n@1 i=0 finished\n"),
+    # the addition's first operand is its own result
+    (
+        "fault.spv",
+        "goto 9\ngoto 2\n",
+        "stop: fault F4 i=0 word 60\n@2 i=0 %7 word 60\nstop: done, fault F4 i=0 word 60\n@2 i=0 %7 word 60\n",
+    ),
+    # OpUnreachable in the place of the return
+    ("unreachable.spv", "goto 9\n", "stop: fault F5 i=0 word 65\n@3 i=0 %7 word 65\n"),
+]
+
+# The words of the command line; a file that isn't there.
+WORDS = [
+    ("", USAGE, USAGE_LINE),
+    ("spvdbg", USAGE, USAGE_LINE),
+    ("spvdbg debug", USAGE, USAGE_LINE),
+    ("spvdbg debug module", USAGE, USAGE_LINE),
+    ("spvdbg debug module setup more", USAGE, USAGE_LINE),
+    ("spvdbg Debug module setup", USAGE, USAGE_LINE),
+    ("spvdbg debug nothing setup", FILE, ""),
+    ("spvdbg debug module nothing", FILE, ""),
+    ("spvdbg check", USAGE, USAGE_LINE),
+    ("spvdbg check module setup", USAGE, USAGE_LINE),
+    ("spvdbg Check module", USAGE, USAGE_LINE),
+    ("check module", USAGE, USAGE_LINE),
+    ("spvdbg check nothing", FILE, ""),
+    ("spvdbg check module", DONE, "accepted: words 67, instructions 18\n"),
+]
+
+# The listing of the shader, as the manual has it.
+LISTING = """5: OpCapability 1
+7: OpMemoryModel 0 1
+10: OpEntryPoint 5 %7 "main"
+15: OpExecutionMode %7 17 1 1 1
+21: OpTypeVoid id=%1
+23: OpTypeFunction id=%2 %1
+26: OpTypeInt id=%3 32 0
+30: OpTypePointer id=%4 7 %3
+34: OpConstant type=%3 id=%5 40
+38: OpConstant type=%3 id=%6 2
+42: OpFunction type=%1 id=%7 0 %2
+47: OpLabel id=%8
+49: OpVariable type=%4 id=%9 7
+53: OpStore %9 %5
+56: OpLoad type=%3 id=%10 %9
+60: OpIAdd type=%3 id=%11 %10 %6
+65: OpReturn
+66: OpFunctionEnd
+"""
+
+# Modules that debug, check and text refuse with one line.
+REFUSED = [("magic.spv", "M2 at word 0"), ("opcode.spv", "M6 at word 60"), ("unended.spv", "M15 at word 42"), ("entry.spv", "M17 at word 0")]
+
+# What can't be run so far: more than one invocation, which is looked at behind the fit.
+NOT_RUN = "module refused: M0 at word 5\n"
+UNBUILT = [("two.spv", "spvdbg-setup 1\nrounds 20\n"), ("blocks.spv", setups.HEAD + "spec 6 1024\n")] + [
+    ("blocks.spv", setup) for setup in setups.OF_TWO
+]
+
+
+def calls():
+    """By file: what each call is, the module, the words, the setup, the commands, the status and what is written."""
+    yield "commands.runs", [("commands", "first.spv", DEBUG, TEN_ROUNDS, commands, DONE, out) for commands, out in COMMANDS] + [
+        ("schedules", "first-big.spv", DEBUG, setup, commands, DONE, out) for setup, commands, out in SCHEDULES
+    ] + [("assembled", name, DEBUG, "spvdbg-setup 1\nrounds 20\n", commands, DONE, out) for name, commands, out in ASSEMBLED]
+    yield "words.runs", [("words", "first.spv", words, TEN_ROUNDS, "goto 1\n", status, out) for words, status, out in WORDS] + [
+        ("a listing", "first.spv", "spvdbg text module", "", "goto 1\n", DONE, LISTING)
+    ] + [
+        ("refused", name, words, TEN_ROUNDS, "goto 1\n", MODULE, "module refused: %s\n" % due)
+        for name, due in REFUSED
+        for words in (DEBUG, "spvdbg check module", "spvdbg text module")
+    ]
+    yield "setups.runs", [(what, name, DEBUG, *row) for what, name, *row in setups.calls()]
+    yield "values.runs", [(what, name, DEBUG, *row) for what, name, *row in values.calls()]
+    yield "unbuilt.runs", [("unbuilt", name, DEBUG, setup, "goto 1\n", MODULE, NOT_RUN) for name, setup in UNBUILT]
+
+
+# Lines with their canonical lines, or the code of their refusal, by hand from the manual's table of commands.
+LINES = [
+    ("", ""),
+    ("   ", ""),
+    (" goto   007", "goto 7"),
+    ("goto 0", "goto 0"),
+    ("goto 4294967295", "goto 4294967295"),
+    ("goto 00004294967295", "goto 4294967295"),
+    ("goto 4294967296", "C2"),
+    ("goto 99999999999999999999999", "C2"),
+    ("goto", "C2"),
+    ("goto 1 2", "C2"),
+    ("goto -1", "C2"),
+    ("goto +1", "C2"),
+    ("goto 1x", "C2"),
+    ("goto\t7", "C1"),
+    ("goto 7\t", "C2"),
+    ("goto 7\r", "C2"),
+    ("\tgoto 7", "C1"),
+    ("Goto 7", "C1"),
+    ("got 7", "C1"),
+    ("gotoo 7", "C1"),
+    ("7", "C1"),
+    ("fwd", "fwd 1"),
+    ("fwd 5", "fwd 5"),
+    ("fwd 0", "C2"),
+    ("fwd 00", "C2"),
+    ("fwd 1 1", "C2"),
+    ("back", "back 1"),
+    ("back 010", "back 10"),
+    ("back 4294967296", "C2"),
+    ("stepi", "stepi 1"),
+    ("stepi 3", "stepi 3"),
+    ("stepi 0", "C2"),
+    ("rstepi", "rstepi 1"),
+    ("rstepi 99999999999", "C2"),
+    ("step", "step"),
+    ("step 1", "C2"),
+    ("step\r", "C1"),
+    ("next", "next"),
+    ("finish", "finish"),
+    ("rstep", "rstep"),
+    ("rnext", "rnext"),
+    ("rfinish", "rfinish"),
+    ("  continue  ", "continue"),
+    ("continue x", "C2"),
+    ("rcontinue", "rcontinue"),
+    ("where", "where"),
+    ("where 0", "C2"),
+    ("group", "group"),
+    ("group 1", "C2"),
+    ("focus 3", "focus 3"),
+    ("focus", "C2"),
+    ("focus x", "C2"),
+    ("bt", "bt"),
+    ("bt 1", "C2"),
+    ("frame 02", "frame 2"),
+    ("frame", "C2"),
+    ("locals", "locals"),
+    ("locals a", "C2"),
+    ("globals", "globals"),
+    ("regs", "regs"),
+    ("list", "list"),
+    ("list 3", "C2"),
+    ("info", "info"),
+    ("quit", "quit"),
+    ("quit 0", "C2"),
+    ("print a", "print a"),
+    ("print a.b", "print a.b"),
+    ("print   a.b[3]", "print a.b[3]"),
+    ("print a[007].b[4]", "print a[7].b[4]"),
+    ("print a[1][2]", "print a[1][2]"),
+    ("print a.1", "print a.1"),
+    ("print 12", "print 12"),
+    ("print a%b", "print a%b"),
+    ("print a:b", "print a:b"),
+    ("print a\tb", "print a\tb"),
+    ("print %5", "print %5"),
+    ("print %007", "print %7"),
+    ("print", "C2"),
+    ("print a b", "C2"),
+    ("print x[", "C2"),
+    ("print x[]", "C2"),
+    ("print x[1", "C2"),
+    ("print x]", "C2"),
+    ("print x]1[", "C2"),
+    ("print [1]", "C2"),
+    ("print .a", "C2"),
+    ("print a.", "C2"),
+    ("print a..b", "C2"),
+    ("print a.%b", "C2"),
+    ("print a.[1]", "C2"),
+    ("print a[1]b", "C2"),
+    ("print a[-1]", "C2"),
+    ("print a[4294967296]", "C2"),
+    ("print %", "C2"),
+    ("print %x", "C2"),
+    ("print %5[0]", "C2"),
+    ("print %5.a", "C2"),
+    ("watch a.b[3]", "watch a.b[3]"),
+    ("watch %5", "watch %5"),
+    ("watch", "C2"),
+    ("unwatch 2", "unwatch 2"),
+    ("unwatch", "C2"),
+    ("break 5", "break 5"),
+    ("break 05", "break 5"),
+    ("break a.comp:05", "break a.comp:5"),
+    ("break a:b:12", "break a:b:12"),
+    ("break ::5", "break ::5"),
+    ("break 5:6", "break 5:6"),
+    ("break a:0", "break a:0"),
+    ("break :5", "C2"),
+    ("break a:", "C2"),
+    ("break a", "C2"),
+    ("break 5:", "C2"),
+    ("break a:5x", "C2"),
+    ("break a:4294967296", "C2"),
+    ("break a b:5", "C2"),
+    ("break", "C2"),
+    ("delete 0", "delete 0"),
+    ("delete", "C2"),
+    ("tally", "C1"),
+    ("drop 1", "C1"),
+    ("halt 1 2", "C1"),
+    ("order 1 2", "C1"),
+    ("help", "C1"),
+]
+
+
+def write(name, data):
+    with open(os.path.join(DATA, name), "wb") as file:
+        file.write(data if isinstance(data, bytes) else data.encode())
+
+
+def with_word(data, word, number):
+    return data[: 4 * word] + struct.pack("<I", number) + data[4 * word + 4 :]
+
+
+def modules():
+    """The modules that are other modules with one word changed."""
+    with open(os.path.join(TOP, "crates", "spv_modules", "data", "first.spv"), "rb") as file:
+        first = file.read()
+    yield "first.spv", first
+    yield "first-big.spv", b"".join(first[n : n + 4][::-1] for n in range(0, len(first), 4))
+    yield "fault.spv", with_word(first, 63, 11)
+    yield "magic.spv", with_word(first, 0, 0x07230204)
+    yield "opcode.spv", with_word(first, 60, 0x00050081)
+    yield "unended.spv", first[:264]
+    yield "entry.spv", with_word(first, 18, 0)
+    yield "unreachable.spv", with_word(first, 65, 0x000100FF)
+    yield from setups.modules()
+    yield from values.modules()
+
+
+def main():
+    out = arithmetic.written()
+    # each byte as a line: only a line feed and a space are nothing
+    write("bytes.commands", b"".join(bytes([byte]) + b"\n" for byte in range(256)))
+    out += "bytes\n" + 254 * UNKNOWN + "status 0\n"
+    for name, data in modules():
+        write(name, data)
+    for file, rows in calls():
+        text, out = "", out + file + "\n"
+        for what, module, words, setup, commands, status, written in rows:
+            text += "== %s: %s: %s\n%s-- commands\n%s" % (what, module, words, setup, commands)
+            out += "%s: %s: %s\n%sstatus %d\n" % (what, module, words, written, status)
+        write(file, text)
+    write("lines", "".join(line + "\n" for line, _ in LINES))
+    out += "lines\n" + "".join(due + "\n" for _, due in LINES)
+    with open(os.path.join(FOLDER, "stdout"), "w") as file:
+        file.write(out)
+
+
+if __name__ == "__main__":
+    main()

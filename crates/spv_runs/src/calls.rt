@@ -1,0 +1,65 @@
+//! One call of the program, on a counter of its own.
+ghost use Rattle.std.specs.Prelude.{◌≡◌, ◌<◌, IfOk};
+
+use spv_app::{Status, debug_main};
+use spv_base::{MemoryFiles, MemorySink, MemorySource, Probe, Steps};
+use std::alloc::Global;
+use std::collections::BTreeMap;
+use std::io;
+use std::marker::Brand;
+use std::sync::ledger::{Blank, Ledger};
+
+/// The files `module` and `setup`.
+pub fn files_of(alloc: Global, module: Vec<u8>, setup: &str) -> io::Result<MemoryFiles>
+    ensures { IfOk result (λ files. files.faults ≡ 0) }
+{
+    let mut held = BTreeMap::new(alloc);
+    held.insert(String::from_str(alloc, "module")?, module)?;
+    let setup = Vec::from_slice(alloc, setup.as_bytes())?;
+    held.insert(String::from_str(alloc, "setup")?, setup)?;
+    Ok(MemoryFiles::new(alloc, held))
+}
+
+/// The words of a line, split at its spaces.
+pub fn words_of(alloc: Global, line: &str) -> io::Result<Vec<String>> {
+    let mut words = Vec::new(alloc);
+    for word in line.split(' ') {
+        words.push(String::from_str(alloc, word)?)?;
+    }
+    Ok(words)
+}
+
+/// Does what the words say, with no probes.
+fn call_counted<L: Ledger>(
+    alloc: Global,
+    blank: Blank,
+    words: &[String],
+    files: &mut MemoryFiles,
+    commands: Vec<u8>,
+    out: &mut MemorySink,
+) -> Status
+    requires files { files.old.faults ≡ 0 }
+    requires out { out.old.faults ≡ 0 }
+    requires name { blank.name ≡ L.name }
+    requires parts { blank.parts ≡ L.parts }
+    requires some { 0 < blank.parts }
+{
+    let kit: Vec<Box<dyn Probe>> = Vec::new(alloc);
+    let mut input = MemorySource::new(commands);
+    let mut steps = Steps::<L>::new(blank);
+    debug_main(alloc, words, files, &mut input, out, kit, &mut steps)
+}
+
+/// How a call over these files and commands ends, and what it writes.
+pub fn call(
+    alloc: Global,
+    words: &[String],
+    files: &mut MemoryFiles,
+    commands: Vec<u8>,
+) -> (Status, Vec<u8>)
+    requires { files.old.faults ≡ 0 }
+{
+    let mut out = MemorySink::new(alloc);
+    let status = call_counted::<Brand>(alloc, Blank::new(1), words, files, commands, &mut out);
+    (status, out.bytes)
+}
