@@ -1,6 +1,6 @@
 use Rattle.std.proofs.Common.{◌≡◌, ◌≤◌, ◌+◌, ◌-◌, max}
-use Rattle.spv_session.specs.Motion.{IsRun}
-use Rattle.spv_session.proofs.run.Run.run_to.Given as goal
+use Rattle.spv_group.specs.Motion.{IsRun}
+use Rattle.spv_group.proofs.run.Run.run_to.Given as goal
 
 abbrev pub invariant-up : goal.invariant-up
 invariant-up g l = record {

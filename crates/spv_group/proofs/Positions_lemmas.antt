@@ -3,7 +3,7 @@ use Rattle.std.proofs.Common.{◌≡◌, ℕ, suc, zero, ◌+◌, ◌-◌, ◌<�
 use Rattle.std.specs.Prelude.{find}
 use Rattle.std.specs.List.{range_with_len}
 use Rattle.std.proofs.lemmas.Bool.{cases_lt}
-use Rattle.spv_session.specs.Positions.{least_of, IsLeast}
+use Rattle.spv_group.specs.Positions.{least_of, IsLeast}
 
 -- the first position, or a later one
 first_or_later : (test : ℕ → Bool) (low k : ℕ) → low ≤ k → test low ≡ false → (low + 1 ≤ k → test k ≡ false) → test k ≡ false

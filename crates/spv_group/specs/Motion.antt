@@ -10,11 +10,11 @@ use Rattle.spv_machine.specs.Step.{Faults, step_of, fault_in}
 use Rattle.spv_state.specs.Sound.{IsSound}
 use Rattle.spv_machine.specs.declared.execution.StepErr.{StepErr}
 use Rattle.spv_machine.specs.declared.execution.StepErr.TheVariants as error
-use Rattle.spv_session.specs.declared.motion.Forth.{Forth}
-use Rattle.spv_session.specs.declared.motion.Forth.TheVariants as forth
-use Rattle.spv_session.specs.declared.motion.Back.{Back}
-use Rattle.spv_session.specs.declared.motion.Back.TheVariants as back
-use Rattle.spv_session.specs.Run.{state_after, run, happening_in, happening_at, happening_before, cause_at, end_of}
+use Rattle.spv_group.specs.declared.motion.Forth.{Forth}
+use Rattle.spv_group.specs.declared.motion.Forth.TheVariants as forth
+use Rattle.spv_group.specs.declared.motion.Back.{Back}
+use Rattle.spv_group.specs.declared.motion.Back.TheVariants as back
+use Rattle.spv_group.specs.Run.{state_after, run, happening_in, happening_at, happening_before, cause_at, end_of}
 
 -- from position n to m: one event on, or at the end the cause of it
 abbrev pub Goes : Program → List ℕ → Result Forth NoMemory → (n m : ℕ) → Type 0

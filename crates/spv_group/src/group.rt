@@ -1,18 +1,19 @@
 //! A run of a module that goes forth and back along its schedule.
-ghost use Rattle.std.specs.Prelude.{◌≡◌, ◌≤◌, ◌<◌, ◌+◌, IfOk, OnOk, length};
+ghost use Rattle.std.specs.Prelude.{◌≡◌, ◌≤◌, ◌<◌, IfOk, OnOk, OnErr, length};
+ghost use Rattle.spv_initial.specs.Start.{invocations};
 ghost use Rattle.spv_state.specs.Sound.{IsSound};
-ghost use Rattle.spv_state.specs.Start.{start_of};
-ghost use Rattle.spv_session.specs.Costs.{ForthCounts, BackCounts, goto_cost};
-ghost use Rattle.spv_session.specs.Motion.{Goes, Returns};
-ghost use Rattle.spv_session.specs.View.{first_view, view_at, entries_in, state_in, end_in, end_cause_in, goto_target};
+ghost use Rattle.spv_group.specs.Costs.{ForthCounts, BackCounts};
+ghost use Rattle.spv_group.specs.Group.{first_group, group_at, entries_in, invocations_in, state_in, status_of, end_in, end_cause_in};
+ghost use Rattle.spv_group.specs.Motion.{Goes, Returns};
 
 use crate::ends::cause_here;
 use crate::motion::{Back, Forth};
 use crate::run::Run;
-use spv_base::{EndCause, NoMemory, Steps};
-use spv_state::laws::runs_start_with_all;
+use spv_base::{EndCause, NoMemory, Status4, Steps};
+use spv_initial::memory::invocations;
 use spv_machine::{Runnable, World};
 use spv_setup::Schedule;
+use spv_state::laws::runs_start_with_all;
 use std::alloc::Global;
 use std::marker::Model;
 use std::sync::ledger::Ledger;
@@ -27,10 +28,10 @@ pub struct Group {
 }
 
 impl Model for Group {
-    ghost use Rattle.spv_session.specs.View.{View};
-    ghost use Rattle.spv_session.specs.Motion.{IsRun};
+    ghost use Rattle.spv_group.specs.Group.{Held};
+    ghost use Rattle.spv_group.specs.Motion.{IsRun};
 
-    ghost Value = { View };
+    ghost Value = { Held };
 
     ghost view = { λ g. record { program = g.module; schedule = g.schedule; position = g.run.position } };
 
@@ -40,9 +41,10 @@ impl Model for Group {
 impl Group {
     /// The run of a module by a schedule of as many invocations, at its start.
     pub fn open(alloc: Global, m: Runnable, schedule: Schedule) -> Result<Group, NoMemory>
-        requires { schedule.invocations ≡ length (start_of m).statuses.list }
-        ensures { IfOk result (λ g. g ≡ first_view m schedule) }
+        requires { schedule.invocations ≡ invocations m.accepted }
+        ensures { IfOk result (λ g. g ≡ first_group m schedule) }
     {
+        runs_start_with_all();
         let run = Run::start(alloc, &m, &schedule)?;
         Ok(Group {
             alloc,
@@ -52,11 +54,13 @@ impl Group {
         })
     }
 
-    /// The number of events that were made.
+    /// The number of events that were made, at most 4,194,304.
     pub fn position(&self) -> u64
         ensures position { result ≡ self.now.position }
         ensures within { result ≤ end_in self.now }
+        ensures most { result ≤ 4194304 }
     {
+        let _entries = self.schedule.len();
         self.run.position
     }
 
@@ -74,15 +78,41 @@ impl Group {
         &self.module
     }
 
+    /// The schedule by which it runs.
+    pub fn schedule(&self) -> &Schedule
+        ensures { result.now ≡ self.now.schedule }
+    {
+        &self.schedule
+    }
+
+    /// How many invocations there are, from 1 to 1,024.
+    pub fn invocations(&self) -> u32
+        ensures count { result ≡ invocations_in self.now }
+        ensures some { 0 < result }
+    {
+        let accepted = self.module.accepted();
+        let _insts = accepted.insts();
+        invocations(accepted)
+    }
+
     /// The state at the position.
     pub fn world(&self) -> &World
         ensures state { result.now ≡ state_in self.now }
         ensures sound { IsSound self.now.program result.now }
-        ensures first { 0 < length result.now.stacks }
+        ensures stacks { length result.now.stacks ≡ invocations_in self.now }
+        ensures statuses { length result.now.statuses.list ≡ invocations_in self.now }
     {
         runs_start_with_all();
-        let _accepted = self.module.accepted();
         &self.run.world
+    }
+
+    /// How far an invocation is.
+    pub fn status(&self, i: u32) -> Status4
+        requires { i < invocations_in self.now }
+        ensures { result ≡ status_of (state_in self.now) i }
+    {
+        runs_start_with_all();
+        self.run.world.whole().statuses().get(i).kind()
     }
 
     /// Why the run ends here; none exactly where it goes on. It takes no step.
@@ -96,7 +126,7 @@ impl Group {
     /// Makes the next event, with one step, or none at an end that is no fault. After want of memory all is as before.
     pub fn forth<L: Ledger>(&mut self, steps: &mut Steps<L>) -> Result<Forth, NoMemory>
         ensures goes { Goes self.old.program (entries_in self.old) result self.old.position self.new.position }
-        ensures kept { self.new ≡ view_at self.new.position self.old }
+        ensures kept { self.new ≡ group_at self.new.position self.old }
         ensures cost { ForthCounts result steps.old steps.new }
     {
         self.run
@@ -107,7 +137,7 @@ impl Group {
     /// all is as before.
     pub fn back<L: Ledger>(&mut self, steps: &mut Steps<L>) -> Result<Back, NoMemory>
         ensures goes { Returns self.old.program (entries_in self.old) result self.old.position self.new.position }
-        ensures kept { self.new ≡ view_at self.new.position self.old }
+        ensures kept { self.new ≡ group_at self.new.position self.old }
         ensures cost { BackCounts result self.old.position steps.old steps.new }
     {
         let Some(happening) = self.run.last else {
@@ -120,23 +150,13 @@ impl Group {
         Ok(Back::Went(happening))
     }
 
-    /// Goes to a position, or to the end where that comes first. One before the present is reached by running again from the
-    /// start. After want of memory the group is at some position, so this call is the session's alone.
-    pub(crate) fn goto<L: Ledger>(
-        &mut self,
-        target: u64,
-        steps: &mut Steps<L>,
-    ) -> Result<(), NoMemory>
-        ensures target { OnOk result (self.new.position ≡ goto_target self.old target) }
-        ensures kept { self.new ≡ view_at self.new.position self.old }
-        ensures within { self.new.position ≤ end_in self.old }
-        ensures counted { steps.old ≤ steps.new }
-        ensures cost { steps.new ≤ steps.old + goto_cost self.old target }
+    /// Goes back to the start, with no step. After want of memory all is as before.
+    pub fn restart(&mut self) -> Result<(), NoMemory>
+        ensures start { OnOk result (self.new ≡ group_at 0 self.old) }
+        ensures kept { OnErr result (self.new ≡ self.old) }
     {
-        if target < self.run.position {
-            self.run.restart(self.alloc, &self.module, &self.schedule)?;
-        }
-        self.run
-            .run_to(self.alloc, &self.module, &self.schedule, target, steps)
+        let run = Run::start(self.alloc, &self.module, &self.schedule)?;
+        self.run.replace(run);
+        Ok(())
     }
 }

@@ -1,10 +1,10 @@
 //! A run at a position, always by running on from the start.
-ghost use Rattle.std.specs.Prelude.{◌≡◌, ◌≤◌, ◌+◌, ◌-◌, ◌<◌, ◌^◌, length, slice_get, IfOk, OnErr, OnOk, IfSome, IsSome, max, min};
+ghost use Rattle.std.specs.Prelude.{◌≡◌, ◌≤◌, ◌+◌, ◌-◌, ◌<◌, ◌^◌, length, slice_get, IfOk, OnOk, IfSome, IsSome, max, min};
 ghost use Rattle.spv_state.specs.Sound.{IsSound};
 ghost use Rattle.spv_state.specs.Start.{start_of};
-ghost use Rattle.spv_session.specs.Motion.{IsRun, Makes, Goes};
-ghost use Rattle.spv_session.specs.Costs.{ForthCounts, run_cost};
-ghost use Rattle.spv_session.specs.Run.{end_of, idle_event};
+ghost use Rattle.spv_group.specs.Motion.{IsRun, Makes, Goes};
+ghost use Rattle.spv_group.specs.Costs.{ForthCounts, run_cost};
+ghost use Rattle.spv_group.specs.Run.{end_of, idle_event};
 
 use crate::ends::{all_finished, is_stuck};
 use crate::motion::Forth;
@@ -80,23 +80,6 @@ impl Run {
             position: 0,
             last: None,
         })
-    }
-
-    /// Goes back to the start. After want of memory all is as before.
-    pub fn restart(
-        &mut self,
-        alloc: Global,
-        m: &Runnable,
-        schedule: &Schedule,
-    ) -> Result<(), NoMemory>
-        requires { schedule.now.invocations ≡ length (start_of m.now).statuses.list }
-        ensures run { OnOk result (IsRun m.now schedule.now self.new.world self.new.position self.new.last) }
-        ensures position { OnOk result (self.new.position ≡ 0) }
-        ensures err { OnErr result (self.new ≡ self.old) }
-    {
-        let run = Run::start(alloc, m, schedule)?;
-        self.replace(run);
-        Ok(())
     }
 
     /// Becomes another run.

@@ -1,5 +1,5 @@
-use Rattle.spv_session.proofs.Runs.{entry_within, cause_is}
-use Rattle.spv_session.proofs.group.Group.end_cause.Goals as goal
+use Rattle.spv_group.proofs.Runs.{entry_within, cause_is}
+use Rattle.spv_group.proofs.group.Group.end_cause.Goals as goal
 
 pub cause_here-requires-clause-next : goal.cause_here-requires-clause-next
 cause_here-requires-clause-next c i e =

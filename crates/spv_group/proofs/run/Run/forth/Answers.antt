@@ -1,6 +1,6 @@
 use Rattle.std.proofs.Common.{sym, ◌∙◌}
-use Rattle.spv_session.proofs.Runs.{finished_here, stuck_here, schedule_here, fault_here, entry_within, goes_on, runs_on}
-use Rattle.spv_session.proofs.run.Run.forth.Goals as goal
+use Rattle.spv_group.proofs.Runs.{finished_here, stuck_here, schedule_here, fault_here, entry_within, goes_on, runs_on}
+use Rattle.spv_group.proofs.run.Run.forth.Goals as goal
 
 pub returns-then-all_finished-clause-goes : goal.returns-then-all_finished-clause-goes
 returns-then-all_finished-clause-goes g c =

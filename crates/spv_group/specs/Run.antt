@@ -10,7 +10,7 @@ use Rattle.spv_state.specs.State.{State}
 use Rattle.spv_state.specs.Start.{start_of}
 use Rattle.spv_machine.specs.Step.{Outcome, Idles, Moves, Faults, step_of, fault_in}
 use Rattle.spv_statuses.specs.Group as statuses
-use Rattle.spv_session.specs.Positions.{least_of}
+use Rattle.spv_group.specs.Positions.{least_of}
 
 -- ---- states
 

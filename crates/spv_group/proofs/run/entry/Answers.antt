@@ -1,6 +1,6 @@
 use Rattle.std.proofs.Common.{arith}
-use Rattle.spv_session.proofs.Runs.{place_within}
-use Rattle.spv_session.proofs.run.entry.Goals as goal
+use Rattle.spv_group.proofs.Runs.{place_within}
+use Rattle.spv_group.proofs.run.entry.Goals as goal
 
 pub returns-clause-below : goal.returns-clause-below
 returns-clause-below c some =

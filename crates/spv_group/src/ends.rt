@@ -3,8 +3,8 @@ ghost use Rattle.std.specs.Prelude.{ℕ, true, List, ◌≡◌, ◌<◌, IfOk, l
 ghost use Rattle.std.specs.Option.{ForSome};
 ghost use Rattle.spv_state.specs.Program.{Program};
 ghost use Rattle.spv_state.specs.Sound.{IsSound};
-ghost use Rattle.spv_session.specs.Positions.{IsLeast};
-ghost use Rattle.spv_session.specs.Run.{all_finished, is_stuck, cause_in, has_cause, end_of};
+ghost use Rattle.spv_group.specs.Positions.{IsLeast};
+ghost use Rattle.spv_group.specs.Run.{all_finished, is_stuck, cause_in, has_cause, end_of};
 
 use spv_base::{EndCause, NoMemory};
 use spv_machine::{Runnable, World, fault_of};

@@ -1,18 +1,18 @@
 use Rattle.std.proofs.Common.{◌≡◌, ◌≤◌, ◌-◌, ◌+◌, ℕ, sym, subst, ◌∙◌, ap, refl, arith}
-use Rattle.spv_session.specs.View.{View}
-use Rattle.spv_session.specs.Costs.{BackCounts}
-use Rattle.spv_session.specs.Run.{end_of}
-use Rattle.spv_session.proofs.Runs.{at_start, back_bounded, back_counted, err_counts}
-use Rattle.spv_session.proofs.group.Group.back.Goals as goal
+use Rattle.spv_group.specs.Group.{Held}
+use Rattle.spv_group.specs.Costs.{BackCounts}
+use Rattle.spv_group.specs.Run.{end_of}
+use Rattle.spv_group.proofs.Runs.{at_start, back_bounded, back_counted, err_counts}
+use Rattle.spv_group.proofs.group.Group.back.Goals as goal
 
 pub returns-in_default-clause-goes : goal.returns-in_default-clause-goes
 returns-in_default-clause-goes g c =
     let group = c.self.inside in
-    (sym (ap (λ (v : View). v.position) c.self.view_is) ∙ at_start group.module group.schedule group.run.world group.run.position group.run.last c.self.invariant c.in_default.is, refl)
+    (sym (ap (λ (v : Held). v.position) c.self.view_is) ∙ at_start group.module group.schedule group.run.world group.run.position group.run.last c.self.invariant c.in_default.is, refl)
 
 pub returns-in_err-run_to-clause-cost : goal.returns-in_err-run_to-clause-cost
 returns-in_err-run_to-clause-cost g c =
-    let position : c.args.self.now.position ≡ c.self.inside.run.position = sym (ap (λ (v : View). v.position) c.self.view_is) in
+    let position : c.args.self.now.position ≡ c.self.inside.run.position = sym (ap (λ (v : Held). v.position) c.self.view_is) in
     let within = c.self.invariant.within in
     let end : ℕ = end_of c.self.inside.module c.self.inside.schedule.list in
     let below : c.self.inside.run.position - 1 ≤ end = omega arith in
@@ -22,7 +22,7 @@ returns-in_err-run_to-clause-cost g c =
 
 pub returns-clause-cost : goal.returns-clause-cost
 returns-clause-cost g c =
-    let position : c.args.self.now.position ≡ c.self.inside.run.position = sym (ap (λ (v : View). v.position) c.self.view_is) in
+    let position : c.args.self.now.position ≡ c.self.inside.run.position = sym (ap (λ (v : Held). v.position) c.self.view_is) in
     let within = c.self.invariant.within in
     let end : ℕ = end_of c.self.inside.module c.self.inside.schedule.list in
     let below : c.self.inside.run.position - 1 ≤ end = omega arith in

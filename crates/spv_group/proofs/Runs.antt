@@ -16,14 +16,14 @@ use Rattle.spv_state.specs.Program.{Program}
 use Rattle.spv_state.specs.Start.{start_of}
 use Rattle.spv_machine.specs.Step.{Idles, Moves, Faults, step_of, fault_in}
 use Rattle.spv_state.specs.Sound.{IsSound}
-use Rattle.spv_session.specs.Positions.{IsLeast}
-use Rattle.spv_session.specs.Run.{state_after, event, run, happening_in, happening_at, all_finished, is_stuck, next_cause, cause_in, cause_at, has_cause, end_of, idle_event}
-use Rattle.spv_session.specs.Costs.{BackCounts, run_cost}
-use Rattle.spv_session.specs.declared.motion.Back.{Back}
-use Rattle.spv_session.specs.declared.motion.Back.TheVariants as back
-use Rattle.spv_session.specs.View.{View, end_cause_in}
-use Rattle.spv_session.specs.Motion.{IsRun, WasMade}
-use Rattle.spv_session.proofs.Positions_lemmas.{least_is}
+use Rattle.spv_group.specs.Positions.{IsLeast}
+use Rattle.spv_group.specs.Run.{state_after, event, run, happening_in, happening_at, all_finished, is_stuck, next_cause, cause_in, cause_at, has_cause, end_of, idle_event}
+use Rattle.spv_group.specs.Costs.{BackCounts, run_cost}
+use Rattle.spv_group.specs.declared.motion.Back.{Back}
+use Rattle.spv_group.specs.declared.motion.Back.TheVariants as back
+use Rattle.spv_group.specs.Group.{Held, end_cause_in}
+use Rattle.spv_group.specs.Motion.{IsRun, WasMade}
+use Rattle.spv_group.proofs.Positions_lemmas.{least_is}
 
 -- ---- the end
 
@@ -154,14 +154,6 @@ runs_on p s w n last i t h is f g e made sound = rw add-one (
       fits = is.fits;
     })
 
--- ---- the first invocation
-
-pub has_first : (p : Program) (s : Entries) (w : State) (n : ℕ) (last : Option Happening) → length (start_of p).statuses.list ≡ 1 → IsRun p s w n last → 0 < length w.stacks
-has_first p s w n last one is =
-    let stacks : length w.stacks ≡ length w.statuses.list = is.sound.stacks in
-    let count : length w.statuses.list ≡ 1 = is.count ∙ one in
-    omega arith
-
 -- ---- why a run ends at a position
 
 no_cause : (o : Option EndCause) → is_some o ≡ false → o ≡ None
@@ -174,8 +166,8 @@ cause_or_none p es n false l h =
     let other : n < end_of p es = let ne = eqb-false n (end_of p es) h in omega arith in
     no_cause (cause_at p es n) ((end_is p es).before n (omega arith) other)
 
-pub cause_is : (v : View) (w : State) (n : ℕ) (s : Entries) (p : Program) (last : Option Happening) (o : Option ℕ) (r : Result (Option EndCause) NoMemory) → IsRun p s w n last → o ≡ slice_get s.list n
-    → ◌≡◌ {A = View} (record { program = p; schedule = s; position = n }) v → IfOk r (λ cause. cause ≡ cause_in p w o) → IfOk r (λ cause. cause ≡ end_cause_in v)
+pub cause_is : (v : Held) (w : State) (n : ℕ) (s : Entries) (p : Program) (last : Option Happening) (o : Option ℕ) (r : Result (Option EndCause) NoMemory) → IsRun p s w n last → o ≡ slice_get s.list n
+    → ◌≡◌ {A = Held} (record { program = p; schedule = s; position = n }) v → IfOk r (λ cause. cause ≡ cause_in p w o) → IfOk r (λ cause. cause ≡ end_cause_in v)
 cause_is v w n s p last o (Ok cause) is e view due =
     due
     ∙ sym (here p s w n last o is e)
