@@ -7,7 +7,7 @@ ghost use Rattle.spv_session.specs.declared.request.Request.{Request as AnyReque
 ghost use Rattle.spv_session.specs.Requests.{is_built, refused, request_of, command_of, IsUnknown};
 
 use spv_base::{CmdRefusal, Fail};
-use spv_cmd::{Command, Keyword, first_keyword, keywords_differ, parse};
+use spv_cmd::{Command, Count, Keyword, first_keyword, keywords_differ, parse};
 use std::alloc::Global;
 
 /// What the session can be asked for, of the commands of the grammar.
@@ -17,6 +17,14 @@ pub enum Request {
     Nothing,
     /// A motion to this position, or to the end where that comes first.
     Goto(u32),
+    /// A motion by so many events forward, or to the end where that comes first.
+    Fwd(Count),
+    /// A motion by so many events back, or to the start where that comes first.
+    Back(Count),
+    /// How far each invocation is.
+    Group,
+    /// Another focus: this invocation.
+    Focus(u32),
     /// The registers of the focus.
     Regs,
     /// The end of the session.
@@ -31,10 +39,14 @@ fn is_built(keyword: Keyword) -> bool
     ensures { result ≡ is_built (spelling keyword) }
 {
     match keyword {
-        Keyword::Goto | Keyword::Regs | Keyword::Quit => true,
-        Keyword::Fwd
+        Keyword::Goto
+        | Keyword::Fwd
         | Keyword::Back
-        | Keyword::Stepi
+        | Keyword::Group
+        | Keyword::Focus
+        | Keyword::Regs
+        | Keyword::Quit => true,
+        Keyword::Stepi
         | Keyword::Rstepi
         | Keyword::Step
         | Keyword::Next
@@ -45,8 +57,6 @@ fn is_built(keyword: Keyword) -> bool
         | Keyword::Continue
         | Keyword::Rcontinue
         | Keyword::Where
-        | Keyword::Group
-        | Keyword::Focus
         | Keyword::Bt
         | Keyword::Frame
         | Keyword::Locals
@@ -69,6 +79,10 @@ impl Request {
         match command {
             Command::Empty => Some(Request::Nothing),
             Command::Goto(n) => Some(Request::Goto(*n)),
+            Command::Fwd(n) => Some(Request::Fwd(*n)),
+            Command::Back(n) => Some(Request::Back(*n)),
+            Command::Group => Some(Request::Group),
+            Command::Focus(inv) => Some(Request::Focus(*inv)),
             Command::Regs => Some(Request::Regs),
             Command::Quit => Some(Request::Quit),
             _ => None,
