@@ -1,3 +1,4 @@
 pub mod Request_lemmas
+pub mod Reply_lemmas
 pub mod Register_lemmas
 pub mod Shown_lemmas

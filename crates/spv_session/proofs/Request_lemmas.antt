@@ -167,12 +167,12 @@ module _ (make : ℕ → Request) where
 
 -- ---- the rows
 
-AreRead : List Row → Type 0
+abbrev AreRead : List Row → Type 0
 AreRead [] = Unit {0}
 AreRead (r ∷ rs) = Reads (grammar r.keyword).1 r.read × AreRead rs
 
 rows_read : AreRead rows
-rows_read = (number_reads Goto, count_reads Fwd, count_reads Back, alone_reads Group, number_reads Focus, alone_reads Regs, alone_reads Quit, tt)
+rows_read = (number_reads Goto, (count_reads Fwd, (count_reads Back, (alone_reads Group, (number_reads Focus, (alone_reads Regs, (alone_reads Quit, tt)))))))
 
 -- the row of a word
 record Found (rs : List Row) (word : List ℕ) : Type 0 where
@@ -310,7 +310,7 @@ is_refused differ line k code begins built (inr h) = by (subst (λ ws. AreRefuse
 
 -- it is the command of a request
 pub not_none : Differ → (line : List ℕ) (k : Keyword) (c : Command) → BeginsWith line (Some k) → is_built (spelling k) ≡ true → IsLine line c → ((request : Request) → c ≢ command_of request) → ⊥
-not_none differ line k c begins built is none = let asked = is_asked differ line k c begins built is in none asked.0 asked.1
+not_none differ line k c begins built is lacks = let asked = is_asked differ line k c begins built is in lacks asked.0 asked.1
 
 -- ---- errors that are passed on
 

@@ -5,7 +5,6 @@ ghost use Rattle.spv_group.specs.Group.{end_in, group_at};
 ghost use Rattle.spv_session.specs.Costs.{goto_cost};
 
 use spv_base::{NoMemory, Steps};
-use spv_cmd::Count;
 use spv_group::{Forth, Group};
 use std::sync::ledger::Ledger;
 
@@ -30,27 +29,27 @@ impl Aim {
         }
     }
 
-    /// So many events forward.
-    pub fn forward(from: u64, count: Count) -> Aim
+    /// So many events forward. To make none is not what was asked for.
+    pub fn forward(from: u64, count: u32) -> Aim
         requires { from ≤ 4194304 }
         ensures position { result.position ≡ from + count }
         ensures exact { (m : ℕ) → (result.exact && m == result.position) ≡ (not (m == from) && m == from + count) }
     {
         Aim {
-            position: from + u64::from(count.get()),
-            exact: true,
+            position: from + u64::from(count),
+            exact: count > 0,
         }
     }
 
-    /// So many events back, or to the start where fewer were made.
-    pub fn back(from: u64, count: Count) -> Aim
+    /// So many events back, or to the start where fewer were made. To take none back is not what was asked for.
+    pub fn back(from: u64, count: u32) -> Aim
         ensures position { result.position ≡ from - count }
         ensures exact { (m : ℕ) → (result.exact && m == result.position) ≡ (not (m == from) && m + count == from) }
     {
-        let count = u64::from(count.get());
+        let count = u64::from(count);
         Aim {
             position: from.saturating_sub(count),
-            exact: count <= from,
+            exact: 0 < count && count <= from,
         }
     }
 }

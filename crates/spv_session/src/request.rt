@@ -7,7 +7,7 @@ ghost use Rattle.spv_session.specs.declared.request.Request.{Request as AnyReque
 ghost use Rattle.spv_session.specs.Requests.{is_built, refused, request_of, command_of, IsUnknown};
 
 use spv_base::{CmdRefusal, Fail};
-use spv_cmd::{Command, Count, Keyword, first_keyword, keywords_differ, parse};
+use spv_cmd::{Command, Keyword, first_keyword, keywords_differ, parse};
 use std::alloc::Global;
 
 /// What the session can be asked for, of the commands of the grammar.
@@ -17,10 +17,10 @@ pub enum Request {
     Nothing,
     /// A motion to this position, or to the end where that comes first.
     Goto(u32),
-    /// A motion by so many events forward, or to the end where that comes first.
-    Fwd(Count),
-    /// A motion by so many events back, or to the start where that comes first.
-    Back(Count),
+    /// A motion by so many events forward, at least one, or to the end where that comes first.
+    Fwd(u32),
+    /// A motion by so many events back, at least one, or to the start where that comes first.
+    Back(u32),
     /// How far each invocation is.
     Group,
     /// Another focus: this invocation.
@@ -79,8 +79,8 @@ impl Request {
         match command {
             Command::Empty => Some(Request::Nothing),
             Command::Goto(n) => Some(Request::Goto(*n)),
-            Command::Fwd(n) => Some(Request::Fwd(*n)),
-            Command::Back(n) => Some(Request::Back(*n)),
+            Command::Fwd(count) => Some(Request::Fwd(count.get())),
+            Command::Back(count) => Some(Request::Back(count.get())),
             Command::Group => Some(Request::Group),
             Command::Focus(inv) => Some(Request::Focus(*inv)),
             Command::Regs => Some(Request::Regs),

@@ -1,11 +1,12 @@
 //! A group and the replies to lines of input.
-ghost use Rattle.std.specs.Prelude.{◌≡◌, ℕ, ◌==◌, ◌<◌, ◌≤◌, ◌+◌, ◌++◌, ◌&&◌, ◌⊎◌, false, List, All, IfOk, OnOk, OnErr, vec_len, if◌then◌else◌};
+ghost use Rattle.std.specs.Prelude.{◌≡◌, ℕ, ◌==◌, ◌<◌, ◌≤◌, ◌+◌, ◌++◌, ◌&&◌, ◌⊎◌, List, All, IfOk, Ok, Some, OnOk, OnErr, vec_len, if◌then◌else◌};
 ghost use Rattle.spv_base.specs.Prefix.{IsPrefixOf};
 ghost use Rattle.spv_group.specs.Group.{end_in, group_at, invocations_in};
 ghost use Rattle.spv_session.specs.Costs.{goto_cost, request_cost, line_cost};
-ghost use Rattle.spv_session.specs.Reply.{reply, reply_to, is_quit, is_quit_request, focus_reply, group_reply, invocation_reply, IsRefused, place_reply, registers_reply, stop_reply};
+ghost use Rattle.spv_session.specs.Reply.{reply, reply_to, is_quit, is_quit_request, focus_reply, group_reply, invocation_reply, IsRefused, place_reply, refusal_by, registers_reply, stop_reply};
 ghost use Rattle.spv_session.specs.Texts.{refusal_line};
 ghost use Rattle.spv_session.specs.View.{first_view, focus_frame, focus_on, goto_target, view_at};
+ghost use Rattle.spv_session.specs.declared.request.Request.TheVariants as asked;
 ghost use Rattle.spv_session.specs.declared.session.Next.TheVariants as answers;
 
 use crate::motions::{Aim, go_to};
@@ -115,9 +116,11 @@ impl Session {
         ensures group { self.new.group ≡ group_at self.new.group.position self.old.group }
         ensures focus { OnErr result (self.new.focus ≡ self.old.focus) }
         ensures within { self.new.group.position ≤ end_in self.old.group }
+        ensures refused { (code : ℕ) → refusal_by self.old request ≡ Some code → self.new ≡ self.old }
         ensures counted { steps.old ≤ steps.new }
         ensures cost { steps.new ≤ steps.old + request_cost self.old request }
     {
+        let from = self.group.position();
         match request {
             Err(refusal) => text.extend_from_slice(refusal_line(refusal))?,
             Ok(Request::Nothing) => {}
@@ -126,14 +129,8 @@ impl Session {
             Ok(Request::Group) => self.push_group(text)?,
             Ok(Request::Focus(inv)) => self.look_at(inv, text)?,
             Ok(Request::Goto(position)) => self.go(Aim::at(position), text, steps)?,
-            Ok(Request::Fwd(count)) => {
-                let aim = Aim::forward(self.group.position(), count);
-                self.go(aim, text, steps)?;
-            }
-            Ok(Request::Back(count)) => {
-                let aim = Aim::back(self.group.position(), count);
-                self.go(aim, text, steps)?;
-            }
+            Ok(Request::Fwd(count)) => self.go(Aim::forward(from, count), text, steps)?,
+            Ok(Request::Back(count)) => self.go(Aim::back(from, count), text, steps)?,
         }
         Ok(Next::Go)
     }
@@ -162,6 +159,8 @@ impl Session {
         ensures text { OnOk result (text.new.items ≡ text.old.items ++ (focus_reply self.old inv).0) }
         ensures view { OnOk result (self.new ≡ (focus_reply self.old inv).1) }
         ensures kept { OnErr result (self.new ≡ self.old) }
+        ensures group { self.new.group ≡ self.old.group }
+        ensures refused { (code : ℕ) → refusal_by self.old (Ok (asked.Focus inv)) ≡ Some code → self.new ≡ self.old }
     {
         if inv >= self.group.invocations() {
             text.extend_from_slice(refusal_line(NO_SUCH_INVOCATION))?;
