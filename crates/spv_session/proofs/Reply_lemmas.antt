@@ -1,5 +1,5 @@
 -- The texts of all invocations, one after the other, and of motions back.
-use Rattle.std.proofs.Common.{◌≡◌, ◌∙◌, ◌==◌, ◌≤◌, ◌-◌, ◌&&◌, not, Bool, ℕ, zero, suc, ◌+◌, List, [], ◌∷◌, ◌++◌, refl, sym, ap, arith, add-one}
+use Rattle.std.proofs.Common.{◌≡◌, ◌∙◌, ◌==◌, ◌≤◌, ◌-◌, ◌&&◌, not, Bool, ℕ, zero, suc, ◌+◌, List, [], ◌∷◌, ◌++◌, sym, ap, arith, add-one}
 use Rattle.std.specs.List.{flat_map, range_with_len}
 use Rattle.std.proofs.lemmas.List.{flat_map_more}
 use Rattle.spv_group.specs.Group.{end_in}

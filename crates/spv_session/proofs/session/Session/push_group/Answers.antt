@@ -1,4 +1,4 @@
-use Rattle.std.proofs.Common.{◌≡◌, ◌∙◌}
+use Rattle.std.proofs.Common.{◌∙◌}
 use Rattle.spv_session.specs.Reply.{invocation_reply}
 use Rattle.spv_session.proofs.Reply_lemmas.{text_more}
 use Rattle.spv_session.proofs.session.Session.push_group.Goals as goal

@@ -1,7 +1,5 @@
-use Rattle.std.proofs.Common.{◌≡◌, ◌∙◌, ℕ, Option, Some, sym, ap, subst}
-use Rattle.spv_frame.specs.Frames.{Held as Frame}
+use Rattle.std.proofs.Common.{◌≡◌, ◌∙◌, ℕ, Some, sym, ap, subst}
 use Rattle.spv_state.specs.Program.{Program}
-use Rattle.spv_state.specs.Sound.{IsSoundFrame}
 use Rattle.spv_state.specs.State.{top_of}
 use Rattle.std.specs.Prelude.{option_copied}
 use Rattle.spv_session.specs.Frames.{IsShown}
