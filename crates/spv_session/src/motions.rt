@@ -56,11 +56,7 @@ impl Aim {
 
 /// Goes on to a position, or to the end where that comes first. It takes a step for each event, and one more at most where the
 /// end comes first. After want of memory the group is at some position on the way.
-fn go_on<L: Ledger>(
-    group: &mut Group,
-    target: u64,
-    steps: &mut Steps<L>,
-) -> Result<(), NoMemory>
+fn go_on<L: Ledger>(group: &mut Group, target: u64, steps: &mut Steps<L>) -> Result<(), NoMemory>
     ensures target { OnOk result (group.new.position ≡ max group.old.position (min target (end_in group.old))) }
     ensures kept { group.new ≡ group_at group.new.position group.old }
     ensures within { group.new.position ≤ end_in group.old }
