@@ -60,3 +60,14 @@ returns-in-Switch-clause-fits c =
 pub returns-in-Switch-clause-taken : goal.returns-in-Switch-clause-taken
 returns-in-Switch-clause-taken c =
     subst (λ (x : Site). IfOk c.switch.result (λ e. IsTaken x.state x.inv e c.args.row.now)) c.of-site.ensures (c.switch.ensures.taken c.args.row.now)
+
+pub returns-in-Call-clause-due : goal.returns-in-Call-clause-due
+returns-in-Call-clause-due c = subst (λ (x : Site). IsDue (due x) c.args.row.now c.call.result) c.of-site.ensures (c.call.ensures.due c.args.row.now)
+
+pub returns-in-Call-clause-fits : goal.returns-in-Call-clause-fits
+returns-in-Call-clause-fits c =
+    subst (λ (x : Site). PlannedFits x.program x.state x.inv x.inst c.args.row.now c.call.result) c.of-site.ensures (c.call.ensures.fits c.args.row.now)
+
+pub returns-in-Call-clause-taken : goal.returns-in-Call-clause-taken
+returns-in-Call-clause-taken c =
+    subst (λ (x : Site). IfOk c.call.result (λ e. IsTaken x.state x.inv e c.args.row.now)) c.of-site.ensures (c.call.ensures.taken c.args.row.now)
