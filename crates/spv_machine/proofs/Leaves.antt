@@ -19,8 +19,7 @@ use Rattle.spv_statuses.specs.declared.invocations.Status.TheVariants.{Ready, Fi
 use Rattle.spv_actions.specs.Fits.{EnterFits, LeaveFits, ResultFits}
 use Rattle.spv_state.specs.Program.{Program}
 use Rattle.spv_state.specs.Sound.{IsCallOf, IsSoundFrame, IsSoundStack, StandsIn}
-use Rattle.spv_state.specs.State.{State, pop_frame, set_status, top_of, without_last, without_top}
-use Rattle.spv_state.proofs.Lists.{changed_at}
+use Rattle.spv_state.specs.State.{State, pop_frame, set_status, top_of, without_last}
 use Rattle.spv_state.proofs.Stands.{stood}
 use Rattle.spv_machine.specs.Reached.{IsReached}
 use Rattle.spv_machine.specs.Step.{go_on, leave, put_result, resume}
