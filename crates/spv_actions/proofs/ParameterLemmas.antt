@@ -229,6 +229,6 @@ parameters_typed a accepted v n f at op m i h =
     let named = function_named (decoded_in a) f (result_here a n f v at) op in
     let begun = within_function there.within f op in
     let types = typed_from k ts f.id (sets_of a.insts) (begins f) (within_after there.within f) later (later_apart a.insts n f facts_are.distinct at named) (each_drop HasResult (suc n) a.insts (have_results a v)) whole.1 m i
-        (subst (λ (ss : List Stand). slice_get (filter is_parameter (flat_map (register_of ts) ss)) m ≡ Some i) stood h) in
+    (subst (λ (ss : List Stand). slice_get (filter is_parameter (flat_map (register_of ts) ss)) m ≡ Some i) stood h) in
     let zero_is : 0 + m ≡ m = omega arith in
     subst (λ (j : ℕ). parameter_type k j (id_operand f 1) ≡ Some i.ty) zero_is (subst (λ (u : Within). parameter_type k (u.parameters + m) u.ty ≡ Some i.ty) begun types)

@@ -209,7 +209,7 @@ begins_next x function n g new i v at value fits made b =
     let there : slice_get (parameters_of (accepted x) function) n ≡ Some i.id = map_at (λ (j : Inst). j.id) (parameters_in (accepted x) function) n i at in
     let next : call_from x (drop n (parameters_of (accepted x) function)) (suc n) g ≡ call_from x (drop (suc n) (parameters_of (accepted x) function)) (suc (suc n)) (with_register i.id v g)
     = ap (λ (is : List ℕ). call_from x is (suc n) g) (drop_here (parameters_of (accepted x) function) n i.id there)
-        ∙ ap (λ (o : Option Whole). ok_or o NoValue >>= (λ w. call_from x (drop (suc n) (parameters_of (accepted x) function)) (suc (suc n)) (with_register i.id w g))) value in
+    ∙ ap (λ (o : Option Whole). ok_or o NoValue >>= (λ w. call_from x (drop (suc n) (parameters_of (accepted x) function)) (suc (suc n)) (with_register i.id w g))) value in
     record {
       so_far = ap (call_from x (drop (suc n) (parameters_of (accepted x) function)) (suc (suc n))) made ∙ sym next ∙ b.so_far;
       sound = subst (IsSoundFrame (accepted x)) (sym made) (register_kept (accepted x) g i.id v fits b.sound);
@@ -292,7 +292,7 @@ module _ (x : Site) (function : ℕ) (ps : List Place) (are : ps ≡ (plan_of (a
       let own_accepts = subst (λ (a : Accepted). ∥ IsAccepted a ∥₁) same accepts in
       let next : n + 1 ≡ suc n = omega arith in
       let passed = argument_passed with_values with_pointers typed fills (accepted x) own_accepts (known_as (accepted x) b same accepts valid) (subst (λ (a : Accepted). AreSound a.types) same (sound_types b valid)) function
-          (recovered function (functions_in (accepted x)) among) (apart (accepted x) function own_accepts) n at.0 at.1 x.inst v passes (subst (λ (m : ℕ). IsShaped (accepted x) x.inst m v) next shaped) in
+      (recovered function (functions_in (accepted x)) among) (apart (accepted x) function own_accepts) n at.0 at.1 x.inst v passes (subst (λ (m : ℕ). IsShaped (accepted x) x.inst m v) next shaped) in
       record { parameter = at.0; at = at.1; passed = subst (λ (place : Place). IsPassed (accepted x) (plan_of (accepted x) function) at.0 place v) at.2 passed }
 
 pub argument_missing : (o : Option Whole) (due : Result Frame Cause) (r : Result Frame (Fail Cause)) (e : Fail Cause) → (o ≡ None → due ≡ Err NoValue) → Finds {T = Whole} o (Err e) → r ≡ Err e → Answers due r

@@ -6,22 +6,20 @@ ghost use Rattle.spv_actions.specs.Instructions as spec;
 ghost use Rattle.spv_state.specs.Sound.{IsSound};
 ghost use Rattle.spv_state.specs.State as state;
 
-use crate::calls::{call, return_value};
 use crate::accesses::{copy_memory, load, store};
-use crate::branches::{branch, branch_conditional, switch};
 use crate::atomics::atomic;
 use crate::barriers::{control_barrier, memory_barrier};
-use spv_state::Action;
+use crate::branches::{branch, branch_conditional, switch};
+use crate::calls::{call, return_value};
 use crate::causes::Cause;
 use crate::chains::chain;
 use crate::computing::compute;
 use crate::lengths::array_length;
-use spv_state::Runnable;
 use crate::sites::Site;
-use spv_state::Whole;
 use spv_base::{Cell, Fail, Inst, Pointer};
 use spv_frame::Frame;
 use spv_mem::Locals;
+use spv_state::{Action, Runnable, Whole};
 use spv_values::Row;
 use std::alloc::Global;
 

@@ -2,10 +2,10 @@
 #![tactic(auto)]
 
 mod accesses;
-mod calls;
-mod branches;
 mod atomics;
 mod barriers;
+mod branches;
+mod calls;
 pub mod causes;
 mod chains;
 mod computing;
@@ -14,8 +14,8 @@ mod computing_lanes;
 pub mod effects;
 mod kept;
 mod kept_calls;
-mod lengths;
 mod kept_control;
+mod lengths;
 mod phis;
 pub mod sites;
 mod switches;

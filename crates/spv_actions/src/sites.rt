@@ -12,13 +12,12 @@ ghost use Rattle.spv_operands.specs.Operands.{IsPlain, pointer_of, referred, sho
 ghost use Rattle.spv_results.specs.Operands.{IsOperand};
 
 use crate::causes::Cause;
-use spv_state::Runnable;
-use spv_state::{Whole, plan_in};
 use spv_base::{Fail, Inst, NoMemory, Pointer};
 use spv_frame::{Frame, Plan};
 use spv_mem::Memory;
 use spv_operands::laws::operands_have_shapes;
 use spv_operands::{Operand, Reference, operand as operand_by, operand_of};
+use spv_state::{Runnable, Whole, plan_in};
 use spv_valid::Module;
 use spv_values::Part;
 use std::alloc::Global;

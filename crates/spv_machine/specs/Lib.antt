@@ -1,4 +1,3 @@
-pub mod Events
 pub mod Step
 pub mod Reached
 pub mod Does

@@ -35,8 +35,8 @@ put-requires-clause-suits c =
     let x = c.args.site.now in
     let are : c.parameters-parameters.result.now ≡ (plan_of x.program.accepted c.args.function).parameters = c.parameters-parameters.ensures ∙ ap (λ (p : Planned). p.parameters) (c.deref.ensures ∙ c.requires.plan) in
     let there = passed_at x c.args.function c.parameters-parameters.result.now are c.loop-number.number c.loop-number-test.true (Value 0) c.results_have_registers.ensures.values c.results_have_registers.ensures.pointers
-        c.registers_have_types.ensures.values c.rows_fill_types.ensures c.registers_are_apart.ensures c.accepted.result.now c.accepted.ensures c.insts-insts.ensures.accepted c.insts-insts.ensures.valid c.requires.known
-        c.requires.passes (shown c.in_ok-operand.operand) c.in_ok-operand.ensures.shape in
+    c.registers_have_types.ensures.values c.rows_fill_types.ensures c.registers_are_apart.ensures c.accepted.result.now c.accepted.ensures c.insts-insts.ensures.accepted c.insts-insts.ensures.valid c.requires.known
+    c.requires.passes (shown c.in_ok-operand.operand) c.in_ok-operand.ensures.shape in
     let place : Place = get_or c.parameters-parameters.result.now c.loop-number.number (Value 0) in
     subst (λ (p : Planned). Suits p place (shown c.in_ok-operand.operand)) (sym (c.deref-in-loop-number.ensures ∙ c.requires.plan)) there.passed.suits
 
@@ -47,8 +47,8 @@ loop-number-preserved c =
     let v = shown c.in_ok-operand.operand in
     let are : c.parameters-parameters.result.now ≡ (plan_of x.program.accepted c.args.function).parameters = c.parameters-parameters.ensures ∙ ap (λ (p : Planned). p.parameters) (c.deref.ensures ∙ c.requires.plan) in
     let there = passed_at x c.args.function c.parameters-parameters.result.now are n c.loop-number-test.true (Value 0) c.results_have_registers.ensures.values c.results_have_registers.ensures.pointers
-        c.registers_have_types.ensures.values c.rows_fill_types.ensures c.registers_are_apart.ensures c.accepted.result.now c.accepted.ensures c.insts-insts.ensures.accepted c.insts-insts.ensures.valid c.requires.known
-        c.requires.passes v c.in_ok-operand.ensures.shape in
+    c.registers_have_types.ensures.values c.rows_fill_types.ensures c.registers_are_apart.ensures c.accepted.result.now c.accepted.ensures c.insts-insts.ensures.accepted c.insts-insts.ensures.valid c.requires.known
+    c.requires.passes v c.in_ok-operand.ensures.shape in
     let next : suc n ≡ n + 1 = omega arith in
     let id = there.parameter.id in
     let place : Place = get_or c.parameters-parameters.result.now n (Value 0) in
