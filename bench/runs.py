@@ -130,13 +130,6 @@ LISTING = """5: OpCapability 1
 # Modules that debug, check and text refuse with one line.
 REFUSED = [("magic.spv", "M2 at word 0"), ("opcode.spv", "M6 at word 60"), ("unended.spv", "M15 at word 42"), ("entry.spv", "M17 at word 0")]
 
-# What can't be run so far: more than one invocation, which is looked at behind the fit.
-NOT_RUN = "module refused: M0 at word 5\n"
-UNBUILT = [("two.spv", "spvdbg-setup 1\nrounds 20\n"), ("blocks.spv", setups.HEAD + "spec 6 1024\n")] + [
-    ("blocks.spv", setup) for setup in setups.OF_TWO
-]
-
-
 def calls():
     """By file: what each call is, the module, the words, the setup, the commands, the status and what is written."""
     yield "commands.runs", [("commands", "first.spv", DEBUG, TEN_ROUNDS, commands, DONE, out) for commands, out in COMMANDS] + [
@@ -151,7 +144,9 @@ def calls():
     ]
     yield "setups.runs", [(what, name, DEBUG, *row) for what, name, *row in setups.calls()]
     yield "values.runs", [(what, name, DEBUG, *row) for what, name, *row in values.calls()]
-    yield "unbuilt.runs", [("unbuilt", name, DEBUG, setup, "goto 1\n", MODULE, NOT_RUN) for name, setup in UNBUILT]
+    yield "invocations.runs", [("two", "two.spv", DEBUG, "spvdbg-setup 1\nrounds 20\n", "goto 1\n", DONE, setups.RETURNED)] + [
+        ("several", "blocks.spv", DEBUG, setup, "goto 1\n", DONE, out) for setup, out in setups.OF_TWO
+    ]
 
 
 # Lines with their canonical lines, or the code of their refusal, by hand from the manual's table of commands.

@@ -271,11 +271,23 @@ BEHIND = [
     ("spec 5 1\nmove 2 1\n", "setup refused: S5 at line 5\n"),
 ]
 
-# The same with two invocations, which can't be run so far.
-OF_TWO = [HEAD + lines for lines in ("", "move 1 3\n", "move 1 1\n", "spec 6 7\nmove 6 1\n", "rounds 2097152\n")] + [
-    "spvdbg-setup 1\n# the last of two workgroups\nentry main\ngroup 1 0 0 of 2 1 1\nspec 3 7\nspec 4 0\n"
-    "buffer 0 0 hex 02000000 0a000000 0b000000\npush hex 0100000002000000\nmove 1 2\nrounds 3\n",
-    "spvdbg-setup 1\nbuffer 0 0 zero 16777187\npush hex 0000000000000000\n",
+# What stands behind them with several invocations, and the replies to `goto 1`: one of them returns, and the focus is 0.
+RETURNED = "stop: done\n@1 i=0 finished\n"
+OTHER_RETURNED = "stop: done\n@1 i=0 %%18 word %d\n" % MAIN
+OTHER_LAST = "stop: done, schedule ended\n@1 i=0 %%18 word %d\n" % MAIN
+OF_TWO = [
+    (HEAD, AT_START % (18, MAIN)),
+    (HEAD + "spec 6 1024\n", AT_START % (18, MAIN)),
+    (HEAD + "move 1 3\n", OTHER_RETURNED),
+    (HEAD + "move 1 1\n", OTHER_LAST),
+    (HEAD + "spec 6 7\nmove 6 1\n", OTHER_LAST),
+    (HEAD + "rounds 2097152\n", RETURNED),
+    (
+        "spvdbg-setup 1\n# the last of two workgroups\nentry main\ngroup 1 0 0 of 2 1 1\nspec 3 7\nspec 4 0\n"
+        "buffer 0 0 hex 02000000 0a000000 0b000000\npush hex 0100000002000000\nmove 1 2\nrounds 3\n",
+        OTHER_RETURNED,
+    ),
+    ("spvdbg-setup 1\nbuffer 0 0 zero 16777187\npush hex 0000000000000000\n", AT_START % (18, MAIN)),
 ]
 
 # The other whole texts of docs/SETUP.md, and texts that break two rules, of which the first in the order is told; or the lowest of

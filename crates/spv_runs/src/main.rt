@@ -32,7 +32,7 @@ const CALLS: [&str; 5] = [
     "words.runs",
     "setups.runs",
     "values.runs",
-    "unbuilt.runs",
+    "invocations.runs",
 ];
 
 /// Says what a call writes, and how it ends.
