@@ -295,6 +295,11 @@ def setup_of(buffers):
     return ["spvdbg-setup 1"] + ["buffer 0 %d hex %s" % (binding, text(words)) for binding, words in buffers.items()] + ["rounds 2000"]
 
 
+# Runs whose transcripts were worked out by hand: a barrier that never opens, 64 invocations that exchange values over a barrier, and
+# motions by numbers of events. Their modules are assembled by spirv-as from the .spvasm files; their data lies beside that of the others.
+WORKED = ("stuck", "exchange", "motions")
+
+
 def main():
     os.makedirs(DATA, exist_ok=True)
     out = []
@@ -308,6 +313,9 @@ def main():
                 lines, commands = transcript(Module(file.read()), buffers, at_parts(count))
             put(name + suffix + ".commands", commands)
             out += [name + suffix] + lines + ["status 0"]
+    for name in WORKED:
+        with open(os.path.join(SHADERS, name + ".transcript")) as file:
+            out += [name] + file.read().splitlines() + ["status 0"]
     with open(os.path.join(FOLDER, "stdout"), "w") as file:
         file.write("".join(line + "\n" for line in out))
 

@@ -1,5 +1,6 @@
 //! Runs `debug` on whole workgroups, as a user would, and says what it writes and how it ends: compiled shaders that add up, count and
-//! exchange in shared memory, over registers and standings that `bench/group_runs.py` works out.
+//! exchange in shared memory, over registers and standings that `bench/group_runs.py` works out; and
+//! runs that were worked out by hand.
 #![tactic(auto)]
 
 ghost use Rattle.std.specs.Prelude.{◌≡◌, ◌<◌, ◌-◌, ◌^◌};
@@ -13,7 +14,7 @@ use std::sync::ledger::{Blank, Ledger};
 use std::{fs, io, rt};
 
 /// The runs: a name, and the module, the setup and the commands in data/, in the order of the output.
-const RUNS: [(&str, &str, &str, &str); 8] = [
+const RUNS: [(&str, &str, &str, &str); 11] = [
     (
         "reduction",
         "reduction.spv",
@@ -56,6 +57,19 @@ const RUNS: [(&str, &str, &str, &str); 8] = [
         "transpose-optimized.spv",
         "transpose.setup",
         "transpose-optimized.commands",
+    ),
+    ("stuck", "stuck.spv", "stuck.setup", "stuck.commands"),
+    (
+        "exchange",
+        "exchange.spv",
+        "exchange.setup",
+        "exchange.commands",
+    ),
+    (
+        "motions",
+        "motions.spv",
+        "motions.setup",
+        "motions.commands",
     ),
 ];
 
