@@ -4,7 +4,8 @@ use Rattle.std.specs.Io.KnownBytes.{Appends, Consumes}
 use Rattle.std.specs.Str.{bytes_eq}
 use Rattle.std.specs.declared.alloc.Global.{Global}
 use Rattle.spv_base.specs.Outside.{Holds, HoldsMore}
-use Rattle.spv_session.specs.View.{View}
+use Rattle.spv_group.specs.Group.{Held as Group}
+use Rattle.spv_session.specs.View.{View, first_view}
 use Rattle.spv_app.specs.declared.status.Status.{Status}
 use Rattle.spv_app.specs.declared.status.Status.TheVariants.{Done, Usage, ModuleRefused, SetupRefused, FileFault, ReadFault, WriteFault, NoMemory, InputTooLong, FileTooLong}
 use Rattle.spv_app.specs.declared.opening.OpeningRefusal.{OpeningRefusal}
@@ -75,7 +76,7 @@ module _ (m : List ℕ → Option (List ℕ)) (names : Names) (before after : Ou
     (told : before.files.told ≡ Some m) (left_is : before.streams.left ≡ Some xs) (held_is : before.streams.held ≡ Some held)
     (binary setup : List ℕ) (binary_is : m names.binary ≡ Some binary) (setup_is : m names.setup ≡ Some setup)
     (few_binary : length binary ≤ binary_limit) (few_setup : length setup ≤ setup_limit) (few : length xs ≤ input_limit) (ok : NothingFails status) where
-  abbrev Due : Result View OpeningRefusal → Type 0
+  abbrev Due : Result Group OpeningRefusal → Type 0
   Due opened = (after.streams.held ≡ Some (held ++ due_text opened xs)) × (status ≡ due_status opened)
 
   -- the pair that was read is the one that is told
@@ -98,8 +99,8 @@ module _ (m : List ℕ → Option (List ℕ)) (names : Names) (before after : Ou
   due_of (Refused status b s refusal put asks pair refused unread wrote says steps) =
       let whole = line_whole (status_of_refusal refusal) status (refusal_line refusal) put ok says in
       subst Due (sym refused ∙ same_pair b s pair) (held_with put wrote ∙ ap (λ l. Some (held ++ l)) whole.1, whole.0)
-  due_of (Opened status b s view asks pair opened ran) =
-      let whole = loop_whole view status xs ran.got ran.put after.streams.left ok (subst (λ l. Consumes l after.streams.left ran.got) left_is ran.taken) few ran.too_long.0 ran.says in
+  due_of (Opened status b s group asks pair opened ran) =
+      let whole = loop_whole (first_view group) status xs ran.got ran.put after.streams.left ok (subst (λ l. Consumes l after.streams.left ran.got) left_is ran.taken) few ran.too_long.0 ran.says in
       subst Due (sym opened ∙ same_pair b s pair) (held_with ran.put ran.written ∙ ap (λ l. Some (held ++ l)) whole.1, whole.0)
 
 -- a status that tells faults isn't it where none was counted

@@ -3,7 +3,8 @@ use Rattle.std.specs.Prelude.{◌≡◌, ◌⊎◌, ℕ, ◌≤◌, ◌<◌, Lis
 use Rattle.std.specs.Io.KnownBytes.{Appends, Keeps}
 use Rattle.spv_base.specs.Prefix.{IsProperPrefixOf}
 use Rattle.spv_base.specs.Outside.{Told, AsksFor, Holds, HoldsMore}
-use Rattle.spv_session.specs.View.{View}
+use Rattle.spv_group.specs.Group.{Held as Group}
+use Rattle.spv_session.specs.View.{first_view}
 use Rattle.spv_app.specs.declared.status.Status.{Status}
 use Rattle.spv_app.specs.declared.status.Status.TheVariants.{Done, ModuleRefused, SetupRefused, FileFault, WriteFault, NoMemory, FileTooLong}
 use Rattle.spv_app.specs.declared.opening.OpeningRefusal.{OpeningRefusal}
@@ -86,18 +87,18 @@ pub data Debugged (names : Names) (before after : Outside) (unread : Type 0) : S
       → IsPair before.files.told names binary setup → opening binary setup ≡ Err refusal
       → unread → Appends before.streams.held after.streams.held put → SaysLine (status_of_refusal refusal) (refusal_line refusal) status put
       → after.streams.steps ≡ before.streams.steps → Debugged names before after unread status
-  -- the pair is opened: the command loop runs from its view
-  Opened : (status : Status) (binary setup : List ℕ) (view : View) → AsksForBoth names before.files after.files
-      → IsPair before.files.told names binary setup → opening binary setup ≡ Ok view
-      → Ran view before.streams after.streams status → Debugged names before after unread status
+  -- the pair is opened: the command loop runs from the first view of its group
+  Opened : (status : Status) (binary setup : List ℕ) (group : Group) → AsksForBoth names before.files after.files
+      → IsPair before.files.told names binary setup → opening binary setup ≡ Ok group
+      → Ran (first_view group) before.streams after.streams status → Debugged names before after unread status
 
 -- ---- what is due where nothing fails
 
 -- the refusal's line, or the replies to the lines of the input
-abbrev pub due_text : Result View OpeningRefusal → List ℕ → List ℕ
+abbrev pub due_text : Result Group OpeningRefusal → List ℕ → List ℕ
 due_text (Err refusal) input = refusal_line refusal
-due_text (Ok view) input = transcript view (lines_of input)
+due_text (Ok group) input = transcript (first_view group) (lines_of input)
 
-abbrev pub due_status : Result View OpeningRefusal → Status
+abbrev pub due_status : Result Group OpeningRefusal → Status
 due_status (Err refusal) = status_of_refusal refusal
-due_status (Ok view) = Done
+due_status (Ok group) = Done

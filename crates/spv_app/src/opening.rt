@@ -10,10 +10,9 @@ ghost use Rattle.spv_app.specs.Opening.{opening, accepted_in, invocations_of, sc
 use crate::acceptance::accepted_as;
 use spv_base::{Fail, Refusal, SetupRefusal};
 use spv_fit::fit;
+use spv_group::Group;
 use spv_machine::Runnable;
-use spv_session::Group;
 use spv_setup::{Schedule, Setup};
-use spv_state::laws::runs_start_with_all;
 use spv_valid::Module;
 use spv_words::words;
 use std::alloc::Global;
@@ -153,7 +152,6 @@ fn start(alloc: Global, accepted: Module, setup: Setup) -> Result<Group, Fail<Op
     ensures view { Answers (started setup accepted) result }
     ensures start { IfOk result (λ group. group.position ≡ 0) }
 {
-    runs_start_with_all();
     let schedule = fit_setup(alloc, &accepted, &setup)?;
     let program = run_module(alloc, accepted, setup)?;
     Ok(Group::open(alloc, program, schedule)?)

@@ -1,7 +1,7 @@
 -- The texts of a frame's registers, one after another.
 use Rattle.std.proofs.Common.{◌≡◌, ◌∙◌, ◌++◌, ℕ, zero, suc, ◌+◌, ◌<◌, List, [], ◌∷◌, fold, take, length, Option, Some, None, refl, sym, ap, subst, arith, slice_get, add-one}
 use Rattle.std.specs.List.{filter_map}
-use Rattle.std.specs.Option.{option_and_then, option_map_or}
+use Rattle.std.specs.Option.{option_map_or}
 use Rattle.std.specs.Prelude.{IsSome, unwrap_or}
 use Rattle.spv_base.specs.Entries.{reads}
 use Rattle.spv_base.specs.declared.values.Pointer.{Pointer}

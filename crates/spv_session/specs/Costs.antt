@@ -1,47 +1,28 @@
--- How many steps the motions of a group and the commands take. A step is a call of the machine's `step`; nothing else counts one.
-use Rattle.std.specs.Prelude.{◌≡◌, ℕ, ◌+◌, ◌-◌, ◌≤◌, min, max, nat_lt, if◌then◌else◌, List, Result, Ok, Err}
-use Rattle.spv_base.specs.declared.causes.NoMemory.{NoMemory}
+-- How many steps the commands take, at most. A step is a call of the machine's `step`; nothing else counts one.
+use Rattle.std.specs.Prelude.{ℕ, ◌+◌, ◌-◌, nat_lt, if◌then◌else◌, List, Result, Ok, Err}
 use Rattle.spv_base.specs.declared.causes.CmdRefusal.{CmdRefusal}
-use Rattle.spv_base.specs.declared.happenings.EndCause.TheVariants as end
+use Rattle.spv_group.specs.Costs.{run_cost}
+use Rattle.spv_group.specs.Group.{Held as Group, end_in}
 use Rattle.spv_session.specs.declared.request.Request.{Request}
-use Rattle.spv_session.specs.declared.request.Request.TheVariants.{Nothing, Goto, Regs, Quit}
-use Rattle.spv_session.specs.declared.motion.Forth.{Forth}
-use Rattle.spv_session.specs.declared.motion.Forth.TheVariants as forth
-use Rattle.spv_session.specs.declared.motion.Back.{Back}
-use Rattle.spv_session.specs.declared.motion.Back.TheVariants as back
+use Rattle.spv_session.specs.declared.request.Request.TheVariants.{Nothing, Goto, Fwd, Back, Group as Each, Focus, Regs, Quit}
 use Rattle.spv_session.specs.Requests.{request_of}
-use Rattle.spv_session.specs.View.{View, end_in}
+use Rattle.spv_session.specs.View.{View}
 
--- One event forth is one step, also where it faults or memory runs out in it. The other ends take none.
-abbrev pub ForthCounts : Result Forth NoMemory → (before now : ℕ) → Type 0
-ForthCounts (Ok (forth.Went h)) before now = now ≡ before + 1
-ForthCounts (Ok (forth.AtEnd (end.Fault f))) before now = now ≡ before + 1
-ForthCounts (Ok (forth.AtEnd end.Finished)) before now = now ≡ before
-ForthCounts (Ok (forth.AtEnd end.Stuck)) before now = now ≡ before
-ForthCounts (Ok (forth.AtEnd end.Schedule)) before now = now ≡ before
-ForthCounts (Err error) before now = now ≡ before + 1
+-- of a motion to a number: forth as far as it goes, and one more where the end comes before; back from the start on
+abbrev pub goto_cost : Group → ℕ → ℕ
+goto_cost g n = if nat_lt n g.position then n else run_cost (end_in g) g.position n
 
--- One event back from a position runs again from the start to the position before it.
-abbrev pub BackCounts : Result Back NoMemory → (position before now : ℕ) → Type 0
-BackCounts (Ok (back.Went h)) position before now = now ≡ before + (position - 1)
-BackCounts (Ok back.AtStart) position before now = now ≡ before
-BackCounts (Err error) position before now = (before ≤ now) × (now ≤ before + (position - 1))
-
--- the most steps of a run from one position on to another: one for each event between them, and one more where the end comes before
-abbrev pub run_cost : (end from target : ℕ) → ℕ
-run_cost end from target = (max from (min target end) - from) + (if nat_lt end target then 1 else 0)
-
--- the most steps of a motion to a number: forth as far as it goes, and one more where the end comes before; back from the start on
-abbrev pub goto_cost : View → ℕ → ℕ
-goto_cost v n = if nat_lt n v.position then n else run_cost (end_in v) v.position n
-
--- the most steps of a request; only motions take any
+-- of a request; only motions take any
 abbrev pub request_cost : View → Result Request CmdRefusal → ℕ
 request_cost v (Err refusal) = 0
 request_cost v (Ok Nothing) = 0
 request_cost v (Ok Quit) = 0
 request_cost v (Ok Regs) = 0
-request_cost v (Ok (Goto n)) = goto_cost v n
+request_cost v (Ok Each) = 0
+request_cost v (Ok (Focus i)) = 0
+request_cost v (Ok (Goto n)) = goto_cost v.group n
+request_cost v (Ok (Fwd n)) = goto_cost v.group (v.group.position + n)
+request_cost v (Ok (Back n)) = goto_cost v.group (v.group.position - n)
 
 unfoldable pub line_cost : View → List ℕ → ℕ
 line_cost v line = request_cost v (request_of line)

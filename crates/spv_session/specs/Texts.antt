@@ -6,6 +6,8 @@ use Rattle.std.specs.Option.{option_and_then, option_map, option_map_or}
 use Rattle.std.specs.Ordering.{nat_cmp}
 use Rattle.spv_base.specs.declared.happenings.EndCause.{EndCause}
 use Rattle.spv_base.specs.declared.happenings.EndCause.TheVariants as end
+use Rattle.spv_base.specs.declared.happenings.Status4.{Status4}
+use Rattle.spv_base.specs.declared.happenings.Status4.TheVariants as status
 use Rattle.spv_base.specs.declared.values.Pointer.{Pointer}
 use Rattle.spv_base.specs.declared.values.Value.{Value, Ptr}
 use Rattle.spv_index.specs.Definitions.{result_type}
@@ -70,9 +72,19 @@ abbrev pub place_text : Option Frame → List ℕ
 place_text None = codes "finished"
 place_text (Some f) = codes "%" ++ decimal f.plan.function ++ codes " word " ++ decimal f.pc
 
--- the position, and where the invocation 0 stands there
-abbrev pub position_line : ℕ → Option Frame → List ℕ
-position_line position top = codes "@" ++ decimal position ++ codes " i=0 " ++ place_text top ++ codes "\n"
+-- the position, and where an invocation stands there
+abbrev pub position_line : (position i : ℕ) → Option Frame → List ℕ
+position_line position i top = codes "@" ++ decimal position ++ codes " i=" ++ decimal i ++ codes " " ++ place_text top ++ codes "\n"
+
+-- how far an invocation is, and where it stands; a finished one stands nowhere
+abbrev pub standing_text : Status4 → Option Frame → List ℕ
+standing_text status.Ready top = codes "ready " ++ place_text top
+standing_text status.Arrived top = codes "arrived " ++ place_text top
+standing_text status.Passed top = codes "passed " ++ place_text top
+standing_text status.Finished top = codes "finished"
+
+abbrev pub invocation_line : ℕ → Status4 → Option Frame → List ℕ
+invocation_line i how top = codes "i=" ++ decimal i ++ codes " " ++ standing_text how top ++ codes "\n"
 
 -- ---- stops
 

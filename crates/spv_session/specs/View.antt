@@ -1,37 +1,39 @@
--- A view: a program, the schedule of its invocations, and a position of the run. All else follows from these.
-use Rattle.std.specs.Prelude.{ℕ, ◌==◌, min, if◌then◌else◌, List, Option, None}
-use Rattle.spv_base.specs.declared.happenings.EndCause.{EndCause}
-use Rattle.spv_setup.specs.Schedule.{Entries}
-use Rattle.spv_state.specs.Program.{Program}
-use Rattle.spv_state.specs.State.{State}
-use Rattle.spv_session.specs.Run.{run, cause_at, end_of}
+-- A view: a group at a position of its run, and the invocation that replies speak of, which is the focus.
+use Rattle.std.specs.Prelude.{ℕ, ◌+◌, ◌-◌, min, Option}
+use Rattle.spv_frame.specs.Frames.{Held as Frame}
+use Rattle.spv_state.specs.State.{top_of}
+use Rattle.spv_group.specs.Group.{Held as Group, group_at, state_in, end_in}
 
 pub record View : Type 0 where
-  pub program : Program
-  pub schedule : Entries
-  pub position : ℕ
+  pub group : Group
+  pub focus : ℕ
 
-abbrev pub first_view : Program → Entries → View
-first_view p schedule = record { program = p; schedule = schedule; position = 0 }
+-- the view before the first command
+abbrev pub first_view : Group → View
+first_view g = record { group = g; focus = 0 }
 
--- the same run at another position
+-- the same view of another position
 abbrev pub view_at : ℕ → View → View
-view_at n v = record v { position = n }
+view_at n v = record v { group = group_at n v.group }
 
-abbrev pub entries_in : View → List ℕ
-entries_in v = v.schedule.list
+-- the same position, with another focus
+abbrev pub focus_on : ℕ → View → View
+focus_on i v = record v { focus = i }
 
--- the state at the view's position, by running from the start
-abbrev pub state_in : View → State
-state_in v = run v.program (entries_in v) v.position
+-- the top frame of the focus; none where it is finished
+abbrev pub focus_frame : View → Option Frame
+focus_frame v = top_of (state_in v.group) v.focus
 
-abbrev pub end_in : View → ℕ
-end_in v = end_of v.program (entries_in v)
-
--- why the run ends here; none where it goes on
-abbrev pub end_cause_in : View → Option EndCause
-end_cause_in v = if v.position == end_in v then cause_at v.program (entries_in v) v.position else None
+-- ---- where motions lead
 
 -- the position that a number names: the end where it is past it
 abbrev pub goto_target : View → ℕ → ℕ
-goto_target v n = min n (end_in v)
+goto_target v n = min n (end_in v.group)
+
+-- so many events forward: the end where that is past it
+abbrev pub fwd_target : View → ℕ → ℕ
+fwd_target v n = min (v.group.position + n) (end_in v.group)
+
+-- so many events back: the start where fewer were made
+abbrev pub back_target : View → ℕ → ℕ
+back_target v n = v.group.position - n

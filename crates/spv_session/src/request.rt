@@ -17,6 +17,14 @@ pub enum Request {
     Nothing,
     /// A motion to this position, or to the end where that comes first.
     Goto(u32),
+    /// A motion by so many events forward, at least one, or to the end where that comes first.
+    Fwd(u32),
+    /// A motion by so many events back, at least one, or to the start where that comes first.
+    Back(u32),
+    /// How far each invocation is.
+    Group,
+    /// Another focus: this invocation.
+    Focus(u32),
     /// The registers of the focus.
     Regs,
     /// The end of the session.
@@ -31,10 +39,14 @@ fn is_built(keyword: Keyword) -> bool
     ensures { result ≡ is_built (spelling keyword) }
 {
     match keyword {
-        Keyword::Goto | Keyword::Regs | Keyword::Quit => true,
-        Keyword::Fwd
+        Keyword::Goto
+        | Keyword::Fwd
         | Keyword::Back
-        | Keyword::Stepi
+        | Keyword::Group
+        | Keyword::Focus
+        | Keyword::Regs
+        | Keyword::Quit => true,
+        Keyword::Stepi
         | Keyword::Rstepi
         | Keyword::Step
         | Keyword::Next
@@ -45,8 +57,6 @@ fn is_built(keyword: Keyword) -> bool
         | Keyword::Continue
         | Keyword::Rcontinue
         | Keyword::Where
-        | Keyword::Group
-        | Keyword::Focus
         | Keyword::Bt
         | Keyword::Frame
         | Keyword::Locals
@@ -69,6 +79,10 @@ impl Request {
         match command {
             Command::Empty => Some(Request::Nothing),
             Command::Goto(n) => Some(Request::Goto(*n)),
+            Command::Fwd(count) => Some(Request::Fwd(count.get())),
+            Command::Back(count) => Some(Request::Back(count.get())),
+            Command::Group => Some(Request::Group),
+            Command::Focus(inv) => Some(Request::Focus(*inv)),
             Command::Regs => Some(Request::Regs),
             Command::Quit => Some(Request::Quit),
             _ => None,

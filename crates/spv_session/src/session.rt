@@ -1,21 +1,27 @@
 //! A group and the replies to lines of input.
-ghost use Rattle.std.specs.Prelude.{◌≡◌, ℕ, ◌≤◌, ◌+◌, ◌++◌, false, List, All, IfOk, OnOk, OnErr, vec_len, if◌then◌else◌};
+ghost use Rattle.std.specs.Prelude.{◌≡◌, ℕ, ◌==◌, ◌<◌, ◌≤◌, ◌+◌, ◌++◌, ◌&&◌, ◌⊎◌, List, All, IfOk, Ok, Some, OnOk, OnErr, vec_len, if◌then◌else◌};
 ghost use Rattle.spv_base.specs.Prefix.{IsPrefixOf};
-ghost use Rattle.spv_session.specs.Costs.{request_cost, line_cost};
-ghost use Rattle.spv_session.specs.Reply.{reply, reply_to, is_quit, is_quit_request, is_motion, IsRefused, focus_frame, registers_reply, stop_reply};
+ghost use Rattle.spv_group.specs.Group.{end_in, group_at, invocations_in};
+ghost use Rattle.spv_session.specs.Costs.{goto_cost, request_cost, line_cost};
+ghost use Rattle.spv_session.specs.Reply.{reply, reply_to, is_quit, is_quit_request, focus_reply, group_reply, invocation_reply, IsRefused, place_reply, refusal_by, registers_reply, stop_reply};
 ghost use Rattle.spv_session.specs.Texts.{refusal_line};
-ghost use Rattle.spv_session.specs.View.{view_at, end_in};
+ghost use Rattle.spv_session.specs.View.{first_view, focus_frame, focus_on, goto_target, view_at};
+ghost use Rattle.spv_session.specs.declared.request.Request.TheVariants as asked;
 ghost use Rattle.spv_session.specs.declared.session.Next.TheVariants as answers;
 
-use crate::group::Group;
+use crate::motions::{Aim, go_to};
 use crate::registers::push_registers;
 use crate::request::Request;
-use crate::texts::{push_position, push_stop, refusal_line};
+use crate::texts::{push_invocation, push_position, push_stop, refusal_line};
 use spv_base::{CmdRefusal, Fail, NoMemory, Probe, Steps};
+use spv_group::Group;
 use spv_state::laws::top_frames_are_sound;
 use std::alloc::Global;
 use std::marker::Model;
 use std::sync::ledger::Ledger;
+
+/// The command names an invocation that doesn't exist.
+const NO_SUCH_INVOCATION: CmdRefusal = CmdRefusal { code: 3 };
 
 /// The command asks for the frame of a finished invocation.
 const FOCUS_FINISHED: CmdRefusal = CmdRefusal { code: 12 };
@@ -27,39 +33,46 @@ pub enum Next {
     Quit,
 }
 
-/// A group, about which lines of input ask.
+/// A group, about which lines of input ask, and the invocation that replies speak of.
 #[derive(Drop)]
 pub struct Session {
     alloc: Global,
     group: Group,
+    focus: u32,
 }
 
 impl Model for Session {
-    ghost use Rattle.std.specs.Prelude.{◌≤◌};
-    ghost use Rattle.spv_session.specs.View.{View, end_in};
+    ghost use Rattle.std.specs.Prelude.{◌≤◌, ◌<◌};
+    ghost use Rattle.spv_group.specs.Group.{end_in, invocations_in};
+    ghost use Rattle.spv_session.specs.View.{View};
 
     ghost Value = { View };
 
-    ghost view = { λ s. s.group };
+    ghost view = { λ s. record { group = s.group; focus = s.focus } };
 
-    ghost invariant = { λ s. s.group.position ≤ end_in s.group };
+    ghost invariant = { λ s. (s.group.position ≤ end_in s.group) × (s.focus < invocations_in s.group) };
 }
 
 impl Session {
-    /// A session over a group at its start. The probes are dropped at once.
+    /// A session over a group at its start, with the invocation 0 as its focus. The probes are dropped at once.
     pub fn open(alloc: Global, group: Group, kit: Vec<Box<dyn Probe>>) -> Result<Session, NoMemory>
         requires position { group.position ≡ 0 }
         requires few { vec_len kit ≤ 16 }
         requires unused { All (λ p. tally p ≡ 0) kit.items }
-        ensures { IfOk result (λ s. s ≡ group) }
+        ensures { IfOk result (λ s. s ≡ first_view group) }
     {
         drop(kit);
-        Ok(Session { alloc, group })
+        let _invocations = group.invocations();
+        Ok(Session {
+            alloc,
+            group,
+            focus: 0,
+        })
     }
 
     /// Answers a line: appends the reply. Only a motion takes steps: to a position before it one for each event from the start on,
-    /// to a later one as many as it goes forth, and one more where the end comes first. After want of memory a front of the reply was appended, and the group is at some
-    /// position of its run.
+    /// to a later one as many as it goes forth, and one more where the end comes first. After want of memory a front of the reply
+    /// was appended, the group is at some position of its run, and the focus is the old one or the reply's.
     #[tactic(auto, unfolding(crate::specs::Reply::reply, crate::specs::Reply::is_quit, crate::specs::Reply::refusal_of, crate::specs::Costs::line_cost))]
     pub fn command<L: Ledger>(
         &mut self,
@@ -71,8 +84,9 @@ impl Session {
         ensures view { OnOk result (self.new ≡ (reply self.old line.now).1) }
         ensures next { IfOk result (λ next. next ≡ (if is_quit line.now then answers.Quit else answers.Go)) }
         ensures front { OnErr result ((text : List ℕ) × (out.new.items ≡ out.old.items ++ text) × IsPrefixOf text (reply self.old line.now).0) }
-        ensures kept { self.new ≡ view_at self.new.position self.old }
-        ensures within { self.new.position ≤ end_in self.old }
+        ensures group { self.new.group ≡ group_at self.new.group.position self.old.group }
+        ensures focus { (self.new.focus ≡ self.old.focus) ⊎ (self.new.focus ≡ (reply self.old line.now).1.focus) }
+        ensures within { self.new.group.position ≤ end_in self.old.group }
         ensures refused { (code : ℕ) → IsRefused self.old line.now code
             → (self.new ≡ self.old) × OnOk result (out.new.items ≡ out.old.items ++ refusal_line code) }
         ensures counted { steps.old ≤ steps.new }
@@ -99,45 +113,111 @@ impl Session {
         ensures text { OnOk result (text.new.items ≡ text.old.items ++ (reply_to self.old request).0) }
         ensures view { OnOk result (self.new ≡ (reply_to self.old request).1) }
         ensures next { IfOk result (λ next. next ≡ (if is_quit_request request then answers.Quit else answers.Go)) }
-        ensures kept { self.new ≡ view_at self.new.position self.old }
-        ensures within { self.new.position ≤ end_in self.old }
-        ensures still { is_motion request ≡ false → self.new ≡ self.old }
+        ensures group { self.new.group ≡ group_at self.new.group.position self.old.group }
+        ensures focus { OnErr result (self.new.focus ≡ self.old.focus) }
+        ensures within { self.new.group.position ≤ end_in self.old.group }
+        ensures refused { (code : ℕ) → refusal_by self.old request ≡ Some code → self.new ≡ self.old }
         ensures counted { steps.old ≤ steps.new }
         ensures cost { steps.new ≤ steps.old + request_cost self.old request }
     {
+        let from = self.group.position();
         match request {
             Err(refusal) => text.extend_from_slice(refusal_line(refusal))?,
             Ok(Request::Nothing) => {}
             Ok(Request::Quit) => return Ok(Next::Quit),
             Ok(Request::Regs) => self.push_registers(text)?,
-            Ok(Request::Goto(asked)) => {
-                self.group.goto(asked as u64, steps)?;
-                self.push_stop(text, asked as u64)?;
-            }
+            Ok(Request::Group) => self.push_group(text)?,
+            Ok(Request::Focus(inv)) => self.look_at(inv, text)?,
+            Ok(Request::Goto(position)) => self.go(Aim::at(position), text, steps)?,
+            Ok(Request::Fwd(count)) => self.go(Aim::forward(from, count), text, steps)?,
+            Ok(Request::Back(count)) => self.go(Aim::back(from, count), text, steps)?,
         }
         Ok(Next::Go)
     }
 
-    /// Appends the registers of the invocation 0.
+    /// Goes where a motion is asked to lead, and appends why it stopped.
+    fn go<L: Ledger>(
+        &mut self,
+        aim: Aim,
+        text: &mut Vec<u8>,
+        steps: &mut Steps<L>,
+    ) -> Result<(), NoMemory>
+        ensures text { OnOk result (text.new.items ≡ text.old.items ++ stop_reply (aim.exact && self.new.group.position == aim.position) self.new) }
+        ensures view { OnOk result (self.new ≡ view_at (goto_target self.old aim.position) self.old) }
+        ensures kept { self.new ≡ view_at self.new.group.position self.old }
+        ensures within { self.new.group.position ≤ end_in self.old.group }
+        ensures counted { steps.old ≤ steps.new }
+        ensures cost { steps.new ≤ steps.old + goto_cost self.old.group aim.position }
+    {
+        go_to(&mut self.group, aim.position, steps)?;
+        let done = aim.exact && self.group.position() == aim.position;
+        self.push_stop(text, done)
+    }
+
+    /// Makes an invocation the focus, and appends where it stands; or a refusal, where there is no such invocation.
+    fn look_at(&mut self, inv: u32, text: &mut Vec<u8>) -> Result<(), NoMemory>
+        ensures text { OnOk result (text.new.items ≡ text.old.items ++ (focus_reply self.old inv).0) }
+        ensures view { OnOk result (self.new ≡ (focus_reply self.old inv).1) }
+        ensures kept { OnErr result (self.new ≡ self.old) }
+        ensures group { self.new.group ≡ self.old.group }
+        ensures refused { (code : ℕ) → refusal_by self.old (Ok (asked.Focus inv)) ≡ Some code → self.new ≡ self.old }
+    {
+        if inv >= self.group.invocations() {
+            text.extend_from_slice(refusal_line(NO_SUCH_INVOCATION))?;
+            return Ok(());
+        }
+        self.push_place(text, inv)?;
+        self.focus = inv;
+        Ok(())
+    }
+
+    /// Appends the registers of the focus.
     fn push_registers(&self, text: &mut Vec<u8>) -> Result<(), NoMemory>
-        ensures { OnOk result (text.new.items ≡ text.old.items ++ registers_reply self.now.program.accepted (focus_frame self.now)) }
+        ensures { OnOk result (text.new.items ≡ text.old.items ++ registers_reply self.now.group.program.accepted (focus_frame self.now)) }
     {
         top_frames_are_sound();
-        match self.group.world().whole().top(0) {
+        match self.group.world().whole().top(self.focus) {
             None => text.extend_from_slice(refusal_line(FOCUS_FINISHED))?,
             Some(frame) => push_registers(self.alloc, text, self.group.module(), frame)?,
         }
         Ok(())
     }
 
-    /// Appends why a motion to a position stopped where the group is, and the position line.
-    fn push_stop(&self, text: &mut Vec<u8>, asked: u64) -> Result<(), NoMemory>
-        ensures { OnOk result (text.new.items ≡ text.old.items ++ stop_reply asked self.now) }
+    /// Appends the line of each invocation, in the order of their numbers.
+    fn push_group(&self, text: &mut Vec<u8>) -> Result<(), NoMemory>
+        ensures { OnOk result (text.new.items ≡ text.old.items ++ group_reply self.now.group) }
     {
-        let position = self.group.position();
+        for inv in 0..self.group.invocations() {
+            self.push_invocation(text, inv)?;
+        }
+        Ok(())
+    }
+
+    /// Appends how far an invocation is, and where it stands.
+    fn push_invocation(&self, text: &mut Vec<u8>, inv: u32) -> Result<(), NoMemory>
+        requires { inv < invocations_in self.now.group }
+        ensures { OnOk result (text.new.items ≡ text.old.items ++ invocation_reply self.now.group inv) }
+    {
+        let status = self.group.status(inv);
+        let top = self.group.world().whole().top(inv);
+        push_invocation(self.alloc, text, inv, status, top)
+    }
+
+    /// Appends the position, and where an invocation stands there.
+    fn push_place(&self, text: &mut Vec<u8>, inv: u32) -> Result<(), NoMemory>
+        requires { inv < invocations_in self.now.group }
+        ensures { OnOk result (text.new.items ≡ text.old.items ++ place_reply (focus_on inv self.now)) }
+    {
+        let top = self.group.world().whole().top(inv);
+        push_position(self.alloc, text, self.group.position(), inv, top)
+    }
+
+    /// Appends why a motion stopped where the group is, and where the focus stands.
+    fn push_stop(&self, text: &mut Vec<u8>, done: bool) -> Result<(), NoMemory>
+        ensures { OnOk result (text.new.items ≡ text.old.items ++ stop_reply done self.now) }
+    {
         let cause = self.group.end_cause()?;
-        push_stop(self.alloc, text, position == asked, position == 0, cause)?;
-        let top = self.group.world().whole().top(0);
-        push_position(self.alloc, text, position, top)
+        push_stop(self.alloc, text, done, self.group.position() == 0, cause)?;
+        self.push_place(text, self.focus)
     }
 }

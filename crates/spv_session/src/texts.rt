@@ -1,8 +1,8 @@
 //! The texts of replies.
 ghost use Rattle.std.specs.Prelude.{◌≡◌, ◌++◌, OnOk, decimal, option_copied};
-ghost use Rattle.spv_session.specs.Texts.{refusal_line, place_text, position_line, cause_text, stop_line};
+ghost use Rattle.spv_session.specs.Texts.{refusal_line, place_text, position_line, standing_text, invocation_line, cause_text, stop_line};
 
-use spv_base::{CmdRefusal, EndCause, NoMemory};
+use spv_base::{CmdRefusal, EndCause, NoMemory, Status4};
 use spv_frame::Frame;
 use std::alloc::Global;
 
@@ -50,19 +50,61 @@ fn push_place(alloc: Global, text: &mut Vec<u8>, top: Option<&Frame>) -> Result<
     push_number(alloc, text, frame.pc() as u64)
 }
 
-/// Appends the position line.
+/// Appends the line that tells the position, and where an invocation with this top frame stands there.
 pub fn push_position(
     alloc: Global,
     text: &mut Vec<u8>,
     position: u64,
+    inv: u32,
     top: Option<&Frame>,
 ) -> Result<(), NoMemory>
-    ensures { OnOk result (text.new.items ≡ text.old.items ++ position_line position (option_copied top.entry)) }
+    ensures { OnOk result (text.new.items ≡ text.old.items ++ position_line position inv (option_copied top.entry)) }
 {
     text.extend_from_slice(b"@")?;
     push_number(alloc, text, position)?;
-    text.extend_from_slice(b" i=0 ")?;
+    text.extend_from_slice(b" i=")?;
+    push_number(alloc, text, inv as u64)?;
+    text.extend_from_slice(b" ")?;
     push_place(alloc, text, top)?;
+    text.extend_from_slice(b"\n")?;
+    Ok(())
+}
+
+/// Appends how far an invocation is, and where it stands with this top frame.
+fn push_standing(
+    alloc: Global,
+    text: &mut Vec<u8>,
+    status: Status4,
+    top: Option<&Frame>,
+) -> Result<(), NoMemory>
+    ensures { OnOk result (text.new.items ≡ text.old.items ++ standing_text status (option_copied top.entry)) }
+{
+    match status {
+        Status4::Ready => text.extend_from_slice(b"ready ")?,
+        Status4::Arrived => text.extend_from_slice(b"arrived ")?,
+        Status4::Passed => text.extend_from_slice(b"passed ")?,
+        Status4::Finished => {
+            text.extend_from_slice(b"finished")?;
+            return Ok(());
+        }
+    }
+    push_place(alloc, text, top)
+}
+
+/// Appends the line of an invocation that has this status and top frame.
+pub fn push_invocation(
+    alloc: Global,
+    text: &mut Vec<u8>,
+    inv: u32,
+    status: Status4,
+    top: Option<&Frame>,
+) -> Result<(), NoMemory>
+    ensures { OnOk result (text.new.items ≡ text.old.items ++ invocation_line inv status (option_copied top.entry)) }
+{
+    text.extend_from_slice(b"i=")?;
+    push_number(alloc, text, inv as u64)?;
+    text.extend_from_slice(b" ")?;
+    push_standing(alloc, text, status, top)?;
     text.extend_from_slice(b"\n")?;
     Ok(())
 }

@@ -20,4 +20,4 @@ returns-in-Err-open-clause-debugged g c = Unopened _ (inr (inr (refl, inr (inr (
 
 pub returns-clause-debugged : goal.returns-clause-debugged
 returns-clause-debugged g c =
-    Opened _ c.in-Ok.pair.0.items c.in-Ok.pair.1.items c.in-Ok-open-2.session (c.in-Ok.ensures.asked refl) c.in-Ok.ensures.pair (rw (← c.in-Ok-open-2.ensures) at c.in-Ok-open.ensures.opening) c.run.ensures.ran
+    Opened _ c.in-Ok.pair.0.items c.in-Ok.pair.1.items c.in-Ok-open.group (c.in-Ok.ensures.asked refl) c.in-Ok.ensures.pair c.in-Ok-open.ensures.opening (rw c.in-Ok-open-2.ensures at c.run.ensures.ran)

@@ -1,4 +1,4 @@
-use Rattle.std.proofs.Common.{◌≡◌, ◌∙◌, ℕ, Option, Some, ap, subst, sym}
+use Rattle.std.proofs.Common.{◌∙◌, ℕ, Option, Some, ap, subst, sym}
 use Rattle.spv_base.specs.declared.values.Value.{Value}
 use Rattle.spv_frame.specs.Registers.{Planned, ids, number_of}
 use Rattle.spv_valid.specs.Acceptance.{Accepted, IsAccepted}

@@ -8,7 +8,7 @@ pub returns-clause-request : goal.returns-clause-request
 returns-clause-request c line request h = line_is_asked c.keywords_differ.ensures line request h
 
 pub returns-clause-refused : goal.returns-clause-refused
-returns-clause-refused c line code h = refused_is_unknown c.keywords_differ.ensures line code h
+returns-clause-refused c line code h = refused_is_unknown line code h
 
 pub returns-clause-unknown : goal.returns-clause-unknown
 returns-clause-unknown c line h = unknown_is_refused line h

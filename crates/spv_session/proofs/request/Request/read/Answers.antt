@@ -1,7 +1,4 @@
-use Rattle.std.proofs.Common.{◌≡◌, true, false, not, Some, sym, ap, ◌∙◌}
-use Rattle.spv_cmd.specs.Grammar.{spelling}
-use Rattle.spv_cmd.specs.Answers.{BeginsWith}
-use Rattle.spv_session.specs.Requests.{is_built}
+use Rattle.std.proofs.Common.{sym, ◌∙◌}
 use Rattle.spv_session.proofs.Request_lemmas.{first_refused, no_words, not_built, asks, not_none, passes_refusal, passes_error}
 use Rattle.spv_session.proofs.request.Request.read.Goals as goal
 

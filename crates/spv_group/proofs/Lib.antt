@@ -1,0 +1,2 @@
+pub mod Positions_lemmas
+pub mod Runs

@@ -1,0 +1,14 @@
+use Rattle.std.proofs.Common.{◌≡◌, ◌≤◌, ◌+◌, ◌-◌, max}
+use Rattle.spv_group.specs.Motion.{IsRun}
+use Rattle.spv_group.proofs.run.Run.run_to.Given as goal
+
+abbrev pub invariant-up : goal.invariant-up
+invariant-up g l = record {
+  run : IsRun l.m l.schedule l.self.world l.self.position l.self.last;
+  later : l.fn.self.position ≤ l.self.position;
+  until : l.self.position ≤ max l.fn.self.position l.target;
+  counted : l.steps ≡ l.fn.steps + (l.self.position - l.fn.self.position);
+}
+
+abbrev pub decreases-up : goal.decreases-up
+decreases-up g l = l.target - l.self.position

@@ -1,0 +1,5 @@
+pub mod Positions
+pub mod Run
+pub mod Group
+pub mod Motion
+pub mod Costs

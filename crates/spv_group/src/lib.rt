@@ -1,0 +1,11 @@
+//! A run of a workgroup that goes forth and back along its schedule: where it stands, and why it ends.
+#![tactic(auto)]
+
+mod ends;
+mod group;
+mod motion;
+mod run;
+
+pub use ends::end_is_least;
+pub use group::Group;
+pub use motion::{Back, Forth};
