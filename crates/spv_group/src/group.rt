@@ -90,6 +90,7 @@ impl Group {
         ensures count { result ≡ invocations_in self.now }
         ensures some { 0 < result }
     {
+        runs_start_with_all();
         let accepted = self.module.accepted();
         let _insts = accepted.insts();
         invocations(accepted)
