@@ -15,9 +15,9 @@ ghost use Rattle.spv_session.specs.Texts.{ascending, register_text, registers_te
 use crate::texts::push_number;
 use spv_base::{NoMemory, Pointer, Text};
 use spv_frame::Frame;
-use spv_machine::Runnable;
 use spv_plans::laws::registers_have_types;
 use spv_show::{pointer_text, value_text};
+use spv_state::Runnable;
 use spv_values::Part;
 use std::alloc::Global;
 use std::collections::BTreeMap;
