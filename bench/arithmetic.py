@@ -4,11 +4,12 @@
     bench/arithmetic.py     writes crates/spv_runs/data/ and crates/spv_runs/stdout
 
 Each module has one block of instructions of one group over constants: the operands and results of bench/lanes.py, each lane
-once as a scalar and, four of one width together, as a vector; and composites, whose results stand here. Opcodes are those of
-SPIR-V 1.6, sections 3.42.11 to 3.42.15.
+once as a scalar and, four of one width together, as a vector; composites, whose results stand here; and atomics (bench/atomics.py).
+Opcodes are those of SPIR-V 1.6, sections 3.42.11 to 3.42.15 and 3.42.18.
 """
 import os
 import struct
+import atomics as atomic_rows
 import lanes
 
 TOP = os.path.join(os.path.dirname(os.path.abspath(__file__)), "..")
@@ -34,17 +35,18 @@ def row(texts):
 class Module:
     """The words of a module of one function of one block, and the registers that it ends with."""
 
-    def __init__(self):
+    def __init__(self, capabilities=(), interface=0):
         self.head, self.types, self.body = [], [], []
         self.known, self.registers, self.events = {}, [], 0
         self.last = 0
-        for capability in (1, 11, 22, 39):
+        for capability in (1, 11, 22, 39, *capabilities):
             self.put(self.head, 17, capability)
         self.glsl = self.new()
         self.put(self.head, 11, self.glsl, *self.text("GLSL.std.450"))
         self.put(self.head, 14, 0, 1)
         self.main = self.new()
-        self.put(self.head, 15, 5, self.main, *self.text("main"))
+        self.interface = [self.new() for _ in range(interface)]
+        self.put(self.head, 15, 5, self.main, *self.text("main"), *self.interface)
         self.put(self.head, 16, self.main, 17, 1, 1, 1)
         self.void = self.declared(19)
         self.function = self.declared(33, self.void)
@@ -98,6 +100,11 @@ class Module:
         self.registers.append((id, text))
         self.events += 1
         return id
+
+    def do(self, op, *operands):
+        """An instruction without a result."""
+        self.put(self.body, op, *operands)
+        self.events += 1
 
     def skip(self, op, *operands):
         """An instruction that is passed within an event."""
@@ -255,8 +262,13 @@ def composites():
     return m
 
 
+def atomics():
+    """Atomics with defined and undefined values in memory and operands, and a barrier of memory."""
+    return atomic_rows.module(Module((12,), len(atomic_rows.WIDTHS)), shown)
+
+
 def main():
-    groups = [unary, binary, extended, glsl, fields, selections, composites]
+    groups = [unary, binary, extended, glsl, fields, selections, composites, atomics]
     os.makedirs(os.path.join(FOLDER, "data"), exist_ok=True)
     out = ""
     for group in groups:

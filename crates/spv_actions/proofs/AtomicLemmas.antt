@@ -24,7 +24,6 @@ use Rattle.spv_types.specs.Shapes.{HasShape, IsScalar, LeadsTo, reached, scalar_
 use Rattle.spv_types.specs.Types.{Types, form_of}
 use Rattle.spv_types.proofs.ShapeLemmas.{shapes_are_by_forms}
 use Rattle.spv_alu.specs.Integers.{IsWidth}
-use Rattle.spv_bodies.specs.Atomics.{KeepsAtomicCompare, KeepsAtomicRead, KeepsAtomicStore, KeepsAtomicUpdate}
 use Rattle.spv_bodies.specs.Bodies.{KeepsRule}
 use Rattle.spv_bodies.specs.Context.{HasType, IsPointerTo, PointsTo, form_at, type_at}
 use Rattle.spv_bodies.specs.Rules.{atomic_rule, composite_rule, control_rule, memory_rule, other_rule, rule_of}
@@ -196,18 +195,6 @@ scalar_operand a d n v sound integer operand =
     some_scalar (Some c) h = refl
 
 -- ---- by the rules
-
-pub read_leads : (a : Accepted) (d : Inst) → KeepsAtomicRead (known a) d → LeadsToInteger a d
-read_leads a d rule = (rule.0, rule.1, rule.2.0)
-
-pub store_leads : (a : Accepted) (d : Inst) → KeepsAtomicStore (known a) d → LeadsToInteger a d
-store_leads a d rule = (rule.0, rule.1, rule.2.0)
-
-pub update_leads : (a : Accepted) (d : Inst) → KeepsAtomicUpdate (known a) d → LeadsToInteger a d
-update_leads a d rule = (rule.0, rule.1, rule.2.0)
-
-pub compare_leads : (a : Accepted) (d : Inst) → KeepsAtomicCompare (known a) d → LeadsToInteger a d
-compare_leads a d rule = (rule.0, rule.1, rule.2.0)
 
 -- an operand of the type to which the pointer leads is an integer
 pub integer_at : (a : Accepted) (d : Inst) (n : ℕ) (rule : LeadsToInteger a d) → HasType (known a) d n rule.0.target → IsIntegerAt a d n

@@ -1,12 +1,12 @@
 -- Pointers and other values, by the types of their operands.
-use Rattle.std.proofs.Common.{◌≡◌, ◌∙◌, ◌⊎◌, inl, inr, ℕ, Bool, true, false, cond, Option, Some, None, refl, sym, ap, subst, arith, rules}
+use Rattle.std.proofs.Common.{◌≡◌, ◌∙◌, ◌⊎◌, inl, inr, ℕ, Bool, true, false, cond, Option, Some, None, refl, sym, ap, subst, arith}
 use Rattle.std.proofs.lemmas.Bool.{both_ways}
 use Rattle.std.specs.Option.{IsSomeAnd, is_some, option_map}
 use Rattle.std.specs.Prelude.{if◌then◌else◌}
 use Rattle.spv_base.specs.declared.instructions.Inst.{Inst}
 use Rattle.spv_base.specs.declared.values.Pointer.{Pointer as Reference}
 use Rattle.spv_base.specs.declared.values.Root.{Root}
-use Rattle.spv_base.specs.declared.values.Value.{Value, Ptr, out-Value, the_lemmas}
+use Rattle.spv_base.specs.declared.values.Value.{Value, Ptr, out-Value}
 use Rattle.spv_base.specs.declared.values.Value.TheOpen.{Value-F}
 use Rattle.spv_types.specs.declared.forms.Form.{Form}
 use Rattle.spv_types.specs.declared.forms.Form.TheVariants.{Void, Bool as Boolean, Int, Vector, Array, Runtime, Struct, Pointer, Function}
@@ -28,9 +28,6 @@ use Rattle.spv_actions.specs.Sites.{IsShaped}
 use Rattle.spv_actions.proofs.KeepsFrames.{pointer_by}
 
 -- ---- values
-
-pointer_by : (v : Value) (q : Reference) → out-Value v ≡ Value-F.Ptr q → v ≡ Ptr q
-pointer_by v q e = search (rules, the_lemmas)
 
 pub pointer_is : (v : Value) (q : Reference) → pointer_of v ≡ Some q → v ≡ Ptr q
 pointer_is v q h = pointer_by v q (by_level (out-Value v) h)

@@ -207,9 +207,12 @@ fn store(site: &Site, row: &mut Row) -> Result<Effect, Fail<Cause>>
     ensures fits { PlannedFits site.now.program site.now.state site.now.inv site.now.inst row.new result }
     ensures taken { IfOk result (λ e. IsTaken site.now.state site.now.inv e row.new) }
 {
+    variables_are_shaped(site.memory());
+    let _insts = site.accepted().insts();
     let at = first_of_three(site)?;
     let value = scalar(site, 3)?;
     let (place, _old) = target(site, &at)?;
+    is_lane(value);
     put(value, row)?;
     Ok(Effect {
         store: Some(place),

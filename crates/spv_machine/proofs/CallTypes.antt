@@ -1,4 +1,4 @@
--- A call takes what the function that it names returns (SPIR-V 1.6 section 3.42.9, OpFunctionCall), and an executable stands behind it.
+-- A call takes what the function that it names returns (SPIR-V 1.6 section 3.42.9, OpFunctionCall).
 use Rattle.std.proofs.Common.{◌≡◌, ◌≢◌, ◌∙◌, ℕ, zero, suc, ◌==◌, Bool, true, false, cond, List, [], ◌∷◌, Option, Some, None, drop, length, not, slice_get, refl, sym, ap, subst}
 use Rattle.std.proofs.Math.Logic.{∥∥₁_elim}
 use Rattle.std.proofs.Props.{props}
@@ -8,12 +8,11 @@ use Rattle.std.specs.Coded.{codes}
 use Rattle.std.specs.Prelude.{find, if◌then◌else◌}
 use Rattle.std.specs.List.{AllByRecursion}
 use Rattle.std.specs.Option.{option_and_then}
-use Rattle.spv_base.specs.Entries.{reads}
 use Rattle.spv_base.specs.declared.instructions.Inst.{Inst}
 use Rattle.spv_ops.specs.Forms.{row_of}
 use Rattle.spv_ops.specs.Module.{Decoded}
 use Rattle.spv_ops.specs.Opcodes.{table}
-use Rattle.spv_index.specs.Classes.{class_of, is_terminator, sets_of}
+use Rattle.spv_index.specs.Classes.{class_of, is_terminator}
 use Rattle.spv_index.specs.Definitions.{at, before_functions, defining, has_result, is_id, result_type, type_in}
 use Rattle.spv_index.specs.Operands.{id_operand}
 use Rattle.spv_index.specs.Positions.{stands_of}
@@ -23,7 +22,9 @@ use Rattle.spv_types.specs.declared.forms.Form.{Form}
 use Rattle.spv_types.specs.declared.forms.Form.TheVariants.{Function}
 use Rattle.spv_bodies.specs.Bodies.{KeepsBody, KeepsRule}
 use Rattle.spv_bodies.specs.Calls.{KeepsCall, KeepsFunction, callee_form, form_by, function_form}
-use Rattle.spv_bodies.specs.Places.{Placed, nowhere}
+use Rattle.spv_bodies.specs.Context.{Known}
+use Rattle.spv_bodies.specs.Places.{Placed, nowhere, place, placed_from, within_after}
+use Rattle.spv_bodies.specs.declared.within.Within.{Within}
 use Rattle.spv_bodies.specs.Rules.{atomic_rule, composite_rule, control_rule, memory_rule, other_rule, rule_of}
 use Rattle.spv_bodies.specs.declared.rules.Rule.{Rule}
 use Rattle.spv_bodies.specs.declared.rules.Rule.TheVariants.{Control}
@@ -32,12 +33,16 @@ use Rattle.spv_valid.specs.Acceptance.{Accepted, IsAccepted, decoded_in}
 use Rattle.spv_valid.specs.Validity.{IsValid}
 use Rattle.spv_results.specs.Operands.{known}
 use Rattle.spv_state.specs.Sound.{StandsIn}
-use Rattle.spv_state.proofs.Known.{IsKnown, known as known_in}
+use Rattle.spv_state.proofs.Known.{IsKnown}
 use Rattle.spv_state.proofs.Lists.{each_at}
 use Rattle.spv_state.proofs.Standing.{Standing, at_standing, standing}
-use Rattle.spv_actions.proofs.RunLemmas.{IsKept, Runs, each_kept, runs_there}
+use Rattle.spv_actions.proofs.RunLemmas.{IsKept, Runs, runs_there}
 
 -- ---- the rule of a function
+
+each_kept : (k : Known) (w : Within) (is : List Inst) → AllByRecursion (KeepsBody k) (placed_from w is) → AllByRecursion (IsKept k) is
+each_kept k w [] kept = tt
+each_kept k w (i ∷ is) kept = (record { placed = place i w is; same = refl; keeps = kept.0 }, each_kept k (within_after w i) is kept.1)
 
 first_kept : (a : Accepted) (is : List Inst) (n : ℕ) (i : Inst) → AllByRecursion (IsKept (known a)) (drop (length (before_functions is)) is) → slice_get is n ≡ Some i → i.op ≡ 54 → IsKept (known a) i
 unfolding before_functions
@@ -144,20 +149,11 @@ module _ (a : Accepted) (accepted : IsAccepted a) (valid : IsValid a) (known_a :
 
 -- ---- the same of what is known to be there
 
--- a call, by its function
-pub record IsCallTo (a : Accepted) (called : ℕ) (c : Inst) : Type 0 where
-  pub returned : result_type a.insts called ≡ Some c.ty
-  pub next : (word : ℕ) × (reads c.word a.flow.nexts ≡ Some (Some word))
-
 pub call_to : (a : Accepted) (function pc called : ℕ) (c : Inst) → ∥ IsAccepted a ∥₁ → ∥ IsValid a ∥₁ → IsKnown a → StandsIn a function pc → at a.insts pc ≡ Some c → c.op ≡ 57 → id_operand c 0 ≡ Some called
     → result_type a.insts called ≡ Some c.ty
 call_to a function pc called c accepted valid known_a stands here op names =
     ∥∥₁_elim accepted (hlevel (props, codes)) (λ (is : IsAccepted a).
     ∥∥₁_elim valid (hlevel (props, codes)) (λ (v : IsValid a). returned_type a is v known_a function pc called c stands here op names))
 
--- an instruction of an opcode that ends no block
-call_goes : (sets : List (ℕ × Bool)) (d : Inst) → d.op ≡ 57 → is_terminator (class_of sets d) ≡ false
+pub call_goes : (sets : List (ℕ × Bool)) (d : Inst) → d.op ≡ 57 → is_terminator (class_of sets d) ≡ false
 call_goes sets d op = rw op refl
-
-pub call_ends_nothing : (a : Accepted) (d : Inst) → d.op ≡ 57 → is_terminator (class_of (sets_of a.insts) d) ≡ false
-call_ends_nothing a d op = call_goes (sets_of a.insts) d op

@@ -84,8 +84,8 @@ one_there f (z ∷ zs) (suc k) x y h one =
 record CallBetween (a : Accepted) (caller called : ℕ) : Type 0 where
   from : ℕ
   to : ℕ
-  caller : reads caller (numbers a) ≡ Some from
-  called : reads called (numbers a) ≡ Some to
+  from_is : reads caller (numbers a) ≡ Some from
+  to_is : reads called (numbers a) ≡ Some to
   among : Contains (calls_of a.insts) (from, to)
 
 call_numbered : (a : Accepted) (f g : Frame) → IsKnown a → IsSoundFrame a f → IsSoundFrame a g → IsCallOf a f.pc g.plan.function → CallBetween a f.plan.function g.plan.function
@@ -102,7 +102,7 @@ call_numbered a f g known sf sg (d, found, op, names) =
     let stage = parts.0 in
     let call : call_of (numbers a) s.stand ≡ (from.0, to.0) ∷ [] = rw (code, stage, own, callee) refl in
     let there = one_there (call_of (numbers a)) (stands_of a.insts) s.one.number s.stand (from.0, to.0) s.one.is call in
-    record { from = from.0; to = to.0; caller = from.1; called = to.1; among = at_contains (calls_of a.insts) there.0 (from.0, to.0) there.1 }
+    record { from = from.0; to = to.0; from_is = from.1; to_is = to.1; among = at_contains (calls_of a.insts) there.0 (from.0, to.0) there.1 }
 
 -- ---- chains of frames
 
@@ -118,8 +118,8 @@ chained : (a : Accepted) (f : Frame) (fs : List Frame) (x : ℕ) → IsKnown a �
 chained a f [] x known sound calls number = ([], tt, refl)
 chained a f (g ∷ fs) x known sound calls number =
     let call : CallBetween a f.plan.function g.plan.function = call_numbered a f g known (sound 0 f refl) (sound 1 g refl) (calls 0 f g refl refl) in
-    let same : call.from ≡ x = let one = call.caller in cc in
-    let rest = chained a g fs call.to known (λ n h at. sound (suc n) h at) (λ n h k at above. calls (suc n) h k at above) call.called in
+    let same : call.from ≡ x = let one = call.from_is in cc in
+    let rest = chained a g fs call.to known (λ n h at. sound (suc n) h at) (λ n h k at above. calls (suc n) h k at above) call.to_is in
     (call.to ∷ rest.0, (subst (λ (n : ℕ). Contains (calls_of a.insts) (n, call.to)) same call.among, rest.1), ap suc rest.2)
 
 -- ---- the longest chain

@@ -1,30 +1,31 @@
--- Control that goes on leaves a sound state: to the next executable, past a barrier, or out of the entry function.
-use Rattle.std.proofs.Common.{◌≡◌, ◌∙◌, ℕ, List, [], ◌∷◌, Some, length-set, slice_get, slice_set, refl, sym, subst, true}
-use Rattle.std.specs.List.{AllZip}
+-- Control that goes on leaves a sound state: to the next executable, or past a barrier.
+use Rattle.std.proofs.Common.{◌≡◌, ◌∙◌, ℕ, zero, suc, ◌<◌, List, [], ◌∷◌, length, Option, Some, None, length-set, slice_get, slice_set, refl, sym, ap, subst, true, false, arith}
+use Rattle.std.specs.Option.{is_some, option_and_then}
 use Rattle.spv_base.specs.Entries.{change, reads}
-use Rattle.spv_base.specs.State.{Roots}
+use Rattle.spv_base.specs.declared.instructions.Inst.{Inst}
+use Rattle.spv_index.specs.Classes.{class_of, is_terminator, sets_of}
+use Rattle.spv_index.specs.Definitions.{at}
 use Rattle.spv_mem.specs.Memory.{Levels}
 use Rattle.spv_frame.specs.Frames.{Held as Frame}
 use Rattle.spv_frame.specs.Stacks.{Stacked, top}
 use Rattle.spv_statuses.specs.declared.invocations.Status.{Status}
-use Rattle.spv_statuses.specs.declared.invocations.Status.TheVariants.{Ready, Passed, Finished}
+use Rattle.spv_statuses.specs.declared.invocations.Status.TheVariants.{Ready, Passed}
 use Rattle.spv_valid.specs.Acceptance.{Accepted}
-use Rattle.spv_state.specs.Program.{Program, is_built}
-use Rattle.spv_state.specs.Sound.{HasVariables, IsSound, IsSoundFrame, IsSoundStack, StandsAs, StandsIn}
-use Rattle.spv_state.specs.State.{State, on_frame, on_frames, set_status, top_of, with_pc, without_last, without_locals, without_top}
-use Rattle.spv_machine.specs.Step.{go, next_of}
-use Rattle.spv_actions.specs.declared.effects.Control.TheVariants.{Next, Leave}
-use Rattle.spv_machine.proofs.Calls.{no_call}
+use Rattle.spv_state.specs.Program.{Program}
+use Rattle.spv_state.specs.Sound.{IsSound, IsSoundFrame, IsSoundStack, StandsAs, StandsIn}
+use Rattle.spv_state.specs.State.{State, on_frame, on_frames, set_status, top_of, with_pc}
+use Rattle.spv_machine.specs.Step.{go_on, next_of}
 use Rattle.spv_actions.proofs.KeepsFrames.{moved_kept}
 use Rattle.spv_machine.proofs.KeepsStacks.{AreSoundStacks, one_changed, top_kept}
-use Rattle.spv_state.proofs.Known.{IsKnown}
+use Rattle.spv_state.proofs.Known.{IsKnown, goes_on}
 use Rattle.spv_state.proofs.Lists.{change_none, length_change, set_is_change}
-use Rattle.spv_state.proofs.Standing.{next_stands, standing, stands_there}
+use Rattle.spv_state.proofs.Standing.{Standing, at_standing, next_stands, standing, stands_there}
+use Rattle.spv_state.proofs.Stands.{class_is}
 
 -- ---- a sound state after a change of one invocation
 
 -- its status becomes another, its top frame changes
-status_kept : (p : Program) (s : State) (i : ℕ) (u : Status) (g : Frame → Frame) → IsSound p s
+pub status_kept : (p : Program) (s : State) (i : ℕ) (u : Status) (g : Frame → Frame) → IsSound p s
     → ((t : Status) (k : Stacked) (l : Levels) → slice_get s.statuses.list i ≡ Some t → slice_get s.stacks i ≡ Some k → slice_get s.memory.locals i ≡ Some l → IsSoundStack p.accepted t k l
     → IsSoundStack p.accepted u (on_frames g k) l) → IsSound p (set_status i u (on_frame i g s))
 status_kept p s i u g sound changed = record {
@@ -59,11 +60,34 @@ frame_kept p s i g sound changed = record {
 
 -- ---- the top frame of an invocation
 
+pub got : {A : Type 0} (xs : List A) (i : ℕ) → i < length xs → (x : A) × (slice_get xs i ≡ Some x)
+got [] i h = absurd (omega arith)
+got (x ∷ xs) zero h = (x, refl)
+got (x ∷ xs) (suc i) h = got xs i (omega arith)
+
 -- the frames of an invocation with a stack
 pub top_at : (s : State) (i : ℕ) (k : Stacked) (f : Frame) → slice_get s.stacks i ≡ Some k → top k.frames ≡ Some f → top_of s i ≡ Some f
 top_at s i k f at here = rw at here
 
 -- ---- on to the next executable
+
+next_there : (a : Accepted) (pc : ℕ) → goes_on a pc ≡ true → (word : ℕ) × (reads pc a.flow.nexts ≡ Some (Some word))
+next_there a pc h = by_read (reads pc a.flow.nexts) h
+  where
+    by_read : (o : Option (Option ℕ)) → is_some (option_and_then (λ n. n) o) ≡ true → (word : ℕ) × (o ≡ Some (Some word))
+    by_read None g = absurd (cc)
+    by_read (Some None) g = absurd (cc)
+    by_read (Some (Some word)) g = (word, refl)
+
+-- an executable stands behind one that ends no block
+pub stands_before : (a : Accepted) (function pc : ℕ) (d : Inst) → IsKnown a → StandsIn a function pc → at a.insts pc ≡ Some d → is_terminator (class_of (sets_of a.insts) d) ≡ false
+    → (word : ℕ) × (reads pc a.flow.nexts ≡ Some (Some word))
+stands_before a function pc d known stands here ends =
+    let s : Standing a function pc = standing a function pc stands in
+    let same : s.stand.inst ≡ d = let own = at_standing a function pc known s in cc in
+    let goes : is_terminator s.stand.class ≡ false = ap is_terminator (class_is a.insts s.stand s.one ∙ ap (class_of (sets_of a.insts)) same) ∙ ends in
+    let next = next_there a s.stand.inst.word (known.goes_on s.stand s.one s.stops goes) in
+    (next.0, subst (λ (n : ℕ). reads n a.flow.nexts ≡ Some (Some next.0)) s.here next.1)
 
 -- the word of the executable behind the one at a word, which is there
 next_is : (a : Accepted) (pc word : ℕ) → reads pc a.flow.nexts ≡ Some (Some word) → next_of a pc ≡ word
@@ -87,7 +111,7 @@ module _ (p : Program) (known : IsKnown p.accepted) where
 
   -- a Ready invocation goes on
   pub next_kept : (s : State) (i word : ℕ) (f : Frame) → IsSound p s → slice_get s.statuses.list i ≡ Some Ready → top_of s i ≡ Some f → reads f.pc p.accepted.flow.nexts ≡ Some (Some word)
-      → IsSound p (go p.accepted i Next s)
+      → IsSound p (go_on p.accepted i s)
   next_kept s i word f sound ready is next =
       let a = p.accepted in
       let g : Frame → Frame = λ x. with_pc (next_of a x.pc) x in
@@ -98,61 +122,10 @@ module _ (p : Program) (known : IsKnown p.accepted) where
 
   -- a Passed invocation goes on, and is Ready
   pub past_kept : (s : State) (i word : ℕ) (f : Frame) → IsSound p s → slice_get s.statuses.list i ≡ Some Passed → top_of s i ≡ Some f → reads f.pc p.accepted.flow.nexts ≡ Some (Some word)
-      → IsSound p (set_status i Ready (go p.accepted i Next s))
+      → IsSound p (set_status i Ready (go_on p.accepted i s))
   past_kept s i word f sound passed is next =
       let a = p.accepted in
       let g : Frame → Frame = λ x. with_pc (next_of a x.pc) x in
       status_kept p s i Ready g sound (λ t k l status stack level kept.
       let same : Passed ≡ t = cc in
       top_kept a t Ready k l g (λ x. refl) kept (λ e. absurd (cc), λ e. absurd (cc)) (λ x here sx. moved_top s i word k x f is next stack here sx) (λ x here stands. tt))
-
--- ---- out of the entry function
-
-empty_sound : (a : Accepted) (k : Stacked) (l : Levels) → k.room ≡ a.depth → l.room ≡ a.depth → k.frames ≡ [] → l.list ≡ [] → IsSoundStack a Finished k l
-empty_sound a k l room levels frames list = record {
-  room = room;
-  levels = levels;
-  finished = (λ e. frames, λ e. refl);
-  frames = λ depth f at. let none = rw frames at at in absurd (cc);
-  variables = rw (frames, list) tt;
-  first = λ f at. let none = rw frames at at in absurd (cc);
-  calls = λ depth f g at above. let none = rw frames at at in absurd (cc);
-  waits = λ f at. tt;
-}
-
-module _ (p : Program) (known : IsKnown p.accepted) (built : is_built p.accepted ≡ true) where
-  -- a Ready invocation is in one call
-  one_call : (k : Stacked) (l : Levels) → IsSoundStack p.accepted Ready k l → (f : Frame) × (k.frames ≡ f ∷ [])
-  one_call k l s = by_frames k.frames refl
-    where
-      by_frames : (fs : List Frame) → k.frames ≡ fs → (f : Frame) × (k.frames ≡ f ∷ [])
-      by_frames [] e = let done = s.finished.1 e in absurd (cc)
-      by_frames (f ∷ []) e = (f, e)
-      by_frames (f ∷ g ∷ more) e =
-          let first : slice_get k.frames 0 ≡ Some f = rw e refl in
-          let second : slice_get k.frames 1 ≡ Some g = rw e refl in
-          absurd (no_call p.accepted f.plan.function f.pc g.plan.function known built (s.frames 0 f first).stands (s.calls 0 f g first second))
-
-  left_stack : (k : Stacked) (l : Levels) → IsSoundStack p.accepted Ready k l → IsSoundStack p.accepted Finished (without_top k) (without_locals l)
-  left_stack k l s =
-      let one = one_call k l s in
-      empty_sound p.accepted (without_top k) (without_locals l) s.room s.levels (rw one.1 refl) (no_variables one.0 l.list (subst (λ (fs : List Frame). AllZip (HasVariables p.accepted) fs l.list) one.1 s.variables))
-    where
-      no_variables : (f : Frame) (xs : List Roots) → AllZip (HasVariables p.accepted) (f ∷ []) xs → without_last xs ≡ []
-      no_variables f [] h = absurd h
-      no_variables f (x ∷ []) h = refl
-      no_variables f (x ∷ y ∷ xs) h = absurd h.1
-
-  pub left_kept : (s : State) (i : ℕ) → IsSound p s → slice_get s.statuses.list i ≡ Some Ready → IsSound p (go p.accepted i Leave s)
-  left_kept s i sound ready = record {
-    plans = sound.plans;
-    types = sound.types;
-    targets = sound.targets;
-    words = sound.words;
-    stacks = length_change i without_top s.stacks ∙ sound.stacks ∙ sym (length-set s.statuses.list i Finished);
-    levels = length_change i without_locals s.memory.locals ∙ sound.levels ∙ sym (length-set s.statuses.list i Finished);
-    privates = sound.privates ∙ sym (length-set s.statuses.list i Finished);
-    each = subst (λ (ts : List Status). AreSoundStacks p.accepted ts (change i without_top s.stacks) (change i without_locals s.memory.locals)) (sym (set_is_change i Finished s.statuses.list))
-        (one_changed p.accepted i (λ _. Finished) without_top without_locals s.statuses.list s.stacks s.memory.locals sound.each
-        (λ t k l status stack level kept. let same : t ≡ Ready = cc in left_stack k l (subst (λ (u : Status). IsSoundStack p.accepted u k l) same kept)));
-  }

@@ -18,8 +18,7 @@ use Rattle.spv_statuses.specs.declared.invocations.Status.{Status}
 use Rattle.spv_valid.specs.Acceptance.{Accepted}
 use Rattle.spv_state.specs.Program.{Program}
 use Rattle.spv_state.specs.Sound.{HasVariables, IsSound, IsSoundStack}
-use Rattle.spv_state.specs.State.{State}
-use Rattle.spv_machine.specs.Step.{put_store}
+use Rattle.spv_state.specs.State.{State, put_store}
 use Rattle.spv_state.proofs.Entries.{keys_stay}
 use Rattle.spv_state.proofs.Lists.{change_here, change_other, changed_from, length_change}
 

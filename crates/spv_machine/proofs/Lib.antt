@@ -1,6 +1,10 @@
-pub mod Calls
+pub mod CallTypes
+pub mod Depths
 pub mod KeepsStacks
 pub mod KeepsStore
 pub mod KeepsControl
+pub mod KeepsJumps
+pub mod KeepsCalls
+pub mod KeepsBarriers
 pub mod ReachedLemmas
 pub mod Outcomes

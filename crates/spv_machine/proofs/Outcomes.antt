@@ -1,7 +1,7 @@
 -- What a step of an invocation is, by its status.
 use Rattle.std.proofs.Common.{◌≡◌, ◌≢◌, ◌∙◌, ℕ, zero, suc, ◌-◌, ◌<◌, Bool, false, true, List, [], ◌∷◌, Option, Some, None, Result, Ok, Err, length, slice_get, refl, sym, ap, subst, arith}
 use Rattle.std.proofs.lemmas.Option.{slice_get_within}
-use Rattle.std.specs.Option.{IsSomeAnd, is_some, option_and_then}
+use Rattle.std.specs.Option.{IsSomeAnd}
 use Rattle.spv_base.specs.Entries.{reads}
 use Rattle.spv_base.specs.declared.causes.Fail.{Fail}
 use Rattle.spv_base.specs.declared.causes.Fail.TheVariants.{Refused, NoMemory}
@@ -20,15 +20,13 @@ use Rattle.spv_state.specs.Program.{Program}
 use Rattle.spv_machine.specs.Reached.{IsReached, IsStepBy}
 use Rattle.spv_state.specs.Sound.{IsBarrier, IsSound, IsSoundFrame, IsSoundStack, StandsAs}
 use Rattle.spv_state.specs.State.{State, on_frame, on_frames, set_status, top_of, with_pc}
-use Rattle.spv_machine.specs.Step.{Idles, Moves, at_frame, at_inst, by_status, fault_in, go, next_of, outcome, past_frame, plain, step_of}
+use Rattle.spv_machine.specs.Step.{Idles, Moves, at_frame, at_inst, by_status, fault_in, go_on, next_of, outcome, past_frame, plain, step_of}
 use Rattle.spv_actions.specs.declared.causes.Cause.{Cause}
-use Rattle.spv_actions.specs.declared.effects.Control.TheVariants.{Next}
 use Rattle.spv_actions.specs.declared.effects.Effect.{Effect}
-use Rattle.spv_machine.proofs.KeepsControl.{top_at}
-use Rattle.spv_state.proofs.Known.{IsKnown, goes_on}
+use Rattle.spv_machine.proofs.KeepsControl.{got, stands_before, top_at}
+use Rattle.spv_state.proofs.Known.{IsKnown}
 use Rattle.spv_state.proofs.Lists.{change_same}
 use Rattle.spv_state.proofs.Standing.{Standing, at_standing, standing}
-use Rattle.spv_state.proofs.Stands.{class_is}
 
 -- ---- the top frame of an invocation that is not finished
 
@@ -38,12 +36,7 @@ pub record HasTop (p : Program) (s : State) (i : ℕ) (t : Status) : Type 0 wher
   pub sound : IsSoundFrame p.accepted frame
   pub waits : StandsAs p.accepted t frame
 
-got : {A : Type 0} (xs : List A) (i : ℕ) → i < length xs → (x : A) × (slice_get xs i ≡ Some x)
-got [] i h = absurd (omega arith)
-got (x ∷ xs) zero h = (x, refl)
-got (x ∷ xs) (suc i) h = got xs i (omega arith)
-
-last_frame : (fs : List Frame) → fs ≢ [] → (f : Frame) × (top fs ≡ Some f)
+pub last_frame : (fs : List Frame) → fs ≢ [] → (f : Frame) × (top fs ≡ Some f)
 last_frame [] some = absurd (some refl)
 last_frame (f ∷ fs) some = got (f ∷ fs) (length (f ∷ fs) - 1) (omega arith)
 
@@ -102,7 +95,7 @@ step_by p s i d f v result r is due = by_result result due
 -- ---- a Passed invocation
 
 pub passed_step : (p : Program) (s : State) (i : ℕ) (f : Frame) → slice_get s.statuses.list i ≡ Some Passed → top_of s i ≡ Some f
-    → step_of p s i ≡ Moves (plain i f.pc) (set_status i Ready (go p.accepted i Next s))
+    → step_of p s i ≡ Moves (plain i f.pc) (set_status i Ready (go_on p.accepted i s))
 unfolding step_of
 passed_step p s i f passed is = ap (by_status p s i) passed ∙ ap (past_frame p s i) is
 
@@ -110,29 +103,17 @@ passed_step p s i f passed is = ap (by_status p s i) passed ∙ ap (past_frame p
 barrier_goes : (sets : List (ℕ × Bool)) (d : Inst) → d.op ≡ 224 → is_terminator (class_of sets d) ≡ false
 barrier_goes sets d op = rw op refl
 
-next_there : (a : Accepted) (pc : ℕ) → goes_on a pc ≡ true → (word : ℕ) × (reads pc a.flow.nexts ≡ Some (Some word))
-next_there a pc h = by_read (reads pc a.flow.nexts) h
-  where
-    by_read : (o : Option (Option ℕ)) → is_some (option_and_then (λ n. n) o) ≡ true → (word : ℕ) × (o ≡ Some (Some word))
-    by_read None g = absurd (cc)
-    by_read (Some None) g = absurd (cc)
-    by_read (Some (Some word)) g = (word, refl)
-
 pub barrier_next : (p : Program) (s : State) (i : ℕ) (f : Frame) → IsKnown p.accepted → HasTop p s i Passed → top_of s i ≡ Some f → (word : ℕ) × (reads f.pc p.accepted.flow.nexts ≡ Some (Some word))
 barrier_next p s i f known h is =
     let a = p.accepted in
-    let stands : Standing a h.frame.plan.function h.frame.pc = standing a h.frame.plan.function h.frame.pc h.sound.stands in
     let barrier : IsBarrier a h.frame.pc = h.waits in
-    let same : barrier.0 ≡ stands.stand.inst = let one = barrier.1 in let other = at_standing a h.frame.plan.function h.frame.pc known stands in cc in
-    let goes : is_terminator stands.stand.class ≡ false
-    = ap is_terminator (class_is a.insts stands.stand stands.one) ∙ barrier_goes (sets_of a.insts) stands.stand.inst (sym (ap (λ (d : Inst). d.op) same) ∙ barrier.2) in
-    let next = next_there a stands.stand.inst.word (known.goes_on stands.stand stands.one stands.stops goes) in
     let own : h.frame ≡ f = let top = h.top in cc in
-    (next.0, subst (λ (n : ℕ). reads n a.flow.nexts ≡ Some (Some next.0)) (stands.here ∙ ap (λ (x : Frame). x.pc) own) next.1)
+    let next = stands_before a h.frame.plan.function h.frame.pc barrier.0 known h.sound.stands barrier.1 (barrier_goes (sets_of a.insts) barrier.0 barrier.2) in
+    (next.0, subst (λ (x : Frame). reads x.pc a.flow.nexts ≡ Some (Some next.0)) own next.1)
 
 -- ---- on to the next executable, where the top frame stands
 
-pub moved_is : (a : Accepted) (s : State) (i word : ℕ) (f : Frame) → top_of s i ≡ Some f → word ≡ next_of a f.pc → on_frame i (with_pc word) s ≡ go a i Next s
+pub moved_is : (a : Accepted) (s : State) (i word : ℕ) (f : Frame) → top_of s i ≡ Some f → word ≡ next_of a f.pc → on_frame i (with_pc word) s ≡ go_on a i s
 moved_is a s i word f is next =
     ap (λ (ks : List Stacked). record s { stacks = ks })
     (change_same i (on_frames (with_pc word)) (on_frames (λ x. with_pc (next_of a x.pc) x)) s.stacks (λ k stack.

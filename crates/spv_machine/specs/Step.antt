@@ -73,8 +73,11 @@ arrived i word s = set_status i (Arrived word) s
 abbrev pub opens : ℕ → State → Bool
 opens word s = all_wait_at word s.statuses.list
 
+abbrev pub opened : ℕ → State → State
+opened word s = if opens word s then open_barrier s else s
+
 abbrev pub arrive : ℕ → ℕ → State → State
-arrive i word s = if opens word (arrived i word s) then open_barrier (arrived i word s) else arrived i word s
+arrive i word s = opened word (arrived i word s)
 
 abbrev pub go : Accepted → ℕ → ℕ → Control → State → State
 go a i word Next s = go_on a i s

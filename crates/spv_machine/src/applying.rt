@@ -28,7 +28,7 @@ use spv_values::Row;
 /// Puts the value of a row where a store leads; the old one is in the row then.
 fn put_store(whole: &mut Whole, inv: u32, store: Option<Pointer>, row: &mut Row)
     requires { StoreFits whole.old inv (option_map (λ q. (q, row.old)) store) }
-    ensures store { whole.new ≡ spec.put_store inv (option_map (λ q. (q, row.old)) store) whole.old }
+    ensures store { whole.new ≡ state.put_store inv (option_map (λ q. (q, row.old)) store) whole.old }
     ensures row { store ≡ None → row.new ≡ row.old }
     ensures handed { (q : Reference) → store ≡ Some q → load_of whole.old.memory inv q ≡ Some row.new }
 {
@@ -83,29 +83,41 @@ fn first_word(accepted: &Module, label: u32) -> u32
     accepted.first(label)
 }
 
-/// Gives the registers of phis their values. All were read before, so they take them at once.
-fn put_phis(m: &Runnable, whole: &mut Whole, inv: u32, inst: &Inst, phis: Vec<PhiValue>)
+/// Gives the register of a phi its value; the old one is in the row then.
+fn put_phi(m: &Runnable, whole: &mut Whole, inv: u32, inst: &Inst, phi: &mut PhiValue)
     requires reached { IsReached m.now whole.old inv inst.now }
-    requires values { AllByRecursion (λ r. IsOfType m.now.accepted r.0 r.1) (map phi_value phis.items) }
-    ensures registers { whole.new ≡ state.on_frame inv (state.with_registers (map phi_value phis.items)) whole.old }
+    requires value { IsOfType m.now.accepted phi.old.id phi.old.row }
+    ensures { whole.new ≡ state.on_frame inv (state.with_register phi.old.id phi.old.row) whole.old }
+{
+    let accepted = m.accepted();
+    let _insts = accepted.insts();
+    whole.set_value(accepted, inv, phi.id, &mut phi.row);
+}
+
+/// Gives the registers of phis their values. All were read before, so they take them at once.
+fn put_phis(m: &Runnable, whole: &mut Whole, inv: u32, inst: &Inst, phis: &mut [PhiValue])
+    requires reached { IsReached m.now whole.old inv inst.now }
+    requires values { AllByRecursion (λ r. IsOfType m.now.accepted r.0 r.1) (map phi_value phis.old) }
+    ensures registers { whole.new ≡ state.on_frame inv (state.with_registers (map phi_value phis.old)) whole.old }
     ensures reached { IsReached m.now whole.new inv inst.now }
 {
     let accepted = m.accepted();
     let _insts = accepted.insts();
-    for phi in phis {
-        let PhiValue { id, mut row } = phi;
-        whole.set_value(accepted, inv, id, &mut row);
+    for number in 0..phis.len() {
+        put_phi(m, whole, inv, inst, &mut phis[number]);
     }
 }
 
 /// To a block of the function, whose phis take their values.
-fn jump(m: &Runnable, whole: &mut Whole, inv: u32, inst: &Inst, block: u32, phis: Vec<PhiValue>)
+fn jump(m: &Runnable, whole: &mut Whole, inv: u32, inst: &Inst, block: u32, mut phis: Vec<PhiValue>)
     requires reached { IsReached m.now whole.old inv inst.now }
     requires fits { JumpFits m.now.accepted inst.now block (map phi_value phis.items) }
     ensures { whole.new ≡ spec.jump m.now.accepted inv block (map phi_value phis.items) whole.old }
 {
-    put_phis(m, whole, inv, inst, phis);
-    whole.set_pc(inv, first_word(m.accepted(), block));
+    let accepted = m.accepted();
+    let _insts = accepted.insts();
+    put_phis(m, whole, inv, inst, phis.as_mut_slice());
+    whole.set_pc(inv, first_word(accepted, block));
 }
 
 /// Into a function: a frame with its variables.
@@ -136,6 +148,8 @@ fn resume(m: &Runnable, whole: &mut Whole, inv: u32, call: &Inst, gain: Gain, ro
     requires held { IsHeld gain row.old }
     ensures { whole.new ≡ spec.go_on m.now.accepted inv (spec.put_result inv call.now.id (gained gain row.old) whole.old) }
 {
+    let accepted = m.accepted();
+    let _insts = accepted.insts();
     put_result(m, whole, inv, call, gain, row);
     go_on(m, whole, inv, call);
 }
@@ -156,6 +170,20 @@ fn leave(m: &Runnable, whole: &mut Whole, inv: u32, inst: &Inst, gain: Gain, row
     }
 }
 
+/// Opens the barrier at a word, where all invocations wait there, and tells whether it did.
+fn open_where_all_wait(whole: &mut Whole, word: u32) -> bool
+    requires { word < whole.old.statuses.words }
+    ensures state { whole.new ≡ spec.opened word whole.old }
+    ensures opens { result ≡ spec.opens word whole.old }
+{
+    if whole.statuses().all_wait_at(word) {
+        whole.open_barrier(word);
+        true
+    } else {
+        false
+    }
+}
+
 /// An arrival at a barrier. Where all invocations wait there then, it opens.
 fn arrive(m: &Runnable, whole: &mut Whole, inv: u32, inst: &Inst) -> Happening
     requires reached { IsReached m.now whole.old inv inst.now }
@@ -163,14 +191,11 @@ fn arrive(m: &Runnable, whole: &mut Whole, inv: u32, inst: &Inst) -> Happening
     ensures state { whole.new ≡ spec.arrive inv inst.now.word whole.old }
     ensures event { result ≡ spec.arrival inv inst.now.word whole.old }
 {
-    let _insts = m.accepted().insts();
-    let word = inst.word;
-    whole.set_status(inv, Status::Arrived(word));
-    let opens = whole.statuses().all_wait_at(word);
-    if opens {
-        whole.open_barrier(word);
-    }
-    arrival(inv, word, opens)
+    let accepted = m.accepted();
+    let _insts = accepted.insts();
+    whole.set_status(inv, Status::Arrived(inst.word));
+    let opens = open_where_all_wait(whole, inst.word);
+    arrival(inv, inst.word, opens)
 }
 
 /// Goes where control goes, and gives the event; `told` is that of the store.
@@ -188,6 +213,8 @@ fn go(
     ensures state { whole.new ≡ spec.go m.now.accepted inv inst.now.word (gone control row.old) whole.old }
     ensures event { result ≡ spec.by_control inv inst.now.word whole.old told (gone control row.old) }
 {
+    let accepted = m.accepted();
+    let _insts = accepted.insts();
     match control {
         Control::Next => {
             go_on(m, whole, inv, inst);

@@ -1,5 +1,5 @@
 //! Runs `debug` on each module of data/, as a user would, and says what it writes and how it ends: one block of instructions of each
-//! group that computes, over operands and results that `bench/arithmetic.py` works out.
+//! group that computes, and of atomics, over operands and results that `bench/arithmetic.py` works out.
 #![tactic(auto)]
 
 ghost use Rattle.std.specs.Prelude.{◌≡◌, ◌<◌, ◌-◌, ◌^◌};
@@ -13,7 +13,7 @@ use std::sync::ledger::{Blank, Ledger};
 use std::{fs, io, rt};
 
 /// The modules of data/ with the commands that they are debugged by, in the order of the output.
-const GROUPS: [(&str, &str, &str); 7] = [
+const GROUPS: [(&str, &str, &str); 8] = [
     ("unary", "unary.spv", "unary.commands"),
     ("binary", "binary.spv", "binary.commands"),
     ("extended", "extended.spv", "extended.commands"),
@@ -21,6 +21,7 @@ const GROUPS: [(&str, &str, &str); 7] = [
     ("fields", "fields.spv", "fields.commands"),
     ("selections", "selections.spv", "selections.commands"),
     ("composites", "composites.spv", "composites.commands"),
+    ("atomics", "atomics.spv", "atomics.commands"),
 ];
 
 /// The words of a command line that debugs a module.

@@ -8,7 +8,7 @@ use Rattle.spv_actions.specs.AtomicSites.{first_of_three, scalar, target}
 use Rattle.spv_actions.specs.Atomics.{exchanges}
 use Rattle.spv_actions.specs.Effects.{Effect}
 use Rattle.spv_actions.proofs.AccessLemmas.{outside_due}
-use Rattle.spv_actions.proofs.AtomicLemmas.{compare_leads, value_width}
+use Rattle.spv_actions.proofs.AtomicLemmas.{value_width}
 use Rattle.spv_actions.proofs.AtomicSteps.{compare_is, compares_comparator, compares_first, compares_ok, compares_semantics, compares_target, compares_value, found_is, operand, swaps_by}
 use Rattle.spv_actions.proofs.atomics.compare_exchange.Goals as goal
 
@@ -39,7 +39,7 @@ returns-in_err-target-clause-due c =
 
 pub compared-new-requires : goal.compared-new-requires
 compared-new-requires c =
-    value_width c.args.site.now (subst (λ (a : Accepted). AreSound a.types) c.accepted.ensures (sound_types c.accepted.result.now c.insts-insts.ensures.valid)) (compare_leads c.args.site.now.program.accepted c.args.site.now.inst c.requires.rule) c.in_ok-target.target c.in_ok-target.ensures.is 4 c.in_ok-value.value c.requires.rule.2.1.1.0.0 c.in_ok-value.ensures.shape
+    value_width c.args.site.now (subst (λ (a : Accepted). AreSound a.types) c.accepted.ensures (sound_types c.accepted.result.now c.insts-insts.ensures.valid)) (c.requires.rule.0, c.requires.rule.1, c.requires.rule.2.0) c.in_ok-target.target c.in_ok-target.ensures.is 4 c.in_ok-value.value c.requires.rule.2.1.1.0.0 c.in_ok-value.ensures.shape
 
 pub returns-clause-due : goal.returns-clause-due
 returns-clause-due c =

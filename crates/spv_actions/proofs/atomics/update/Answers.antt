@@ -8,7 +8,7 @@ use Rattle.spv_actions.specs.AtomicSites.{first_of_three, scalar, target}
 use Rattle.spv_actions.specs.Atomics.{atomic_row, exchanges}
 use Rattle.spv_actions.specs.Effects.{Effect}
 use Rattle.spv_actions.proofs.AccessLemmas.{outside_due}
-use Rattle.spv_actions.proofs.AtomicLemmas.{update_leads, value_width}
+use Rattle.spv_actions.proofs.AtomicLemmas.{value_width}
 use Rattle.spv_actions.proofs.AtomicSteps.{takes_first, takes_ok, takes_target, takes_value, update_is, updates_by}
 use Rattle.spv_actions.proofs.atomics.update.Goals as goal
 
@@ -29,7 +29,7 @@ returns-in_err-target-clause-due c =
 
 pub updated-new-requires-clause-value : goal.updated-new-requires-clause-value
 updated-new-requires-clause-value c =
-    value_width c.args.site.now (subst (λ (a : Accepted). AreSound a.types) c.accepted.ensures (sound_types c.accepted.result.now c.insts-insts.ensures.valid)) (update_leads c.args.site.now.program.accepted c.args.site.now.inst c.requires.rule) c.in_ok-target.target c.in_ok-target.ensures.is 3 c.in_ok-value.value c.requires.rule.2.1.1.0 c.in_ok-value.ensures.shape
+    value_width c.args.site.now (subst (λ (a : Accepted). AreSound a.types) c.accepted.ensures (sound_types c.accepted.result.now c.insts-insts.ensures.valid)) (c.requires.rule.0, c.requires.rule.1, c.requires.rule.2.0) c.in_ok-target.target c.in_ok-target.ensures.is 3 c.in_ok-value.value c.requires.rule.2.1.1.0 c.in_ok-value.ensures.shape
 
 pub returns-clause-due : goal.returns-clause-due
 returns-clause-due c =

@@ -1,15 +1,8 @@
-use Rattle.std.proofs.Common.{ap, sym, ◌∙◌}
-use Rattle.spv_valid.specs.Acceptance.{Accepted}
-use Rattle.spv_machine.specs.Step.{go, next_of}
-use Rattle.spv_actions.specs.declared.effects.Control.{Control}
-use Rattle.spv_machine.proofs.Outcomes.{moved_is}
-use Rattle.spv_machine.proofs.ReachedLemmas.{word_is}
+use Rattle.spv_machine.proofs.ReachedLemmas.{Facts, facts, given_plain}
 use Rattle.spv_machine.proofs.applying.go.Goals as goal
 
-pub returns-in-Next : goal.returns-in-Next
-returns-in-Next c =
-    let a = c.args.m.now.accepted in
-    let r = c.requires.reached in
-    let word = word_is c.args.m.now c.args.whole.now c.args.inv c.args.inst.now r in
-    let next = c.word_behind.ensures ∙ ap (λ (x : Accepted). next_of x c.args.inst.now.word) c.accepted.ensures.module ∙ ap (next_of a) word in
-    c.set_pc.ensures ∙ moved_is a c.args.whole.now c.args.inv c.word_behind.result r.frame r.top next ∙ ap (λ (x : Control). go a c.args.inv x c.args.whole.now) (sym c.in-Next.is)
+pub leave-requires-in-Give-clause-held : goal.leave-requires-in-Give-clause-held
+leave-requires-in-Give-clause-held c =
+    let p = c.args.m.now in
+    let known : Facts p.accepted = facts p.accepted c.accepted-accepted.result.now c.accepted-accepted.ensures.module c.insts-insts.ensures.accepted c.insts-insts.ensures.valid in
+    given_plain p known c.args.whole.now c.args.inv c.args.inst.now c.args.row.now c.requires.reached (rw c.in-Give.is at c.requires.fits)

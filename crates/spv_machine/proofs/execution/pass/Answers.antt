@@ -5,8 +5,7 @@ use Rattle.spv_statuses.specs.declared.invocations.Status.TheVariants.{Passed, R
 use Rattle.spv_valid.specs.Acceptance.{Accepted}
 use Rattle.spv_state.specs.Sound.{IsSound}
 use Rattle.spv_state.specs.State.{State, set_status}
-use Rattle.spv_machine.specs.Step.{Moves, go, next_of, plain}
-use Rattle.spv_actions.specs.declared.effects.Control.TheVariants.{Next}
+use Rattle.spv_machine.specs.Step.{Moves, go_on, next_of, plain}
 use Rattle.spv_machine.proofs.KeepsControl.{past_kept}
 use Rattle.spv_state.proofs.Known.{IsKnown, known_as}
 use Rattle.spv_machine.proofs.Outcomes.{HasTop, barrier_next, has_top, moved_is, passed_step}
@@ -36,7 +35,7 @@ returns-clause-does c =
     let next = c.word_behind.ensures ∙ ap (λ (x : Accepted). next_of x c.pc-pc.result) c.accepted-accepted.ensures.module ∙ ap (next_of p.accepted) c.pc-pc.ensures in
     let moved = c.set_status.ensures ∙ ap (set_status i Ready) (c.set_pc.ensures ∙ moved_is p.accepted s i c.word_behind.result f (sym c.in-Some.ensures) next) in
     let happening = c.plain.ensures ∙ ap (plain i) c.pc-pc.ensures in
-    passed_step p s i f c.requires.passed (sym c.in-Some.ensures) ∙ ap (λ (h : Happening). Moves h (set_status i Ready (go p.accepted i Next s))) (sym happening)
+    passed_step p s i f c.requires.passed (sym c.in-Some.ensures) ∙ ap (λ (h : Happening). Moves h (set_status i Ready (go_on p.accepted i s))) (sym happening)
     ∙ ap (λ (x : State). Moves c.plain.result x) (sym moved)
 
 pub returns-clause-sound : goal.returns-clause-sound
