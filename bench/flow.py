@@ -267,7 +267,7 @@ class Run:
         if not self.frames:
             return None
         frame = self.frames[-1]
-        ids = [id for id in self.m.functions[frame.function]["registers"] if id in frame.values]
+        ids = sorted(id for id in self.m.functions[frame.function]["registers"] if id in frame.values)
         return ["%%%d = %s" % (id, self.m.text(self.m.definer[id].type, frame.values[id])) for id in ids]
 
 

@@ -22,6 +22,7 @@ struct Case {
 
 /// One without buffers, and one with the buffer that compiled modules write.
 const PLAIN: &str = "setup";
+
 const BUFFER: &str = "setup_with_buffer";
 
 /// The modules of data/, in the order of the output.
