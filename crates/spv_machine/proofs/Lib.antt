@@ -11,3 +11,4 @@ pub mod Leaves
 pub mod Phis
 pub mod Applied
 pub mod Outcomes
+pub mod Readable
