@@ -83,10 +83,7 @@ fn entries_of(alloc: Global, index: &Index) -> Result<Vec<(u32, Vec<Capture>)>, 
 
 /// The debug instructions of a module that a run passes, by the executables before which they stand.
 #[tactic(auto, unfolding(crate::specs::Events::captures_before))]
-pub(crate) fn captures_of(
-    alloc: Global,
-    accepted: &Module,
-) -> Result<Keyed<Vec<Capture>>, NoMemory>
+pub(crate) fn captures_of(alloc: Global, accepted: &Module) -> Result<Keyed<Vec<Capture>>, NoMemory>
     ensures { IfOk result (λ keyed. (pc : ℕ) → spec.under keyed pc ≡ spec.captures_before accepted.now pc) }
 {
     Keyed::of(alloc, entries_of(alloc, accepted.index())?)

@@ -7,5 +7,5 @@ pub returns : goal.returns
 returns c =
     let ss = c.stands-stands.result in
     let insts = c.args.index.now.insts in
-    let done : length ss ≤ c.loop-n.n = omega (arith, c.len.ensures, c.loop-n-test.false) in
+    let done : length ss ≤ c.loop-n.n = omega (arith, c.len-n-end.ensures, c.loop-n-test.false) in
     entries_all insts c.loop-n.passed.items (map listed c.loop-n.entries.items) (drop c.loop-n.n ss) ss (drop_end c.loop-n.n ss done) c.loop-n.invariant ∙ ap (entries insts []) c.stands-stands.ensures
