@@ -22,7 +22,7 @@ use Rattle.spv_index.specs.Classes.{class_of, classes, is_debug, is_executable, 
 use Rattle.spv_index.specs.Operands.{literal_operand}
 use Rattle.spv_index.specs.Positions.{Stand, in_block, outside, stands_of}
 use Rattle.spv_typing.specs.Glsl.{glsl_rule, glsl_rules}
-use Rattle.spv_typing.specs.Rules.{rule_of as lanes_rule}
+use Rattle.spv_typing.specs.Rules.{rule_of as lanes_rule, rules}
 use Rattle.spv_typing.specs.declared.rules.Rule.{Rule as LanesRule}
 use Rattle.spv_bodies.specs.Bodies.{KeepsRule}
 use Rattle.spv_bodies.specs.Context.{Known}
@@ -32,9 +32,13 @@ use Rattle.spv_bodies.specs.Rules.{atomic_rule, composite_rule, control_rule, me
 use Rattle.spv_bodies.specs.declared.rules.Rule.{Rule}
 use Rattle.spv_bodies.specs.declared.rules.Rule.TheVariants.{Free, Lanes, Extended, Memory, Atomic, Composite, Control}
 use Rattle.spv_bodies.specs.declared.rules.AtomicRule.{AtomicRule}
+use Rattle.spv_bodies.specs.declared.rules.AtomicRule.TheVariants as atomic
 use Rattle.spv_bodies.specs.declared.rules.CompositeRule.{CompositeRule}
+use Rattle.spv_bodies.specs.declared.rules.CompositeRule.TheVariants as composite
 use Rattle.spv_bodies.specs.declared.rules.ControlRule.{ControlRule}
+use Rattle.spv_bodies.specs.declared.rules.ControlRule.TheVariants as control
 use Rattle.spv_bodies.specs.declared.rules.MemoryRule.{MemoryRule}
+use Rattle.spv_bodies.specs.declared.rules.MemoryRule.TheVariants as memory
 use Rattle.spv_valid.specs.Acceptance.{Accepted, IsAccepted}
 use Rattle.spv_valid.specs.Validity.{IsValid}
 use Rattle.spv_plans.specs.Members.{is_stop}
@@ -68,29 +72,46 @@ is_action_code op = (is_some (reads op named) || is_some (atomic_op op)) || is_s
 abbrev is_ruled : ℕ → Bool
 is_ruled op = (op == 12 || is_some (reads op passed)) || is_action_code op
 
--- a test that each key of the table passes, where something was read, is passed by its key
-read_passes : {A : Type 0} (test : ℕ → Bool) (k : ℕ) (x : A) (es : List (ℕ × A)) → reads k es ≡ Some x → list_all (λ (e : ℕ × A). test e.0) es ≡ true → test k ≡ true
-read_passes test k x es h all = key_passes test k x es all h
+-- the tables of the rules of bodies
+abbrev memory_rules : List (ℕ × MemoryRule)
+memory_rules =
+    (1, memory.Undef) ∷ (59, memory.Variable) ∷ (61, memory.Load) ∷ (62, memory.Store) ∷ (63, memory.CopyMemory) ∷ (65, memory.Chain) ∷ (66, memory.Chain) ∷ (68, memory.ArrayLength) ∷ []
+
+abbrev control_rules : List (ℕ × ControlRule)
+control_rules =
+    (54, control.Function) ∷ (55, control.Parameter) ∷ (57, control.Call) ∷ (245, control.Phi) ∷ (250, control.Branch) ∷ (251, control.Switch) ∷ (253, control.Return)
+    ∷ (254, control.ReturnValue) ∷ []
+
+abbrev composite_rules : List (ℕ × CompositeRule)
+composite_rules =
+    (77, composite.ExtractDynamic) ∷ (78, composite.InsertDynamic) ∷ (79, composite.Shuffle) ∷ (80, composite.Construct) ∷ (81, composite.Extract) ∷ (82, composite.Insert)
+    ∷ (83, composite.CopyObject) ∷ (400, composite.CopyLogical) ∷ []
+
+abbrev atomic_rules : List (ℕ × AtomicRule)
+atomic_rules =
+    (224, atomic.ControlBarrier) ∷ (225, atomic.MemoryBarrier) ∷ (227, atomic.Read) ∷ (228, atomic.Store) ∷ (229, atomic.Update) ∷ (230, atomic.Compare)
+    ∷ (232, atomic.Read) ∷ (233, atomic.Read) ∷ (234, atomic.Update) ∷ (235, atomic.Update) ∷ (236, atomic.Update) ∷ (237, atomic.Update)
+    ∷ (238, atomic.Update) ∷ (239, atomic.Update) ∷ (240, atomic.Update) ∷ (241, atomic.Update) ∷ (242, atomic.Update) ∷ []
 
 memory_ruled : (op : ℕ) (x : MemoryRule) → memory_rule op ≡ Some x → is_ruled op ≡ true
 unfolding memory_rule atomic_op unary_op binary_op field_op extended_op vector_op
-memory_ruled op x h = read_passes is_ruled op x _ h refl
+memory_ruled op x h = key_passes is_ruled op x memory_rules refl h
 
 control_ruled : (op : ℕ) (x : ControlRule) → control_rule op ≡ Some x → is_ruled op ≡ true
 unfolding control_rule atomic_op unary_op binary_op field_op extended_op vector_op
-control_ruled op x h = read_passes is_ruled op x _ h refl
+control_ruled op x h = key_passes is_ruled op x control_rules refl h
 
 composite_ruled : (op : ℕ) (x : CompositeRule) → composite_rule op ≡ Some x → is_ruled op ≡ true
 unfolding composite_rule atomic_op unary_op binary_op field_op extended_op vector_op
-composite_ruled op x h = read_passes is_ruled op x _ h refl
+composite_ruled op x h = key_passes is_ruled op x composite_rules refl h
 
 atomic_ruled : (op : ℕ) (x : AtomicRule) → atomic_rule op ≡ Some x → is_ruled op ≡ true
 unfolding atomic_rule atomic_op unary_op binary_op field_op extended_op vector_op
-atomic_ruled op x h = read_passes is_ruled op x _ h refl
+atomic_ruled op x h = key_passes is_ruled op x atomic_rules refl h
 
 lanes_ruled : (op : ℕ) (x : LanesRule) → lanes_rule op ≡ Some x → is_ruled op ≡ true
 unfolding lanes_rule atomic_op unary_op binary_op field_op extended_op vector_op
-lanes_ruled op x h = read_passes is_ruled op x _ h refl
+lanes_ruled op x h = key_passes is_ruled op x rules refl h
 
 -- those that keep their rule wherever they stand, and OpExtInst
 abbrev free : List (ℕ × Rule)
@@ -99,7 +120,7 @@ free =
 
 free_ruled : (op : ℕ) (x : Rule) → reads op free ≡ Some x → is_ruled op ≡ true
 unfolding atomic_op unary_op binary_op field_op extended_op vector_op
-free_ruled op x h = read_passes is_ruled op x _ h refl
+free_ruled op x h = key_passes is_ruled op x free refl h
 
 -- an instruction that keeps the rule of its opcode has one of them
 kept_ruled : (k : Known) (p : Placed) → KeepsRule k p (rule_of p.inst.op) → is_ruled p.inst.op ≡ true
@@ -134,14 +155,14 @@ passed_by false false = refl
 not_passed : (sets : List (ℕ × Bool)) (i : Inst) → is_executable (class_of sets i) ≡ true → (o : Option Bool) → reads i.op passed ≡ o → is_some o ≡ true → ⊥
 not_passed sets i runs None e h = cc
 not_passed sets i runs (Some x) e h =
-    let none : is_passed_by (is_debug sets i) (is_local i) i.op ≡ true = read_passes (is_passed_by (is_debug sets i) (is_local i)) i.op x passed e (passed_by (is_debug sets i) (is_local i)) in
+    let none : is_passed_by (is_debug sets i) (is_local i) i.op ≡ true = key_passes (is_passed_by (is_debug sets i) (is_local i)) i.op x passed (passed_by (is_debug sets i) (is_local i)) e in
     both_ways (is_executable (class_of sets i)) (not-true (is_executable (class_of sets i)) none) runs
 
 -- ---- instructions of an imported set
 
 glsl_is : (number : ℕ) (x : LanesRule) → glsl_rule number ≡ Some x → is_some (glsl_op number) ≡ true
 unfolding glsl_op
-glsl_is number x h = read_passes (λ (n : ℕ). is_some (glsl_op n)) number x glsl_rules h refl
+glsl_is number x h = key_passes (λ (n : ℕ). is_some (glsl_op n)) number x glsl_rules refl h
 
 mapped_some : {A B : Type 0} (f : A → B) (o : Option A) → is_some o ≡ true → is_some (option_map f o) ≡ true
 mapped_some f None h = h
@@ -154,12 +175,10 @@ extended_computes k i op plain (inl debug) = absurd (both_ways (is_debug k.sets 
 extended_computes k i op plain (inr kept) =
     let number : option_and_then glsl_op (literal_operand i 1) ≡ glsl_op kept.0 = ap (option_and_then glsl_op) kept.1 in
     let known : is_some (option_and_then glsl_op (literal_operand i 1)) ≡ true = ap is_some number ∙ glsl_is kept.0 kept.2.0 kept.2.1 in
-    rw op mapped_some Glsl (option_and_then glsl_op (literal_operand i 1)) known
+    let some : is_some (option_map Glsl (option_and_then glsl_op (literal_operand i 1))) ≡ true = mapped_some Glsl (option_and_then glsl_op (literal_operand i 1)) known in
+    rw op some
 
 -- ---- executables
-
-or_left : (p q : Bool) → p ≡ true → (p || q) ≡ true
-or_left p q h = rw h refl
 
 or_right : (p q : Bool) → q ≡ true → (p || q) ≡ true
 or_right true q h = refl
