@@ -2,19 +2,16 @@ use Rattle.std.proofs.Common.{◌≡◌, Err, rules, subst}
 use Rattle.spv_types.specs.Laws.{AreSound}
 use Rattle.spv_valid.specs.Acceptance.{Accepted}
 use Rattle.spv_results.proofs.SoundTypes.{sound_types}
-use Rattle.spv_actions.proofs.EffectLemmas.{computed_due, computed_fault, computing, gain_fits, gain_taken}
+use Rattle.spv_actions.proofs.EffectLemmas.{computed_due, computed_fault, gain_fits, gain_taken}
 use Rattle.spv_actions.proofs.computing.compute.Goals as goal
-
-pub is_kept-requires : goal.is_kept-requires
-is_kept-requires c = computing c.args.site.now.inst c.args.computation c.requires
 
 pub returns-in_err-gain-clause-due : goal.returns-in_err-gain-clause-due
 returns-in_err-gain-clause-due c =
     let same : c.from_residual.result ≡ Err c.in_err-gain.field-0.0 = search rules in
-    computed_fault c.args.site.now c.args.computation c.gain.new.row c.from_residual.result c.in_err-gain.field-0.0 c.requires c.in_err-gain.ensures same
+    computed_fault c.args.site.now c.computation_at.result c.gain.new.row c.from_residual.result c.in_err-gain.field-0.0 c.requires c.computation_at.ensures c.in_err-gain.ensures same
 
 pub returns-clause-due : goal.returns-clause-due
-returns-clause-due c = computed_due c.args.site.now c.args.computation c.in_ok-gain.gain c.gain.new.row c.requires c.in_ok-gain.ensures
+returns-clause-due c = computed_due c.args.site.now c.computation_at.result c.in_ok-gain.gain c.gain.new.row c.requires c.computation_at.ensures c.in_ok-gain.ensures
 
 pub returns-clause-fits : goal.returns-clause-fits
 returns-clause-fits c =
