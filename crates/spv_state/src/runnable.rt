@@ -1,9 +1,12 @@
 //! Accepted modules, with the setups that they run with.
 ghost use Rattle.std.specs.Prelude.{◌≡◌, IfOk};
+ghost use Rattle.spv_state.specs.Events.{captures_before};
 ghost use Rattle.spv_state.specs.Variables.{variables_of};
 
+use crate::captures::{Capture, captures_of};
 use crate::variables::by_function;
 use spv_base::NoMemory;
+use spv_dbg::Keyed;
 use spv_initial::Declared;
 use spv_setup::Setup;
 use spv_valid::Module;
@@ -18,10 +21,13 @@ pub struct Runnable {
     setup: Setup,
     /// The variables of each function, by its id.
     variables: BTreeMap<u32, Vec<Declared>>,
+    /// The debug instructions that a run passes, by the executables before which they stand.
+    captures: Keyed<Vec<Capture>>,
 }
 
 impl Model for Runnable {
     ghost use Rattle.std.specs.Prelude.{◌≡◌, ℕ};
+    ghost use Rattle.spv_state.specs.Events as events;
     ghost use Rattle.spv_state.specs.Program.{Program};
     ghost use Rattle.spv_state.specs.Variables.{under, variables_of};
 
@@ -29,7 +35,8 @@ impl Model for Runnable {
 
     ghost view = { λ r. record { accepted = r.accepted; setup = r.setup } };
 
-    ghost invariant = { λ r. (function : ℕ) → under r.variables function ≡ variables_of r.accepted function };
+    ghost invariant = { λ r. ((function : ℕ) → under r.variables function ≡ variables_of r.accepted function)
+        × ((pc : ℕ) → events.under r.captures pc ≡ events.captures_before r.accepted pc) };
 }
 
 impl Runnable {
@@ -38,10 +45,12 @@ impl Runnable {
         ensures { IfOk result (λ program. program ≡ record { accepted; setup }) }
     {
         let variables = by_function(alloc, &accepted)?;
+        let captures = captures_of(alloc, &accepted)?;
         Ok(Runnable {
             accepted,
             setup,
             variables,
+            captures,
         })
     }
 
@@ -57,6 +66,16 @@ impl Runnable {
         ensures { result.now ≡ variables_of self.now.accepted function }
     {
         match self.variables.get(&function) {
+            Some(list) => list.as_slice(),
+            None => &[],
+        }
+    }
+
+    /// The debug instructions that a frame passes as it comes to the executable at a word, in their order. In constant time.
+    pub fn captures(&self, pc: u32) -> &[Capture]
+        ensures { result.now ≡ captures_before self.now.accepted pc }
+    {
+        match self.captures.get(pc) {
             Some(list) => list.as_slice(),
             None => &[],
         }
