@@ -3,7 +3,7 @@ ghost use Rattle.std.specs.Prelude.{◌≡◌, ◌≤◌, ◌<◌, IfOk, OnOk, l
 ghost use Rattle.spv_base.specs.Answers.{Answers};
 ghost use Rattle.spv_setup.specs.Settings.{settings_of};
 ghost use Rattle.spv_valid.specs.Validity.{IsValid};
-ghost use Rattle.spv_state.specs.Program.{program_of};
+ghost use Rattle.spv_state.specs.Program.{IsFitting, program_of};
 ghost use Rattle.spv_app.specs.Limits.{setup_limit};
 ghost use Rattle.spv_app.specs.Opening.{opening, accepted_in, invocations_of, schedule_for, started, of_setup, of_module};
 
@@ -128,14 +128,15 @@ fn fit_setup(
     }
 }
 
-/// The module as it can be run with the setup, refused as a pair is. Refuses code 0 at word 5 where its workgroup has more than one
-/// invocation, or the machine can't do one of its executables yet.
+/// The module as it can be run with the setup, which fits it, refused as a pair is. Refuses code 0 at word 5 where the machine can't do one
+/// of its executables.
 #[tactic(auto, unfolding(spv_state::specs::Program::program_of))]
 fn run_module(
     alloc: Global,
     accepted: Module,
     setup: Setup,
 ) -> Result<Runnable, Fail<OpeningRefusal>>
+    requires fits { IsFitting accepted setup }
     ensures due { Answers (of_module (program_of accepted setup)) result }
     ensures same { IfOk result (λ program. program.accepted ≡ accepted) }
 {

@@ -6,3 +6,4 @@ pub mod Slots
 pub mod Sound
 pub mod Variables
 pub mod Start
+pub mod Roots

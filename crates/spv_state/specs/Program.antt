@@ -1,11 +1,12 @@
 -- A program: an accepted module that can be run so far, and the setup that it runs with.
-use Rattle.std.specs.Prelude.{ℕ, ◌*◌, ◌==◌, ◌&&◌, ◌||◌, not, if◌then◌else◌, Bool, true, false, Result, Ok, Err, suc, ◌-◌, length, slice_get}
+use Rattle.std.specs.Prelude.{ℕ, ◌*◌, ◌==◌, ◌&&◌, ◌||◌, not, if◌then◌else◌, Bool, true, false, Result, Ok, Err, IsOk, suc, ◌-◌, length, slice_get}
 use Rattle.std.specs.List.{list_all}
 use Rattle.std.specs.Option.{option_map_or}
 use Rattle.spv_base.specs.declared.causes.Refusal.{Refusal}
 use Rattle.spv_base.specs.declared.instructions.Inst.{Inst}
 use Rattle.spv_index.specs.Positions.{Stand, stands_of}
 use Rattle.spv_setup.specs.declared.settings.Settings.{Settings}
+use Rattle.spv_fit.specs.Fit.{fitted}
 use Rattle.spv_valid.specs.Acceptance.{Accepted}
 use Rattle.spv_initial.specs.Start.{invocations}
 use Rattle.spv_plans.specs.Members.{is_stop}
@@ -17,6 +18,10 @@ use Rattle.spv_state.specs.declared.actions.Action.TheVariants.{Compute, Load, S
 pub record Program : Type 0 where
   pub accepted : Accepted
   pub setup : Settings
+
+-- a setup fits a module: it has bytes for each variable of a block, and keeps the other rules of setups
+abbrev pub IsFitting : Accepted → Settings → Type 0
+IsFitting a s = IsOk (fitted a.insts a.types (invocations a) a.stack_cells s)
 
 -- what the machine does so far
 abbrev pub is_done : Action → Bool

@@ -18,7 +18,7 @@ use std::alloc::Global;
 use std::collections::BTreeMap;
 use std::marker::Model;
 
-/// An accepted module that can be run, and the setup that it runs with.
+/// An accepted module that can be run, and a setup that fits it.
 #[derive(Drop)]
 pub struct Runnable {
     accepted: Module,
@@ -29,14 +29,14 @@ pub struct Runnable {
 
 impl Model for Runnable {
     ghost use Rattle.std.specs.Prelude.{◌≡◌, ℕ, true};
-    ghost use Rattle.spv_state.specs.Program.{Program, is_built};
+    ghost use Rattle.spv_state.specs.Program.{IsFitting, Program, is_built};
     ghost use Rattle.spv_state.specs.Variables.{under, variables_of};
 
     ghost Value = { Program };
 
     ghost view = { λ r. record { accepted = r.accepted; setup = r.setup } };
 
-    ghost invariant = { λ r. (is_built r.accepted ≡ true) × ((function : ℕ) → under r.variables function ≡ variables_of r.accepted function) };
+    ghost invariant = { λ r. (is_built r.accepted ≡ true) × IsFitting r.accepted r.setup × ((function : ℕ) → under r.variables function ≡ variables_of r.accepted function) };
 }
 
 /// Whether the machine can do what an instruction does.
@@ -82,9 +82,10 @@ fn is_built(accepted: &Module) -> bool
 }
 
 impl Runnable {
-    /// This module with a setup, where it can be run; else refusal 0, at word 5, where the first instruction stands.
+    /// This module with a setup that fits it, where it can be run; else refusal 0, at word 5, where the first instruction stands.
     #[tactic(auto, unfolding(crate::specs::Program::program_of))]
     pub fn of(alloc: Global, accepted: Module, setup: Setup) -> Result<Runnable, Fail<Refusal>>
+        requires fits { program.IsFitting accepted setup }
         ensures { Answers (program.program_of accepted setup) result }
     {
         if !is_built(&accepted) {
@@ -116,9 +117,10 @@ impl Runnable {
         }
     }
 
-    /// The setup.
+    /// The setup. It fits the module.
     pub fn setup(&self) -> &Setup
-        ensures { result.now ≡ self.now.setup }
+        ensures setup { result.now ≡ self.now.setup }
+        ensures fits { program.IsFitting self.now.accepted self.now.setup }
     {
         &self.setup
     }
