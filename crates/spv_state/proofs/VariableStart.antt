@@ -32,10 +32,11 @@ use Rattle.spv_fit.specs.Fit.{fitted}
 use Rattle.spv_fit.specs.Given.{buffer_given, check_bytes, given_at, given_by, given_to, is_block_class, is_block_variable, is_bound, lacks_bytes, lowest_short, push_given, short_due, some_lack}
 use Rattle.spv_fit.specs.Numbers.{check_numbers}
 use Rattle.spv_fit.specs.declared.given.Given.{Given}
-use Rattle.spv_start.specs.BuiltIns.{Three, built_in, three_words, value_of_three, word}
+use Rattle.spv_mem.specs.Blanks.{blank_of}
+use Rattle.spv_start.specs.BuiltIns.{Three, built_in, global_id, local_id, value_of_three, word}
 use Rattle.spv_start.specs.declared.built_ins.Invocation.{Invocation}
 use Rattle.spv_initial.specs.Start.{invocations, own_roots, shared_roots, variables}
-use Rattle.spv_initial.specs.Values.{bound, buffer_of, buffer_value, input_value, invocation_of, of_bytes, of_content, own_value, push_value, shared_value}
+use Rattle.spv_initial.specs.Values.{bound, buffer_value, initialized, input_value, invocation_of, of_bytes, of_content, own_value, push_value, shared_value}
 use Rattle.spv_initial.specs.Variables.{declared_as, declared_by, declared_in, may_hold, variable_of}
 use Rattle.spv_initial.specs.declared.variables.Declared.{Declared}
 use Rattle.spv_operands.specs.Values.{is_own}
@@ -94,11 +95,11 @@ none_lack a s fits =
     let numbers = after_ok (check_numbers a.insts a.types s.overrides s.override_lines) _ moves.2 in
     let schedule = after_ok (schedule_of (invocations a) s.runs) _ numbers.2 in
     let bytes = after_ok (check_bytes a.insts a.types s) _ schedule.2 in
-    by_lack (some_lack a.insts s a.insts) bytes.1
+    by_lack (some_lack a.insts s a.insts) bytes.0 bytes.1
   where
-    by_lack : (b : Bool) {x : Unit} → (if b then Err (record { code = 6; line = 0 }) else short_due (lowest_short a.insts a.types s a.insts)) ≡ Ok x → b ≡ false
-    by_lack true h = absurd (cc)
-    by_lack false h = refl
+    by_lack : (b : Bool) (x : Unit {0}) → (if b then Err (record { code = 6; line = 0 }) else short_due (lowest_short a.insts a.types s a.insts)) ≡ Ok x → b ≡ false
+    by_lack true x h = absurd (cc)
+    by_lack false x h = refl
 
 none_of : (test : Inst → Bool) (is : List Inst) (i : Inst) → list_any test is ≡ false → Contains is i → test i ≡ false
 none_of test [] i h (k, lt, at) = absurd (omega arith)
@@ -167,17 +168,17 @@ push_class class is = subst IsPush (sym (eqb-true class 9 is)) (record { block =
 abbrev has_value : ℕ → Bool
 has_value b = ((b == 24 || b == 26) || (b == 27 || b == 28)) || b == 29
 
-value_tested : (i : Invocation) (b : ℕ) (j m n o p : Bool) (x : Value) (u v w y : Three) → (((m || n) || (o || p)) || j) ≡ true
+value_tested : (j m n o p : Bool) (x : Value) (u v w y : Three) → (((m || n) || (o || p)) || j) ≡ true
     → is_some (if j then Some x else value_of_three (if m then Some u else (if n then Some v else (if o then Some w else (if p then Some y else None))))) ≡ true
-value_tested i b true m n o p x u v w y h = refl
-value_tested i b false true n o p x u v w y h = refl
-value_tested i b false false true o p x u v w y h = refl
-value_tested i b false false false true p x u v w y h = refl
-value_tested i b false false false false true x u v w y h = refl
-value_tested i b false false false false false x u v w y h = absurd (cc)
+value_tested true m n o p x u v w y h = refl
+value_tested false true n o p x u v w y h = refl
+value_tested false false true o p x u v w y h = refl
+value_tested false false false true p x u v w y h = refl
+value_tested false false false false true x u v w y h = refl
+value_tested false false false false false x u v w y h = absurd (cc)
 
 built_some : (i : Invocation) (b : ℕ) → has_value b ≡ true → is_some (built_in i b) ≡ true
-built_some i b h = value_tested i b (b == 29) (b == 24) (b == 26) (b == 27) (b == 28) _ _ _ _ _ h
+built_some i b h = value_tested (b == 29) (b == 24) (b == 26) (b == 27) (b == 28) (word i.index) i.group.number i.group.place (local_id i.size i.index) (global_id i.group.place i.size (local_id i.size i.index)) h
 
 input_kind : (ts : Types) (b target : ℕ) → is_input ts (Some b) target ≡ true → has_value b ≡ true
 input_kind ts b target h = by_tests ((b == 24 || b == 26) || (b == 27 || b == 28)) (is_three_words ts (form_of ts target)) (b == 29) (is_word (form_of ts target)) h
@@ -217,14 +218,14 @@ module _ (a : Accepted) (s : Settings) (is : IsAccepted a) (valid : IsValid a) (
         by_push (Some p) g block = bytes_some a.types m.pointed.target p.bytes (length p.bytes) block
 
     shared_front : is_some (shared_value a s (variable_of i m.pointed)) ≡ is_shared m.pointed.class
-    shared_front = by_class (m.pointed.class == 2 || m.pointed.class == 12) buffer_some (m.pointed.class == 9) push_some (m.pointed.class == 4)
+    shared_front = by_class (m.pointed.class == 2 || m.pointed.class == 12) buffer_some (m.pointed.class == 9) push_some (m.pointed.class == 4) (blank_of a.types 0 m.pointed.target)
       where
-        by_class : (b : Bool) → (b ≡ true → is_some (buffer_value a s (variable_of i m.pointed)) ≡ true) → (n : Bool) → (n ≡ true → is_some (push_value a s (variable_of i m.pointed)) ≡ true) → (w : Bool) → {x : Value}
+        by_class : (b : Bool) → (b ≡ true → is_some (buffer_value a s (variable_of i m.pointed)) ≡ true) → (n : Bool) → (n ≡ true → is_some (push_value a s (variable_of i m.pointed)) ≡ true) → (w : Bool) (x : Value)
             → is_some (if b then buffer_value a s (variable_of i m.pointed) else (if n then push_value a s (variable_of i m.pointed) else (if w then Some x else None))) ≡ (b || (n || w))
-        by_class true buffer n push w = buffer refl
-        by_class false buffer true push w = push refl
-        by_class false buffer false push true = refl
-        by_class false buffer false push false = refl
+        by_class true buffer n push w x = buffer refl
+        by_class false buffer true push w x = push refl
+        by_class false buffer false push true x = refl
+        by_class false buffer false push false x = refl
 
     input_some : (n : ℕ) → (m.pointed.class == 1) ≡ true → is_some (input_value a s n (variable_of i m.pointed)) ≡ true
     input_some n e = by_kind (decoration a.insts i.id 11) (m.input e)
@@ -235,13 +236,13 @@ module _ (a : Accepted) (s : Settings) (is : IsAccepted a) (valid : IsValid a) (
         by_kind (Some kind) h = rw h (built_some (invocation_of a s n) kind (input_kind a.types kind m.pointed.target h))
 
     own_front : (n : ℕ) → is_some (own_value a s n (variable_of i m.pointed)) ≡ is_own m.pointed.class
-    own_front n = by_class (m.pointed.class == 1) (input_some n) (m.pointed.class == 6)
+    own_front n = by_class (m.pointed.class == 1) (input_some n) (m.pointed.class == 6) (initialized a (variable_of i m.pointed))
       where
-        by_class : (b : Bool) → (b ≡ true → is_some (input_value a s n (variable_of i m.pointed)) ≡ true) → (w : Bool) → {x : Value}
+        by_class : (b : Bool) → (b ≡ true → is_some (input_value a s n (variable_of i m.pointed)) ≡ true) → (w : Bool) (x : Value)
             → is_some (if b then input_value a s n (variable_of i m.pointed) else (if w then Some x else None)) ≡ (b || w)
-        by_class true input w = input refl
-        by_class false input true = refl
-        by_class false input false = refl
+        by_class true input w x = input refl
+        by_class false input true x = refl
+        by_class false input false x = refl
 
   -- the values that a variable begins with, where its class has them
   record Begins (d : Declared) : Type 0 where
