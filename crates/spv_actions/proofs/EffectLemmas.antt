@@ -29,7 +29,6 @@ use Rattle.spv_actions.specs.Sites.{Computes, IsGain, Site, accepted, due, value
 use Rattle.spv_state.specs.declared.actions.Action.{Action}
 use Rattle.spv_state.specs.declared.actions.Action.TheVariants.{Compute, Load, Store, CopyMemory, Chain, ArrayLength, Branch, BranchConditional, Switch, Call, Return, ReturnValue, Unreachable, ControlBarrier, MemoryBarrier, Atomic}
 use Rattle.spv_state.specs.declared.actions.AtomicOp.{AtomicOp}
-use Rattle.spv_state.specs.State.{State}
 use Rattle.spv_actions.specs.declared.causes.Cause.{Cause}
 use Rattle.spv_actions.specs.declared.causes.Cause.TheVariants.{NoValue}
 use Rattle.spv_actions.specs.declared.effects.Control.TheVariants.{Next}
@@ -167,14 +166,14 @@ result_fits a d v sound h = by_level (out-Value v) (result_plain a d v sound h)
     by_level (Value-F.List vs) plain = h
     by_level (Value-F.Ptr q) plain = absurd (cc)
 
-pub gain_fits : (a : Accepted) (d : Inst) (gain : Gain) (v : Value) → AreSound a.types → IsGain a d gain v → ResultFits a d (gained gain v)
-gain_fits a d Nothing v sound h = absurd h
-gain_fits a d Row v sound h = result_fits a d v sound h
-gain_fits a d (Pointer q) v sound h = rw (out_pointer q) h
-gain_fits a d (Handed c) v sound h = absurd h
+pub gain_fits : (x : Site) (gain : Gain) (v : Value) → AreSound (accepted x).types → IsGain x gain v → ResultFits (accepted x) x.inst (gained gain v)
+gain_fits x Nothing v sound h = absurd h
+gain_fits x Row v sound h = result_fits (accepted x) x.inst v sound h
+gain_fits x (Pointer q) v sound h = rw (out_pointer q) h.0
+gain_fits x (Handed c) v sound h = absurd h
 
-pub gain_taken : (a : Accepted) (d : Inst) (s : State) (i : ℕ) (gain : Gain) (v : Value) → AreSound a.types → IsGain a d gain v → IsTaken s i (planned gain) v
-gain_taken a d s i Nothing v sound h = absurd h
-gain_taken a d s i Row v sound h = (result_plain a d v sound h, tt)
-gain_taken a d s i (Pointer q) v sound h = (tt, tt)
-gain_taken a d s i (Handed c) v sound h = absurd h
+pub gain_taken : (x : Site) (gain : Gain) (v : Value) → AreSound (accepted x).types → IsGain x gain v → IsTaken x.state x.inv (planned gain) v
+gain_taken x Nothing v sound h = absurd h
+gain_taken x Row v sound h = (result_plain (accepted x) x.inst v sound h, tt)
+gain_taken x (Pointer q) v sound h = (tt, tt)
+gain_taken x (Handed c) v sound h = absurd h

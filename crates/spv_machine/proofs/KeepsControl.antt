@@ -36,6 +36,8 @@ status_kept p s i u g sound changed = record {
   stacks = length_change i (on_frames g) s.stacks ∙ sound.stacks ∙ sym (length-set s.statuses.list i u);
   levels = sound.levels ∙ sym (length-set s.statuses.list i u);
   privates = sound.privates ∙ sym (length-set s.statuses.list i u);
+  shared = sound.shared;
+  own = sound.own;
   each = subst (λ (ls : List Levels). AreSoundStacks p.accepted (slice_set s.statuses.list i u) (change i (on_frames g) s.stacks) ls) (change_none i s.memory.locals)
       (subst (λ (ts : List Status). AreSoundStacks p.accepted ts (change i (on_frames g) s.stacks) (change i (λ l. l) s.memory.locals)) (sym (set_is_change i u s.statuses.list))
       (one_changed p.accepted i (λ _. u) (on_frames g) (λ l. l) s.statuses.list s.stacks s.memory.locals sound.each changed));
@@ -53,6 +55,8 @@ frame_kept p s i g sound changed = record {
   stacks = length_change i (on_frames g) s.stacks ∙ sound.stacks;
   levels = sound.levels;
   privates = sound.privates;
+  shared = sound.shared;
+  own = sound.own;
   each = subst (λ (ls : List Levels). AreSoundStacks p.accepted s.statuses.list (change i (on_frames g) s.stacks) ls) (change_none i s.memory.locals)
       (subst (λ (ts : List Status). AreSoundStacks p.accepted ts (change i (on_frames g) s.stacks) (change i (λ l. l) s.memory.locals)) (change_none i s.statuses.list)
       (one_changed p.accepted i (λ t. t) (on_frames g) (λ l. l) s.statuses.list s.stacks s.memory.locals sound.each changed));
@@ -117,7 +121,7 @@ module _ (p : Program) (known : IsKnown p.accepted) where
       let g : Frame → Frame = λ x. with_pc (next_of a x.pc) x in
       frame_kept p s i g sound (λ t k l status stack level kept.
       let same : Ready ≡ t = cc in
-      top_kept a t t k l g (λ x. refl) kept (λ e. e, λ e. e) (λ x here sx. moved_top s i word k x f is next stack here sx)
+      top_kept a t t k l g (λ x. refl) kept (λ e. e, λ e. e) (λ x here sx. moved_top s i word k x f is next stack here sx) (λ x here rooted. rooted)
       (λ x here stands. subst (λ (u : Status). StandsAs a u (g x)) same tt))
 
   -- a Passed invocation goes on, and is Ready
@@ -128,4 +132,4 @@ module _ (p : Program) (known : IsKnown p.accepted) where
       let g : Frame → Frame = λ x. with_pc (next_of a x.pc) x in
       status_kept p s i Ready g sound (λ t k l status stack level kept.
       let same : Passed ≡ t = cc in
-      top_kept a t Ready k l g (λ x. refl) kept (λ e. absurd (cc), λ e. absurd (cc)) (λ x here sx. moved_top s i word k x f is next stack here sx) (λ x here stands. tt))
+      top_kept a t Ready k l g (λ x. refl) kept (λ e. absurd (cc), λ e. absurd (cc)) (λ x here sx. moved_top s i word k x f is next stack here sx) (λ x here rooted. rooted) (λ x here stands. tt))

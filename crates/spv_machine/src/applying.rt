@@ -7,7 +7,7 @@ ghost use Rattle.spv_base.specs.declared.values.Pointer.{Pointer as Reference};
 ghost use Rattle.spv_index.specs.Definitions.{at};
 ghost use Rattle.spv_mem.specs.Memory.{load_of};
 ghost use Rattle.spv_actions.specs.Effects as effects;
-ghost use Rattle.spv_actions.specs.Fits.{ControlFits, EnterFits, Fits, IsOfType, JumpFits, LeaveFits, ResultFits, StoreFits};
+ghost use Rattle.spv_actions.specs.Fits.{ControlFits, EnterFits, Fits, IsOfType, JumpFits, LeaveFits, ResultFits, ResultRooted, StoreFits};
 ghost use Rattle.spv_actions.specs.Planned.{IsTaken, gained, gone, phi_value, shown};
 ghost use Rattle.spv_machine.specs.Reached.{IsHeld, IsReached};
 ghost use Rattle.spv_machine.specs.Step as spec;
@@ -145,6 +145,7 @@ fn resume(m: &Runnable, whole: &mut Whole, inv: u32, call: &Inst, gain: Gain, ro
     requires reached { IsReached m.now whole.old inv call.now }
     requires next { ControlFits m.now.accepted call.now effects.Next }
     requires fits { ResultFits m.now.accepted call.now (gained gain row.old) }
+    requires rooted { ResultRooted m.now.accepted (state.frames_of whole.old inv) (gained gain row.old) }
     requires held { IsHeld gain row.old }
     ensures { whole.new ≡ spec.go_on m.now.accepted inv (spec.put_result inv call.now.id (gained gain row.old) whole.old) }
 {

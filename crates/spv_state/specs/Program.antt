@@ -1,14 +1,20 @@
--- A program: an accepted module, and the setup that it runs with.
-use Rattle.std.specs.Prelude.{ℕ, suc, ◌-◌, length, slice_get}
+-- A program: an accepted module, and a setup that fits it.
+use Rattle.std.specs.Prelude.{ℕ, IsOk, suc, ◌-◌, length, slice_get}
 use Rattle.std.specs.Option.{option_map_or}
 use Rattle.spv_base.specs.declared.instructions.Inst.{Inst}
 use Rattle.spv_setup.specs.declared.settings.Settings.{Settings}
+use Rattle.spv_fit.specs.Fit.{fitted}
 use Rattle.spv_valid.specs.Acceptance.{Accepted}
+use Rattle.spv_initial.specs.Start.{invocations}
 
 -- what callers see of a module that runs
 pub record Program : Type 0 where
   pub accepted : Accepted
   pub setup : Settings
+
+-- a setup fits a module: it has bytes for each variable of a block, and keeps the other rules of setups
+abbrev pub IsFitting : Accepted → Settings → Type 0
+IsFitting a s = IsOk (fitted a.insts a.types (invocations a) a.stack_cells s)
 
 -- one more than the word of the last instruction
 abbrev pub words_of : Accepted → ℕ

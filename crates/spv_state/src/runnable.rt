@@ -1,6 +1,7 @@
 //! Accepted modules, with the setups that they run with.
 ghost use Rattle.std.specs.Prelude.{◌≡◌, IfOk};
 ghost use Rattle.spv_state.specs.Events.{captures_before};
+ghost use Rattle.spv_state.specs.Program as program;
 ghost use Rattle.spv_state.specs.Variables.{variables_of};
 
 use crate::captures::{Capture, captures_of};
@@ -14,7 +15,7 @@ use std::alloc::Global;
 use std::collections::BTreeMap;
 use std::marker::Model;
 
-/// An accepted module, and the setup that it runs with.
+/// An accepted module, and a setup that fits it.
 #[derive(Drop)]
 pub struct Runnable {
     accepted: Module,
@@ -28,20 +29,21 @@ pub struct Runnable {
 impl Model for Runnable {
     ghost use Rattle.std.specs.Prelude.{◌≡◌, ℕ};
     ghost use Rattle.spv_state.specs.Events as events;
-    ghost use Rattle.spv_state.specs.Program.{Program};
+    ghost use Rattle.spv_state.specs.Program.{IsFitting, Program};
     ghost use Rattle.spv_state.specs.Variables.{under, variables_of};
 
     ghost Value = { Program };
 
     ghost view = { λ r. record { accepted = r.accepted; setup = r.setup } };
 
-    ghost invariant = { λ r. ((function : ℕ) → under r.variables function ≡ variables_of r.accepted function)
+    ghost invariant = { λ r. IsFitting r.accepted r.setup × ((function : ℕ) → under r.variables function ≡ variables_of r.accepted function)
         × ((pc : ℕ) → events.under r.captures pc ≡ events.captures_before r.accepted pc) };
 }
 
 impl Runnable {
-    /// This module with a setup.
+    /// This module with a setup that fits it.
     pub fn of(alloc: Global, accepted: Module, setup: Setup) -> Result<Runnable, NoMemory>
+        requires fits { program.IsFitting accepted setup }
         ensures { IfOk result (λ program. program ≡ record { accepted; setup }) }
     {
         let variables = by_function(alloc, &accepted)?;
@@ -81,9 +83,10 @@ impl Runnable {
         }
     }
 
-    /// The setup.
+    /// The setup. It fits the module.
     pub fn setup(&self) -> &Setup
-        ensures { result.now ≡ self.now.setup }
+        ensures setup { result.now ≡ self.now.setup }
+        ensures fits { program.IsFitting self.now.accepted self.now.setup }
     {
         &self.setup
     }

@@ -30,4 +30,6 @@ returns-clause-fits c v = record {
   result = tt;
   control = enter_fits c.args.site.now.program.accepted c.args.site.now.inst c.callee-function.result c.in_ok-frame.frame c.in_ok-locals.locals c.callee-function.ensures c.call_is_kept.ensures.call
       c.in_ok-frame.ensures.sound c.in_ok-frame.ensures.plan c.in_ok-locals.ensures.value c.in_ok-locals.ensures.are;
+  rooted = tt;
+  passed = c.in_ok-frame.ensures.rooted;
 }

@@ -1,11 +1,11 @@
 use Rattle.std.proofs.Common.{◌∙◌, ap, sym, subst}
 use Rattle.spv_valid.specs.Acceptance.{Accepted}
-use Rattle.spv_actions.specs.Fits.{ControlFits, ResultFits}
+use Rattle.spv_actions.specs.Fits.{ControlFits, ResultFits, ResultRooted}
 use Rattle.spv_actions.specs.Planned.{gained, shown}
-use Rattle.spv_state.specs.State.{State}
+use Rattle.spv_state.specs.State.{State, frames_of}
 use Rattle.spv_machine.specs.Reached.{IsReached}
 use Rattle.spv_machine.specs.Step.{stored_at}
-use Rattle.spv_machine.proofs.Applied.{applied_is, event_is}
+use Rattle.spv_machine.proofs.Applied.{applied_is, event_is, stored_rooted}
 use Rattle.spv_machine.proofs.ReachedLemmas.{Facts, facts, given_behind, held_behind, set_reached, stored_reached}
 use Rattle.spv_machine.proofs.applying.apply.Goals as goal
 
@@ -36,7 +36,8 @@ go-requires-clause-reached c =
     let held = held_behind c.args.whole.now c.args.inv e.store e.gain c.args.row.now c.put_store.new.row c.requires.taken.0 c.put_store.ensures.row c.put_store.ensures.handed in
     let known : Facts p.accepted = facts p.accepted c.accepted-accepted.result.now c.accepted-accepted.ensures.module c.insts-insts.ensures.accepted c.insts-insts.ensures.valid in
     subst (λ (x : State). IsReached p x c.args.inv d) (sym c.put_result.ensures.result)
-    (set_reached p known.known c.put_store.new.whole c.args.inv d (gained e.gain c.put_store.new.row) first (subst (ResultFits p.accepted d) (sym held.1) c.requires.fits.result))
+    (set_reached p known.known c.put_store.new.whole c.args.inv d (gained e.gain c.put_store.new.row) first (subst (ResultFits p.accepted d) (sym held.1) c.requires.fits.result)
+    (subst (ResultRooted p.accepted (frames_of c.put_store.new.whole c.args.inv)) (sym held.1) (stored_rooted p.accepted c.args.whole.now c.put_store.new.whole c.args.inv (shown e c.args.row.now).store (gained e.gain c.args.row.now) c.put_store.ensures.store c.requires.fits.rooted)))
 
 pub go-requires-clause-fits : goal.go-requires-clause-fits
 go-requires-clause-fits c =
