@@ -35,17 +35,25 @@ abbrev pub put_result : ℕ → ℕ → Option Value → State → State
 put_result i id None s = s
 put_result i id (Some v) s = on_frame i (with_register id v) s
 
--- on to the next executable, past the debug instructions before it
+-- to the next executable
+abbrev pub to_next : Accepted → ℕ → State → State
+to_next a i s = on_frame i (λ (f : Frame). with_pc (next_of a f.pc) f) s
+
+-- on to it, past the debug instructions before it
 abbrev pub go_on : Accepted → ℕ → State → State
-go_on a i s = pass a i (on_frame i (λ (f : Frame). with_pc (next_of a f.pc) f) s)
+go_on a i s = pass a i (to_next a i s)
 
 -- the first executable of the block with a label
 abbrev pub first_of : Accepted → ℕ → ℕ
 first_of a label = unwrap_or (reads label a.flow.blocks) 0
 
--- to a block, whose phis take their values at once, and past the debug instructions before its first executable
+-- to a block, whose phis take their values at once
+abbrev pub to_block : Accepted → ℕ → ℕ → List (ℕ × Value) → State → State
+to_block a i block phis s = on_frame i (λ (f : Frame). with_pc (first_of a block) (with_registers phis f)) s
+
+-- the same, past the debug instructions before its first executable
 abbrev pub jump : Accepted → ℕ → ℕ → List (ℕ × Value) → State → State
-jump a i block phis s = pass a i (on_frame i (λ (f : Frame). with_pc (first_of a block) (with_registers phis f)) s)
+jump a i block phis s = pass a i (to_block a i block phis s)
 
 -- the id of the instruction at a word
 abbrev pub id_at : Accepted → ℕ → ℕ

@@ -18,3 +18,4 @@ pub mod BegunLemmas
 pub mod ChangeLemmas
 pub mod SlotLemmas
 pub mod TopLemmas
+pub mod EventLemmas

@@ -1,5 +1,5 @@
 //! The debug events that a frame passes as it comes to an executable, each with the value that it captures.
-ghost use Rattle.std.specs.Prelude.{◌≡◌, ◌≢◌, ◌<◌, ◌++◌, [], ◌∷◌, IfOk, IfSome, OnOk, OnErr, Some, length, option_map};
+ghost use Rattle.std.specs.Prelude.{◌≡◌, ◌<◌, ◌++◌, [], ◌∷◌, IfOk, IfSome, IsSome, OnOk, OnErr, Some, length, option_map};
 ghost use Rattle.std.specs.Option.{option_and_then};
 ghost use Rattle.spv_frame.specs.Events as frame;
 ghost use Rattle.spv_operands.specs.Operands.{IsPlain, shown};
@@ -11,12 +11,20 @@ ghost use Rattle.spv_state.specs.State as state;
 use crate::captures::Capture;
 use crate::runnable::Runnable;
 use crate::whole::Whole;
-use spv_base::NoMemory;
+use spv_base::{NoMemory, Path, Pointer, Root};
 use spv_frame::{Captured, DebugEvent, Frame, Plans};
 use spv_operands::{Operand, operand};
 use spv_valid::Module;
 use spv_values::Row;
 use std::alloc::Global;
+
+/// The pointer to a whole variable. It takes no memory.
+fn pointer_to(alloc: Global, root: Root) -> Pointer
+    ensures { result ≡ record { root = root; path = [] } }
+{
+    let path = Path::new(alloc);
+    Pointer { root, path }
+}
 
 /// The value that an operand stands for, copied.
 fn copied(alloc: Global, operand: &Operand<'_>) -> Result<Captured, NoMemory>
@@ -24,12 +32,13 @@ fn copied(alloc: Global, operand: &Operand<'_>) -> Result<Captured, NoMemory>
     ensures value { IfOk result (λ c. frame.seen c ≡ Some (shown operand.now)) }
     ensures plain { IfOk result (λ c. ∥ frame.IsPlain c ∥₁) }
 {
-    if let Some(part) = operand.part() {
-        return Ok(Captured::Data(Row::of_part(alloc, &part)?));
-    }
-    match operand.pointer(alloc) {
-        Some(reference) => Ok(Captured::Pointer(reference.pointer().copy(alloc)?)),
-        None => unreachable!(),
+    match operand {
+        Operand::Value(_) | Operand::Undefined(_) => match operand.part() {
+            Some(part) => Ok(Captured::Data(Row::of_part(alloc, &part)?)),
+            None => unreachable!(),
+        },
+        Operand::Variable(root) => Ok(Captured::Pointer(pointer_to(alloc, *root))),
+        Operand::Pointer(pointer) => Ok(Captured::Pointer(pointer.copy(alloc)?)),
     }
 }
 
@@ -142,7 +151,7 @@ impl Whole {
     /// Appends a debug event to those that the top frame of an invocation passed. Where memory runs out nothing changes.
     pub fn append_event(&mut self, i: u32, event: DebugEvent) -> Result<(), NoMemory>
         requires inside { i < length self.old.stacks }
-        requires frames { state.frames_of self.old i ≢ [] }
+        requires frames { IsSome (state.top_of self.old i) }
         ensures ok { OnOk result (self.new ≡ state.on_frame i (λ f. record f { events = f.events ++ event ∷ [] }) self.old) }
         ensures err { OnErr result (self.new ≡ self.old) }
     {
@@ -152,7 +161,7 @@ impl Whole {
     /// Appends debug events to those that the top frame of an invocation passed, all or none.
     pub fn append_events(&mut self, i: u32, events: Vec<DebugEvent>) -> Result<(), NoMemory>
         requires inside { i < length self.old.stacks }
-        requires frames { state.frames_of self.old i ≢ [] }
+        requires frames { IsSome (state.top_of self.old i) }
         ensures ok { OnOk result (self.new ≡ state.on_frame i (λ f. record f { events = f.events ++ events.items }) self.old) }
         ensures err { OnErr result (self.new ≡ self.old) }
     {
@@ -164,7 +173,7 @@ impl Whole {
     pub fn pass(&mut self, alloc: Global, m: &Runnable, i: u32) -> Result<(), NoMemory>
         requires inv { i < length self.old.stacks }
         requires plans { self.old.plans ≡ plans_in m.now.accepted }
-        requires frames { state.frames_of self.old i ≢ [] }
+        requires frames { IsSome (state.top_of self.old i) }
         requires frame { spec.IsReadableAt m.now.accepted self.old i }
         ensures ok { OnOk result (self.new ≡ spec.pass m.now.accepted i self.old) }
         ensures err { OnErr result (self.new ≡ self.old) }
