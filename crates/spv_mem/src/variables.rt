@@ -84,8 +84,22 @@ impl Variable {
             }
     }
 
-    /// Where the part that a path names lies, in a variable of a type; none where there is no such part.
+    /// Where the part that a path names lies, in a variable of a type; none where there is no such part. Most paths lead to the whole.
+    #[tactic(auto, using(crate::proofs::PlaceLemmas::whole_row))]
     fn place(&self, types: &TypeTable, ty: u32, path: &Path) -> Option<Place>
+        requires { ∥ Fits types.now ty self.now ∥₁ }
+        ensures { MatchOption result (part_at self.now path.now ≡ None) (λ p. IsRowAt self.now path.now p.start p.len) }
+    {
+        if path.as_slice().is_empty() {
+            let len = self.row.len();
+            Some(Place { start: 0, len })
+        } else {
+            self.part_place(types, ty, path)
+        }
+    }
+
+    /// The same by the types, for any path.
+    fn part_place(&self, types: &TypeTable, ty: u32, path: &Path) -> Option<Place>
         requires { ∥ Fits types.now ty self.now ∥₁ }
         ensures { MatchOption result (part_at self.now path.now ≡ None) (λ p. IsRowAt self.now path.now p.start p.len) }
     {

@@ -6,7 +6,7 @@ use Rattle.spv_types.specs.Rows.{leaves}
 use Rattle.spv_values.specs.Places.{IsRowAt}
 use Rattle.spv_values.proofs.RowLemmas.{row_at}
 use Rattle.spv_mem.proofs.PlaceLemmas.{leaf_none, past_none, row_there, start_within, type_none}
-use Rattle.spv_mem.proofs.variables.Variable.place.Goals as goal
+use Rattle.spv_mem.proofs.variables.Variable.part_place.Goals as goal
 
 pub returns-then-is_past : goal.returns-then-is_past
 returns-then-is_past c =
