@@ -30,8 +30,8 @@ TYPED = {
     "BitwiseXor": 198, "IAdd": 128,
 }
 RECORDS = {
-    "DebugInfoNone": 0, "DebugCompilationUnit": 1, "DebugTypeBasic": 2, "DebugTypeFunction": 8, "DebugFunction": 20, "DebugScope": 23, "DebugLocalVariable": 26, "DebugValue": 29,
-    "DebugExpression": 31, "DebugSource": 35, "DebugFunctionDefinition": 101, "DebugLine": 103,
+    "DebugInfoNone": 0, "DebugCompilationUnit": 1, "DebugTypeBasic": 2, "DebugTypeFunction": 8, "DebugFunction": 20, "DebugScope": 23,
+    "DebugLocalVariable": 26, "DebugValue": 29, "DebugExpression": 31, "DebugSource": 35, "DebugFunctionDefinition": 101, "DebugLine": 103,
 }
 CONSTANTS = (0, 1, 2, 3, 4, 5, 6, 32, 64, 264)
 
@@ -51,8 +51,8 @@ def line(number):
 
 
 def rows(n):
-    """The instructions: a name for the result, or none, the opcode or the record, and the type and operands. A word is the name of a
-    result, a text stands in quotes, and a number is a literal."""
+    """The instructions: a name for the result (`-` where nothing names it again), or none, the opcode or the record, and the type and
+    operands. A word is the name of a result, a text stands in quotes, and a number is a literal."""
     yield from [
         (None, "Capability", 1), (None, "Extension", '"SPV_KHR_non_semantic_info"'), ("D", "ExtInstImport", '"NonSemantic.Shader.DebugInfo.100"'),
         (None, "MemoryModel", 0, 1), (None, "EntryPoint", 5, "main", '"main"', "idx", "s", "b"), (None, "ExecutionMode", "main", 17, 64, 1, 1),
@@ -96,34 +96,56 @@ def rows(n):
     ]
 
 
+def instructions(n):
+    """The instructions: the name of each opcode, and all operands in the order of their words, the type and the result among them."""
+    made = list(rows(n))
+    results = [name for name, *_ in made if name is not None]
+    ids = {name: 1 + at for at, name in enumerate(results) if name != "-"}
+
+    def operand_of(operand):
+        if isinstance(operand, int):
+            return operand
+        return operand[1:-1] if operand.startswith('"') else ids[operand]
+
+    count = 0
+    for name, what, *operands in made:
+        count += name is not None
+        given = [operand_of(operand) for operand in operands]
+        if what in RECORDS:
+            yield "ExtInst", [ids["void"], count, ids["D"], RECORDS[what], *given]
+        elif what in PLAIN:
+            yield what, given
+        else:
+            yield what, [count, *given] if what in RESULT else [given[0], count, *given[1:]]
+
+
+def words_of(name, operands):
+    """The words of an instruction."""
+    number = PLAIN.get(name) or RESULT.get(name) or TYPED[name]
+    return inst(number, *[word for operand in operands for word in (text(operand) if isinstance(operand, str) else [operand])])
+
+
 def module(n):
     """The module's bytes."""
-    made = list(rows(n))
-    ids, count = {}, 0
-    numbers = []
-    for row in made:
-        count += row[0] is not None
-        numbers.append(count)
-        if row[0] not in (None, "-"):
-            ids[row[0]] = count
-
-    def words(operand):
-        if isinstance(operand, int):
-            return [operand]
-        return text(operand[1:-1]) if operand.startswith('"') else [ids[operand]]
-
-    code = [0x07230203, 0x00010600, 0, count + 1, 0]
-    for (name, what, *operands), id in zip(made, numbers):
-        given = [word for operand in operands for word in words(operand)]
-        if name is None:
-            code += inst(PLAIN[what], *given)
-        elif what in RECORDS:
-            code += inst(TYPED["ExtInst"], ids["void"], id, ids["D"], RECORDS[what], *given)
-        elif what in RESULT:
-            code += inst(RESULT[what], id, *given)
-        else:
-            code += inst(TYPED[what], given[0], id, *given[1:])
+    bound = 1 + sum(name is not None for name, *_ in rows(n))
+    code = [0x07230203, 0x00010600, 0, bound, 0]
+    for name, operands in instructions(n):
+        code += words_of(name, operands)
     return struct.pack("<%dI" % len(code), *code)
+
+
+def places(n):
+    """The words at which an invocation stands before each of its events: a barrier is one event of coming and one of going."""
+    blocks, word = {}, 5
+    for (name, operands), (result, what, *_) in zip(instructions(n), rows(n)):
+        if what == "Label":
+            block = blocks[result] = []
+        elif name in ("Load", "AccessChain", "Store", "ULessThan", "BitwiseXor", "IAdd", "Branch", "BranchConditional", "Return"):
+            block.append(word)
+        elif name == "ControlBarrier":
+            block += [word, word]
+        word += len(words_of(name, operands))
+    return blocks["entry"] + turns(n) * (blocks["head"] + blocks["body"]) + blocks["head"] + blocks["done"]
 
 
 def setup(n):
