@@ -10,12 +10,11 @@ use std::marker::Brand;
 use std::sync::ledger::{Blank, Ledger};
 
 /// The files `module` and `setup`.
-pub fn files_of(alloc: Global, module: Vec<u8>, setup: &str) -> io::Result<MemoryFiles>
+pub fn files_of(alloc: Global, module: Vec<u8>, setup: Vec<u8>) -> io::Result<MemoryFiles>
     ensures { IfOk result (λ files. files.faults ≡ 0) }
 {
     let mut held = BTreeMap::new(alloc);
     held.insert(String::from_str(alloc, "module")?, module)?;
-    let setup = Vec::from_slice(alloc, setup.as_bytes())?;
     held.insert(String::from_str(alloc, "setup")?, setup)?;
     Ok(MemoryFiles::new(alloc, held))
 }

@@ -1,14 +1,16 @@
 //! Calls the program as a user would, and says what it writes and how it ends: blocks of instructions of each group that computes,
-//! and calls that stand in files with their words, setups and commands. What is due is worked out by `bench/runs.py`.
+//! and calls that stand in files with their words, setups and commands, and inputs that are made from a number. What is due is worked out
+//! by `bench/runs.py`.
 #![tactic(auto)]
 
 mod calls;
 
-ghost use Rattle.std.specs.Prelude.{◌≡◌};
+ghost use Rattle.std.specs.Prelude.{◌≡◌, ◌≤◌};
 
 use crate::calls::{call, files_of, words_of};
 use spv_base::{Fail, MemoryFiles};
 use spv_cmd::{parse, print};
+use spv_make::{Made, make};
 use std::io::Write;
 use std::{fs, io, rt};
 
@@ -27,12 +29,15 @@ const GROUPS: [(&str, &str, &str); 9] = [
 ];
 
 /// The files of calls, in the order of the output.
-const CALLS: [&str; 5] = [
+const CALLS: [&str; 8] = [
     "commands.runs",
     "words.runs",
     "setups.runs",
     "values.runs",
     "invocations.runs",
+    "memory.runs",
+    "flow.runs",
+    "group.runs",
 ];
 
 /// Says what a call writes, and how it ends.
@@ -58,8 +63,7 @@ fn report_group<R: rt::Files + Print + AllocGlobal>(
     commands: &str,
 ) -> io::Result<()> {
     println!(rt; "{name}")?;
-    let setup = fs::read_to_string(rt, "setup")?;
-    let mut files = files_of(rt.alloc(), fs::read(rt, module)?, &setup)?;
+    let mut files = files_of(rt.alloc(), fs::read(rt, module)?, fs::read(rt, "setup")?)?;
     report(
         rt,
         "spvdbg debug module setup",
@@ -78,6 +82,7 @@ fn report_call<R: rt::Files + Print + AllocGlobal>(
     println!(rt; "{line}")?;
     if let Some((_, rest)) = line.split_once(": ") {
         if let Some((module, words)) = rest.split_once(": ") {
+            let setup = Vec::from_slice(rt.alloc(), setup.as_bytes())?;
             let mut files = files_of(rt.alloc(), fs::read(rt, module)?, setup)?;
             let commands = Vec::from_slice(rt.alloc(), commands.as_bytes())?;
             report(rt, words, &mut files, commands)?;
@@ -98,6 +103,27 @@ fn report_calls<R: rt::Files + Print + AllocGlobal>(rt: &R, file: &str) -> io::R
         }
     }
     Ok(())
+}
+
+/// Says what is made for a number: how many bytes each input has, the texts, and the listing of the module, which is accepted.
+fn report_made<R: rt::Files + Print + AllocGlobal>(rt: &R, n: u32) -> io::Result<()>
+    requires low { 1 ≤ n }
+    requires high { n ≤ 64 }
+{
+    let Ok(made) = make(rt.alloc(), n) else {
+        return println!(rt; "out of memory");
+    };
+    let Made {
+        module,
+        setup,
+        commands,
+    } = made;
+    let (module_len, setup_len, commands_len) = (module.len(), setup.len(), commands.len());
+    println!(rt; "make {n}: module {module_len}, setup {setup_len}, commands {commands_len}")?;
+    io::writer(rt).write_all(setup.as_slice())?;
+    io::writer(rt).write_all(commands.as_slice())?;
+    let mut files = files_of(rt.alloc(), module.into_vec(), setup.into_vec())?;
+    report(rt, "spvdbg text module", &mut files, Vec::new(rt.alloc()))
 }
 
 /// Says what command a line is, as its canonical line, or with which code it is refused.
@@ -122,6 +148,8 @@ fn main(rt: HostRuntime) -> io::Result<()> {
     for file in CALLS {
         report_calls(&rt, file)?;
     }
+    report_made(&rt, 1)?;
+    report_made(&rt, 64)?;
     println!(rt; "lines")?;
     let lines = fs::read_to_string(&rt, "lines")?;
     for line in lines.split_terminator('\n') {
