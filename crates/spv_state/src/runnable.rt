@@ -44,7 +44,7 @@ impl Runnable {
     /// This module with a setup that fits it.
     pub fn of(alloc: Global, accepted: Module, setup: Setup) -> Result<Runnable, NoMemory>
         requires fits { program.IsFitting accepted setup }
-        ensures { IfOk result (λ program. program ≡ record { accepted; setup }) }
+        ensures { IfOk result (λ program. program ≡ record { accepted = accepted; setup = setup }) }
     {
         let variables = by_function(alloc, &accepted)?;
         let captures = captures_of(alloc, &accepted)?;
