@@ -19,7 +19,7 @@ use std::marker::Model;
 /// Variables under their ids. Contracts see a list of ids, each with its tree.
 #[derive(Drop)]
 pub struct Roots {
-    entries: Vec<(u32, Variable)>,
+    pub(crate) entries: Vec<(u32, Variable)>,
 }
 
 impl Model for Roots {
@@ -105,7 +105,7 @@ impl Roots {
     }
 
     /// Where the variable with an id stands. The place is looked at first; where it is not there, the others are.
-    fn find(&self, id: u32, place: usize) -> Option<usize>
+    pub(crate) fn find(&self, id: u32, place: usize) -> Option<usize>
         ensures { MatchOption result (reads id self.now ≡ None) (λ k. IsAt id k self.now) }
     {
         match self.entries.get(place) {

@@ -48,7 +48,7 @@ pub(crate) fn id_in(root: Root) -> u32
 }
 
 /// What a store answers.
-fn answer(there: bool) -> Result<(), MemErr>
+pub(crate) fn answer(there: bool) -> Result<(), MemErr>
     ensures { result ≡ (if there then Ok tt else Err Outside) }
 {
     if there {

@@ -21,8 +21,8 @@ use std::marker::Model;
 /// element has no cells, as a struct without members.
 #[derive(Drop)]
 pub struct Variable {
-    row: Row,
-    elements: u32,
+    pub(crate) row: Row,
+    pub(crate) elements: u32,
 }
 
 impl Model for Variable {
@@ -86,7 +86,7 @@ impl Variable {
 
     /// Where the part that a path names lies, in a variable of a type; none where there is no such part. Most paths lead to the whole.
     #[tactic(auto, using(crate::proofs::PlaceLemmas::whole_row))]
-    fn place(&self, types: &TypeTable, ty: u32, path: &Path) -> Option<Place>
+    pub(crate) fn place(&self, types: &TypeTable, ty: u32, path: &Path) -> Option<Place>
         requires { ∥ Fits types.now ty self.now ∥₁ }
         ensures { MatchOption result (part_at self.now path.now ≡ None) (λ p. IsRowAt self.now path.now p.start p.len) }
     {

@@ -1,5 +1,5 @@
 -- Values of one cell.
-use Rattle.std.proofs.Common.{◌≡◌, ◌∙◌, ℕ, zero, suc, ◌+◌, ◌<◌, ◌≤◌, List, [], ◌∷◌, ◌++◌, Some, get_or, length, slice_set, slice_get, arith, refl, sym, ap, subst, take, drop}
+use Rattle.std.proofs.Common.{◌≡◌, ◌∙◌, ℕ, zero, suc, ◌+◌, ◌<◌, List, [], ◌∷◌, ◌++◌, Some, get_or, length, slice_set, arith, refl, sym, ap, take, drop}
 use Rattle.spv_base.specs.Lane.{Lane}
 use Rattle.spv_base.specs.Parts.{part_at, with_part}
 use Rattle.spv_base.specs.declared.values.Value.{Value}
