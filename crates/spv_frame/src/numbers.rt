@@ -1,6 +1,6 @@
 //! Registers that are exchanged by their numbers in the plan of their frame, as a journal keeps them. It takes no memory, and the
 //! same call undoes it.
-ghost use Rattle.std.specs.Prelude.{◌≡◌, ◌<◌, ◌∷◌, [], Some, length};
+ghost use Rattle.std.specs.Prelude.{◌≡◌, ◌<◌, ◌∷◌, [], None, Some, length};
 ghost use Rattle.std.specs.Option.{IsSomeAnd};
 ghost use Rattle.spv_frame.specs.Calls.{id_at};
 ghost use Rattle.spv_frame.specs.Numbers.{HasCells, HasPointer, HoldsPointer, HoldsValue, with_pointer, with_value};
@@ -71,6 +71,15 @@ impl Frame {
         mem::swap(&mut self.has[number], has);
     }
 
+    /// Takes the value of the register with a number away.
+    pub fn clear_numbered(&mut self, number: usize)
+        requires { number < length self.old.plan.values }
+        ensures { self.new ≡ with_value number None self.old }
+    {
+        let _place = found(&self.plan, number);
+        self.has[number] = false;
+    }
+
     /// Exchanges the pointer of the register with a number.
     pub fn exchange_numbered_pointer(&mut self, number: usize, pointer: &mut Option<Pointer>)
         requires { HasPointer number self.old }
@@ -101,6 +110,15 @@ impl Stack {
     {
         let top = self.frames.len() - 1;
         self.frames[top].exchange_numbered(number, value, has);
+    }
+
+    /// Takes the value of the register with a number of the top frame away.
+    pub fn clear_numbered(&mut self, number: usize)
+        requires { IsSomeAnd (top self.old.frames) (λ f. number < length f.plan.values) }
+        ensures { self.new ≡ record self.old { frames = on_top (with_value number None) self.old.frames } }
+    {
+        let top = self.frames.len() - 1;
+        self.frames[top].clear_numbered(number);
     }
 
     /// Exchanges the pointer of the register with a number of the top frame.

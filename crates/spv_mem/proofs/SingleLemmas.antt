@@ -1,17 +1,16 @@
 -- Leaves that are exchanged by where they lie.
-use Rattle.std.proofs.Common.{◌≡◌, ◌∙◌, ℕ, true, false, List, Option, Some, refl, sym, ap, subst, slice_get}
+use Rattle.std.proofs.Common.{◌≡◌, ◌∙◌, ℕ, true, false, List, Option, Some, refl, sym, ap, subst}
 use Rattle.std.specs.Option.{MatchOption}
 use Rattle.std.proofs.Math.Logic.{∥∥₁_elim, ∥∥₁_map}
 use Rattle.std.proofs.Props.{props}
 use Rattle.std.specs.Coded.{codes}
-use Rattle.spv_base.specs.Entries.{reads}
 use Rattle.spv_base.specs.Parts.{part_at, with_part}
 use Rattle.spv_base.specs.State.{Roots}
 use Rattle.spv_base.specs.declared.values.Root.{Root}
 use Rattle.spv_base.specs.declared.values.Root.TheVariants.{Shared, Private, Local}
 use Rattle.spv_base.specs.declared.values.Value.{Value}
 use Rattle.spv_values.specs.Places.{IsRowAt}
-use Rattle.spv_mem.specs.Memory.{Held, IsMemory, Levels, MayStore, id_in, root_value, roots_in}
+use Rattle.spv_mem.specs.Memory.{Held, IsMemory, MayStore, id_in, root_value, roots_in}
 use Rattle.spv_mem.specs.Roots.{IsAt}
 use Rattle.spv_mem.specs.Singles.{IsLeafFor, LeafAt, LeafIn, LeafLevel, LiesIn, NamesRow}
 use Rattle.spv_mem.specs.Targets.{Exchanges, Fits, MayBePut, elements_in}

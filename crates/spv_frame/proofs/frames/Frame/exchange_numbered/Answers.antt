@@ -1,13 +1,12 @@
-use Rattle.std.proofs.Common.{◌≡◌, ◌∙◌, ◌<◌, ℕ, List, Bool, Some, length, refl, sym, ap, arith, slice_get}
+use Rattle.std.proofs.Common.{◌≡◌, ◌∙◌, ℕ, List, Bool, Some, length, refl, sym, ap, arith, slice_get}
 use Rattle.std.proofs.lemmas.Option.{slice_get-get_or}
 use Rattle.spv_base.specs.declared.values.Value.{Value}
 use Rattle.spv_base.specs.Parts.{with_part}
 use Rattle.spv_types.specs.Rows.{leaves}
 use Rattle.spv_frame.specs.Numbers.{with_value}
-use Rattle.spv_frame.specs.Registers.{Planned, marked}
-use Rattle.spv_frame.specs.Frames.{Held}
+use Rattle.spv_frame.specs.Registers.{marked}
 use Rattle.spv_frame.proofs.FrameLemmas.{exchanged, value_is}
-use Rattle.spv_frame.proofs.NumberLemmas.{inside, placed, slot_at}
+use Rattle.spv_frame.proofs.NumberLemmas.{placed, slot_at}
 use Rattle.spv_frame.proofs.frames.Frame.exchange_numbered.Goals as goal
 
 pub exchange_by-requires : goal.exchange_by-requires

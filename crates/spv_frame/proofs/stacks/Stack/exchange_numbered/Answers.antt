@@ -1,6 +1,6 @@
 use Rattle.std.proofs.Common.{◌≡◌, ◌-◌, ◌<◌, ◌≤◌, length, ap, arith}
 use Rattle.spv_types.specs.Rows.{leaves}
-use Rattle.spv_frame.specs.Numbers.{HasCells, HasPointer, HoldsPointer, HoldsValue, with_pointer, with_value}
+use Rattle.spv_frame.specs.Numbers.{HasCells, HoldsValue, with_value}
 use Rattle.spv_frame.specs.Registers.{marked}
 use Rattle.spv_frame.specs.Stacks.{Stacked}
 use Rattle.spv_frame.proofs.StackLemmas.{after_is, handed_is, some_frame}

@@ -1,9 +1,8 @@
-use Rattle.std.proofs.Common.{◌≡◌, ◌∙◌, ℕ, get_or, ap, subst, sym}
+use Rattle.std.proofs.Common.{◌≡◌, ℕ, get_or, ap, subst}
 use Rattle.spv_base.specs.State.{Roots}
 use Rattle.spv_base.specs.declared.values.Value.{Value}
 use Rattle.spv_mem.specs.Roots.{IsAt}
 use Rattle.spv_mem.proofs.RootLemmas.{fit_at, item_is}
-use Rattle.spv_mem.proofs.SingleLemmas.{lies_at}
 use Rattle.spv_mem.proofs.entries.Roots.part_place.Goals as goal
 
 pub place-requires : goal.place-requires

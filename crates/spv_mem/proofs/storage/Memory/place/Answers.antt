@@ -1,7 +1,7 @@
 use Rattle.std.proofs.Common.{◌≡◌, ◌∙◌, Some, ap, subst, sym}
 use Rattle.spv_base.specs.Entries.{reads}
 use Rattle.spv_types.specs.Types.{Types}
-use Rattle.spv_mem.specs.Memory.{Held, IsMemory, id_in, roots_in}
+use Rattle.spv_mem.specs.Memory.{Held, IsMemory, roots_in}
 use Rattle.spv_mem.specs.Roots.{AreFit}
 use Rattle.spv_mem.proofs.MemoryLemmas.{fits_in}
 use Rattle.spv_mem.proofs.storage.Memory.place.Goals as goal
