@@ -73,6 +73,13 @@ impl Variable {
         self.elements
     }
 
+    /// The whole value, lent.
+    pub fn whole(&self) -> Part<'_>
+        ensures { result ≡ self.now }
+    {
+        self.row.as_part()
+    }
+
     /// Whether a path leads past the end of the runtime array.
     fn is_past(&self, types: &TypeTable, ty: u32, indexes: &[u64]) -> bool
         ensures { result ≡ is_past types.now (elements_in self.now) ty indexes.now }
