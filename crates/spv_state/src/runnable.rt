@@ -35,7 +35,7 @@ impl Model for Runnable {
 impl Runnable {
     /// This module with a setup.
     pub fn of(alloc: Global, accepted: Module, setup: Setup) -> Result<Runnable, NoMemory>
-        ensures { IfOk result (λ program. program ≡ record { accepted; setup }) }
+        ensures { IfOk result (λ program. program ≡ record { accepted = accepted; setup = setup }) }
     {
         let variables = by_function(alloc, &accepted)?;
         Ok(Runnable {
