@@ -23,9 +23,7 @@ use Rattle.spv_types.specs.InterfaceBlocks.{nothing}
 use Rattle.spv_types.specs.Rules.{has_runtime, is_block, is_class, is_data, is_input, is_three_words, is_word, keeps_initializer, keeps_pointer, keeps_target}
 use Rattle.spv_types.specs.Types.{Types, form_of}
 use Rattle.spv_types.specs.Typing.{types_in}
-use Rattle.spv_sections.specs.declared.sections.Part.{Part}
-use Rattle.spv_sections.specs.declared.sections.Part.TheVariants.{Value}
-use Rattle.spv_sections.specs.Sections.{fits_stage, is_line, may_follow, may_stand, order_breach, order_breaches, order_breaches_behind, part_at, part_of, rank, sections_of}
+use Rattle.spv_sections.specs.Sections.{fits_stage, is_line, may_follow, may_stand, order_breach, order_breaches, order_breaches_behind, part_at, part_by, part_of, rank, sections_of}
 use Rattle.spv_consts.proofs.WalkPlaces.{declared}
 use Rattle.spv_consts.proofs.WalkTypes.{kept_at}
 use Rattle.spv_bodies.specs.Context.{Known, known_of}
@@ -216,16 +214,18 @@ behind_variable a valid i there op =
 
 -- ---- where they stand
 
+abbrev stand_at : List (ℕ × Bool) → Position → Inst → Stand
+stand_at sets position x = record { position = position; class = class_of sets x; inst = x }
+
 -- one that is found is among the instructions
 found_there : (p : Inst → Bool) (sets : List (ℕ × Bool)) (position : Position) (insts : List Inst) (s : Stand) → find (λ (x : Stand). p x.inst) (stands sets position insts) ≡ Some s → Contains insts s.inst
 found_there p sets position [] s h = absurd (cc)
 found_there p sets position (x ∷ is) s h = by_test (p x) h (found_there p sets (position_after position (class_of sets x) x) is s)
   where
-    by_test : (b : Bool) → cond b (Some (record { position = position; class = class_of sets x; inst = x })) (find (λ (y : Stand). p y.inst) (stands sets (position_after position (class_of sets x) x) is)) ≡ Some s
+    by_test : (b : Bool) → cond b (Some (stand_at sets position x)) (find (λ (y : Stand). p y.inst) (stands sets (position_after position (class_of sets x) x) is)) ≡ Some s
         → (find (λ (y : Stand). p y.inst) (stands sets (position_after position (class_of sets x) x) is) ≡ Some s → Contains is s.inst) → Contains (x ∷ is) s.inst
     by_test true g rest =
-        let here : Stand = record { position = position; class = class_of sets x; inst = x } in
-        let same : here ≡ s = cc in
+        let same : stand_at sets position x ≡ s = cc in
         (0, omega arith, ap (λ (t : Stand). t.inst) same)
     by_test false g rest =
         let there : Contains is s.inst = rest g in
@@ -241,13 +241,12 @@ inside_behind p sets position (x ∷ is) s out h inside =
     by_op (x.op == 54) refl (p x) h (found_there p sets position (x ∷ is) s h) (λ after g. inside_behind p sets (position_after position (class_of sets x) x) is s after g inside)
   where
     by_op : (b : Bool) → (x.op == 54) ≡ b → (c : Bool)
-        → cond c (Some (record { position = position; class = class_of sets x; inst = x })) (find (λ (y : Stand). p y.inst) (stands sets (position_after position (class_of sets x) x) is)) ≡ Some s → Contains (x ∷ is) s.inst
+        → cond c (Some (stand_at sets position x)) (find (λ (y : Stand). p y.inst) (stands sets (position_after position (class_of sets x) x) is)) ≡ Some s → Contains (x ∷ is) s.inst
         → ((position_after position (class_of sets x) x).stage ≡ Outside → find (λ (y : Stand). p y.inst) (stands sets (position_after position (class_of sets x) x) is) ≡ Some s
         → Contains (drop (length (before_functions is)) is) s.inst) → Contains (drop (length (if b then [] else x ∷ before_functions is)) (x ∷ is)) s.inst
     by_op true e c g there rest = there
     by_op false e true g there rest =
-        let here : Stand = record { position = position; class = class_of sets x; inst = x } in
-        let same : here ≡ s = cc in
+        let same : stand_at sets position x ≡ s = cc in
         let aside : in_function s.position.stage ≡ false = sym (ap (λ (t : Stand). in_function t.position.stage) same) ∙ ap in_function out in
         absurd (both_ways (in_function s.position.stage) aside inside)
     by_op false e false g there rest = rest (variable_outside position.stage out (class_of sets x) position x refl (λ c. both_ways (x.op == 54) e (eq-eqb x.op 54 (beginning_opcode sets x c)))) g
@@ -260,7 +259,7 @@ variable_class true false = refl
 variable_class false true = refl
 variable_class false false = refl
 
-variable_part : (sets : List (ℕ × Bool)) (x : Inst) → x.op ≡ 59 → part_of (class_of sets x) x.op ≡ Value
+variable_part : (sets : List (ℕ × Bool)) (x : Inst) → x.op ≡ 59 → part_of (class_of sets x) x.op ≡ part_by 59
 variable_part sets x op =
     let line : is_line (class_of sets x) ≡ false = rw op (variable_class (is_debug sets x) (is_local x)) in
     rw line (rw op refl)
@@ -289,37 +288,37 @@ outside_before : (p : Inst → Bool) (sets : List (ℕ × Bool)) (position : Pos
 unfolding before_functions order_breaches_behind
 outside_before p sets position before [] s kept h op aside = absurd (cc)
 outside_before p sets position before (x ∷ is) s kept h op aside =
-    by_test (p x) h (none_broken (may_stand before (record { position = position; class = class_of sets x; inst = x })) (order_breach x) _ kept)
+    by_test (p x) h (none_broken (may_stand before (stand_at sets position x)) (order_breach x) _ kept)
+    (λ more g. outside_before p sets (position_after position (class_of sets x) x) (before ++ stand_at sets position x ∷ []) is s more g op aside)
   where
-    abbrev here : Stand
-    here = record { position = position; class = class_of sets x; inst = x }
-
-    own : here ≡ s → may_stand before here ≡ true → Contains (if x.op == 54 then [] else x ∷ before_functions is) s.inst × (list_all is_early before ≡ true)
+    own : stand_at sets position x ≡ s → may_stand before (stand_at sets position x) ≡ true → Contains (if x.op == 54 then [] else x ∷ before_functions is) s.inst × (list_all is_early before ≡ true)
     own same may =
         let variable : x.op ≡ 59 = ap (λ (t : Stand). t.inst.op) same ∙ op in
         let outside_it : in_function position.stage ≡ false = ap (λ (t : Stand). in_function t.position.stage) same ∙ aside in
-        let follows = (and_parts (fits_stage position.stage (part_at here)) _ may).1 in
-        let as_value : list_all (λ (t : Stand). may_follow position.stage Value (rank (part_at t))) before ≡ true
-        = subst (λ (q : Part). list_all (λ (t : Stand). may_follow position.stage q (rank (part_at t))) before ≡ true) (variable_part sets x variable) follows in
+        let follows = (and_parts (fits_stage position.stage (part_at (stand_at sets position x))) _ may).1 in
+        let as_value : list_all (λ (t : Stand). may_follow position.stage (part_by 59) (rank (part_at t))) before ≡ true
+        = subst (λ q. list_all (λ (t : Stand). may_follow position.stage q (rank (part_at t))) before ≡ true) (variable_part sets x variable) follows in
         let early : list_all is_early before ≡ true = subst (λ (b : Bool). list_all (λ (t : Stand). b || nat_le (rank (part_at t)) 8) before ≡ true) outside_it as_value in
         let other : (x.op == 54) ≡ false = rw variable refl in
         (rw other (0, omega arith, ap (λ (t : Stand). t.inst) same), early)
 
-    by_op : (b : Bool) → (x.op == 54) ≡ b → is_early here ≡ true → Contains (before_functions is) s.inst → Contains (if b then [] else x ∷ before_functions is) s.inst
+    by_op : (b : Bool) → (x.op == 54) ≡ b → is_early (stand_at sets position x) ≡ true → Contains (before_functions is) s.inst → Contains (if b then [] else x ∷ before_functions is) s.inst
     by_op true e early there =
-        let late : is_early here ≡ false = ap (λ (n : ℕ). nat_le n 8) (function_rank sets x (eqb-true x.op 54 e)) in
-        absurd (both_ways (is_early here) late early)
+        let late : is_early (stand_at sets position x) ≡ false = ap (λ (n : ℕ). nat_le n 8) (function_rank sets x (eqb-true x.op 54 e)) in
+        absurd (both_ways (is_early (stand_at sets position x)) late early)
     by_op false e early there =
         let lt : there.0 < length (before_functions is) = there.1 in
         (suc there.0, omega arith, there.2)
 
-    by_test : (b : Bool) → cond b (Some here) (find (λ (y : Stand). p y.inst) (stands sets (position_after position (class_of sets x) x) is)) ≡ Some s
-        → (may_stand before here ≡ true) × (order_breaches_behind (before ++ here ∷ []) (stands sets (position_after position (class_of sets x) x) is) ≡ [])
-        → Contains (if x.op == 54 then [] else x ∷ before_functions is) s.inst × (list_all is_early before ≡ true)
-    by_test true g parts = own (let same : here ≡ s = cc in same) parts.0
-    by_test false g parts =
-        let rest = outside_before p sets (position_after position (class_of sets x) x) (before ++ here ∷ []) is s parts.1 g op aside in
-        let early = all_parts is_early before here rest.1 in
+    by_test : (b : Bool) → cond b (Some (stand_at sets position x)) (find (λ (y : Stand). p y.inst) (stands sets (position_after position (class_of sets x) x) is)) ≡ Some s
+        → (may_stand before (stand_at sets position x) ≡ true) × (order_breaches_behind (before ++ stand_at sets position x ∷ []) (stands sets (position_after position (class_of sets x) x) is) ≡ [])
+        → (order_breaches_behind (before ++ stand_at sets position x ∷ []) (stands sets (position_after position (class_of sets x) x) is) ≡ []
+        → find (λ (y : Stand). p y.inst) (stands sets (position_after position (class_of sets x) x) is) ≡ Some s
+        → Contains (before_functions is) s.inst × (list_all is_early (before ++ stand_at sets position x ∷ []) ≡ true)) → Contains (if x.op == 54 then [] else x ∷ before_functions is) s.inst × (list_all is_early before ≡ true)
+    by_test true g parts later = own (let same : stand_at sets position x ≡ s = cc in same) parts.0
+    by_test false g parts later =
+        let rest = later parts.1 g in
+        let early = all_parts is_early before (stand_at sets position x) rest.1 in
         (by_op (x.op == 54) refl early.1 rest.0, early.0)
 
 -- ---- what ids stand for

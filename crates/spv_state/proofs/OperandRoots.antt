@@ -1,8 +1,8 @@
 -- A pointer that an operand stands for names a variable that is there.
-use Rattle.std.proofs.Common.{◌≡◌, ◌⊎◌, ◌∙◌, inl, inr, ℕ, zero, suc, ◌≤◌, ◌==◌, ◌||◌, Bool, true, false, List, [], ◌∷◌, filter, Option, Some, None, slice_get, refl, sym, ap, subst, arith}
+use Rattle.std.proofs.Common.{◌≡◌, ◌⊎◌, ◌∙◌, inl, inr, ℕ, zero, suc, ◌≤◌, ◌==◌, ◌||◌, Bool, true, false, List, [], ◌∷◌, drop, length, map, Option, Some, None, slice_get, refl, sym, ap, subst, arith}
 use Rattle.std.proofs.lemmas.Bool.{both_ways, eq-eqb, eqb-true}
 use Rattle.std.specs.Prelude.{if◌then◌else◌}
-use Rattle.std.specs.List.{AllByRecursion, Contains, cons_option, filter_map}
+use Rattle.std.specs.List.{AllByRecursion, Contains, cons_option, filter, filter_map}
 use Rattle.std.specs.Option.{is_some, option_and_then, option_map, option_map_or}
 use Rattle.spv_base.specs.Entries.{reads}
 use Rattle.spv_base.specs.declared.instructions.Inst.{Inst}
@@ -10,12 +10,12 @@ use Rattle.spv_base.specs.declared.values.Pointer.{Pointer}
 use Rattle.spv_base.specs.declared.values.Root.{Root}
 use Rattle.spv_base.specs.declared.values.Root.TheVariants.{Shared, Private, Local}
 use Rattle.spv_base.specs.declared.values.Value.{Value, Ptr}
-use Rattle.spv_index.specs.Definitions.{defining, result_type}
+use Rattle.spv_index.specs.Definitions.{before_functions, defining, result_type}
 use Rattle.spv_index.specs.Operands.{literal_operand}
 use Rattle.spv_types.specs.declared.queries.Pointed.{Pointed}
 use Rattle.spv_types.specs.Queries.{pointee}
 use Rattle.spv_types.specs.Rules.{is_class}
-use Rattle.spv_types.specs.Types.{Types}
+use Rattle.spv_types.specs.Types.{Types, form_of}
 use Rattle.spv_consts.specs.Trees.{tree_of}
 use Rattle.spv_valid.specs.Acceptance.{Accepted, IsAccepted}
 use Rattle.spv_valid.specs.Meanings.{meaning_of}
@@ -103,7 +103,7 @@ module _ (a : Accepted) (is : IsAccepted a) (valid : IsValid a) (fs : List Frame
   module_rooted : meaning_of a.insts id ≡ Some ModuleVariable → IsRoot a fs depth (module_root a.insts id)
   module_rooted meant = subst (λ (o : Option ℕ). IsRoot a fs depth (if option_map_or is_own o false then Private id else Shared id)) (sym class_is) (by_class (is_own v.pointed.class) refl)
     where
-      m : IsVariableAt a id _
+      m : IsVariableAt a id (before_functions a.insts)
       m = module_meant a is id meant
 
       v : IsModuleVariable a m.inst
@@ -113,7 +113,7 @@ module _ (a : Accepted) (is : IsAccepted a) (valid : IsValid a) (fs : List Frame
       class_is = ap (option_and_then (λ (i : Inst). literal_operand i 0)) m.defines ∙ v.class
 
       among : IsAmong a id v.pointed.class
-      among = variable_among a is valid id m.inst v.pointed m.defines m.op (λ t. let one = ap pointee v.type in let other = ap pointee t.type in cc)
+      among = variable_among a is valid id m.inst v.pointed m.defines m.op (λ t. let one : pointee (form_of a.types m.inst.ty) ≡ Some v.pointed = ap pointee v.type in let other : pointee (form_of a.types m.inst.ty) ≡ Some t.pointed = ap pointee t.type in cc)
 
       by_class : (b : Bool) → is_own v.pointed.class ≡ b → IsRoot a fs depth (if b then Private id else Shared id)
       by_class true e = ∣ among_with a is_own id v.pointed.class among e ∣₁
@@ -124,14 +124,14 @@ module _ (a : Accepted) (is : IsAccepted a) (valid : IsValid a) (fs : List Frame
   local_rooted : (f : Frame) (function : ℕ) → slice_get fs depth ≡ Some f → meaning_of a.insts id ≡ Some (Variable function) → f.plan.function ≡ function → IsRoot a fs depth (Local depth id)
   local_rooted f function here meant same = (omega arith, ∣ subst (λ (ks : List ℕ). Contains ks id) (sym ids_are) there ∣₁)
     where
-      m : IsVariableAt a id _
+      m : IsVariableAt a id (drop (length (before_functions a.insts)) a.insts)
       m = local_meant a is id function meant
 
       v : IsLocalVariable a m.inst
       v = behind_variable a valid m.inst m.there m.op
 
       among : IsAmong a id v.pointed.class
-      among = variable_among a is valid id m.inst v.pointed m.defines m.op (λ t. let one = ap pointee v.type in let other = ap pointee t.type in cc)
+      among = variable_among a is valid id m.inst v.pointed m.defines m.op (λ t. let one : pointee (form_of a.types m.inst.ty) ≡ Some v.pointed = ap pointee v.type in let other : pointee (form_of a.types m.inst.ty) ≡ Some t.pointed = ap pointee t.type in cc)
 
       ids_are : ids_at a fs depth ≡ local_ids a function
       ids_are = ap (λ (o : Option Frame). option_map_or (λ (g : Frame). local_ids a g.plan.function) o []) here ∙ ap (local_ids a) same
@@ -156,7 +156,7 @@ module _ (a : Accepted) (is : IsAccepted a) (valid : IsValid a) (fs : List Frame
           let kept = contains_kept (λ (d : Declared). d.class == 7) (variables_of a function) among.declared ours seven in
           let mapped = contains_mapped (λ (d : Declared). d.id) (filter (λ (d : Declared). d.class == 7) (variables_of a function)) among.declared kept in
           subst (λ (ks : List ℕ). Contains ks id) (sym (ids_kept (local_value a) (λ (d : Declared). d.class == 7) (variables_of a function) (each_local (variables_of a function))))
-          (subst (Contains _) among.id_is mapped)
+          (subst (Contains (map (λ (d : Declared). d.id) (filter (λ (d : Declared). d.class == 7) (variables_of a function)))) among.id_is mapped)
 
   -- ---- operands
 

@@ -261,11 +261,11 @@ module _ (a : Accepted) (s : Settings) (is : IsAccepted a) (valid : IsValid a) (
       by_place : Stands (before_functions a.insts) a.insts (drop (length (before_functions a.insts)) a.insts) i → Begins (variable_of i of.pointed)
       by_place (inl (front, later, e)) =
           let m : IsModuleVariable a i = variable_at a is valid front later i e of.op in
-          let same : m.pointed ≡ of.pointed = let one = ap pointee m.type in let other = of.type in cc in
+          let same : m.pointed ≡ of.pointed = let one : pointee (form_of a.types i.ty) ≡ Some m.pointed = ap pointee m.type in let other = of.type in cc in
           subst (λ (p : Pointed). Begins (variable_of i p)) same (record { shared = shared_front i there of.op m; own = own_front i there of.op m })
       by_place (inr behind) =
           let m : IsLocalVariable a i = behind_variable a valid i behind of.op in
-          let same : m.pointed ≡ of.pointed = let one = ap pointee m.type in let other = of.type in cc in
+          let same : m.pointed ≡ of.pointed = let one : pointee (form_of a.types i.ty) ≡ Some m.pointed = ap pointee m.type in let other = of.type in cc in
           subst (λ (p : Pointed). Begins (variable_of i p)) same (local_begins i m.pointed m.class)
 
   all_begin : AllByRecursion Begins (variables a)
