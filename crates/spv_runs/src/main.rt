@@ -4,13 +4,12 @@
 #![tactic(auto)]
 
 mod calls;
+mod made;
 
-ghost use Rattle.std.specs.Prelude.{◌≡◌, ◌≤◌};
-
-use crate::calls::{call, files_of, words_of};
-use spv_base::{Fail, MemoryFiles};
+use crate::calls::{files_of, report};
+use crate::made::report_made;
+use spv_base::Fail;
 use spv_cmd::{parse, print};
-use spv_make::{Made, make};
 use std::io::Write;
 use std::{fs, io, rt};
 
@@ -39,21 +38,6 @@ const CALLS: [&str; 8] = [
     "flow.runs",
     "group.runs",
 ];
-
-/// Says what a call writes, and how it ends.
-fn report<R: rt::Files + Print + AllocGlobal>(
-    rt: &R,
-    line: &str,
-    files: &mut MemoryFiles,
-    commands: Vec<u8>,
-) -> io::Result<()>
-    requires { files.old.faults ≡ 0 }
-{
-    let alloc = rt.alloc();
-    let (status, written) = call(alloc, &words_of(alloc, line)?, files, commands);
-    io::writer(rt).write_all(&written)?;
-    println!(rt; "status {}", status as u8)
-}
 
 /// Says what `debug` writes for a module and some commands, and how it ends.
 fn report_group<R: rt::Files + Print + AllocGlobal>(
@@ -103,27 +87,6 @@ fn report_calls<R: rt::Files + Print + AllocGlobal>(rt: &R, file: &str) -> io::R
         }
     }
     Ok(())
-}
-
-/// Says what is made for a number: how many bytes each input has, the texts, and the listing of the module, which is accepted.
-fn report_made<R: rt::Files + Print + AllocGlobal>(rt: &R, n: u32) -> io::Result<()>
-    requires low { 1 ≤ n }
-    requires high { n ≤ 64 }
-{
-    let Ok(made) = make(rt.alloc(), n) else {
-        return println!(rt; "out of memory");
-    };
-    let Made {
-        module,
-        setup,
-        commands,
-    } = made;
-    let (module_len, setup_len, commands_len) = (module.len(), setup.len(), commands.len());
-    println!(rt; "make {n}: module {module_len}, setup {setup_len}, commands {commands_len}")?;
-    io::writer(rt).write_all(setup.as_slice())?;
-    io::writer(rt).write_all(commands.as_slice())?;
-    let mut files = files_of(rt.alloc(), module.into_vec(), setup.into_vec())?;
-    report(rt, "spvdbg text module", &mut files, Vec::new(rt.alloc()))
 }
 
 /// Says what command a line is, as its canonical line, or with which code it is refused.
