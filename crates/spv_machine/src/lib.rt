@@ -4,7 +4,6 @@
 pub mod applying;
 pub mod execution;
 pub mod happenings;
-mod finishing;
 pub mod world;
 
 pub use execution::{Did, StepErr, fault_of, step, unstep};

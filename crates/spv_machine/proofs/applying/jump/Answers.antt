@@ -1,5 +1,4 @@
 use Rattle.std.proofs.Common.{◌≡◌, ◌∙◌, List, Some, ℕ, ap, map, rules, subst, sym}
-use Rattle.std.proofs.lemmas.Result.{on_ok_weaker}
 use Rattle.spv_base.specs.Entries.{reads}
 use Rattle.spv_actions.specs.Planned.{phi_value}
 use Rattle.spv_valid.specs.Acceptance.{Accepted}
@@ -14,14 +13,12 @@ pub first_word-requires : goal.first_word-requires
 first_word-requires c =
     let p = c.args.m.now in
     let known : Facts p.accepted = facts p.accepted c.accepted-accepted.result.now c.accepted-accepted.ensures.module c.insts-insts.ensures.accepted c.insts-insts.ensures.valid in
-    let first = jump_first p known c.args.recorded.now.state c.args.inv c.args.inst.now c.args.block (map phi_value c.args.phis.items) c.requires.reached c.requires.fits in
+    let first = jump_first p known c.args.whole.now c.args.inv c.args.inst.now c.args.block (map phi_value c.args.phis.items) c.requires.reached c.requires.fits in
     subst (λ (a : Accepted). (word : ℕ) × (reads c.args.block a.flow.blocks ≡ Some word)) (sym c.accepted-accepted.ensures.module) first
 
-pub returns-clause-ok : goal.returns-clause-ok
-returns-clause-ok c =
+pub returns : goal.returns
+returns c =
     let first = c.first_word.ensures ∙ ap (λ (a : Accepted). first_of a c.args.block) c.accepted-accepted.ensures.module in
     let same : c.as_mut_slice.result.now ≡ c.args.phis.items = search rules in
-    let put = c.in_ok-put_phis.ensures.registers ∙ ap (λ (ps : List PhiValue). on_frame c.args.inv (with_registers (map phi_value ps)) c.args.recorded.now.state) same in
-    on_ok_weaker c.set_pc.result
-    (λ moved. moved ∙ jump_is c.args.m.now c.args.inv c.args.block c.first_word.result (map phi_value c.args.phis.items) c.args.recorded.now.state c.put_phis.new.recorded.state put first)
-    c.set_pc.ensures.ok
+    let put = c.put_phis.ensures.registers ∙ ap (λ (ps : List PhiValue). on_frame c.args.inv (with_registers (map phi_value ps)) c.args.whole.now) same in
+    c.set_pc.ensures ∙ jump_is c.args.m.now c.args.inv c.args.block c.first_word.result (map phi_value c.args.phis.items) c.args.whole.now c.put_phis.new.whole put first

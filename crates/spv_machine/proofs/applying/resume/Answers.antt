@@ -1,5 +1,4 @@
 use Rattle.std.proofs.Common.{◌∙◌, ap, subst, sym}
-use Rattle.std.proofs.lemmas.Result.{on_ok_weaker}
 use Rattle.spv_actions.specs.Planned.{gained}
 use Rattle.spv_state.specs.State.{State}
 use Rattle.spv_machine.specs.Reached.{IsReached}
@@ -11,9 +10,8 @@ pub go_on-requires-clause-reached : goal.go_on-requires-clause-reached
 go_on-requires-clause-reached c =
     let p = c.args.m.now in
     let known : Facts p.accepted = facts p.accepted c.accepted-accepted.result.now c.accepted-accepted.ensures.module c.insts-insts.ensures.accepted c.insts-insts.ensures.valid in
-    subst (λ (x : State). IsReached p x c.args.inv c.args.call.now) (sym c.in_ok-put_result.ensures.result)
-    (set_reached p known.known c.args.recorded.now.state c.args.inv c.args.call.now (gained c.args.gain c.args.row.now) c.requires.reached c.requires.fits)
+    subst (λ (x : State). IsReached p x c.args.inv c.args.call.now) (sym c.put_result.ensures.result)
+    (set_reached p known.known c.args.whole.now c.args.inv c.args.call.now (gained c.args.gain c.args.row.now) c.requires.reached c.requires.fits)
 
-pub returns-clause-ok : goal.returns-clause-ok
-returns-clause-ok c =
-    on_ok_weaker c.go_on.result (λ gone. gone ∙ ap (go_on c.args.m.now.accepted c.args.inv) c.in_ok-put_result.ensures.result) c.go_on.ensures.ok
+pub returns : goal.returns
+returns c = c.go_on.ensures ∙ ap (go_on c.args.m.now.accepted c.args.inv) c.put_result.ensures.result
