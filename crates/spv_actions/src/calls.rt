@@ -126,7 +126,8 @@ pub fn call(site: &Site) -> Result<Effect, Fail<Cause>>
     call_is_kept(site);
     let function = callee(site);
     let plan = site.plan(function);
-    let frame = frame_of(site, plan, function)?;
+    let fresh = frame_of(site, plan, function)?;
+    let frame = site.begun(fresh)?;
     let locals = locals_of(site, function)?;
     Ok(Effect {
         store: None,

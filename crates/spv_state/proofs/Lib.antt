@@ -15,3 +15,4 @@ pub mod BegunLemmas
 pub mod ChangeLemmas
 pub mod SlotLemmas
 pub mod TopLemmas
+pub mod EventLemmas

@@ -22,6 +22,7 @@ use Rattle.spv_plans.specs.Plans.{IsPlan, functions_in, plan_of}
 use Rattle.spv_operands.specs.Shapes.{AreShaped}
 use Rattle.spv_statuses.specs.declared.invocations.Status.{Status}
 use Rattle.spv_statuses.specs.declared.invocations.Status.TheVariants.{Ready}
+use Rattle.spv_state.specs.Events.{passed}
 use Rattle.spv_state.specs.Program.{Program}
 use Rattle.spv_state.specs.Sound.{HasPlaces, IsSound, IsSoundFrame, IsSoundStack, StandsIn}
 use Rattle.spv_state.specs.Start.{frame_roots, start_of}
@@ -111,13 +112,22 @@ function_frame has a function accepted known = record {
   shaped = fresh_shaped a (plan_of a function);
 }
 
-entry_frame : HavePlans → (a : Accepted) → ∥ IsAccepted a ∥₁ → ∥ IsValid a ∥₁ → IsSoundFrame a (fresh (plan_of a a.entry))
+pub entry_frame : HavePlans → (a : Accepted) → ∥ IsAccepted a ∥₁ → ∥ IsValid a ∥₁ → IsSoundFrame a (fresh (plan_of a a.entry))
 entry_frame has a accepted valid = function_frame has a a.entry accepted (∥∥₁_map valid (λ (v : IsValid a). entry_listed a v))
+
+-- a frame that passes debug events goes on being sound
+pub passed_sound : (a : Accepted) (depth : ℕ) (f : Frame) → IsSoundFrame a f → IsSoundFrame a (passed a depth f)
+passed_sound a depth f s = record {
+  plan = s.plan;
+  places = record { values = s.places.values; pointers = s.places.pointers };
+  stands = s.stands;
+  shaped = record { values = s.shaped.values; pointers = s.shaped.pointers };
+}
 
 -- ---- the stack of each invocation
 
 abbrev entry_stack : Accepted → Stacked
-entry_stack a = record { frames = fresh (plan_of a a.entry) ∷ []; room = a.depth }
+entry_stack a = record { frames = passed a 0 (fresh (plan_of a a.entry)) ∷ []; room = a.depth }
 
 abbrev entry_levels : Accepted → Levels
 entry_levels a = record { list = frame_roots a a.entry ∷ []; room = a.depth }
@@ -132,9 +142,9 @@ sound_stack has a accepted valid = record {
   room = refl;
   levels = refl;
   finished = (λ e. absurd (cc), λ e. absurd (cc));
-  frames = λ depth f at. subst (IsSoundFrame a) (sym (one_frame (fresh (plan_of a a.entry)) f depth at)) (entry_frame has a accepted valid);
+  frames = λ depth f at. subst (IsSoundFrame a) (sym (one_frame (passed a 0 (fresh (plan_of a a.entry))) f depth at)) (passed_sound a 0 (fresh (plan_of a a.entry)) (entry_frame has a accepted valid));
   variables = (refl, tt);
-  first = λ f at. ap (λ (g : Frame). g.plan.function) (one_frame (fresh (plan_of a a.entry)) f 0 at);
+  first = λ f at. ap (λ (g : Frame). g.plan.function) (one_frame (passed a 0 (fresh (plan_of a a.entry))) f 0 at);
   calls = λ depth f g at above. absurd (cc);
   waits = λ f at. tt;
 }

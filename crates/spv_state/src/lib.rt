@@ -3,6 +3,8 @@
 #![tactic(auto)]
 
 pub mod actions;
+pub mod captures;
+pub mod events;
 pub mod laws;
 mod plans;
 pub mod registers;
@@ -12,6 +14,8 @@ mod variables;
 pub mod whole;
 
 pub use actions::{Action, AtomicOp};
+pub use captures::Capture;
+pub use events::{captured_at, pass_events};
 pub use plans::plan_in;
 pub use runnable::Runnable;
 pub use whole::Whole;

@@ -2,12 +2,15 @@
 ghost use Rattle.std.specs.Prelude.{◌≡◌, true, not};
 ghost use Rattle.std.specs.List.{list_all};
 ghost use Rattle.spv_base.specs.Answers.{Answers};
+ghost use Rattle.spv_state.specs.Events.{captures_before};
 ghost use Rattle.spv_state.specs.Program as program;
 ghost use Rattle.spv_state.specs.Variables.{variables_of};
 
 use crate::actions::Action;
+use crate::captures::{Capture, captures_of};
 use crate::variables::by_function;
 use spv_base::{Fail, Inst, Refusal};
+use spv_dbg::Keyed;
 use spv_index::classes::Class;
 use spv_index::positions::Position;
 use spv_index::stands::Stands;
@@ -25,10 +28,13 @@ pub struct Runnable {
     setup: Setup,
     /// The variables of each function, by its id.
     variables: BTreeMap<u32, Vec<Declared>>,
+    /// The debug instructions that a run passes, by the executables before which they stand.
+    captures: Keyed<Vec<Capture>>,
 }
 
 impl Model for Runnable {
     ghost use Rattle.std.specs.Prelude.{◌≡◌, ℕ, true};
+    ghost use Rattle.spv_state.specs.Events as events;
     ghost use Rattle.spv_state.specs.Program.{Program, is_built};
     ghost use Rattle.spv_state.specs.Variables.{under, variables_of};
 
@@ -36,7 +42,8 @@ impl Model for Runnable {
 
     ghost view = { λ r. record { accepted = r.accepted; setup = r.setup } };
 
-    ghost invariant = { λ r. (is_built r.accepted ≡ true) × ((function : ℕ) → under r.variables function ≡ variables_of r.accepted function) };
+    ghost invariant = { λ r. (is_built r.accepted ≡ true) × ((function : ℕ) → under r.variables function ≡ variables_of r.accepted function)
+        × ((pc : ℕ) → events.under r.captures pc ≡ events.captures_before r.accepted pc) };
 }
 
 /// Whether the machine can do what an instruction does.
@@ -91,10 +98,12 @@ impl Runnable {
             return Err(Fail::Refused(Refusal { code: 0, word: 5 }));
         }
         let variables = by_function(alloc, &accepted)?;
+        let captures = captures_of(alloc, &accepted)?;
         Ok(Runnable {
             accepted,
             setup,
             variables,
+            captures,
         })
     }
 
@@ -111,6 +120,16 @@ impl Runnable {
         ensures { result.now ≡ variables_of self.now.accepted function }
     {
         match self.variables.get(&function) {
+            Some(list) => list.as_slice(),
+            None => &[],
+        }
+    }
+
+    /// The debug instructions that a frame passes as it comes to the executable at a word, in their order. In constant time.
+    pub fn captures(&self, pc: u32) -> &[Capture]
+        ensures { result.now ≡ captures_before self.now.accepted pc }
+    {
+        match self.captures.get(pc) {
             Some(list) => list.as_slice(),
             None => &[],
         }
