@@ -12,5 +12,6 @@ pub mod LeaveLemmas
 pub mod Phis
 pub mod Applied
 pub mod Outcomes
+pub mod WeightLemmas
 pub mod EventLemmas
 pub mod Recording

@@ -1,7 +1,8 @@
 use Rattle.std.proofs.Common.{◌≡◌, ◌∙◌, Some, ap, inl, inr, slice_get, sym}
 use Rattle.spv_statuses.specs.Group.{Held as Statuses}
 use Rattle.spv_state.specs.State.{State}
-use Rattle.spv_machine.proofs.Outcomes.{arrived_step, arrived_weight, finished_step, finished_weight}
+use Rattle.spv_machine.proofs.Outcomes.{arrived_step, finished_step}
+use Rattle.spv_machine.proofs.WeightLemmas.{arrived_weight, finished_weight}
 use Rattle.spv_machine.proofs.execution.event.Goals as goal
 
 pub wait-requires-clause-idles : goal.wait-requires-clause-idles

@@ -10,7 +10,8 @@ use Rattle.spv_machine.specs.Step.{Moves, go_on, plain, step_of}
 use Rattle.spv_machine.specs.Weights.{weight_of}
 use Rattle.spv_machine.specs.World.{seen}
 use Rattle.spv_machine.proofs.KeepsControl.{past_kept}
-use Rattle.spv_machine.proofs.Outcomes.{HasTop, barrier_next, has_top, passed_step, passed_weight}
+use Rattle.spv_machine.proofs.Outcomes.{HasTop, barrier_next, has_top, passed_step}
+use Rattle.spv_machine.proofs.WeightLemmas.{passed_weight}
 use Rattle.spv_machine.proofs.Recording.{made_does, made_keeps, made_none}
 use Rattle.spv_machine.proofs.execution.pass.Goals as goal
 
