@@ -15,3 +15,4 @@ pub mod Outcomes
 pub mod WeightLemmas
 pub mod EventLemmas
 pub mod Recording
+pub mod PassedLemmas

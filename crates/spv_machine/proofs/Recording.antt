@@ -5,6 +5,7 @@ use Rattle.std.specs.Option.{option_map_or}
 use Rattle.spv_base.specs.declared.happenings.Happening.{Happening}
 use Rattle.spv_base.specs.declared.values.Pointer.{Pointer}
 use Rattle.spv_base.specs.declared.values.Value.{Value}
+use Rattle.spv_valid.specs.Acceptance.{Accepted}
 use Rattle.spv_actions.specs.Effects.{Effect}
 use Rattle.spv_journal.specs.Events.{Event, fitting, newest, older, opened}
 use Rattle.spv_journal.specs.Held.{Held as Recorded, IsMaking, Records, changes_in, marked, past_of, sealed, unwound}
@@ -158,5 +159,5 @@ store_few None = omega arith
 store_few (Some e) = omega arith
 
 -- the entries of an effect with its mark are no more than its weight
-pub effect_fits : (e : Effect) → suc (effect_entries e) ≤ effect_weight e
-effect_fits e = let few = store_few e.store in omega (arith, few)
+pub effect_fits : (a : Accepted) (i : ℕ) (e : Effect) (t : State) → suc (effect_entries a i e t) ≤ effect_weight a i e t
+effect_fits a i e t = let few = store_few e.store in omega (arith, few)

@@ -4,10 +4,11 @@ use Rattle.spv_base.specs.declared.happenings.Happening.{Happening}
 use Rattle.spv_base.specs.declared.values.Pointer.{Pointer}
 use Rattle.spv_base.specs.declared.values.Value.{Value}
 use Rattle.spv_types.specs.Rows.{leaves}
+use Rattle.spv_valid.specs.Acceptance.{Accepted}
 use Rattle.spv_actions.specs.Effects.{Control, Effect}
 use Rattle.spv_journal.specs.Held.{Held as Recorded}
 use Rattle.spv_state.specs.State.{State}
-use Rattle.spv_machine.specs.Weights.{registers_set, taking}
+use Rattle.spv_machine.specs.Weights.{events_appended, registers_set, taking}
 use Rattle.spv_machine.specs.World.{IsRecorded, seen}
 use Rattle.spv_machine.specs.declared.execution.Did.{Did}
 use Rattle.spv_machine.specs.declared.execution.Did.TheVariants.{Idle, Moved}
@@ -20,12 +21,13 @@ abbrev pub store_entries : Option (Pointer × Value) → ℕ
 store_entries None = 0
 store_entries (Some e) = 1 + length (leaves e.1)
 
--- two beside registers: the top frame goes and another one's pc moves, or a status changes and a barrier opens
-abbrev pub control_entries : Control → ℕ
-control_entries c = registers_set c + 2
+-- Two beside registers and debug events: the top frame goes and another one's pc moves, or a status changes and a barrier opens. Control leads
+-- to a state.
+abbrev pub control_entries : Accepted → ℕ → Control → State → ℕ
+control_entries a i c t = registers_set c + events_appended a i c t + 2
 
-abbrev pub effect_entries : Effect → ℕ
-effect_entries e = store_entries e.store + taking e.result + control_entries e.control
+abbrev pub effect_entries : Accepted → ℕ → Effect → State → ℕ
+effect_entries a i e t = store_entries e.store + taking e.result + control_entries a i e.control t
 
 -- ---- an event that was made
 

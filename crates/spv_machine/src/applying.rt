@@ -13,10 +13,11 @@ ghost use Rattle.spv_journal.specs.Held.{IsMaking, Records};
 ghost use Rattle.spv_machine.specs.Reached.{IsHeld, IsReached};
 ghost use Rattle.spv_machine.specs.Recording as entries;
 ghost use Rattle.spv_machine.specs.Step as spec;
-ghost use Rattle.spv_machine.specs.Weights.{taking};
+ghost use Rattle.spv_machine.specs.Weights.{events_before, taking};
 ghost use Rattle.spv_state.specs.Sound.{IsBarrier};
 ghost use Rattle.spv_state.specs.State as state;
 
+use crate::passing::come_to;
 use spv_actions::effects::PhiValue;
 use spv_actions::{Control, Effect, Gain};
 use spv_base::{Inst, NoMemory, Pointer};
@@ -27,6 +28,7 @@ use spv_state::{Runnable, Whole};
 use spv_statuses::Status;
 use spv_valid::Module;
 use spv_values::Row;
+use std::alloc::Global;
 
 /// Puts the value of a row where a store leads; the old one is in the row then.
 fn put_store(
@@ -86,15 +88,22 @@ pub(crate) fn word_behind(accepted: &Module, pc: u32) -> u32
     }
 }
 
-/// On to the next executable of the block.
-fn go_on(m: &Runnable, recorded: &mut Recorded, inv: u32, inst: &Inst) -> Result<(), NoMemory>
+/// On to the next executable of the block, past the debug instructions before it.
+fn go_on(
+    alloc: Global,
+    m: &Runnable,
+    recorded: &mut Recorded,
+    inv: u32,
+    inst: &Inst,
+) -> Result<(), NoMemory>
     requires making { IsMaking recorded.old.gathered inv }
     requires reached { IsReached m.now recorded.old.state inv inst.now }
     requires fits { ControlFits m.now.accepted inst.now effects.Next }
     ensures ok { OnOk result (recorded.new.state ≡ spec.go_on m.now.accepted inv recorded.old.state) }
-    ensures recorded { Records 1 recorded.old recorded.new }
+    ensures recorded { Records (events_before m.now.accepted (spec.go_on m.now.accepted inv recorded.old.state) inv + 1) recorded.old recorded.new }
 {
-    recorded.set_pc(inv, word_behind(m.accepted(), inst.word))
+    let word = word_behind(m.accepted(), inst.word);
+    come_to(alloc, m, recorded, inv, word)
 }
 
 /// The first executable of a block, which is there.
@@ -147,8 +156,9 @@ fn put_phis(
     Ok(())
 }
 
-/// To a block of the function, whose phis take their values.
+/// To a block of the function, whose phis take their values, past the debug instructions before its first executable.
 fn jump(
+    alloc: Global,
     m: &Runnable,
     recorded: &mut Recorded,
     inv: u32,
@@ -160,12 +170,12 @@ fn jump(
     requires reached { IsReached m.now recorded.old.state inv inst.now }
     requires fits { JumpFits m.now.accepted inst.now block (map phi_value phis.items) }
     ensures ok { OnOk result (recorded.new.state ≡ spec.jump m.now.accepted inv block (map phi_value phis.items) recorded.old.state) }
-    ensures recorded { Records (length phis.items + 1) recorded.old recorded.new }
+    ensures recorded { Records (length phis.items + (events_before m.now.accepted (spec.jump m.now.accepted inv block (map phi_value phis.items) recorded.old.state) inv + 1)) recorded.old recorded.new }
 {
     let accepted = m.accepted();
     let _insts = accepted.insts();
     put_phis(m, recorded, inv, inst, phis.as_mut_slice())?;
-    recorded.set_pc(inv, first_word(accepted, block))
+    come_to(alloc, m, recorded, inv, first_word(accepted, block))
 }
 
 /// Into a function: a frame with its variables.
@@ -199,6 +209,7 @@ fn caller<'a>(m: &'a Runnable, whole: &Whole, inv: u32) -> Option<&'a Inst>
 
 /// The caller takes what the function gave, and moves behind its call.
 fn resume(
+    alloc: Global,
     m: &Runnable,
     recorded: &mut Recorded,
     inv: u32,
@@ -212,16 +223,17 @@ fn resume(
     requires fits { ResultFits m.now.accepted call.now (gained gain row.old) }
     requires held { IsHeld gain row.old }
     ensures ok { OnOk result (recorded.new.state ≡ spec.go_on m.now.accepted inv (spec.put_result inv call.now.id (gained gain row.old) recorded.old.state)) }
-    ensures recorded { Records (taking (gained gain row.old) + 1) recorded.old recorded.new }
+    ensures recorded { Records (taking (gained gain row.old) + (events_before m.now.accepted (spec.go_on m.now.accepted inv (spec.put_result inv call.now.id (gained gain row.old) recorded.old.state)) inv + 1)) recorded.old recorded.new }
 {
     let accepted = m.accepted();
     let _insts = accepted.insts();
     put_result(m, recorded, inv, call, gain, row)?;
-    go_on(m, recorded, inv, call)
+    go_on(alloc, m, recorded, inv, call)
 }
 
 /// Out of a function: where a frame is left, its call goes on with what the function gave; else the invocation is Finished.
 fn leave(
+    alloc: Global,
     m: &Runnable,
     recorded: &mut Recorded,
     inv: u32,
@@ -234,13 +246,13 @@ fn leave(
     requires fits { LeaveFits m.now.accepted inst.now (gained gain row.old) }
     requires held { IsHeld gain row.old }
     ensures ok { OnOk result (recorded.new.state ≡ spec.leave m.now.accepted inv (gained gain row.old) recorded.old.state) }
-    ensures recorded { Records (taking (gained gain row.old) + 2) recorded.old recorded.new }
+    ensures recorded { Records (taking (gained gain row.old) + (events_before m.now.accepted (spec.leave m.now.accepted inv (gained gain row.old) recorded.old.state) inv + 2)) recorded.old recorded.new }
 {
     let accepted = m.accepted();
     let _insts = accepted.insts();
     recorded.leave(inv)?;
     match caller(m, recorded.whole(), inv) {
-        Some(call) => resume(m, recorded, inv, call, gain, row),
+        Some(call) => resume(alloc, m, recorded, inv, call, gain, row),
         None => recorded.set_status(inv, Status::Finished),
     }
 }
@@ -275,6 +287,7 @@ fn arrive(m: &Runnable, recorded: &mut Recorded, inv: u32, inst: &Inst) -> Resul
 
 /// Goes where control goes.
 fn go(
+    alloc: Global,
     m: &Runnable,
     recorded: &mut Recorded,
     inv: u32,
@@ -286,22 +299,23 @@ fn go(
     requires reached { IsReached m.now recorded.old.state inv inst.now }
     requires fits { ControlFits m.now.accepted inst.now (gone control row.old) }
     ensures ok { OnOk result (recorded.new.state ≡ spec.go m.now.accepted inv inst.now.word (gone control row.old) recorded.old.state) }
-    ensures recorded { Records (entries.control_entries (gone control row.old)) recorded.old recorded.new }
+    ensures recorded { Records (entries.control_entries m.now.accepted inv (gone control row.old) (spec.go m.now.accepted inv inst.now.word (gone control row.old) recorded.old.state)) recorded.old recorded.new }
 {
     let accepted = m.accepted();
     let _insts = accepted.insts();
     match control {
-        Control::Next => go_on(m, recorded, inv, inst),
-        Control::Jump { block, phis } => jump(m, recorded, inv, inst, block, phis),
+        Control::Next => go_on(alloc, m, recorded, inv, inst),
+        Control::Jump { block, phis } => jump(alloc, m, recorded, inv, inst, block, phis),
         Control::Enter { frame, locals } => enter(m, recorded, inv, inst, frame, locals),
-        Control::Leave => leave(m, recorded, inv, inst, Gain::Nothing, row),
-        Control::Give => leave(m, recorded, inv, inst, Gain::Row, row),
+        Control::Leave => leave(alloc, m, recorded, inv, inst, Gain::Nothing, row),
+        Control::Give => leave(alloc, m, recorded, inv, inst, Gain::Row, row),
         Control::Wait => arrive(m, recorded, inv, inst),
     }
 }
 
 /// Does an effect.
 pub(crate) fn apply(
+    alloc: Global,
     m: &Runnable,
     recorded: &mut Recorded,
     inv: u32,
@@ -314,7 +328,7 @@ pub(crate) fn apply(
     requires fits { Fits m.now recorded.old.state inv inst.now (shown effect row.old) }
     requires taken { IsTaken recorded.old.state inv effect row.old }
     ensures ok { OnOk result (recorded.new.state ≡ spec.apply m.now.accepted inv inst.now (shown effect row.old) recorded.old.state) }
-    ensures recorded { Records (entries.effect_entries (shown effect row.old)) recorded.old recorded.new }
+    ensures recorded { Records (entries.effect_entries m.now.accepted inv (shown effect row.old) (spec.apply m.now.accepted inv inst.now (shown effect row.old) recorded.old.state)) recorded.old recorded.new }
 {
     let accepted = m.accepted();
     let _insts = accepted.insts();
@@ -325,5 +339,5 @@ pub(crate) fn apply(
     } = effect;
     put_store(recorded, inv, store, row)?;
     put_result(m, recorded, inv, inst, gain, row)?;
-    go(m, recorded, inv, inst, control, row)
+    go(alloc, m, recorded, inv, inst, control, row)
 }

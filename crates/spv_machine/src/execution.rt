@@ -10,7 +10,7 @@ ghost use Rattle.spv_machine.specs.Does.{Does};
 ghost use Rattle.spv_machine.specs.Recording.{Made};
 ghost use Rattle.spv_machine.specs.Reached.{IsReached, IsStepBy};
 ghost use Rattle.spv_machine.specs.Step as spec;
-ghost use Rattle.spv_machine.specs.Weights.{effect_weight, weight_of};
+ghost use Rattle.spv_machine.specs.Weights.{effect_weight, events_before, weight_of};
 ghost use Rattle.spv_machine.specs.World.{past_of, seen};
 ghost use Rattle.spv_state.specs.Sound.{IsSound};
 ghost use Rattle.spv_state.specs.State as state;
@@ -18,6 +18,7 @@ ghost use Rattle.spv_state.specs.State as state;
 use crate::applying::{apply, word_behind};
 use crate::happenings::{happening_of, plain};
 use crate::finishing::{finished, idle};
+use crate::passing::come_to;
 use crate::world::World;
 use spv_actions::{Cause, Effect, effect_at};
 use spv_base::{Cell, Fail, Fault, Happening, Inst, NoMemory, Steps};
@@ -86,7 +87,7 @@ fn due(
     ensures due { IsStepBy m.now whole.now inv inst.now row.new result }
     ensures fits { PlannedFits m.now whole.now inv inst.now row.new result }
     ensures taken { IfOk result (λ e. IsTaken whole.now inv e row.new) }
-    ensures weight { IfOk result (λ e. weight_of m.now whole.now inv ≡ effect_weight (shown e row.new)) }
+    ensures weight { IfOk result (λ e. weight_of m.now whole.now inv ≡ effect_weight m.now.accepted inv (shown e row.new) (spec.apply m.now.accepted inv inst.now (shown e row.new) whole.now)) }
 {
     match whole.top(inv) {
         Some(frame) => effect_at(alloc, m, whole, inv, frame, inst, row),
@@ -96,6 +97,7 @@ fn due(
 
 /// Does an effect as one event, or leaves all as it was.
 fn perform(
+    alloc: Global,
     m: &Runnable,
     recorded: &mut Recorded,
     inv: u32,
@@ -107,12 +109,12 @@ fn perform(
     requires reached { IsReached m.now recorded.old.state inv inst.now }
     requires fits { Fits m.now recorded.old.state inv inst.now (shown effect row.old) }
     requires taken { IsTaken recorded.old.state inv effect row.old }
-    ensures { Made (spec.happening_of m.now.accepted recorded.old.state inv inst.now.word (shown effect row.old)) (spec.apply m.now.accepted inv inst.now (shown effect row.old) recorded.old.state) (effect_weight (shown effect row.old)) result recorded.old recorded.new }
+    ensures { Made (spec.happening_of m.now.accepted recorded.old.state inv inst.now.word (shown effect row.old)) (spec.apply m.now.accepted inv inst.now (shown effect row.old) recorded.old.state) (effect_weight m.now.accepted inv (shown effect row.old) (spec.apply m.now.accepted inv inst.now (shown effect row.old) recorded.old.state)) result recorded.old recorded.new }
 {
     let happening = happening_of(m.accepted(), recorded.whole(), inv, inst.word, &effect);
     match recorded.mark(happening) {
         Ok(()) => {
-            let done = apply(m, recorded, inv, inst, effect, row);
+            let done = apply(alloc, m, recorded, inv, inst, effect, row);
             finished(recorded, happening, done)
         }
         Err(NoMemory) => Err(StepErr::NoMemory),
@@ -141,7 +143,7 @@ fn ready(
     let whole = recorded.whole();
     let inst = reached(m, whole, inv);
     match due(alloc, m, whole, inv, inst, row) {
-        Ok(effect) => perform(m, recorded, inv, inst, effect, row),
+        Ok(effect) => perform(alloc, m, recorded, inv, inst, effect, row),
         Err(Fail::Refused(cause)) => Err(StepErr::Fault(fault(cause, inv, inst.word))),
         Err(Fail::NoMemory) => Err(StepErr::NoMemory),
     }
@@ -161,34 +163,46 @@ fn barrier(m: &Runnable, whole: &Whole, inv: u32) -> u32
 }
 
 /// Moves a Passed invocation past its barrier, which stands at a word.
-fn move_past(m: &Runnable, recorded: &mut Recorded, inv: u32, pc: u32) -> Result<(), NoMemory>
+fn move_past(
+    alloc: Global,
+    m: &Runnable,
+    recorded: &mut Recorded,
+    inv: u32,
+    pc: u32,
+) -> Result<(), NoMemory>
     requires making { IsMaking recorded.old.gathered inv }
     requires inv { inv < length recorded.old.state.statuses.list }
     requires passed { slice_get recorded.old.state.statuses.list inv ≡ Some Status.Passed }
     requires sound { IsSound m.now recorded.old.state }
     requires stands { IsSomeAnd (state.top_of recorded.old.state inv) (λ f. f.pc ≡ pc) }
     ensures ok { OnOk result (recorded.new.state ≡ state.set_status inv Status.Ready (spec.go_on m.now.accepted inv recorded.old.state)) }
-    ensures recorded { Records 2 recorded.old recorded.new }
+    ensures recorded { Records (events_before m.now.accepted (spec.go_on m.now.accepted inv recorded.old.state) inv + 1 + 1) recorded.old recorded.new }
 {
     let accepted = m.accepted();
     let _insts = accepted.insts();
-    recorded.set_pc(inv, word_behind(accepted, pc))?;
+    come_to(alloc, m, recorded, inv, word_behind(accepted, pc))?;
     recorded.set_status(inv, Status::Ready)
 }
 
 /// Moves a Passed invocation past its barrier as one event, or leaves all as it was.
-fn pass_by(m: &Runnable, recorded: &mut Recorded, inv: u32, pc: u32) -> Result<Did, StepErr>
+fn pass_by(
+    alloc: Global,
+    m: &Runnable,
+    recorded: &mut Recorded,
+    inv: u32,
+    pc: u32,
+) -> Result<Did, StepErr>
     requires none { recorded.old.gathered ≡ None }
     requires inv { inv < length recorded.old.state.statuses.list }
     requires passed { slice_get recorded.old.state.statuses.list inv ≡ Some Status.Passed }
     requires sound { IsSound m.now recorded.old.state }
     requires stands { IsSomeAnd (state.top_of recorded.old.state inv) (λ f. f.pc ≡ pc) }
-    ensures { Made (spec.plain inv pc) (state.set_status inv Status.Ready (spec.go_on m.now.accepted inv recorded.old.state)) 4 result recorded.old recorded.new }
+    ensures { Made (spec.plain inv pc) (state.set_status inv Status.Ready (spec.go_on m.now.accepted inv recorded.old.state)) (4 + events_before m.now.accepted (spec.go_on m.now.accepted inv recorded.old.state) inv) result recorded.old recorded.new }
 {
     let happening = plain(inv, pc);
     match recorded.mark(happening) {
         Ok(()) => {
-            let done = move_past(m, recorded, inv, pc);
+            let done = move_past(alloc, m, recorded, inv, pc);
             finished(recorded, happening, done)
         }
         Err(NoMemory) => Err(StepErr::NoMemory),
@@ -196,7 +210,12 @@ fn pass_by(m: &Runnable, recorded: &mut Recorded, inv: u32, pc: u32) -> Result<D
 }
 
 /// The event of a Passed invocation: it moves past the barrier.
-fn pass(m: &Runnable, recorded: &mut Recorded, inv: u32) -> Result<Did, StepErr>
+fn pass(
+    alloc: Global,
+    m: &Runnable,
+    recorded: &mut Recorded,
+    inv: u32,
+) -> Result<Did, StepErr>
     requires none { recorded.old.gathered ≡ None }
     requires inv { inv < length recorded.old.state.statuses.list }
     requires passed { slice_get recorded.old.state.statuses.list inv ≡ Some Status.Passed }
@@ -209,7 +228,7 @@ fn pass(m: &Runnable, recorded: &mut Recorded, inv: u32) -> Result<Did, StepErr>
     let accepted = m.accepted();
     let _insts = accepted.insts();
     let pc = barrier(m, recorded.whole(), inv);
-    pass_by(m, recorded, inv, pc)
+    pass_by(alloc, m, recorded, inv, pc)
 }
 
 /// The event of an invocation that waits or is finished.
@@ -245,7 +264,7 @@ fn event(
 {
     match recorded.whole().statuses().get(inv) {
         Status::Ready => ready(alloc, m, recorded, inv, row),
-        Status::Passed => pass(m, recorded, inv),
+        Status::Passed => pass(alloc, m, recorded, inv),
         Status::Arrived(_) | Status::Finished => wait(m, recorded, inv),
     }
 }

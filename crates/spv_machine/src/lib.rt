@@ -4,6 +4,7 @@
 pub mod applying;
 pub mod execution;
 pub mod happenings;
+mod passing;
 mod finishing;
 pub mod world;
 

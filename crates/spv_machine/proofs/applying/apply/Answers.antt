@@ -1,4 +1,4 @@
-use Rattle.std.proofs.Common.{◌∙◌, ◌+◌, Option, sym, subst}
+use Rattle.std.proofs.Common.{◌∙◌, ◌+◌, Option, arith, sym, subst}
 use Rattle.std.proofs.lemmas.Result.{on_ok_weaker}
 use Rattle.spv_base.specs.declared.values.Value.{Value}
 use Rattle.spv_actions.specs.Effects.{Control}
@@ -7,10 +7,11 @@ use Rattle.spv_actions.specs.Planned.{gained, gone, shown}
 use Rattle.spv_journal.specs.Held.{Records}
 use Rattle.spv_state.specs.State.{State}
 use Rattle.spv_machine.specs.Reached.{IsReached}
-use Rattle.spv_machine.specs.Recording.{control_entries, store_entries}
+use Rattle.spv_machine.specs.Recording.{control_entries, effect_entries, store_entries}
+use Rattle.spv_machine.specs.Step.{apply}
 use Rattle.spv_machine.specs.Weights.{taking}
 use Rattle.spv_machine.proofs.Applied.{applied_is}
-use Rattle.spv_machine.proofs.Recording.{records_on}
+use Rattle.spv_machine.proofs.Recording.{records_more, records_on}
 use Rattle.spv_machine.proofs.ReachedLemmas.{Facts, facts, given_behind, held_behind, set_reached, stored_reached}
 use Rattle.spv_machine.proofs.applying.apply.Goals as goal
 
@@ -63,13 +64,43 @@ returns-clause-ok c =
 
 pub returns-clause-recorded : goal.returns-clause-recorded
 returns-clause-recorded c =
+    let a = c.args.m.now.accepted in
+    let i = c.args.inv in
+    let d = c.args.inst.now in
     let e = c.args.effect in
     let v = c.args.row.now in
     let s = c.args.recorded.now.state in
-    let held = held_behind s c.args.inv e.store e.gain v c.put_store.new.row c.requires.taken.0 c.put_store.ensures.row c.in_ok-put_store.ensures.handed in
+    let s2 = c.put_result.new.recorded.state in
+    let held = held_behind s i e.store e.gain v c.put_store.new.row c.requires.taken.0 c.put_store.ensures.row c.in_ok-put_store.ensures.handed in
     let given = given_behind e.control e.store e.gain v c.put_store.new.row c.put_result.new.row c.requires.taken.1 c.put_store.ensures.row c.put_result.ensures.row in
+    let applied = applied_is a i d e v c.put_store.new.row c.put_result.new.row s c.put_store.new.recorded.state s2 c.in_ok-put_store.ensures.store c.in_ok-put_result.ensures.result held.1 given in
     let one = c.put_store.ensures.recorded in
     let two = subst (λ (o : Option Value). Records (taking o) c.put_store.new.recorded c.put_result.new.recorded) held.1 c.put_result.ensures.recorded in
-    let three = subst (λ (x : Control). Records (control_entries x) c.put_result.new.recorded c.go.new.recorded) given c.go.ensures.recorded in
-    records_on (store_entries (shown e v).store + taking (gained e.gain v)) (control_entries (gone e.control v)) c.args.recorded.now c.put_result.new.recorded c.go.new.recorded
-    (records_on (store_entries (shown e v).store) (taking (gained e.gain v)) c.args.recorded.now c.put_store.new.recorded c.put_result.new.recorded one two) three
+    let gone_as = subst (λ (x : State). Records (control_entries a i (gone e.control c.put_result.new.row) x) c.put_result.new.recorded c.go.new.recorded) applied c.go.ensures.recorded in
+    let three = subst (λ (x : Control). Records (control_entries a i x (apply a i d (shown e v) s)) c.put_result.new.recorded c.go.new.recorded) given gone_as in
+    let n = store_entries (shown e v).store in
+    let m = taking (gained e.gain v) in
+    records_on (n + m) (control_entries a i (gone e.control v) (apply a i d (shown e v) s)) c.args.recorded.now c.put_result.new.recorded c.go.new.recorded
+    (records_on n m c.args.recorded.now c.put_store.new.recorded c.put_result.new.recorded one two) three
+
+pub returns-in_err-put_store-clause-recorded : goal.returns-in_err-put_store-clause-recorded
+returns-in_err-put_store-clause-recorded c =
+    let a = c.args.m.now.accepted in
+    let e = shown c.args.effect c.args.row.now in
+    let t = apply a c.args.inv c.args.inst.now e c.args.recorded.now.state in
+    records_more (store_entries e.store) (effect_entries a c.args.inv e t) c.args.recorded.now c.put_store.new.recorded (omega arith) c.put_store.ensures.recorded
+
+pub returns-in_err-put_result-clause-recorded : goal.returns-in_err-put_result-clause-recorded
+returns-in_err-put_result-clause-recorded c =
+    let a = c.args.m.now.accepted in
+    let i = c.args.inv in
+    let e = c.args.effect in
+    let v = c.args.row.now in
+    let s = c.args.recorded.now.state in
+    let t = apply a i c.args.inst.now (shown e v) s in
+    let held = held_behind s i e.store e.gain v c.put_store.new.row c.requires.taken.0 c.put_store.ensures.row c.in_ok-put_store.ensures.handed in
+    let one = c.put_store.ensures.recorded in
+    let two = subst (λ (o : Option Value). Records (taking o) c.put_store.new.recorded c.put_result.new.recorded) held.1 c.put_result.ensures.recorded in
+    let n = store_entries (shown e v).store in
+    let m = taking (gained e.gain v) in
+    records_more (n + m) (effect_entries a i (shown e v) t) c.args.recorded.now c.put_result.new.recorded (omega arith) (records_on n m c.args.recorded.now c.put_store.new.recorded c.put_result.new.recorded one two)

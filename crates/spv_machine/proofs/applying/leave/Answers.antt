@@ -1,19 +1,22 @@
-use Rattle.std.proofs.Common.{◌≡◌, ◌∙◌, ◌<◌, ℕ, None, Some, ap, length, subst, sym}
+use Rattle.std.proofs.Common.{◌≡◌, ◌∙◌, ◌+◌, ◌<◌, ℕ, None, Some, ap, arith, length, subst, sym}
 use Rattle.std.proofs.lemmas.Option.{slice_get_within}
 use Rattle.std.proofs.lemmas.Result.{on_ok_weaker}
 use Rattle.std.specs.Option.{option_and_then}
 use Rattle.spv_index.specs.Definitions.{at}
 use Rattle.spv_frame.specs.Frames.{Held as Frame}
 use Rattle.spv_actions.specs.Planned.{gained}
+use Rattle.spv_journal.specs.Held.{Records}
 use Rattle.spv_state.specs.State.{State, set_status, top_of, without_top}
 use Rattle.spv_state.proofs.Lists.{length_change}
 use Rattle.spv_statuses.specs.declared.invocations.Status.TheVariants.{Finished, Ready}
 use Rattle.spv_machine.specs.Reached.{IsReached}
-use Rattle.spv_machine.specs.Step.{go_on, put_result}
+use Rattle.spv_machine.specs.Step.{go_on, leave, put_result}
+use Rattle.spv_machine.specs.Weights.{events_before, taking}
 use Rattle.spv_machine.proofs.Outcomes.{reached_inside}
 use Rattle.spv_machine.proofs.LeaveLemmas.{leave_locals, reached_some}
 use Rattle.spv_machine.proofs.Leaves.{CalledBy, LeftAt, left_finished, left_to}
 use Rattle.spv_machine.proofs.ReachedLemmas.{Facts, facts, levels_inside}
+use Rattle.spv_machine.proofs.Recording.{records_more, records_on}
 use Rattle.spv_machine.proofs.applying.leave.Goals as goal
 
 pub leave-requires-clause-stacks : goal.leave-requires-clause-stacks
@@ -75,6 +78,23 @@ returns-in-Some-clause-ok c =
     let by : CalledBy p c.args.recorded.now.state c.args.inv c.args.inst.now c.in-Some.call.now = left_to p known c.args.recorded.now.state c.args.inv c.args.inst.now c.requires.reached c.in-Some.call.now here in
     let o = gained c.args.gain c.args.row.now in
     on_ok_weaker c.resume.result (λ gone. gone ∙ ap (λ (x : State). go_on p.accepted c.args.inv (put_result c.args.inv c.in-Some.call.now.id o x)) c.in_ok-leave.ensures.ok ∙ sym (by.leaves o)) c.resume.ensures.ok
+
+pub returns-in-Some-clause-recorded : goal.returns-in-Some-clause-recorded
+returns-in-Some-clause-recorded c =
+    let p = c.args.m.now in
+    let a = p.accepted in
+    let i = c.args.inv in
+    let s = c.args.recorded.now.state in
+    let known : Facts p.accepted = facts p.accepted c.accepted-accepted.result.now c.accepted-accepted.ensures.module c.insts-insts.ensures.accepted c.insts-insts.ensures.valid in
+    let here : LeftAt p s i ≡ Some c.in-Some.call.now
+    = ap (λ (x : State). option_and_then (λ (f : Frame). at p.accepted.insts f.pc) (top_of x i)) (sym c.in_ok-leave.ensures.ok) ∙ sym c.in-Some.ensures in
+    let by : CalledBy p s i c.args.inst.now c.in-Some.call.now = left_to p known s i c.args.inst.now c.requires.reached c.in-Some.call.now here in
+    let o = gained c.args.gain c.args.row.now in
+    let left : go_on a i (put_result i c.in-Some.call.now.id o c.leave.new.self.state) ≡ leave a i o s
+    = ap (λ (x : State). go_on a i (put_result i c.in-Some.call.now.id o x)) c.in_ok-leave.ensures.ok ∙ sym (by.leaves o) in
+    let two = subst (λ (x : State). Records (taking o + (events_before a x i + 1)) c.leave.new.self c.resume.new.recorded) left c.resume.ensures.recorded in
+    records_more (1 + (taking o + (events_before a (leave a i o s) i + 1))) (taking o + (events_before a (leave a i o s) i + 2)) c.args.recorded.now c.resume.new.recorded (omega arith)
+    (records_on 1 (taking o + (events_before a (leave a i o s) i + 1)) c.args.recorded.now c.leave.new.self c.resume.new.recorded c.leave.ensures.recorded two)
 
 pub returns-in-None-clause-ok : goal.returns-in-None-clause-ok
 returns-in-None-clause-ok c =

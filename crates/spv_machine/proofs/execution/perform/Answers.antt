@@ -5,7 +5,7 @@ use Rattle.spv_base.specs.declared.happenings.Happening.{Happening}
 use Rattle.spv_valid.specs.Acceptance.{Accepted}
 use Rattle.spv_actions.specs.Fits.{Fits}
 use Rattle.spv_actions.specs.Planned.{IsTaken, shown}
-use Rattle.spv_journal.specs.Held.{Held as Recorded, IsMaking}
+use Rattle.spv_journal.specs.Held.{Held as Recorded, IsMaking, Records}
 use Rattle.spv_state.specs.State.{State}
 use Rattle.spv_statuses.specs.declared.invocations.Status.TheVariants.{Ready}
 use Rattle.spv_machine.specs.Reached.{IsReached}
@@ -45,7 +45,9 @@ returns-in-Ok c =
     let e = shown c.args.effect c.args.row.now in
     let h : c.happening_of-happening.result ≡ happening_of p.accepted s i d.word e
     = c.happening_of-happening.ensures c.args.row.now ∙ ap (λ (x : Accepted). happening_of x c.whole.result.now i d.word e) c.accepted.ensures.module ∙ ap (λ (x : State). happening_of p.accepted x i d.word e) c.whole.ensures in
+    let t = apply p.accepted i d e s in
+    let few = subst (λ (x : Recorded). Records (effect_entries p.accepted i e (apply p.accepted i d e x.state)) c.mark.new.recorded c.apply-done.new.recorded) c.in-Ok.ensures.ok c.apply-done.ensures.recorded in
     let reaches = on_ok_weaker c.apply-done.result (λ done. done ∙ ap (λ (x : Recorded). apply p.accepted i d e x.state) c.in-Ok.ensures.ok) c.apply-done.ensures.ok in
-    subst (λ (g : Happening). Made g (apply p.accepted i d e s) (effect_weight e) c.finished.result c.args.recorded.now c.finished.new.recorded) h
-    (made_is c.happening_of-happening.result (effect_entries e) c.args.recorded.now c.mark.new.recorded c.apply-done.new.recorded c.requires.none c.in-Ok.ensures.ok c.apply-done.ensures.recorded (effect_weight e) (apply p.accepted i d e s)
-    c.apply-done.result c.finished.result c.finished.new.recorded (effect_fits e) reaches c.finished.ensures.ok c.finished.ensures.err)
+    subst (λ (g : Happening). Made g (apply p.accepted i d e s) (effect_weight p.accepted i e (apply p.accepted i d e s)) c.finished.result c.args.recorded.now c.finished.new.recorded) h
+    (made_is c.happening_of-happening.result (effect_entries p.accepted i e t) c.args.recorded.now c.mark.new.recorded c.apply-done.new.recorded c.requires.none c.in-Ok.ensures.ok few (effect_weight p.accepted i e t) t
+    c.apply-done.result c.finished.result c.finished.new.recorded (effect_fits p.accepted i e t) reaches c.finished.ensures.ok c.finished.ensures.err)

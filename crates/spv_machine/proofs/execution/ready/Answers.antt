@@ -32,9 +32,10 @@ returns-in-Ok-clause-does c =
     let e = shown c.in-Ok.effect c.due.new.row in
     let due : step_of p s i ≡ Moves (happening_of p.accepted s i d.word e) (apply p.accepted i d e s)
     = subst (λ (x : State). step_of p x i ≡ Moves (happening_of p.accepted x i d.word e) (apply p.accepted i d e x)) c.whole-whole.ensures c.in-Ok.ensures.due in
-    let weight : weight_of p s i ≡ effect_weight e = subst (λ (x : State). weight_of p x i ≡ effect_weight e) c.whole-whole.ensures c.in-Ok.ensures.weight in
+    let weight : weight_of p s i ≡ effect_weight p.accepted i e (apply p.accepted i d e s)
+    = subst (λ (x : State). weight_of p x i ≡ effect_weight p.accepted i e (apply p.accepted i d e x)) c.whole-whole.ensures c.in-Ok.ensures.weight in
     subst (λ (n : ℕ). Does i (step_of p s i) n c.perform.result (seen c.args.recorded.now) (seen c.perform.new.recorded)) (sym weight)
-    (made_does i (step_of p s i) (effect_weight e) (happening_of p.accepted s i d.word e) (apply p.accepted i d e s) c.perform.result c.args.recorded.now c.perform.new.recorded due c.perform.ensures)
+    (made_does i (step_of p s i) (effect_weight p.accepted i e (apply p.accepted i d e s)) (happening_of p.accepted s i d.word e) (apply p.accepted i d e s) c.perform.result c.args.recorded.now c.perform.new.recorded due c.perform.ensures)
 
 pub returns-in-Ok-clause-none : goal.returns-in-Ok-clause-none
 returns-in-Ok-clause-none c =
@@ -42,7 +43,7 @@ returns-in-Ok-clause-none c =
     let s = c.args.recorded.now.state in
     let d = c.reached-inst.result.now in
     let e = shown c.in-Ok.effect c.due.new.row in
-    made_none (happening_of p.accepted s c.args.inv d.word e) (apply p.accepted c.args.inv d e s) (effect_weight e) c.perform.result c.args.recorded.now c.perform.new.recorded c.requires.none c.perform.ensures
+    made_none (happening_of p.accepted s c.args.inv d.word e) (apply p.accepted c.args.inv d e s) (effect_weight p.accepted c.args.inv e (apply p.accepted c.args.inv d e s)) c.perform.result c.args.recorded.now c.perform.new.recorded c.requires.none c.perform.ensures
 
 pub returns-in-Ok-clause-sound : goal.returns-in-Ok-clause-sound
 returns-in-Ok-clause-sound c =
@@ -53,7 +54,7 @@ returns-in-Ok-clause-sound c =
     let known : Facts p.accepted = facts p.accepted c.accepted-accepted.result.now c.accepted-accepted.ensures.module c.insts-insts.ensures.accepted c.insts-insts.ensures.valid in
     let reached : IsReached p s c.args.inv d = subst (λ (x : State). IsReached p x c.args.inv d) c.whole-whole.ensures c.reached-inst.ensures in
     let fits : Fits p s c.args.inv d e = subst (λ (x : State). Fits p x c.args.inv d e) c.whole-whole.ensures c.in-Ok.ensures.fits in
-    made_keeps (IsSound p) (happening_of p.accepted s c.args.inv d.word e) (apply p.accepted c.args.inv d e s) (effect_weight e) c.perform.result c.args.recorded.now c.perform.new.recorded c.requires.sound
+    made_keeps (IsSound p) (happening_of p.accepted s c.args.inv d.word e) (apply p.accepted c.args.inv d e s) (effect_weight p.accepted c.args.inv e (apply p.accepted c.args.inv d e s)) c.perform.result c.args.recorded.now c.perform.new.recorded c.requires.sound
     (applied_sound p known s c.args.inv d e reached fits) c.perform.ensures
 
 pub returns-in-Ok-clause-invocations : goal.returns-in-Ok-clause-invocations
@@ -62,5 +63,5 @@ returns-in-Ok-clause-invocations c =
     let s = c.args.recorded.now.state in
     let d = c.reached-inst.result.now in
     let e = shown c.in-Ok.effect c.due.new.row in
-    made_keeps (λ (x : State). length x.statuses.list ≡ length s.statuses.list) (happening_of p.accepted s c.args.inv d.word e) (apply p.accepted c.args.inv d e s) (effect_weight e) c.perform.result c.args.recorded.now c.perform.new.recorded
+    made_keeps (λ (x : State). length x.statuses.list ≡ length s.statuses.list) (happening_of p.accepted s c.args.inv d.word e) (apply p.accepted c.args.inv d e s) (effect_weight p.accepted c.args.inv e (apply p.accepted c.args.inv d e s)) c.perform.result c.args.recorded.now c.perform.new.recorded
     refl (applied_count p.accepted c.args.inv d e s) c.perform.ensures
