@@ -41,7 +41,7 @@ zip_one P [] (b ∷ ys) x y all one = absurd all
 zip_one P (a ∷ xs) [] x y all one = absurd all
 zip_one P (a ∷ xs) (b ∷ ys) x y all one = (all.0, zip_one P xs ys x y all.1 one)
 
-zip_length : {A B : Type 0} (P : A → B → Type 0) (xs : List A) (ys : List B) → AllZip P xs ys → length ys ≡ length xs
+pub zip_length : {A B : Type 0} (P : A → B → Type 0) (xs : List A) (ys : List B) → AllZip P xs ys → length ys ≡ length xs
 zip_length P [] [] all = refl
 zip_length P [] (b ∷ ys) all = absurd all
 zip_length P (a ∷ xs) [] all = absurd all

@@ -46,7 +46,7 @@ abbrev pub LeftAt : Program → State → ℕ → Option Inst
 LeftAt p s i = option_and_then (λ (f : Frame). at p.accepted.insts f.pc) (top_of (pop_frame i s) i)
 
 module _ (p : Program) (known : Facts p.accepted) (s : State) (i : ℕ) (d : Inst) (r : IsReached p s i d) where
-  own_stack : (k : Stacked) × (slice_get s.stacks i ≡ Some k) × (l : Levels) × (slice_get s.memory.locals i ≡ Some l) × IsSoundStack p.accepted Ready k l × (top k.frames ≡ Some r.frame)
+  pub own_stack : (k : Stacked) × (slice_get s.stacks i ≡ Some k) × (l : Levels) × (slice_get s.memory.locals i ≡ Some l) × IsSoundStack p.accepted Ready k l × (top k.frames ≡ Some r.frame)
   own_stack =
       let inside = slice_get_within s.statuses.list i Ready r.ready in
       let stacks = r.sound.stacks in
