@@ -93,27 +93,34 @@ class Calls:
             with open(os.path.join(folder, name), "wb") as file:
                 file.write(content)
 
-    def once(self, commands):
-        """Seconds of the processor, and the greatest resident size in MiB."""
+        self.words = [PROGRAM, "debug", folder + "/module", folder + "/setup"]
+
+    def started(self, words, commands):
         path = os.path.join(self.folder, "commands")
         with open(path, "w") as file:
             file.write(commands)
         with open(path) as file:
-            words = [PROGRAM, "debug", self.folder + "/module", self.folder + "/setup"]
-            process = subprocess.Popen(words, stdin=file, stdout=subprocess.DEVNULL)
-            _, status, used = os.wait4(process.pid, 0)
-            process.returncode = os.waitstatus_to_exitcode(status)
+            return subprocess.Popen(words, stdin=file, stdout=subprocess.DEVNULL, stderr=subprocess.PIPE, text=True)
+
+    def once(self, commands):
+        """Seconds of the processor."""
+        process = self.started(self.words, commands)
+        _, status, used = os.wait4(process.pid, 0)
+        process.returncode = os.waitstatus_to_exitcode(status)
         if process.returncode != 0:
             sys.exit("status %d" % process.returncode)
-        return used.ru_utime + used.ru_stime, used.ru_maxrss / 1024
+        return used.ru_utime + used.ru_stime
 
     def least(self, commands):
-        """The least of the seconds, and of the sizes."""
-        return tuple(min(each) for each in zip(*(self.once(commands) for _ in range(RUNS))))
+        return min(self.once(commands) for _ in range(RUNS))
 
     def seconds(self, late, early=64):
         """Seconds between two positions, forward."""
-        return self.least("goto %d\n" % late)[0] - self.least("goto %d\n" % early)[0]
+        return self.least("goto %d\n" % late) - self.least("goto %d\n" % early)
+
+    def memory(self, commands):
+        """The greatest resident size in MiB, as GNU time tells it."""
+        return int(self.started(["/usr/bin/time", "-f", "%M"] + self.words, commands).communicate()[1].split()[-1]) / 1024
 
 
 def called(data, invocations=1):
@@ -141,7 +148,7 @@ def entries():
     print("| 4,194,304 entries over 1,024 invocations | `goto 4194304` | with opening |\n|---|---|---|")
     for name, data in (("each makes an event", with_barriers(1024)), ("all but those of one invocation are idle", one_goes_on(1024))):
         calls = called(data, 1024)
-        nothing, whole = calls.least("\n")[0], calls.least("goto %d\n" % ENTRIES)[0]
+        nothing, whole = calls.least("\n"), calls.least("goto %d\n" % ENTRIES)
         print("| %s | %.2f s | %.2f s |" % (name, whole - nothing, whole))
 
 
@@ -151,13 +158,12 @@ def back(position=1_000_000, by=100_000, times=10):
     for name, count, data in (("1 KiB of a mixture", 1, mixed(1 << 10)), ("64 invocations with barriers", 64, with_barriers(64))):
         calls = called(data, count)
         to = "goto %d\n" % position
-        start, small = calls.least("goto 64\n")
-        there, full = calls.least(to)
-        again, _ = calls.least(to + times * ("back %d\nfwd %d\n" % (by, by)))
+        start, there = calls.least("goto 64\n"), calls.least(to)
+        again = calls.least(to + times * ("back %d\nfwd %d\n" % (by, by)))
         each = (there - start) / (position - 64)
         behind = (again - there) / (times * by) - each
         rate = "%.1f" % (1e-6 / behind) if behind > 0 else "too fast to be told"
-        print("| %s | %.1f | %s | %.1f MiB | %.1f MiB |" % (name, 1e-6 / each, rate, small, full))
+        print("| %s | %.1f | %s | %.1f MiB | %.1f MiB |" % (name, 1e-6 / each, rate, calls.memory("goto 64\n"), calls.memory(to)))
 
 
 TABLES = {"forward": forward, "invocations": invocations, "entries": entries, "back": back}
