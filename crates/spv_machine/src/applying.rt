@@ -7,7 +7,7 @@ ghost use Rattle.spv_base.specs.declared.values.Pointer.{Pointer as Reference};
 ghost use Rattle.spv_index.specs.Definitions.{at};
 ghost use Rattle.spv_mem.specs.Memory.{load_of};
 ghost use Rattle.spv_actions.specs.Effects as effects;
-ghost use Rattle.spv_actions.specs.Fits.{ControlFits, EnterFits, Fits, IsOfType, JumpFits, LeaveFits, ResultFits, StoreFits};
+ghost use Rattle.spv_actions.specs.Fits.{ControlFits, EnterFits, Fits, IsOfType, JumpFits, LeaveFits, ResultFits, ResultRooted, StoreFits};
 ghost use Rattle.spv_actions.specs.Planned.{IsTaken, gained, gone, phi_value, shown};
 ghost use Rattle.spv_journal.specs.Held.{IsMaking, Records};
 ghost use Rattle.spv_machine.specs.Reached.{IsHeld, IsReached};
@@ -221,6 +221,7 @@ fn resume(
     requires reached { IsReached m.now recorded.old.state inv call.now }
     requires next { ControlFits m.now.accepted call.now effects.Next }
     requires fits { ResultFits m.now.accepted call.now (gained gain row.old) }
+    requires rooted { ResultRooted m.now.accepted (state.frames_of recorded.old.state inv) (gained gain row.old) }
     requires held { IsHeld gain row.old }
     ensures ok { OnOk result (recorded.new.state ≡ spec.go_on m.now.accepted inv (spec.put_result inv call.now.id (gained gain row.old) recorded.old.state)) }
     ensures recorded { Records (taking (gained gain row.old) + (events_before m.now.accepted (spec.go_on m.now.accepted inv (spec.put_result inv call.now.id (gained gain row.old) recorded.old.state)) inv + 1)) recorded.old recorded.new }

@@ -1,7 +1,7 @@
 //! The debug events that a frame passes as it comes to an executable, each with the value that it captures.
 ghost use Rattle.std.specs.Prelude.{◌≡◌, ◌<◌, ◌++◌, [], ◌∷◌, IfOk, IfSome, IsSome, OnOk, OnErr, Some, length, option_map};
 ghost use Rattle.std.specs.Option.{option_and_then};
-ghost use Rattle.spv_frame.specs.Events as frame;
+ghost use Rattle.spv_frame.specs.Events as passing;
 ghost use Rattle.spv_operands.specs.Operands.{IsPlain, shown};
 ghost use Rattle.spv_operands.specs.Values.{value_of};
 ghost use Rattle.spv_plans.specs.Plans.{plans_in};
@@ -29,8 +29,8 @@ fn pointer_to(alloc: Global, root: Root) -> Pointer
 /// The value that an operand stands for, copied.
 fn copied(alloc: Global, operand: &Operand<'_>) -> Result<Captured, NoMemory>
     requires { IsPlain operand.now }
-    ensures value { IfOk result (λ c. frame.seen c ≡ Some (shown operand.now)) }
-    ensures plain { IfOk result (λ c. ∥ frame.IsPlain c ∥₁) }
+    ensures value { IfOk result (λ c. passing.seen c ≡ Some (shown operand.now)) }
+    ensures plain { IfOk result (λ c. ∥ passing.IsPlain c ∥₁) }
 {
     match operand {
         Operand::Value(_) | Operand::Undefined(_) => match operand.part() {
@@ -45,8 +45,8 @@ fn copied(alloc: Global, operand: &Operand<'_>) -> Result<Captured, NoMemory>
 /// The value of an operand that was found, copied.
 fn found(alloc: Global, operand: &Option<Operand<'_>>) -> Result<Captured, NoMemory>
     requires { IfSome operand.now IsPlain }
-    ensures value { IfOk result (λ c. frame.seen c ≡ option_map shown operand.now) }
-    ensures plain { IfOk result (λ c. ∥ frame.IsPlain c ∥₁) }
+    ensures value { IfOk result (λ c. passing.seen c ≡ option_map shown operand.now) }
+    ensures plain { IfOk result (λ c. ∥ passing.IsPlain c ∥₁) }
 {
     match operand {
         Some(operand) => copied(alloc, operand),
@@ -65,8 +65,8 @@ fn value(
 ) -> Result<Captured, NoMemory>
     requires plans { plans.now ≡ plans_in accepted.now }
     requires frame { spec.IsReadable accepted.now frame.now }
-    ensures value { IfOk result (λ c. frame.seen c ≡ option_and_then (value_of accepted.now frame.now depth) id) }
-    ensures plain { IfOk result (λ c. ∥ frame.IsPlain c ∥₁) }
+    ensures value { IfOk result (λ c. passing.seen c ≡ option_and_then (value_of accepted.now frame.now depth) id) }
+    ensures plain { IfOk result (λ c. ∥ passing.IsPlain c ∥₁) }
 {
     match id {
         Some(id) => found(alloc, &operand(alloc, accepted, plans, frame, depth, id)?),

@@ -2,15 +2,15 @@ use Rattle.std.proofs.Common.{◌∙◌, ◌+◌, Option, arith, sym, subst}
 use Rattle.std.proofs.lemmas.Result.{on_ok_weaker}
 use Rattle.spv_base.specs.declared.values.Value.{Value}
 use Rattle.spv_actions.specs.Effects.{Control}
-use Rattle.spv_actions.specs.Fits.{ControlFits, ResultFits}
+use Rattle.spv_actions.specs.Fits.{ControlFits, ResultFits, ResultRooted}
 use Rattle.spv_actions.specs.Planned.{gained, gone, shown}
 use Rattle.spv_journal.specs.Held.{Records}
-use Rattle.spv_state.specs.State.{State}
+use Rattle.spv_state.specs.State.{State, frames_of}
 use Rattle.spv_machine.specs.Reached.{IsReached}
 use Rattle.spv_machine.specs.Recording.{control_entries, effect_entries, store_entries}
 use Rattle.spv_machine.specs.Step.{apply}
 use Rattle.spv_machine.specs.Weights.{taking}
-use Rattle.spv_machine.proofs.Applied.{applied_is}
+use Rattle.spv_machine.proofs.Applied.{applied_is, stored_rooted}
 use Rattle.spv_machine.proofs.Recording.{records_more, records_on}
 use Rattle.spv_machine.proofs.ReachedLemmas.{Facts, facts, given_behind, held_behind, set_reached, stored_reached}
 use Rattle.spv_machine.proofs.applying.apply.Goals as goal
@@ -42,7 +42,9 @@ go-requires-clause-reached c =
     let held = held_behind c.args.recorded.now.state c.args.inv e.store e.gain c.args.row.now c.put_store.new.row c.requires.taken.0 c.put_store.ensures.row c.in_ok-put_store.ensures.handed in
     let known : Facts p.accepted = facts p.accepted c.accepted-accepted.result.now c.accepted-accepted.ensures.module c.insts-insts.ensures.accepted c.insts-insts.ensures.valid in
     subst (λ (x : State). IsReached p x c.args.inv d) (sym c.in_ok-put_result.ensures.result)
-    (set_reached p known.known c.put_store.new.recorded.state c.args.inv d (gained e.gain c.put_store.new.row) first (subst (ResultFits p.accepted d) (sym held.1) c.requires.fits.result))
+    (set_reached p known.known c.put_store.new.recorded.state c.args.inv d (gained e.gain c.put_store.new.row) first (subst (ResultFits p.accepted d) (sym held.1) c.requires.fits.result)
+    (subst (ResultRooted p.accepted (frames_of c.put_store.new.recorded.state c.args.inv)) (sym held.1)
+    (stored_rooted p.accepted c.args.recorded.now.state c.put_store.new.recorded.state c.args.inv (shown e c.args.row.now).store (gained e.gain c.args.row.now) c.in_ok-put_store.ensures.store c.requires.fits.rooted)))
 
 pub go-requires-clause-fits : goal.go-requires-clause-fits
 go-requires-clause-fits c =

@@ -6,7 +6,7 @@ use Rattle.spv_index.specs.Definitions.{at}
 use Rattle.spv_frame.specs.Frames.{Held as Frame}
 use Rattle.spv_actions.specs.Planned.{gained}
 use Rattle.spv_journal.specs.Held.{Records}
-use Rattle.spv_state.specs.State.{State, set_status, top_of, without_top}
+use Rattle.spv_state.specs.State.{State, frames_of, set_status, top_of, without_top}
 use Rattle.spv_state.proofs.Lists.{length_change}
 use Rattle.spv_statuses.specs.declared.invocations.Status.TheVariants.{Finished, Ready}
 use Rattle.spv_machine.specs.Reached.{IsReached}
@@ -14,7 +14,7 @@ use Rattle.spv_machine.specs.Step.{go_on, leave, put_result}
 use Rattle.spv_machine.specs.Weights.{events_before, taking}
 use Rattle.spv_machine.proofs.Outcomes.{reached_inside}
 use Rattle.spv_machine.proofs.LeaveLemmas.{leave_locals, reached_some}
-use Rattle.spv_machine.proofs.Leaves.{CalledBy, LeftAt, left_finished, left_to}
+use Rattle.spv_machine.proofs.Leaves.{CalledBy, LeftAt, given_rooted, left_finished, left_to}
 use Rattle.spv_machine.proofs.ReachedLemmas.{Facts, facts, levels_inside}
 use Rattle.spv_machine.proofs.Recording.{records_more, records_on}
 use Rattle.spv_machine.proofs.applying.leave.Goals as goal
@@ -68,6 +68,12 @@ resume-requires-clause-fits c =
     let here : LeftAt p c.args.recorded.now.state c.args.inv ≡ Some c.in-Some.call.now
     = ap (λ (x : State). option_and_then (λ (f : Frame). at p.accepted.insts f.pc) (top_of x c.args.inv)) (sym c.in_ok-leave.ensures.ok ∙ sym c.whole.ensures) ∙ sym c.in-Some.ensures in
     (left_to p known c.args.recorded.now.state c.args.inv c.args.inst.now c.requires.reached c.in-Some.call.now here).fits (gained c.args.gain c.args.row.now) c.requires.fits
+
+pub resume-requires-clause-rooted : goal.resume-requires-clause-rooted
+resume-requires-clause-rooted c =
+    let p = c.args.m.now in
+    let known : Facts p.accepted = facts p.accepted c.accepted-accepted.result.now c.accepted-accepted.ensures.module c.insts-insts.ensures.accepted c.insts-insts.ensures.valid in
+    given_rooted p known c.args.recorded.now.state c.args.inv c.args.inst.now (gained c.args.gain c.args.row.now) c.requires.reached c.requires.fits (frames_of c.leave.new.self.state c.args.inv)
 
 pub returns-in-Some-clause-ok : goal.returns-in-Some-clause-ok
 returns-in-Some-clause-ok c =

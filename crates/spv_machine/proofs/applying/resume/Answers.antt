@@ -15,7 +15,7 @@ go_on-requires-clause-reached c =
     let p = c.args.m.now in
     let known : Facts p.accepted = facts p.accepted c.accepted-accepted.result.now c.accepted-accepted.ensures.module c.insts-insts.ensures.accepted c.insts-insts.ensures.valid in
     subst (λ (x : State). IsReached p x c.args.inv c.args.call.now) (sym c.in_ok-put_result.ensures.result)
-    (set_reached p known.known c.args.recorded.now.state c.args.inv c.args.call.now (gained c.args.gain c.args.row.now) c.requires.reached c.requires.fits)
+    (set_reached p known.known c.args.recorded.now.state c.args.inv c.args.call.now (gained c.args.gain c.args.row.now) c.requires.reached c.requires.fits c.requires.rooted)
 
 pub returns-clause-ok : goal.returns-clause-ok
 returns-clause-ok c =
