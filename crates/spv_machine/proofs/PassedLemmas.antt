@@ -1,5 +1,5 @@
 -- Debug events that the top frame passes, one after the other.
-use Rattle.std.proofs.Common.{◌≡◌, ◌∙◌, ℕ, suc, ◌+◌, ◌-◌, ◌<◌, List, [], ◌∷◌, ◌++◌, append-nil, append_assoc, Option, Some, None, IsSome, length, map, slice_get, refl, sym, ap, subst, arith}
+use Rattle.std.proofs.Common.{◌≡◌, ◌∙◌, ℕ, suc, ◌+◌, ◌-◌, ◌<◌, ◌≤◌, List, [], ◌∷◌, ◌++◌, append-nil, append_assoc, Option, Some, None, IsSome, length, map, slice_get, refl, sym, ap, subst, arith}
 use Rattle.std.proofs.lemmas.List.{length-map}
 use Rattle.std.specs.Option.{IsSomeAnd, option_map_or}
 use Rattle.spv_base.specs.declared.values.PassedEvent.{PassedEvent}
@@ -17,7 +17,7 @@ use Rattle.spv_state.proofs.Lists.{change_same, length_change}
 use Rattle.spv_machine.specs.Weights.{events_before}
 use Rattle.spv_machine.proofs.Phis.{on_frame_still, on_frame_twice}
 use Rattle.spv_machine.proofs.ReachedLemmas.{frame_changed}
-use Rattle.spv_machine.proofs.Recording.{records_on}
+use Rattle.spv_machine.proofs.Recording.{records_more, records_on, records_still}
 
 -- ---- the top frame
 
@@ -53,6 +53,16 @@ pub record Appending (i : ℕ) (all rest : List PassedEvent) (old now : Recorded
   pub inside : i < length now.state.stacks
   pub frames : IsSome (top_of now.state i)
 
+pub appends_begin : (i : ℕ) (all rest : List PassedEvent) (now : Recorded) → rest ≡ all → i < length now.state.stacks → IsSome (top_of now.state i) → Appending i all rest now now
+appends_begin i all rest now same inside frames = record {
+  left = ap (λ (es : List PassedEvent). on_frame i (with_events es) now.state) same;
+  count = 0;
+  counted = let e : length rest ≡ length all = ap length same in omega (arith, e);
+  records = records_still now;
+  inside = inside;
+  frames = frames;
+}
+
 pub appends_one : (i : ℕ) (all rest more : List PassedEvent) (e : PassedEvent) (old now new : Recorded) → rest ≡ e ∷ more → Appending i all rest old now → new.state ≡ on_frame i (append_event e) now.state → Records 1 now new
     → Appending i all more old new
 appends_one i all rest more e old now new first going made one = record {
@@ -72,11 +82,19 @@ appends_none i all rest old now none going =
     sym (on_frame_still i now.state) ∙ on_frame_same i (λ f. f) (with_events []) now.state (λ f. ap (λ (xs : List PassedEvent). record f { events = xs }) (sym (append-nil f.events)))
     ∙ ap (λ (es : List PassedEvent). on_frame i (with_events es) now.state) (sym none) ∙ going.left
 
+-- there is one more
+pub appends_some : (i : ℕ) (all rest more : List PassedEvent) (e : PassedEvent) (old now : Recorded) → rest ≡ e ∷ more → (g : Appending i all rest old now) → g.count + 1 ≤ length all
+appends_some i all rest more e old now first g = let c = g.counted in let size : length rest ≡ suc (length more) = ap length first in omega (arith, c, size)
+
+-- not more than there are
+pub appends_records : (i : ℕ) (all rest : List PassedEvent) (old now : Recorded) → Appending i all rest old now → Records (length all) old now
+appends_records i all rest old now going = records_more going.count (length all) old now (let c = going.counted in omega arith) going.records
+
 -- ---- how many there are
 
 due_count : (a : Accepted) (s : State) (i : ℕ) (o : Option Frame) → length (option_map_or (due a (depth_of s i)) o []) ≡ option_map_or (λ (f : Frame). length (captures_before a f.pc)) o 0
 due_count a s i None = refl
-due_count a s i (Some f) = length-map (captured a f (depth_of s i)) (captures_before a f.pc)
+due_count a s i (Some f) = length-map (captures_before a f.pc) (captured a f (depth_of s i))
 
 -- as many as the executable has before it, and the pc stays
 pub due_counted : (a : Accepted) (s : State) (i : ℕ) → IsSome (top_of s i) → length (due_at a s i) ≡ events_before a (pass a i s) i
@@ -102,4 +120,4 @@ come_readable a s i pc sound f here =
     let now : top_of (on_frame i (with_pc pc) s) i ≡ Some (with_pc pc there.0) = frame_changed s i (with_pc pc) there.0 there.1 in
     let same : with_pc pc there.0 ≡ f = cc in
     let own : IsReadable a there.0 = readable a there.0 there.2 in
-    subst (IsReadable a) same (record { function = own.function; shaped = own.shaped })
+    subst (IsReadable a) same (record { function = own.function; shaped = record { values = own.shaped.values; pointers = own.shaped.pointers } })

@@ -43,7 +43,8 @@ go-requires-clause-reached c =
     let known : Facts p.accepted = facts p.accepted c.accepted-accepted.result.now c.accepted-accepted.ensures.module c.insts-insts.ensures.accepted c.insts-insts.ensures.valid in
     subst (λ (x : State). IsReached p x c.args.inv d) (sym c.in_ok-put_result.ensures.result)
     (set_reached p known.known c.put_store.new.recorded.state c.args.inv d (gained e.gain c.put_store.new.row) first (subst (ResultFits p.accepted d) (sym held.1) c.requires.fits.result)
-    (subst (ResultRooted p.accepted (frames_of c.put_store.new.recorded.state c.args.inv)) (sym held.1) (stored_rooted p.accepted c.args.recorded.now.state c.put_store.new.recorded.state c.args.inv (shown e c.args.row.now).store (gained e.gain c.args.row.now) c.in_ok-put_store.ensures.store c.requires.fits.rooted)))
+    (subst (ResultRooted p.accepted (frames_of c.put_store.new.recorded.state c.args.inv)) (sym held.1)
+    (stored_rooted p.accepted c.args.recorded.now.state c.put_store.new.recorded.state c.args.inv (shown e c.args.row.now).store (gained e.gain c.args.row.now) c.in_ok-put_store.ensures.store c.requires.fits.rooted)))
 
 pub go-requires-clause-fits : goal.go-requires-clause-fits
 go-requires-clause-fits c =

@@ -38,7 +38,7 @@ pub caller-requires : goal.caller-requires
 caller-requires c =
     let s = c.args.recorded.now.state in
     let own = reached_inside c.args.m.now s c.args.inv c.args.inst.now c.requires.reached in
-    subst (λ (x : State). c.args.inv < length x.stacks) (sym c.in_ok-leave.ensures.ok) (subst (λ (n : ℕ). c.args.inv < n) (sym (length_change c.args.inv without_top s.stacks)) own)
+    subst (λ (x : State). c.args.inv < length x.stacks) (sym c.in_ok-leave.ensures.ok ∙ sym c.whole.ensures) (subst (λ (n : ℕ). c.args.inv < n) (sym (length_change c.args.inv without_top s.stacks)) own)
 
 pub set_status-requires-clause-inside : goal.set_status-requires-clause-inside
 set_status-requires-clause-inside c =
@@ -49,7 +49,7 @@ resume-requires-clause-reached c =
     let p = c.args.m.now in
     let known : Facts p.accepted = facts p.accepted c.accepted-accepted.result.now c.accepted-accepted.ensures.module c.insts-insts.ensures.accepted c.insts-insts.ensures.valid in
     let here : LeftAt p c.args.recorded.now.state c.args.inv ≡ Some c.in-Some.call.now
-    = ap (λ (x : State). option_and_then (λ (f : Frame). at p.accepted.insts f.pc) (top_of x c.args.inv)) (sym c.in_ok-leave.ensures.ok) ∙ sym c.in-Some.ensures in
+    = ap (λ (x : State). option_and_then (λ (f : Frame). at p.accepted.insts f.pc) (top_of x c.args.inv)) (sym c.in_ok-leave.ensures.ok ∙ sym c.whole.ensures) ∙ sym c.in-Some.ensures in
     let by : CalledBy p c.args.recorded.now.state c.args.inv c.args.inst.now c.in-Some.call.now = left_to p known c.args.recorded.now.state c.args.inv c.args.inst.now c.requires.reached c.in-Some.call.now here in
     subst (λ (x : State). IsReached p x c.args.inv c.in-Some.call.now) (sym c.in_ok-leave.ensures.ok) by.reached
 
@@ -58,7 +58,7 @@ resume-requires-clause-next c =
     let p = c.args.m.now in
     let known : Facts p.accepted = facts p.accepted c.accepted-accepted.result.now c.accepted-accepted.ensures.module c.insts-insts.ensures.accepted c.insts-insts.ensures.valid in
     let here : LeftAt p c.args.recorded.now.state c.args.inv ≡ Some c.in-Some.call.now
-    = ap (λ (x : State). option_and_then (λ (f : Frame). at p.accepted.insts f.pc) (top_of x c.args.inv)) (sym c.in_ok-leave.ensures.ok) ∙ sym c.in-Some.ensures in
+    = ap (λ (x : State). option_and_then (λ (f : Frame). at p.accepted.insts f.pc) (top_of x c.args.inv)) (sym c.in_ok-leave.ensures.ok ∙ sym c.whole.ensures) ∙ sym c.in-Some.ensures in
     (left_to p known c.args.recorded.now.state c.args.inv c.args.inst.now c.requires.reached c.in-Some.call.now here).next
 
 pub resume-requires-clause-fits : goal.resume-requires-clause-fits
@@ -66,21 +66,21 @@ resume-requires-clause-fits c =
     let p = c.args.m.now in
     let known : Facts p.accepted = facts p.accepted c.accepted-accepted.result.now c.accepted-accepted.ensures.module c.insts-insts.ensures.accepted c.insts-insts.ensures.valid in
     let here : LeftAt p c.args.recorded.now.state c.args.inv ≡ Some c.in-Some.call.now
-    = ap (λ (x : State). option_and_then (λ (f : Frame). at p.accepted.insts f.pc) (top_of x c.args.inv)) (sym c.in_ok-leave.ensures.ok) ∙ sym c.in-Some.ensures in
+    = ap (λ (x : State). option_and_then (λ (f : Frame). at p.accepted.insts f.pc) (top_of x c.args.inv)) (sym c.in_ok-leave.ensures.ok ∙ sym c.whole.ensures) ∙ sym c.in-Some.ensures in
     (left_to p known c.args.recorded.now.state c.args.inv c.args.inst.now c.requires.reached c.in-Some.call.now here).fits (gained c.args.gain c.args.row.now) c.requires.fits
 
 pub resume-requires-clause-rooted : goal.resume-requires-clause-rooted
 resume-requires-clause-rooted c =
     let p = c.args.m.now in
     let known : Facts p.accepted = facts p.accepted c.accepted-accepted.result.now c.accepted-accepted.ensures.module c.insts-insts.ensures.accepted c.insts-insts.ensures.valid in
-    given_rooted p known c.args.recorded.now.state c.args.inv c.args.inst.now (gained c.args.gain c.args.row.now) c.requires.reached c.requires.fits (frames_of c.leave.new.recorded.state c.args.inv)
+    given_rooted p known c.args.recorded.now.state c.args.inv c.args.inst.now (gained c.args.gain c.args.row.now) c.requires.reached c.requires.fits (frames_of c.leave.new.self.state c.args.inv)
 
 pub returns-in-Some-clause-ok : goal.returns-in-Some-clause-ok
 returns-in-Some-clause-ok c =
     let p = c.args.m.now in
     let known : Facts p.accepted = facts p.accepted c.accepted-accepted.result.now c.accepted-accepted.ensures.module c.insts-insts.ensures.accepted c.insts-insts.ensures.valid in
     let here : LeftAt p c.args.recorded.now.state c.args.inv ≡ Some c.in-Some.call.now
-    = ap (λ (x : State). option_and_then (λ (f : Frame). at p.accepted.insts f.pc) (top_of x c.args.inv)) (sym c.in_ok-leave.ensures.ok) ∙ sym c.in-Some.ensures in
+    = ap (λ (x : State). option_and_then (λ (f : Frame). at p.accepted.insts f.pc) (top_of x c.args.inv)) (sym c.in_ok-leave.ensures.ok ∙ sym c.whole.ensures) ∙ sym c.in-Some.ensures in
     let by : CalledBy p c.args.recorded.now.state c.args.inv c.args.inst.now c.in-Some.call.now = left_to p known c.args.recorded.now.state c.args.inv c.args.inst.now c.requires.reached c.in-Some.call.now here in
     let o = gained c.args.gain c.args.row.now in
     on_ok_weaker c.resume.result (λ gone. gone ∙ ap (λ (x : State). go_on p.accepted c.args.inv (put_result c.args.inv c.in-Some.call.now.id o x)) c.in_ok-leave.ensures.ok ∙ sym (by.leaves o)) c.resume.ensures.ok
@@ -93,7 +93,7 @@ returns-in-Some-clause-recorded c =
     let s = c.args.recorded.now.state in
     let known : Facts p.accepted = facts p.accepted c.accepted-accepted.result.now c.accepted-accepted.ensures.module c.insts-insts.ensures.accepted c.insts-insts.ensures.valid in
     let here : LeftAt p s i ≡ Some c.in-Some.call.now
-    = ap (λ (x : State). option_and_then (λ (f : Frame). at p.accepted.insts f.pc) (top_of x i)) (sym c.in_ok-leave.ensures.ok) ∙ sym c.in-Some.ensures in
+    = ap (λ (x : State). option_and_then (λ (f : Frame). at p.accepted.insts f.pc) (top_of x i)) (sym c.in_ok-leave.ensures.ok ∙ sym c.whole.ensures) ∙ sym c.in-Some.ensures in
     let by : CalledBy p s i c.args.inst.now c.in-Some.call.now = left_to p known s i c.args.inst.now c.requires.reached c.in-Some.call.now here in
     let o = gained c.args.gain c.args.row.now in
     let left : go_on a i (put_result i c.in-Some.call.now.id o c.leave.new.self.state) ≡ leave a i o s
@@ -107,7 +107,7 @@ returns-in-None-clause-ok c =
     let p = c.args.m.now in
     let known : Facts p.accepted = facts p.accepted c.accepted-accepted.result.now c.accepted-accepted.ensures.module c.insts-insts.ensures.accepted c.insts-insts.ensures.valid in
     let none : LeftAt p c.args.recorded.now.state c.args.inv ≡ None
-    = ap (λ (x : State). option_and_then (λ (f : Frame). at p.accepted.insts f.pc) (top_of x c.args.inv)) (sym c.in_ok-leave.ensures.ok) ∙ sym c.in-None.ensures in
+    = ap (λ (x : State). option_and_then (λ (f : Frame). at p.accepted.insts f.pc) (top_of x c.args.inv)) (sym c.in_ok-leave.ensures.ok ∙ sym c.whole.ensures) ∙ sym c.in-None.ensures in
     on_ok_weaker c.set_status.result (λ set. set ∙ ap (set_status c.args.inv Finished) c.in_ok-leave.ensures.ok
     ∙ sym (left_finished p known c.args.recorded.now.state c.args.inv c.args.inst.now c.requires.reached (gained c.args.gain c.args.row.now) none))
     c.set_status.ensures.ok

@@ -25,7 +25,7 @@ apply-done-requires-clause-making c =
     let h = c.happening_of-happening.result in
     let inv : h.inv ≡ c.args.inv
     = ap (λ (x : Happening). x.inv) (c.happening_of-happening.ensures c.args.row.now) ∙ happening_inv c.accepted.result.now c.whole.result.now c.args.inv c.args.inst.now.word (shown c.args.effect c.args.row.now) in
-    subst (IsMaking c.mark.new.recorded.gathered) inv (marked_making h c.args.recorded.now c.mark.new.recorded c.in-Ok.ensures.ok)
+    subst (IsMaking c.mark.new.self.gathered) inv (marked_making h c.args.recorded.now c.mark.new.self c.in-Ok.ensures.ok)
 
 pub apply-done-requires-clause-reached : goal.apply-done-requires-clause-reached
 apply-done-requires-clause-reached c = subst (λ (x : Recorded). IsReached c.args.m.now x.state c.args.inv c.args.inst.now) (sym c.in-Ok.ensures.ok) c.requires.reached
@@ -46,8 +46,8 @@ returns-in-Ok c =
     let h : c.happening_of-happening.result ≡ happening_of p.accepted s i d.word e
     = c.happening_of-happening.ensures c.args.row.now ∙ ap (λ (x : Accepted). happening_of x c.whole.result.now i d.word e) c.accepted.ensures.module ∙ ap (λ (x : State). happening_of p.accepted x i d.word e) c.whole.ensures in
     let t = apply p.accepted i d e s in
-    let few = subst (λ (x : Recorded). Records (effect_entries p.accepted i e (apply p.accepted i d e x.state)) c.mark.new.recorded c.apply-done.new.recorded) c.in-Ok.ensures.ok c.apply-done.ensures.recorded in
+    let few = subst (λ (x : Recorded). Records (effect_entries p.accepted i e (apply p.accepted i d e x.state)) c.mark.new.self c.apply-done.new.recorded) c.in-Ok.ensures.ok c.apply-done.ensures.recorded in
     let reaches = on_ok_weaker c.apply-done.result (λ done. done ∙ ap (λ (x : Recorded). apply p.accepted i d e x.state) c.in-Ok.ensures.ok) c.apply-done.ensures.ok in
     subst (λ (g : Happening). Made g (apply p.accepted i d e s) (effect_weight p.accepted i e (apply p.accepted i d e s)) c.finished.result c.args.recorded.now c.finished.new.recorded) h
-    (made_is c.happening_of-happening.result (effect_entries p.accepted i e t) c.args.recorded.now c.mark.new.recorded c.apply-done.new.recorded c.requires.none c.in-Ok.ensures.ok few (effect_weight p.accepted i e t) t
+    (made_is c.happening_of-happening.result (effect_entries p.accepted i e t) c.args.recorded.now c.mark.new.self c.apply-done.new.recorded c.requires.none c.in-Ok.ensures.ok few (effect_weight p.accepted i e t) t
     c.apply-done.result c.finished.result c.finished.new.recorded (effect_fits p.accepted i e t) reaches c.finished.ensures.ok c.finished.ensures.err)
