@@ -22,7 +22,8 @@ use Rattle.spv_state.specs.Actions.{action_of}
 use Rattle.spv_state.specs.Events.{passed}
 use Rattle.spv_state.specs.Sound.{HasVariables, IsCallOf, IsSoundFrame}
 use Rattle.spv_state.specs.Start.{frame_roots}
-use Rattle.spv_state.specs.State.{frames_of}
+use Rattle.spv_state.specs.Roots.{IsRooted}
+use Rattle.spv_state.specs.State.{depth_of, frames_of}
 use Rattle.spv_state.specs.declared.actions.Action.TheVariants.{Call, ReturnValue}
 use Rattle.spv_state.proofs.StartSound.{passed_sound}
 use Rattle.spv_actions.specs.Calls.{arguments, callee, called, enters, parameters_of}
@@ -73,6 +74,10 @@ module _ (x : Site) (is : action_of x.inst ≡ Call) (function : ℕ) (named : f
 -- the frame is as sound as it was, and of the same function
 pub begun_sound : (x : Site) (f g : Frame) → g ≡ begun x f → IsSoundFrame (accepted x) f → IsSoundFrame (accepted x) g
 begun_sound x f g made sound = subst (IsSoundFrame (accepted x)) (sym made) (passed_sound (accepted x) (length (frames_of x.state x.inv)) f sound)
+
+pub begun_rooted : (x : Site) (f g : Frame) → g ≡ begun x f → IsRooted (accepted x) (frames_of x.state x.inv) (depth_of x.state x.inv) f
+    → IsRooted (accepted x) (frames_of x.state x.inv) (depth_of x.state x.inv) g
+begun_rooted x f g made rooted = subst (IsRooted (accepted x) (frames_of x.state x.inv) (depth_of x.state x.inv)) (sym made) rooted
 
 pub begun_plan : (x : Site) (f g : Frame) (p : Planned) → g ≡ begun x f → f.plan ≡ p → g.plan ≡ p
 begun_plan x f g p made plan = ap (λ (h : Frame). h.plan) made ∙ plan

@@ -6,4 +6,5 @@ pub mod Stacks
 pub mod Contents
 pub mod Phis
 pub mod Calls
+pub mod Numbers
 pub mod Functions

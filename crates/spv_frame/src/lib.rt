@@ -8,6 +8,7 @@ pub mod frames;
 pub mod functions;
 pub mod laws;
 pub mod listing;
+pub mod numbers;
 pub mod phis;
 pub mod plans;
 pub mod slots;

@@ -25,7 +25,7 @@ use std::rc::Rc;
 /// The calls of an invocation. Contracts see their frames by depth, and how many there is room for.
 #[derive(Drop)]
 pub struct Stack {
-    frames: Vec<Frame>,
+    pub(crate) frames: Vec<Frame>,
     room: u32,
 }
 

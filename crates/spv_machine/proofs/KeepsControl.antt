@@ -38,6 +38,8 @@ status_kept p s i u g sound changed = record {
   stacks = length_change i (on_frames g) s.stacks ∙ sound.stacks ∙ sym (length-set s.statuses.list i u);
   levels = sound.levels ∙ sym (length-set s.statuses.list i u);
   privates = sound.privates ∙ sym (length-set s.statuses.list i u);
+  shared = sound.shared;
+  own = sound.own;
   each = subst (λ (ls : List Levels). AreSoundStacks p.accepted (slice_set s.statuses.list i u) (change i (on_frames g) s.stacks) ls) (change_none i s.memory.locals)
       (subst (λ (ts : List Status). AreSoundStacks p.accepted ts (change i (on_frames g) s.stacks) (change i (λ l. l) s.memory.locals)) (sym (set_is_change i u s.statuses.list))
       (one_changed p.accepted i (λ _. u) (on_frames g) (λ l. l) s.statuses.list s.stacks s.memory.locals sound.each changed));
@@ -55,6 +57,8 @@ frame_kept p s i g sound changed = record {
   stacks = length_change i (on_frames g) s.stacks ∙ sound.stacks;
   levels = sound.levels;
   privates = sound.privates;
+  shared = sound.shared;
+  own = sound.own;
   each = subst (λ (ls : List Levels). AreSoundStacks p.accepted s.statuses.list (change i (on_frames g) s.stacks) ls) (change_none i s.memory.locals)
       (subst (λ (ts : List Status). AreSoundStacks p.accepted ts (change i (on_frames g) s.stacks) (change i (λ l. l) s.memory.locals)) (change_none i s.statuses.list)
       (one_changed p.accepted i (λ t. t) (on_frames g) (λ l. l) s.statuses.list s.stacks s.memory.locals sound.each changed));
@@ -75,7 +79,7 @@ pass_kept p s i sound =
     let depth : ℕ = depth_of s i in
     let g : Frame → Frame = passed a depth in
     frame_kept p s i g sound (λ t k l status stack level kept.
-    top_kept a t t k l g (λ f. refl) kept (λ e. e, λ e. e) (λ f here sf. passed_sound a depth f sf) (λ f here stands. passed_stands a t depth f stands))
+    top_kept a t t k l g (λ f. refl) kept (λ e. e, λ e. e) (λ f here sf. passed_sound a depth f sf) (λ f here rooted. rooted) (λ f here stands. passed_stands a t depth f stands))
 
 -- ---- the top frame of an invocation
 
@@ -136,7 +140,7 @@ module _ (p : Program) (known : IsKnown p.accepted) where
       let g : Frame → Frame = λ x. with_pc (next_of a x.pc) x in
       pass_kept p (to_next a i s) i (frame_kept p s i g sound (λ t k l status stack level kept.
       let same : Ready ≡ t = cc in
-      top_kept a t t k l g (λ x. refl) kept (λ e. e, λ e. e) (λ x here sx. moved_top s i word k x f is next stack here sx)
+      top_kept a t t k l g (λ x. refl) kept (λ e. e, λ e. e) (λ x here sx. moved_top s i word k x f is next stack here sx) (λ x here rooted. rooted)
       (λ x here stands. subst (λ (u : Status). StandsAs a u (g x)) same tt)))
 
   -- a Passed invocation goes on, and is Ready
@@ -147,4 +151,4 @@ module _ (p : Program) (known : IsKnown p.accepted) where
       let g : Frame → Frame = λ x. with_pc (next_of a x.pc) x in
       pass_kept p (set_status i Ready (to_next a i s)) i (status_kept p s i Ready g sound (λ t k l status stack level kept.
       let same : Passed ≡ t = cc in
-      top_kept a t Ready k l g (λ x. refl) kept (λ e. absurd (cc), λ e. absurd (cc)) (λ x here sx. moved_top s i word k x f is next stack here sx) (λ x here stands. tt)))
+      top_kept a t Ready k l g (λ x. refl) kept (λ e. absurd (cc), λ e. absurd (cc)) (λ x here sx. moved_top s i word k x f is next stack here sx) (λ x here rooted. rooted) (λ x here stands. tt)))

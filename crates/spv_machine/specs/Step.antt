@@ -4,7 +4,7 @@ use Rattle.std.specs.Option.{option_and_then, option_map_or}
 use Rattle.spv_base.specs.Entries.{reads}
 use Rattle.spv_base.specs.declared.happenings.Fault.{Fault}
 use Rattle.spv_base.specs.declared.happenings.Happening.{Happening}
-use Rattle.spv_base.specs.declared.happenings.Kind.TheVariants.{Plain, Write, Arrive, Opened}
+use Rattle.spv_base.specs.declared.happenings.Kind.TheVariants.{Idle, Plain, Write, Arrive, Opened}
 use Rattle.spv_base.specs.declared.instructions.Inst.{Inst}
 use Rattle.spv_base.specs.declared.values.Pointer.{Pointer}
 use Rattle.spv_base.specs.declared.values.Root.{Root}
@@ -101,6 +101,10 @@ pub data Outcome : Type 0 where
 
 abbrev pub plain : ℕ → ℕ → Happening
 plain i word = record { inv = i; kind = Plain; word = word; root = 0; line = 0 }
+
+-- an event of an invocation that waits or is finished
+abbrev pub idle : ℕ → Happening
+idle i = record { inv = i; kind = Idle; word = 0; root = 0; line = 0 }
 
 -- a variable that all invocations see and write: of the class StorageBuffer (12) or Workgroup (4)
 abbrev pub is_written : Accepted → ℕ → Bool

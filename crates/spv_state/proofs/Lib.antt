@@ -10,6 +10,9 @@ pub mod VariableLemmas
 pub mod EnterLemmas
 pub mod SizeLemmas
 pub mod PlanLemmas
+pub mod RootLemmas
+pub mod VariableStart
+pub mod OperandRoots
 pub mod StartSound
 pub mod BegunLemmas
 pub mod ChangeLemmas

@@ -7,3 +7,4 @@ pub mod Sound
 pub mod Variables
 pub mod Events
 pub mod Start
+pub mod Roots

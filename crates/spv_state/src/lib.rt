@@ -1,4 +1,4 @@
-//! The state of a workgroup: the modules that can be run, the memory and the calls of each invocation, how a run starts, what holds at every
+//! The state of a workgroup: the modules with their setups, the memory and the calls of each invocation, how a run starts, what holds at every
 //! position, and the primitive changes (SPIR-V 1.6 sections 2.4 and 2.18).
 #![tactic(auto)]
 

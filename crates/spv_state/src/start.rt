@@ -181,6 +181,7 @@ impl Whole {
     {
         functions_have_their_plans();
         let _insts = m.accepted().insts();
+        let _setup = m.setup();
         whole(alloc, m)
     }
 

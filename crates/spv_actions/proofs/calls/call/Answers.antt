@@ -4,7 +4,7 @@ use Rattle.spv_plans.specs.Plans.{functions_in}
 use Rattle.spv_state.proofs.EventLemmas.{readable}
 use Rattle.spv_state.specs.declared.actions.Action.TheVariants.{Call}
 use Rattle.spv_actions.proofs.EffectLemmas.{acting}
-use Rattle.spv_actions.proofs.EnterLemmas.{begun_plan, begun_sound, call_faults, call_gives, enter_fits}
+use Rattle.spv_actions.proofs.EnterLemmas.{begun_plan, begun_rooted, begun_sound, call_faults, call_gives, enter_fits}
 use Rattle.spv_actions.proofs.calls.call.Goals as goal
 
 pub call_is_kept-requires : goal.call_is_kept-requires
@@ -36,4 +36,6 @@ returns-clause-fits c v = record {
   control = enter_fits c.args.site.now.program.accepted c.args.site.now.inst c.callee-function.result c.in_ok-frame.frame c.in_ok-locals.locals c.callee-function.ensures c.call_is_kept.ensures.call
       (begun_sound c.args.site.now c.in_ok-fresh.fresh c.in_ok-frame.frame c.in_ok-frame.ensures c.in_ok-fresh.ensures.sound)
       (begun_plan c.args.site.now c.in_ok-fresh.fresh c.in_ok-frame.frame _ c.in_ok-frame.ensures c.in_ok-fresh.ensures.plan) c.in_ok-locals.ensures.value c.in_ok-locals.ensures.are;
+  rooted = tt;
+  passed = begun_rooted c.args.site.now c.in_ok-fresh.fresh c.in_ok-frame.frame c.in_ok-frame.ensures c.in_ok-fresh.ensures.rooted;
 }

@@ -1,0 +1,60 @@
+-- What callers see of a state whose changes are recorded.
+use Rattle.std.specs.Prelude.{◌≡◌, ◌≢◌, ◌≤◌, ◌+◌, ℕ, List, [], ◌∷◌, length, Option, Some, None, option_map, slice_get}
+use Rattle.std.specs.Option.{IsSomeAnd, option_map_or}
+use Rattle.spv_base.specs.declared.happenings.Happening.{Happening}
+use Rattle.spv_mem.specs.Memory.{Levels}
+use Rattle.spv_state.specs.State.{State}
+use Rattle.spv_journal.specs.Events.{Event, begun, fitting, newest, older, opened}
+use Rattle.spv_journal.specs.Undo.{Moment, before, past}
+
+-- a state beside what a journal keeps
+pub record Held : Type 0 where
+  pub state : State
+  pub ring : List Event
+  pub gathered : Option Event
+  pub limit : ℕ
+
+-- what the events lead back to
+abbrev pub past_of : Held → List Moment
+past_of w = past (opened w.gathered w.ring) w.state
+
+-- an event of an invocation is being made
+abbrev pub IsMaking : Option Event → ℕ → Type 0
+IsMaking o i = IsSomeAnd o (λ (v : Event). v.happening.inv ≡ i)
+
+-- the variables of the top frame of an invocation are there, and no more than there is room for
+abbrev pub HasLocals : State → ℕ → Type 0
+HasLocals s i = (l : Levels) → slice_get s.memory.locals i ≡ Some l → (l.list ≢ []) × (length l.list ≤ l.room)
+
+-- how many changes it has
+abbrev pub changes_in : Option Event → ℕ
+changes_in o = option_map_or (λ (v : Event). length v.changes) o 0
+
+-- ---- an event that begins
+
+abbrev pub marked : Happening → Held → Held
+marked h w = record w { gathered = begun h }
+
+-- ---- an event that is made
+
+abbrev pub sealed : Held → Held
+sealed w = record w { ring = fitting w.limit (opened w.gathered w.ring); gathered = None }
+
+-- ---- an event that is undone
+
+abbrev pub unwound : Held → Held
+unwound w = record w {
+  state = option_map_or (λ v. before v w.state) (newest (opened w.gathered w.ring)) w.state;
+  ring = older (opened w.gathered w.ring);
+  gathered = None;
+}
+
+-- ---- a change that is recorded
+
+-- The events lead back to the same states. Those that are kept stay, and the one that is being made has at most n changes more.
+pub record Records (n : ℕ) (old new : Held) : Type 0 where
+  pub past : past_of new ≡ past_of old
+  pub ring : new.ring ≡ old.ring
+  pub limit : new.limit ≡ old.limit
+  pub happening : option_map (λ (v : Event). v.happening) new.gathered ≡ option_map (λ (v : Event). v.happening) old.gathered
+  pub changes : changes_in new.gathered ≤ changes_in old.gathered + n

@@ -1,0 +1,4 @@
+pub mod Events
+pub mod Inverses
+pub mod Undo
+pub mod Held

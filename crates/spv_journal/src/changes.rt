@@ -1,0 +1,156 @@
+//! The primitive changes of a state, each recorded. Where memory runs out nothing changes.
+ghost use Rattle.std.specs.Prelude.{◌≡◌, ◌<◌, ◌+◌, ℕ, IsSome, None, OnErr, OnOk, Some, length, slice_get, true};
+ghost use Rattle.std.specs.Option.{IsSomeAnd};
+ghost use Rattle.spv_base.specs.declared.values.Value.{Ptr, out-Value};
+ghost use Rattle.spv_frame.specs.Stacks.{Stacked};
+ghost use Rattle.spv_index.specs.Definitions.{result_type};
+ghost use Rattle.spv_journal.specs.Held.{HasLocals, IsMaking, Records};
+ghost use Rattle.spv_journal.specs.Inverses.{append_event};
+ghost use Rattle.spv_mem.specs.Memory.{AreVariables, HasRoom, MayStore, load_of};
+ghost use Rattle.spv_plans.specs.Plans.{plans_in};
+ghost use Rattle.spv_state.specs.Sound.{IsSoundFrame};
+ghost use Rattle.spv_state.specs.State as state;
+ghost use Rattle.spv_statuses.specs.Group.{all_wait_at};
+ghost use Rattle.spv_statuses.specs.Invocations.{IsWithin};
+ghost use Rattle.spv_types.specs.Rows.{leaves, no_roots};
+ghost use Rattle.spv_types.specs.Shapes.{HasShape, pointer_in};
+
+use crate::recorded::Recorded;
+use spv_base::{NoMemory, PassedEvent, Pointer};
+use spv_frame::Frame;
+use spv_mem::Locals;
+use spv_statuses::Status;
+use spv_valid::Module;
+use spv_values::Row;
+
+impl Recorded {
+    /// Puts a value where a pointer of an invocation leads; the old one is in the row then.
+    pub fn store(&mut self, i: u32, pointer: &Pointer, row: &mut Row) -> Result<(), NoMemory>
+        requires making { IsMaking self.old.gathered i }
+        requires there { IsSome (load_of self.old.state.memory i pointer.now) }
+        requires may { ∥ MayStore self.old.state.memory i pointer.now row.old ∥₁ }
+        ensures ok { OnOk result (self.new.state ≡ state.put_store i (Some (pointer.now, row.old)) self.old.state) }
+        ensures handed { OnOk result (load_of self.old.state.memory i pointer.now ≡ Some row.new) }
+        ensures recorded { Records (1 + length (leaves row.old)) self.old self.new }
+        ensures err { OnErr result ((self.new ≡ self.old) × (row.new ≡ row.old)) }
+    {
+        Err(NoMemory)
+    }
+
+    /// Puts a value in the register with an id of the top frame of an invocation, if the frame has it; the old one is in the row then.
+    pub fn set_value(
+        &mut self,
+        accepted: &Module,
+        i: u32,
+        id: u32,
+        row: &mut Row,
+    ) -> Result<(), NoMemory>
+        requires making { IsMaking self.old.gathered i }
+        requires inv { i < length self.old.state.stacks }
+        requires plans { self.old.state.plans ≡ plans_in accepted.now }
+        requires frame { IsSomeAnd (state.top_of self.old.state i) (IsSoundFrame accepted.now) }
+        requires plain { pointer_in (out-Value row.old) ≡ None }
+        requires value { (ty : ℕ) → result_type accepted.now.insts id ≡ Some ty → HasShape accepted.now.types no_roots ty row.old }
+        ensures ok { OnOk result (self.new.state ≡ state.on_frame i (state.with_register id row.old) self.old.state) }
+        ensures recorded { Records 1 self.old self.new }
+        ensures err { OnErr result ((self.new ≡ self.old) × (row.new ≡ row.old)) }
+    {
+        Err(NoMemory)
+    }
+
+    /// Puts a pointer in the register with an id of the top frame of an invocation, if the frame has it.
+    pub fn set_pointer(
+        &mut self,
+        accepted: &Module,
+        i: u32,
+        id: u32,
+        pointer: Pointer,
+    ) -> Result<(), NoMemory>
+        requires making { IsMaking self.old.gathered i }
+        requires inv { i < length self.old.state.stacks }
+        requires plans { self.old.state.plans ≡ plans_in accepted.now }
+        requires frame { IsSomeAnd (state.top_of self.old.state i) (IsSoundFrame accepted.now) }
+        ensures ok { OnOk result (self.new.state ≡ state.on_frame i (state.with_register id (Ptr pointer)) self.old.state) }
+        ensures recorded { Records 1 self.old self.new }
+        ensures err { OnErr result (self.new ≡ self.old) }
+    {
+        Err(NoMemory)
+    }
+
+    /// Moves the top frame of an invocation to an instruction.
+    pub fn set_pc(&mut self, i: u32, pc: u32) -> Result<(), NoMemory>
+        requires making { IsMaking self.old.gathered i }
+        requires inside { i < length self.old.state.stacks }
+        requires frames { IsSome (state.top_of self.old.state i) }
+        ensures ok { OnOk result (self.new.state ≡ state.on_frame i (state.with_pc pc) self.old.state) }
+        ensures recorded { Records 1 self.old self.new }
+        ensures err { OnErr result (self.new ≡ self.old) }
+    {
+        Err(NoMemory)
+    }
+
+    /// Gives an invocation another status.
+    pub fn set_status(&mut self, i: u32, status: Status) -> Result<(), NoMemory>
+        requires making { IsMaking self.old.gathered i }
+        requires inside { i < length self.old.state.statuses.list }
+        requires within { IsWithin self.old.state.statuses.words status }
+        ensures ok { OnOk result (self.new.state ≡ state.set_status i status self.old.state) }
+        ensures recorded { Records 1 self.old self.new }
+        ensures err { OnErr result (self.new ≡ self.old) }
+    {
+        Err(NoMemory)
+    }
+
+    /// Makes a frame with its variables the top one of an invocation, where there is room for them.
+    pub fn enter(&mut self, i: u32, frame: Frame, locals: Locals) -> Result<(), NoMemory>
+        requires making { IsMaking self.old.gathered i }
+        requires stacks { i < length self.old.state.stacks }
+        requires room { (k : Stacked) → slice_get self.old.state.stacks i ≡ Some k → length k.frames < k.room }
+        requires levels { i < length self.old.state.memory.locals }
+        requires level { HasRoom self.old.state.memory i }
+        requires variables { ∥ AreVariables self.old.state.memory.types self.old.state.memory.targets locals ∥₁ }
+        ensures ok { OnOk result (self.new.state ≡ state.push_frame i frame locals self.old.state) }
+        ensures recorded { Records 1 self.old self.new }
+        ensures err { OnErr result (self.new ≡ self.old) }
+    {
+        Err(NoMemory)
+    }
+
+    /// Drops the top frame of an invocation, with its variables.
+    pub fn leave(&mut self, i: u32) -> Result<(), NoMemory>
+        requires making { IsMaking self.old.gathered i }
+        requires stacks { i < length self.old.state.stacks }
+        requires locals { i < length self.old.state.memory.locals }
+        requires frames { IsSome (state.top_of self.old.state i) }
+        requires variables { HasLocals self.old.state i }
+        ensures ok { OnOk result (self.new.state ≡ state.pop_frame i self.old.state) }
+        ensures recorded { Records 1 self.old self.new }
+        ensures err { OnErr result (self.new ≡ self.old) }
+    {
+        Err(NoMemory)
+    }
+
+    /// Opens the barrier at a word, at which all invocations wait: each has passed it then.
+    pub fn open_barrier(&mut self, word: u32) -> Result<(), NoMemory>
+        requires making { IsSome self.old.gathered }
+        requires waiting { all_wait_at word self.old.state.statuses.list ≡ true }
+        requires within { word < self.old.state.statuses.words }
+        ensures ok { OnOk result (self.new.state ≡ state.open_barrier self.old.state) }
+        ensures recorded { Records 1 self.old self.new }
+        ensures err { OnErr result (self.new ≡ self.old) }
+    {
+        Err(NoMemory)
+    }
+
+    /// Appends a debug event to those that the top frame of an invocation passed.
+    pub fn append(&mut self, i: u32, event: PassedEvent) -> Result<(), NoMemory>
+        requires making { IsMaking self.old.gathered i }
+        requires inside { i < length self.old.state.stacks }
+        requires frames { IsSome (state.top_of self.old.state i) }
+        ensures ok { OnOk result (self.new.state ≡ state.on_frame i (append_event event) self.old.state) }
+        ensures recorded { Records 1 self.old self.new }
+        ensures err { OnErr result (self.new ≡ self.old) }
+    {
+        Err(NoMemory)
+    }
+}
