@@ -77,10 +77,14 @@ appends_one i all rest more e old now new first going made one = record {
   frames = subst (λ (s : State). IsSome (top_of s i)) (sym made) (frame_stays i (append_event e) now.state going.frames);
 }
 
-pub appends_none : (i : ℕ) (all rest : List PassedEvent) (old now : Recorded) → rest ≡ [] → Appending i all rest old now → now.state ≡ on_frame i (with_events all) old.state
+none_left : (rest : List PassedEvent) → length rest ≡ 0 → rest ≡ []
+none_left [] h = refl
+none_left (e ∷ es) h = absurd (omega (arith, h))
+
+pub appends_none : (i : ℕ) (all rest : List PassedEvent) (old now : Recorded) → length rest ≡ 0 → Appending i all rest old now → now.state ≡ on_frame i (with_events all) old.state
 appends_none i all rest old now none going =
     sym (on_frame_still i now.state) ∙ on_frame_same i (λ f. f) (with_events []) now.state (λ f. ap (λ (xs : List PassedEvent). record f { events = xs }) (sym (append-nil f.events)))
-    ∙ ap (λ (es : List PassedEvent). on_frame i (with_events es) now.state) (sym none) ∙ going.left
+    ∙ ap (λ (es : List PassedEvent). on_frame i (with_events es) now.state) (sym (none_left rest none)) ∙ going.left
 
 -- there is one more
 pub appends_some : (i : ℕ) (all rest more : List PassedEvent) (e : PassedEvent) (old now : Recorded) → rest ≡ e ∷ more → (g : Appending i all rest old now) → g.count + 1 ≤ length all

@@ -1,6 +1,6 @@
-use Rattle.std.proofs.Common.{◌≡◌, ◌∷◌, ◌+◌, [], length, arith, rules}
+use Rattle.std.proofs.Common.{◌≡◌, ◌∷◌, ◌+◌, length, arith, rules}
 use Rattle.std.specs.Vec.Iter.{into_iter_items}
-use Rattle.spv_machine.proofs.PassedLemmas.{Appending, appends_begin, appends_none, appends_one, appends_records}
+use Rattle.spv_machine.proofs.PassedLemmas.{appends_begin, appends_none, appends_one, appends_records, appends_some}
 use Rattle.spv_machine.proofs.Recording.{making_on, records_more, records_on}
 use Rattle.spv_machine.proofs.passing.append_all.Goals as goal
 
@@ -35,7 +35,7 @@ loop-event-preserved c =
 
 pub returns-clause-ok : goal.returns-clause-ok
 returns-clause-ok c =
-    let none : into_iter_items c.loop-event.event-iterator ≡ [] = search rules in
+    let none : length (into_iter_items c.loop-event.event-iterator) ≡ 0 = search rules in
     appends_none c.args.inv c.args.events.items (into_iter_items c.loop-event.event-iterator) c.args.recorded.now c.loop-event.recorded none c.loop-event.invariant
 
 pub returns-clause-recorded : goal.returns-clause-recorded
