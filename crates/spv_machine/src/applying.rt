@@ -166,7 +166,9 @@ fn leave(m: &Runnable, whole: &mut Whole, inv: u32, inst: &Inst, gain: Gain, row
     whole.leave(inv);
     match caller(m, whole, inv) {
         Some(call) => resume(m, whole, inv, call, gain, row),
-        None => whole.set_status(inv, Status::Finished),
+        None => {
+            whole.set_status(inv, Status::Finished);
+        }
     }
 }
 

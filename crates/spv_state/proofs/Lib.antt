@@ -15,3 +15,5 @@ pub mod BegunLemmas
 pub mod ChangeLemmas
 pub mod SlotLemmas
 pub mod TopLemmas
+pub mod UndoingLemmas
+pub mod NumberLemmas

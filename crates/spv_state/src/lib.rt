@@ -3,11 +3,13 @@
 #![tactic(auto)]
 
 pub mod actions;
+pub mod held;
 pub mod laws;
 mod plans;
 pub mod registers;
 pub mod runnable;
 pub mod start;
+pub mod undoing;
 mod variables;
 pub mod whole;
 
