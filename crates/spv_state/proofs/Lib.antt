@@ -19,3 +19,5 @@ pub mod ChangeLemmas
 pub mod SlotLemmas
 pub mod TopLemmas
 pub mod EventLemmas
+pub mod UndoingLemmas
+pub mod NumberLemmas

@@ -5,11 +5,13 @@
 pub mod actions;
 pub mod captures;
 pub mod events;
+pub mod held;
 pub mod laws;
 mod plans;
 pub mod registers;
 pub mod runnable;
 pub mod start;
+pub mod undoing;
 mod variables;
 pub mod whole;
 
