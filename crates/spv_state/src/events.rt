@@ -1,12 +1,11 @@
 //! The debug events that a frame passes as it comes to an executable, each with the value that it captures.
-ghost use Rattle.std.specs.Prelude.{◌≡◌, ◌<◌, ◌++◌, [], ◌∷◌, IfOk, IfSome, IsSome, OnOk, OnErr, Some, length, option_map};
+ghost use Rattle.std.specs.Prelude.{◌≡◌, ◌<◌, [], IfOk, IfSome, OnOk, OnErr, Some, length, option_map};
 ghost use Rattle.std.specs.Option.{option_and_then};
 ghost use Rattle.spv_frame.specs.Events as passing;
 ghost use Rattle.spv_operands.specs.Operands.{IsPlain, shown};
 ghost use Rattle.spv_operands.specs.Values.{value_of};
 ghost use Rattle.spv_plans.specs.Plans.{plans_in};
 ghost use Rattle.spv_state.specs.Events as spec;
-ghost use Rattle.spv_state.specs.State as state;
 
 use crate::captures::Capture;
 use crate::runnable::Runnable;
@@ -144,41 +143,5 @@ pub fn captured_at(
     match whole.top(i) {
         Some(frame) => due(alloc, m, whole.plans(), frame, whole.depth(i)),
         None => Ok(Vec::new(alloc)),
-    }
-}
-
-impl Whole {
-    /// Appends a debug event to those that the top frame of an invocation passed. Where memory runs out nothing changes.
-    pub fn append_event(&mut self, i: u32, event: DebugEvent) -> Result<(), NoMemory>
-        requires inside { i < length self.old.stacks }
-        requires frames { IsSome (state.top_of self.old i) }
-        ensures ok { OnOk result (self.new ≡ state.on_frame i (λ f. record f { events = f.events ++ event ∷ [] }) self.old) }
-        ensures err { OnErr result (self.new ≡ self.old) }
-    {
-        self.stacks[i as usize].append(event)
-    }
-
-    /// Appends debug events to those that the top frame of an invocation passed, all or none.
-    pub fn append_events(&mut self, i: u32, events: Vec<DebugEvent>) -> Result<(), NoMemory>
-        requires inside { i < length self.old.stacks }
-        requires frames { IsSome (state.top_of self.old i) }
-        ensures ok { OnOk result (self.new ≡ state.on_frame i (λ f. record f { events = f.events ++ events.items }) self.old) }
-        ensures err { OnErr result (self.new ≡ self.old) }
-    {
-        self.stacks[i as usize].append_all(events)
-    }
-
-    /// The top frame of an invocation has come to its pc: it passes the debug events that are due there. Where memory runs out nothing
-    /// changes.
-    pub fn pass(&mut self, alloc: Global, m: &Runnable, i: u32) -> Result<(), NoMemory>
-        requires inv { i < length self.old.stacks }
-        requires plans { self.old.plans ≡ plans_in m.now.accepted }
-        requires frames { IsSome (state.top_of self.old i) }
-        requires frame { spec.IsReadableAt m.now.accepted self.old i }
-        ensures ok { OnOk result (self.new ≡ spec.pass m.now.accepted i self.old) }
-        ensures err { OnErr result (self.new ≡ self.old) }
-    {
-        let events = captured_at(alloc, m, self, i)?;
-        self.append_events(i, events)
     }
 }
