@@ -1,5 +1,5 @@
 -- The pointers that an instruction gives, or passes on to a function, name variables that are there.
-use Rattle.std.proofs.Common.{◌≡◌, ◌⊎◌, ◌∙◌, inl, inr, IsProp, ℕ, ◌-◌, Bool, true, false, List, length, slice_get, ok_or, Option, Some, None, Result, Ok, Err, refl, sym, ap, subst}
+use Rattle.std.proofs.Common.{◌≡◌, ◌⊎◌, ◌∙◌, inl, inr, ℕ, ◌-◌, Bool, true, false, List, length, slice_get, ok_or, Option, Some, None, Result, Ok, Err, refl, sym, ap, subst}
 use Rattle.std.proofs.Math.Logic.{∥∥₁_elim}
 use Rattle.std.proofs.Props.{props}
 use Rattle.std.specs.List.{Contains}
