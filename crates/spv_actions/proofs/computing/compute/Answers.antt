@@ -9,10 +9,10 @@ use Rattle.spv_actions.proofs.computing.compute.Goals as goal
 pub returns-in_err-gain-clause-due : goal.returns-in_err-gain-clause-due
 returns-in_err-gain-clause-due c =
     let same : c.from_residual.result ≡ Err c.in_err-gain.field-0.0 = search rules in
-    computed_fault c.args.site.now c.computation_at.result c.gain.new.row c.from_residual.result c.in_err-gain.field-0.0 c.requires c.computation_at.ensures c.in_err-gain.ensures same
+    computed_fault c.args.site.now c.computation_at-computation.result c.gain.new.row c.from_residual.result c.in_err-gain.field-0.0 c.requires c.computation_at-computation.ensures c.in_err-gain.ensures same
 
 pub returns-clause-due : goal.returns-clause-due
-returns-clause-due c = computed_due c.args.site.now c.computation_at.result c.in_ok-gain.gain c.gain.new.row c.requires c.computation_at.ensures c.in_ok-gain.ensures
+returns-clause-due c = computed_due c.args.site.now c.computation_at-computation.result c.in_ok-gain.gain c.gain.new.row c.requires c.computation_at-computation.ensures c.in_ok-gain.ensures
 
 pub returns-clause-fits : goal.returns-clause-fits
 returns-clause-fits c =
