@@ -5,7 +5,7 @@ use Rattle.spv_base.specs.State.{Roots}
 use Rattle.spv_mem.specs.Memory.{Levels}
 use Rattle.spv_frame.specs.Frames.{Held as Frame}
 use Rattle.spv_frame.specs.Stacks.{top}
-use Rattle.spv_journal.specs.Held.{HasLocals}
+use Rattle.spv_state.specs.Rooms.{HasLocals}
 use Rattle.spv_state.specs.Program.{Program}
 use Rattle.spv_state.specs.Sound.{HasVariables}
 use Rattle.spv_state.specs.State.{State, top_of}

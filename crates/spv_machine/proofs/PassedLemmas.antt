@@ -7,10 +7,9 @@ use Rattle.spv_valid.specs.Acceptance.{Accepted}
 use Rattle.spv_frame.specs.Frames.{Held as Frame}
 use Rattle.spv_frame.specs.Stacks.{Stacked}
 use Rattle.spv_journal.specs.Held.{Held as Recorded, Records}
-use Rattle.spv_journal.specs.Inverses.{append_event}
 use Rattle.spv_state.specs.Events.{IsReadable, IsReadableAt, captured, captures_before, due, due_at, pass, passed}
 use Rattle.spv_state.specs.Sound.{IsSoundFrame}
-use Rattle.spv_state.specs.State.{State, depth_of, on_frame, on_frames, top_of, with_pc}
+use Rattle.spv_state.specs.State.{State, append_event, depth_of, on_frame, on_frames, top_of, with_pc}
 use Rattle.spv_state.specs.declared.captures.Capture.{Capture}
 use Rattle.spv_state.proofs.EventLemmas.{readable}
 use Rattle.spv_state.proofs.Lists.{change_same, length_change}
