@@ -1,15 +1,10 @@
 use Rattle.std.proofs.Common.{◌≡◌, ◌∙◌, ap, arith, subst, sym}
-use Rattle.std.proofs.Math.Logic.{∥∥₁_elim}
-use Rattle.std.proofs.Props.{props}
 use Rattle.spv_plans.specs.Plans.{plans_in}
 use Rattle.spv_valid.specs.Acceptance.{Accepted}
 use Rattle.spv_state.specs.Events.{IsReadable}
 use Rattle.spv_actions.specs.Sites.{IsSite, Site}
 use Rattle.spv_actions.proofs.OperandLemmas.{inside_is, plans_are}
 use Rattle.spv_actions.proofs.sites.Site.begun.Goals as goal
-
-pub stack-requires : goal.stack-requires
-stack-requires c = ∥∥₁_elim c.self.invariant.1 (hlevel props) (λ is. is.inside)
 
 pub overflow_cast-depth : goal.overflow_cast-depth
 overflow_cast-depth c = omega (arith, c.stack.ensures.bounded.within, c.stack.ensures.bounded.narrow, c.depth-depth.ensures)
