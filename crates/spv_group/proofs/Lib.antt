@@ -1,2 +1,4 @@
+pub mod Histories
 pub mod Positions_lemmas
 pub mod Runs
+pub mod Window_lemmas
