@@ -195,13 +195,13 @@ module _ (p : Program) (s : Entries) (limit : ℕ) (w : World) (n i : ℕ) (t : 
   right : IsSound p t.state → (k : ℕ) → k ≤ suc n → IsRight p s.list k
   right sound k l =
       elim (cases_lt k (suc n)) [
-        inl below ↦ is.right k (omega arith)
+        | inl below ↦ is.right k (omega arith)
         | inr above ↦ (
-          let same : suc n ≡ k = omega arith in
-          subst (IsRight p s.list) same (record {
-            sound = subst (IsSound p) state_is sound;
-            count = ap (λ (x : State). length x.statuses.list) (sym state_is) ∙ made.count ∙ count_here p s limit w n is;
-          }))
+            let same : suc n ≡ k = omega arith in
+            subst (IsRight p s.list) same (record {
+              sound = subst (IsSound p) state_is sound;
+              count = ap (λ (x : State). length x.statuses.list) (sym state_is) ∙ made.count ∙ count_here p s limit w n is;
+            }))
       ]
 
   pub runs_on_to : all_finished w.state ≡ false → is_stuck w.state ≡ false → IsSound p t.state → IsRun p s limit t (suc n)
@@ -377,3 +377,23 @@ pub made_most : (end from target before now at : ℕ) → from ≡ 0 → target 
     → (before ≤ now) × (now ≤ before + target)
 made_most end from target before now at z h counted cost =
     (omega (arith, counted), subst (λ (n : ℕ). now ≤ before + n) (run_cost_is end from target z h) cost)
+
+-- the event that is taken back is the next one at the position before
+pub event_before : (p : Program) (es : List ℕ) (n m : ℕ) (h : Happening) → 0 < n → m ≡ n - 1 → happening_at p es m ≡ Some h → happening_before p es n ≡ Some h
+event_before p es zero m h some at is = absurd (omega arith)
+event_before p es (suc n) m h some at is =
+    let same : n ≡ m = omega (arith, at) in
+    ap (happening_at p es) same ∙ is
+
+-- ---- a run from the start on, that is made again up to the position before
+
+-- where it is and what it took so far
+module _ (end position from at before now : ℕ) (zero_is : from ≡ 0) (within : position ≤ end) (some : 0 < position) (counted : before + (at - from) ≤ now) (cost : now ≤ before + run_cost end from (position - 1)) where
+  pub again_most : now ≤ before + position
+  again_most =
+      let most = made_most end from (position - 1) before now at zero_is (omega arith) counted cost in
+      let bound : now ≤ before + (position - 1) = most.1 in
+      omega (arith, bound)
+
+  pub again_made : at ≡ max from (min (position - 1) end) → (at ≡ position - 1) × (now ≡ before + (position - 1))
+  again_made is = made_cost end from (position - 1) before now at zero_is (omega arith) is counted cost

@@ -65,7 +65,7 @@ pub window_fits : (limit : ℕ) (p : Program) (es : List ℕ) (n : ℕ) → weig
 window_fits limit p es n =
     let is = window_is limit p es n in
     elim (cases_lt (window limit p es n) n) [
-      inl l ↦ leb-true (weight_between p es (window limit p es n) n) limit (is.passes l)
+      | inl l ↦ leb-true (weight_between p es (window limit p es n) n) limit (is.passes l)
       | inr l ↦ let none = between_none p es (window limit p es n) n l in omega arith
     ]
 
@@ -74,7 +74,7 @@ pub window_least : (limit : ℕ) (p : Program) (es : List ℕ) (n k : ℕ) → w
 window_least limit p es n k fits =
     let is = window_is limit p es n in
     elim (cases_lt k (window limit p es n)) [
-      inl l ↦ absurd (differ (sym (is.before k (omega arith) l) ∙ le-leb (weight_between p es k n) limit fits))
+      | inl l ↦ absurd (differ (sym (is.before k (omega arith) l) ∙ le-leb (weight_between p es k n) limit fits))
       | inr l ↦ l
     ]
   where
@@ -86,7 +86,7 @@ window_rises limit p es n =
     let is = window_is limit p es n in
     let fits = window_fits limit p es (suc n) in
     elim (cases_lt n (window limit p es (suc n))) [
-      inl l ↦ let to = is.to in omega arith
+      | inl l ↦ let to = is.to in omega arith
       | inr l ↦ let more = between_more p es (window limit p es (suc n)) n l in window_least limit p es n (window limit p es (suc n)) (omega arith)
     ]
 
@@ -94,7 +94,7 @@ pub windows_rise : (limit : ℕ) (p : Program) (es : List ℕ) (m n : ℕ) → m
 windows_rise limit p es m zero h = let same : m ≡ 0 = omega arith in subst (λ (k : ℕ). window limit p es k ≤ window limit p es 0) (sym same) (omega arith)
 windows_rise limit p es m (suc n) h =
     elim (cases_lt m (suc n)) [
-      inl l ↦ (let before = windows_rise limit p es m n (omega arith) in let last = window_rises limit p es n in omega arith)
+      | inl l ↦ (let before = windows_rise limit p es m n (omega arith) in let last = window_rises limit p es n in omega arith)
       | inr l ↦ (let same : m ≡ suc n = omega arith in subst (λ (k : ℕ). window limit p es k ≤ window limit p es (suc n)) (sym same) (omega arith))
     ]
 
@@ -149,14 +149,14 @@ fitting_reaches p es k n room [] light made among fits = among
 fitting_reaches p es k zero room (v ∷ vs) light made among fits = omega arith
 fitting_reaches p es k (suc n) room (v ∷ vs) light made among fits =
     elim (cases_lt n k) [
-      inl l ↦ omega arith
+      | inl l ↦ omega arith
       | inr l ↦ (
-        let more = between_more p es k n l in
-        let one : suc n - 1 ≡ n = omega arith in
-        let first : size_of v ≤ weight p es n = subst (λ (m : ℕ). size_of v ≤ weight p es m) one light.0 in
-        let rest : AreLight (weight p es) n vs = subst (λ (m : ℕ). AreLight (weight p es) m vs) one light.1 in
-        let small : size_of v ≤ room = omega arith in
-        reaches_with k n room v vs small (fitting_reaches p es k n (room - size_of v) vs rest (omega arith) (omega arith) (omega arith)))
+          let more = between_more p es k n l in
+          let one : suc n - 1 ≡ n = omega arith in
+          let first : size_of v ≤ weight p es n = subst (λ (m : ℕ). size_of v ≤ weight p es m) one light.0 in
+          let rest : AreLight (weight p es) n vs = subst (λ (m : ℕ). AreLight (weight p es) m vs) one light.1 in
+          let small : size_of v ≤ room = omega arith in
+          reaches_with k n room v vs small (fitting_reaches p es k n (room - size_of v) vs rest (omega arith) (omega arith) (omega arith)))
     ]
 
 -- an event more: what is kept then reaches as far back as before, or as the window does

@@ -42,9 +42,9 @@ impl Model for Group {
     ghost Value = { Undoing };
 
     ghost view = { λ g. record {
-        group = record { program = g.module; schedule = g.schedule; position = g.run.position };
-        kept = kept_in g.run.world g.run.position;
-        limit = g.limit
+      group = record { program = g.module; schedule = g.schedule; position = g.run.position };
+      kept = kept_in g.run.world g.run.position;
+      limit = g.limit;
     } };
 
     ghost invariant = { λ g. IsOpened g.module g.schedule g.limit g.start.world g.start.position g.run.world g.run.position };
@@ -216,6 +216,7 @@ impl Group {
         ensures start { OnOk result (self.new.group ≡ group_at 0 self.old.group) }
         ensures kept { OnOk result (self.new.kept ≡ 0) }
         ensures limit { self.new.limit ≡ self.old.limit }
+        ensures within { self.new.group.position ≤ end_in self.old.group }
         ensures err { OnErr result (self.new ≡ self.old) }
     {
         let run = self

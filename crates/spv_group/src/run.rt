@@ -155,7 +155,7 @@ impl Run {
         ensures run { IsRun m.now schedule.now self.old.world.limit self.new.world self.new.position }
         ensures undone { MatchOption result ((length self.old.world.ring ≡ 0) × (self.new ≡ self.old))
             (λ h. (0 < length self.old.world.ring) × (happening_before m.now schedule.now.list self.old.position ≡ Some h)
-                × (self.old.position ≡ self.new.position + 1)) }
+            × (self.old.position ≡ self.new.position + 1)) }
         ensures kept { kept_in self.new.world self.new.position ≡ kept_in self.old.world self.old.position }
     {
         let happening = unstep(&mut self.world)?;
