@@ -9,7 +9,6 @@ use Rattle.spv_setup.specs.declared.settings.Settings.{Settings}
 use Rattle.spv_setup.specs.Settings.{settings_of}
 use Rattle.spv_setup.specs.Schedule.{Entries}
 use Rattle.spv_fit.specs.Fit.{fitted}
-use Rattle.spv_state.specs.Program.{program_of}
 use Rattle.spv_group.specs.Group.{Held as Group, first_group}
 use Rattle.spv_app.specs.declared.opening.OpeningRefusal.{OpeningRefusal}
 use Rattle.spv_app.specs.declared.opening.OpeningRefusal.TheVariants.{Module, Setup}
@@ -36,11 +35,11 @@ abbrev pub of_module : {A : Type 0} → Result A Refusal → Result A OpeningRef
 of_module (Ok x) = Ok x
 of_module (Err refusal) = Err (Module refusal)
 
--- the group at its start, where the setup fits the module and the module can be run
+-- the group at its start, where the setup fits the module; every accepted module can be run
 abbrev pub started : Settings → Accepted → Result Group OpeningRefusal
-started s a = after (of_setup (schedule_for a s)) (λ schedule. after (of_module (program_of a s)) (λ program. Ok (first_group program schedule)))
+started s a = after (of_setup (schedule_for a s)) (λ schedule. Ok (first_group (record { accepted = a; setup = s }) schedule))
 
--- The setup's text is looked at first, then the module, then whether the setup fits it, and then whether it can be run.
+-- The setup's text is looked at first, then the module, and then whether the setup fits it.
 unfoldable pub opening : List ℕ → List ℕ → Result Group OpeningRefusal
 opening mod_bytes setup = after (of_setup (settings_of setup)) (λ s. after (of_module (accepted_in mod_bytes s)) (started s))
 

@@ -1,4 +1,5 @@
 pub mod Registers
+pub mod Events
 pub mod Frames
 pub mod Plans
 pub mod Stacks

@@ -3,6 +3,7 @@
 
 pub mod calls;
 pub mod contents;
+pub mod events;
 pub mod frames;
 pub mod functions;
 pub mod laws;
@@ -14,6 +15,7 @@ pub mod slots;
 pub mod stacks;
 
 pub use contents::{Argument, Content, Source};
+pub use events::{Captured, DebugEvent};
 pub use frames::Frame;
 pub use functions::{Plans, Register};
 pub use plans::Plan;

@@ -19,8 +19,8 @@ ghost use Rattle.spv_types.specs.Shapes.{HasShape, pointer_in};
 use crate::entries::{Entry, OldFrame};
 use crate::noting::{keep, keep_frame, part_entry, pointer_entry, value_entry};
 use crate::recorded::Recorded;
-use spv_base::{NoMemory, PassedEvent, Pointer};
-use spv_frame::Frame;
+use spv_base::{NoMemory, Pointer};
+use spv_frame::{DebugEvent, Frame};
 use spv_mem::Locals;
 use spv_state::Whole;
 use spv_statuses::Status;
@@ -213,7 +213,7 @@ impl Recorded {
     }
 
     /// Appends a debug event to those that the top frame of an invocation passed.
-    pub fn append(&mut self, i: u32, event: PassedEvent) -> Result<(), NoMemory>
+    pub fn append(&mut self, i: u32, event: DebugEvent) -> Result<(), NoMemory>
         requires making { IsMaking self.old.gathered i }
         requires inside { i < length self.old.state.stacks }
         requires frames { IsSome (state.top_of self.old.state i) }

@@ -20,7 +20,7 @@ use Rattle.spv_state.specs.Program.{Program}
 use Rattle.spv_machine.specs.Reached.{IsReached, IsStepBy}
 use Rattle.spv_state.specs.Sound.{IsBarrier, IsSound, IsSoundFrame, IsSoundStack, StandsAs}
 use Rattle.spv_state.specs.State.{State, on_frame, on_frames, set_status, top_of, with_pc}
-use Rattle.spv_machine.specs.Step.{Idles, Moves, at_frame, at_inst, by_status, fault_in, go_on, next_of, outcome, past_frame, plain, step_of}
+use Rattle.spv_machine.specs.Step.{Idles, Moves, at_frame, at_inst, by_status, fault_in, go_on, next_of, outcome, past_frame, plain, step_of, to_next}
 use Rattle.spv_actions.specs.declared.causes.Cause.{Cause}
 use Rattle.spv_actions.specs.declared.effects.Effect.{Effect}
 use Rattle.spv_machine.proofs.KeepsControl.{got, stands_before, top_at}
@@ -111,9 +111,9 @@ barrier_next p s i f known h is =
     let next = stands_before a h.frame.plan.function h.frame.pc barrier.0 known h.sound.stands barrier.1 (barrier_goes (sets_of a.insts) barrier.0 barrier.2) in
     (next.0, subst (λ (x : Frame). reads x.pc a.flow.nexts ≡ Some (Some next.0)) own next.1)
 
--- ---- on to the next executable, where the top frame stands
+-- ---- to the next executable, where the top frame stands
 
-pub moved_is : (a : Accepted) (s : State) (i word : ℕ) (f : Frame) → top_of s i ≡ Some f → word ≡ next_of a f.pc → on_frame i (with_pc word) s ≡ go_on a i s
+pub moved_is : (a : Accepted) (s : State) (i word : ℕ) (f : Frame) → top_of s i ≡ Some f → word ≡ next_of a f.pc → on_frame i (with_pc word) s ≡ to_next a i s
 moved_is a s i word f is next =
     ap (λ (ks : List Stacked). record s { stacks = ks })
     (change_same i (on_frames (with_pc word)) (on_frames (λ x. with_pc (next_of a x.pc) x)) s.stacks (λ k stack.

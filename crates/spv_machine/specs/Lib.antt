@@ -1,3 +1,6 @@
 pub mod Step
 pub mod Reached
+pub mod Weights
+pub mod World
+pub mod Recording
 pub mod Does

@@ -4,9 +4,12 @@
 pub mod applying;
 pub mod execution;
 pub mod happenings;
+mod passing;
+mod finishing;
 pub mod world;
 
-pub use execution::{Did, StepErr, fault_of, step};
+pub use execution::{Did, StepErr, fault_of, step, unstep};
 pub use spv_actions::Cause;
+pub use spv_journal::Journal;
 pub use spv_state::{Action, Runnable, Whole};
 pub use world::World;

@@ -121,6 +121,14 @@ impl Roots {
         self.find(id, place).is_none()
     }
 
+    /// The value of the variable with an id, lent.
+    pub(crate) fn whole(&self, id: u32, place: usize) -> Option<Part<'_>>
+        ensures { result ≡ reads id self.now }
+    {
+        let k = self.find(id, place)?;
+        Some(self.entries[k].1.whole())
+    }
+
     /// The part that a path names in the variable with an id.
     pub(crate) fn load(
         &self,

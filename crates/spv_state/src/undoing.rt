@@ -11,8 +11,8 @@ ghost use Rattle.spv_statuses.specs.Invocations.{is_passed};
 ghost use Rattle.spv_types.specs.Rows.{leaves};
 
 use crate::whole::Whole;
-use spv_base::{Ghost, NoMemory, PassedEvent, Path, Pointer, Root};
-use spv_frame::{Plans, Stack};
+use spv_base::{Ghost, NoMemory, Path, Pointer, Root};
+use spv_frame::{DebugEvent, Plans, Stack};
 use spv_values::{Row, Single};
 use std::alloc::Global;
 use std::rc::Rc;
@@ -110,7 +110,7 @@ impl Whole {
     }
 
     /// Appends a debug event to those that the top frame of an invocation passed.
-    pub fn append(&mut self, i: u32, event: PassedEvent) -> Result<(), NoMemory>
+    pub fn append(&mut self, i: u32, event: DebugEvent) -> Result<(), NoMemory>
         requires inv { i < length self.old.stacks }
         requires frames { IsSome (state.top_of self.old i) }
         ensures ok { OnOk result (self.new ≡ state.on_frame i (state.append_event event) self.old) }

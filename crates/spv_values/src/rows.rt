@@ -120,6 +120,25 @@ impl Row {
         self.tree = scalar(&self.tree, &cell);
     }
 
+    /// Puts a scalar in the place of a value of one cell. It takes no memory.
+    #[tactic(auto, using(crate::proofs::RowLemmas::scalar_leaf, crate::proofs::RowLemmas::one_set))]
+    pub fn put_lane(&mut self, cell: Cell)
+        requires { length (leaves self.old) ≡ 1 }
+        ensures { self.new ≡ Scalar cell }
+    {
+        self.cells[0] = cell;
+        self.tree = scalar(&self.tree, &cell);
+    }
+
+    /// Takes the value of a part of as many cells. It takes no memory.
+    pub fn copy_part(&mut self, part: &Part)
+        requires { length (leaves self.old) ≡ length (leaves part.now) }
+        ensures { self.new ≡ part.now }
+    {
+        self.cells.as_mut_slice().copy_from_slice(part.cells());
+        self.tree = part.tree();
+    }
+
     /// Takes the cells out, to be filled anew, and leaves none. It takes no memory.
     #[tactic(auto, using(crate::proofs::RowLemmas::no_leaves))]
     pub fn take_cells(&mut self) -> Vec<Cell>

@@ -8,7 +8,7 @@ use Rattle.spv_machine.proofs.execution.fault_of.Goals as goal
 pub returns-in-Passed : goal.returns-in-Passed
 returns-in-Passed c =
     let p = c.args.m.now in
-    let s = c.args.w.now in
+    let s = c.args.w.now.state in
     let i = c.args.inv in
     let status : slice_get s.statuses.list i ≡ Some c.get.result
     = sym (ap (λ (x : Statuses). slice_get x.list i) (c.statuses.ensures ∙ ap (λ (x : State). x.statuses) c.whole-whole.ensures)) ∙ c.get.ensures in
