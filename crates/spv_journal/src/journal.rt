@@ -110,6 +110,7 @@ impl Journal {
     }
 
     /// How many marks and entries are kept.
+    #[tactic(auto, using(crate::proofs::RingLemmas::whole_counted))]
     pub fn len(&self) -> usize
         ensures len { result ≡ size self.now.ring }
         ensures within { result ≤ self.now.limit }

@@ -100,7 +100,7 @@ pub(crate) fn value_entry(
 
 /// A pointer in a box.
 fn boxed(alloc: Global, pointer: Option<&Pointer>) -> Result<Option<Box<Pointer>>, NoMemory>
-    ensures { IfOk result (λ held. option_map (λ b. b.value) held ≡ option_copied pointer) }
+    ensures { IfOk result (λ held. option_map (λ b. b.value) held ≡ option_copied pointer.entry) }
 {
     match pointer {
         Some(pointer) => Ok(Some(Box::new(alloc, pointer.copy(alloc)?)?)),
