@@ -1,17 +1,16 @@
 -- An effect that fits is the definition's, piece by piece, and leaves a sound state.
-use Rattle.std.proofs.Common.{◌≡◌, ◌∙◌, ℕ, ◌-◌, Bool, true, false, List, Option, Some, None, length, length-set, slice_set, refl, sym, ap, subst}
+use Rattle.std.proofs.Common.{◌≡◌, ◌∙◌, ℕ, ◌-◌, Bool, true, false, List, Option, Some, None, length, length-set, refl, sym, ap, subst}
 use Rattle.std.proofs.lemmas.List.{length-replicate}
 use Rattle.std.specs.Prelude.{if◌then◌else◌}
 use Rattle.std.specs.Option.{option_map}
 use Rattle.spv_base.specs.Entries.{reads}
-use Rattle.spv_base.specs.declared.happenings.Happening.{Happening}
 use Rattle.spv_base.specs.declared.instructions.Inst.{Inst}
 use Rattle.spv_base.specs.declared.values.Pointer.{Pointer}
 use Rattle.spv_base.specs.declared.values.Value.{Value}
 use Rattle.spv_valid.specs.Acceptance.{Accepted}
 use Rattle.spv_frame.specs.Frames.{Held as Frame}
 use Rattle.spv_frame.specs.Stacks.{on_top}
-use Rattle.spv_statuses.specs.Group.{Held as Statuses, all_wait_at}
+use Rattle.spv_statuses.specs.Group.{Held as Statuses}
 use Rattle.spv_statuses.specs.declared.invocations.Status.TheVariants.{Arrived, Passed, Finished}
 use Rattle.spv_actions.specs.Effects.{Control, Effect, Next, Jump, Enter, Leave, Wait}
 use Rattle.spv_actions.specs.Fits.{ControlFits, ControlRooted, Fits, LeaveFits, ResultRooted}
@@ -25,7 +24,7 @@ use Rattle.spv_state.specs.State.{State, depth_of, frames_of, on_frame, open_bar
 use Rattle.spv_state.proofs.Lists.{length_change}
 use Rattle.spv_state.proofs.RootLemmas.{ids_changed, rooted_stays}
 use Rattle.spv_machine.specs.Reached.{IsReached}
-use Rattle.spv_machine.specs.Step.{apply, arrival_with, arrived, by_control, go, go_on, happening_of, leave, opened, opens, put_result, resume, stored_at}
+use Rattle.spv_machine.specs.Step.{apply, arrived, go, go_on, leave, opened, opens, put_result, resume}
 use Rattle.spv_machine.proofs.KeepsBarriers.{arrive_sound}
 use Rattle.spv_machine.proofs.KeepsCalls.{entered_sound, finished_sound}
 use Rattle.spv_machine.proofs.KeepsControl.{next_kept}
