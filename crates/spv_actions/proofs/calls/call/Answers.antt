@@ -16,8 +16,8 @@ plan-plan-requires c = subst (λ (f : ℕ). ∥ Contains (functions_in c.args.si
 pub frame_of-requires-clause-known : goal.frame_of-requires-clause-known
 frame_of-requires-clause-known c = subst (λ (f : ℕ). ∥ Contains (functions_in c.args.site.now.program.accepted) f ∥₁) (sym c.callee-function.ensures) c.call_is_kept.ensures.known
 
-pub begun-frame-requires : goal.begun-frame-requires
-begun-frame-requires c = readable c.args.site.now.program.accepted c.in_ok-fresh.fresh c.in_ok-fresh.ensures.sound
+pub begun-requires : goal.begun-requires
+begun-requires c = readable c.args.site.now.program.accepted c.in_ok-fresh.fresh c.in_ok-fresh.ensures.sound
 
 pub returns-in_err-fresh-clause-due : goal.returns-in_err-fresh-clause-due
 returns-in_err-fresh-clause-due c v =

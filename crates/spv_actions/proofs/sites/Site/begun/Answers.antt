@@ -3,11 +3,14 @@ use Rattle.spv_plans.specs.Plans.{plans_in}
 use Rattle.spv_valid.specs.Acceptance.{Accepted}
 use Rattle.spv_state.specs.Events.{IsReadable}
 use Rattle.spv_actions.specs.Sites.{IsSite, Site}
-use Rattle.spv_actions.proofs.OperandLemmas.{plans_are}
+use Rattle.spv_actions.proofs.OperandLemmas.{inside_is, plans_are}
 use Rattle.spv_actions.proofs.sites.Site.begun.Goals as goal
 
 pub overflow_cast-depth : goal.overflow_cast-depth
-overflow_cast-depth c = omega (arith, c.stack.ensures.bounded.within, c.stack.ensures.bounded.narrow, c.depth.ensures)
+overflow_cast-depth c = omega (arith, c.stack.ensures.bounded.within, c.stack.ensures.bounded.narrow, c.depth-depth.ensures)
+
+pub stack-requires : goal.stack-requires
+stack-requires c = inside_is _ c.self.invariant.1
 
 pub pass_events-requires-clause-plans : goal.pass_events-requires-clause-plans
 pass_events-requires-clause-plans c =
