@@ -1,9 +1,9 @@
 #!/usr/bin/env python3
 """Modules that branch, and what `debug` has to reply for them, worked out here apart from the program.
 
-    bench/flow.py           writes crates/spv_flow_runs/data/ and crates/spv_flow_runs/stdout
+    bench/flow.py           makes the modules flow-*.spv of crates/spv_runs/data/
 
-The modules are written below in assembly (for `spirv-as`) or GLSL (for `glslangValidator`, and once more through `spirv-opt -O`).
+The runs are written by bench/runs.py. The modules are written below in assembly (for `spirv-as`) or GLSL (for `glslangValidator`, and once more through `spirv-opt -O`).
 `Run` takes the words of a module and runs its one invocation, an event at a time: integers are Python's, cut to their width;
 an undefined value is None. Instructions are those of SPIR-V 1.6, sections 3.42.8, 3.42.9 and 3.42.11 to 3.42.17.
 """
@@ -13,7 +13,7 @@ import subprocess
 import tempfile
 
 TOP = os.path.join(os.path.dirname(os.path.abspath(__file__)), "..")
-FOLDER = os.path.join(TOP, "crates", "spv_flow_runs")
+DATA = os.path.join(TOP, "crates", "spv_runs", "data")
 PASSED = {0, 8, 59, 245, 246, 247, 248, 317}
 SIGNED = {131, 135, 138, 139, 173, 175, 177, 179, 195}
 
@@ -491,35 +491,52 @@ def buffers(data):
     return {(root, 0, path): bits for root in roots for path, bits in [((0,), 30)] + [((1, k), 0) for k in range(4)]}
 
 
-def main():
-    modules = [("swaps", assembled(SWAPS)), ("switches", assembled(SWITCHES)), ("undefined", assembled(UNDEFINED)),
-               ("undefined_selector", assembled(UNDEFINED_SELECTOR)), ("no_value", assembled(NO_VALUE)),
-               ("unreachable", assembled(UNREACHABLE)), ("own_result", OWN_RESULT)]
+def modules():
+    """Each module by its name, made anew."""
+    yield from [("swaps", assembled(SWAPS)), ("switches", assembled(SWITCHES)), ("undefined", assembled(UNDEFINED)),
+                ("undefined_selector", assembled(UNDEFINED_SELECTOR)), ("no_value", assembled(NO_VALUE)),
+                ("unreachable", assembled(UNREACHABLE)), ("own_result", OWN_RESULT)]
     for name, text in (("loops", LOOPS), ("cases", CASES)):
-        modules += [(name, compiled(text, False)), (name + "_optimized", compiled(text, True))]
-    os.makedirs(os.path.join(FOLDER, "data"), exist_ok=True)
-    out = []
-    for name, data in modules:
-        with_buffer = name.split("_")[0] in ("loops", "cases")
-        run = Recorded(data, buffers(data) if with_buffer else {})
-        if run.end <= 40:
-            positions = list(range(run.end + 2)) + list(range(run.end + 1, -1, -1))
-        else:
-            positions = sorted({run.end * k // 12 for k in range(12)} | {run.end - 1}) + [run.end, run.end + 9, run.end // 2, 3, 0]
-        commands, replies = [], [name]
-        for position in positions:
+        yield from [(name, compiled(text, False)), (name + "_optimized", compiled(text, True))]
+
+
+PLAIN = ("swaps", "switches", "undefined", "undefined_selector", "no_value", "unreachable", "own_result")
+WITH_BUFFER = ("loops", "loops_optimized", "cases", "cases_optimized")
+
+
+def file_of(name):
+    return "flow-%s.spv" % name
+
+
+def positions_of(run):
+    """Each position of a small run, forth and back, and past its end; of a long one some."""
+    if run.end <= 40:
+        return list(range(run.end + 2)) + list(range(run.end + 1, -1, -1))
+    return sorted({run.end * k // 12 for k in range(12)} | {run.end - 1}) + [run.end, run.end + 9, run.end // 2, 3, 0]
+
+
+def calls():
+    """What each run is, its module, setup and commands, the status and what is written."""
+    for name in PLAIN + WITH_BUFFER:
+        with open(os.path.join(DATA, file_of(name)), "rb") as file:
+            data = file.read()
+        run = Recorded(data, buffers(data) if name in WITH_BUFFER else {})
+        commands, replies = [], []
+        for position in positions_of(run):
             commands.append("goto %d" % position)
             replies += run.goto(position)
             if run.shown(min(position, run.end)) is not None:
                 commands.append("regs")
                 replies += run.shown(min(position, run.end))
-        out += replies + ["status 0"]
-        print(name, len(data), "bytes,", run.end, "events,", run.cause, {p: v for p, v in run.memory.items() if p[1] == 0 and with_buffer})
-        open(os.path.join(FOLDER, "data", name + ".spv"), "wb").write(data)
-        open(os.path.join(FOLDER, "data", name + ".commands"), "w").write("".join(line + "\n" for line in commands))
-    open(os.path.join(FOLDER, "data", "setup"), "w").write(SETUP[0] + "\n" + SETUP[2] + "\n")
-    open(os.path.join(FOLDER, "data", "setup_with_buffer"), "w").write("".join(line + "\n" for line in SETUP))
-    open(os.path.join(FOLDER, "stdout"), "w").write("".join(line + "\n" for line in out))
+        setup = SETUP if name in WITH_BUFFER else [SETUP[0], SETUP[2]]
+        setup, commands, replies = ("".join(line + "\n" for line in lines) for lines in (setup, commands, replies))
+        yield name, file_of(name), setup, commands, 0, replies
+
+
+def main():
+    for name, data in modules():
+        with open(os.path.join(DATA, file_of(name)), "wb") as file:
+            file.write(data)
 
 
 if __name__ == "__main__":

@@ -1,22 +1,19 @@
 #!/usr/bin/env python3
 """Runs of whole workgroups, and what `debug` has to show of them, worked out here apart from the program.
 
-    bench/group_runs.py              writes the setups and commands of crates/spv_group_runs/data/, and its stdout
-    bench/group_runs.py --compile    compiles bench/workgroups/ into crates/spv_group_runs/data/ first
+    bench/group_runs.py    compiles bench/workgroups/ to modules group-*.spv of crates/spv_runs/data/
 
-The shaders are compiled by `glslangValidator` and `glslc -O`. One event is one executable instruction of the invocation that comes next, in
+The runs are written by bench/runs.py. The shaders are compiled by `glslangValidator` and `glslc -O`. One event is one executable instruction of the invocation that comes next, in
 rounds. A barrier opens where an arrival makes all invocations stand at it. Buffers are lists of words. Opcodes are those of SPIR-V 1.6,
 section 3.42.
 """
 import os
 import struct
 import subprocess
-import sys
 import atomics
 
 TOP = os.path.join(os.path.dirname(os.path.abspath(__file__)), "..")
-FOLDER = os.path.join(TOP, "crates", "spv_group_runs")
-DATA = os.path.join(FOLDER, "data")
+DATA = os.path.join(TOP, "crates", "spv_runs", "data")
 SHADERS = os.path.join(TOP, "bench", "workgroups")
 GLSLANG = ["glslangValidator", "-V", "--target-env", "vulkan1.1"]
 GLSLC = ["glslc", "-O", "--target-env=vulkan1.2"]
@@ -285,39 +282,46 @@ RUNS = [
 ]
 
 
-def put(name, lines):
-    with open(os.path.join(DATA, name), "w") as file:
-        file.write("".join(line + "\n" for line in lines))
+def path_of(name):
+    return os.path.join(DATA, file_of(name))
+
+
+def file_of(name):
+    return "group-%s.spv" % name
+
+
+def text(lines):
+    return "".join(line + "\n" for line in lines)
 
 
 def setup_of(buffers):
-    text = lambda words: struct.pack("<%dI" % len(words), *words).hex()
-    return ["spvdbg-setup 1"] + ["buffer 0 %d hex %s" % (binding, text(words)) for binding, words in buffers.items()] + ["rounds 2000"]
+    hexadecimal = lambda words: struct.pack("<%dI" % len(words), *words).hex()
+    return ["spvdbg-setup 1"] + ["buffer 0 %d hex %s" % (binding, hexadecimal(words)) for binding, words in buffers.items()] + ["rounds 2000"]
 
 
 # Runs whose transcripts were worked out by hand: a barrier that never opens, 64 invocations that exchange values over a barrier, and
-# motions by numbers of events. Their modules are assembled by spirv-as from the .spvasm files; their data lies beside that of the others.
-WORKED = ("stuck", "exchange", "motions")
+# motions by numbers of events. The first two modules are assembled by spirv-as from the .spvasm files, and the third is that of the first
+# example; their setups, commands and transcripts lie beside those files.
+WORKED = (("stuck", "group-stuck.spv"), ("exchange", "group-exchange.spv"), ("motions", "first.spv"))
+
+
+def calls():
+    """What each run is, its module, setup and commands, the status and what is written."""
+    for name, buffers, count in RUNS:
+        for made in (name, name + "-optimized"):
+            with open(path_of(made), "rb") as file:
+                lines, commands = transcript(Module(file.read()), buffers, at_parts(count))
+            yield made, file_of(made), text(setup_of(buffers)), text(commands), 0, text(lines)
+    for name, module in WORKED:
+        setup, commands, written = (open(os.path.join(SHADERS, name + end)).read() for end in (".setup", ".commands", ".transcript"))
+        yield name, module, setup, commands, 0, written
 
 
 def main():
-    os.makedirs(DATA, exist_ok=True)
-    out = []
-    for name, buffers, count in RUNS:
-        put(name + ".setup", setup_of(buffers))
+    for name, _, _ in RUNS:
         for compiler, suffix in ((GLSLANG, ""), (GLSLC, "-optimized")):
-            path = os.path.join(DATA, name + suffix + ".spv")
-            if "--compile" in sys.argv[1:]:
-                subprocess.run(compiler + [os.path.join(SHADERS, name + ".comp"), "-o", path], check=True, stdout=subprocess.DEVNULL)
-            with open(path, "rb") as file:
-                lines, commands = transcript(Module(file.read()), buffers, at_parts(count))
-            put(name + suffix + ".commands", commands)
-            out += [name + suffix] + lines + ["status 0"]
-    for name in WORKED:
-        with open(os.path.join(SHADERS, name + ".transcript")) as file:
-            out += [name] + file.read().splitlines() + ["status 0"]
-    with open(os.path.join(FOLDER, "stdout"), "w") as file:
-        file.write("".join(line + "\n" for line in out))
+            command = compiler + [os.path.join(SHADERS, name + ".comp"), "-o", path_of(name + suffix)]
+            subprocess.run(command, check=True, stdout=subprocess.DEVNULL)
 
 
 if __name__ == "__main__":

@@ -1,20 +1,17 @@
 #!/usr/bin/env python3
 """Runs of modules that read and write memory, and the registers that `debug` has to show for them, worked out here apart from the program.
 
-    bench/memory_runs.py              writes the setups and commands of crates/spv_memory_runs/data/, and its stdout
-    bench/memory_runs.py --compile    compiles bench/shaders/ into crates/spv_memory_runs/data/ first
+    bench/memory_runs.py    compiles bench/shaders/ to the modules memory-*.spv of crates/spv_runs/data/
 
-The shaders are compiled by `glslangValidator`, `glslc` and `spirv-as`. Here a buffer is a row of bytes in which the Offsets and strides of a
+The runs are written by bench/runs.py. The shaders are compiled by `glslangValidator`, `glslc` and `spirv-as`. Here a buffer is a row of bytes in which the Offsets and strides of a
 module say where a part begins, and any other variable is a tree of lists. Opcodes are those of SPIR-V 1.6, section 3.42.
 """
 import os
 import struct
 import subprocess
-import sys
 
 TOP = os.path.join(os.path.dirname(os.path.abspath(__file__)), "..")
-FOLDER = os.path.join(TOP, "crates", "spv_memory_runs")
-DATA = os.path.join(FOLDER, "data")
+DATA = os.path.join(TOP, "crates", "spv_runs", "data")
 SHADERS = os.path.join(TOP, "bench", "shaders")
 GLSLANG = ["glslangValidator", "-V", "--target-env", "vulkan1.1"]
 GLSLC = ["glslc", "--target-env=vulkan1.2"]
@@ -386,35 +383,33 @@ def setup_of(inputs, spec):
     return lines + ["spec %d %d" % item for item in spec.items()] + ["rounds 1000"]
 
 
-def put(name, lines):
-    with open(os.path.join(DATA, name), "w") as file:
-        file.write("".join(line + "\n" for line in lines))
+def path_of(name):
+    return os.path.join(DATA, file_of(name))
 
 
-def run_of(name, module, inputs, spec, stops):
-    with open(os.path.join(DATA, module + ".spv"), "rb") as file:
-        m = Module(file.read(), spec)
-    run = Run(m, {key: bytearray(data) for key, data in inputs["buffers"].items()}, bytearray(inputs["push"]))
-    lines, commands = transcript(m, run, stops)
-    put(name + ".setup", setup_of(inputs, spec))
-    put(name + ".commands", commands)
-    return [name] + lines + ["status 0"]
+def file_of(name):
+    return "memory-%s.spv" % name
+
+
+def text(lines):
+    return "".join(line + "\n" for line in lines)
+
+
+def calls():
+    """What each run is, its module, setup and commands, the status and what is written."""
+    for name, module, inputs, spec, stops in RUNS:
+        with open(path_of(module), "rb") as file:
+            m = Module(file.read(), spec)
+        run = Run(m, {key: bytearray(data) for key, data in inputs["buffers"].items()}, bytearray(inputs["push"]))
+        lines, commands = transcript(m, run, stops)
+        yield name, file_of(module), text(setup_of(inputs, spec)), text(commands), 0, text(lines)
+    for name, module, lines, answer in REFUSED:
+        yield name, file_of(module), text(["spvdbg-setup 1"] + lines), "regs\n", 4, answer + "\n"
 
 
 def main():
-    os.makedirs(DATA, exist_ok=True)
-    if "--compile" in sys.argv[1:]:
-        for name, compiler, source in COMPILED:
-            subprocess.run(compiler + [os.path.join(SHADERS, source), "-o", os.path.join(DATA, name + ".spv")], check=True)
-    out = []
-    for item in RUNS:
-        out += run_of(*item)
-    for name, module, lines, answer in REFUSED:
-        put(name + ".setup", ["spvdbg-setup 1"] + lines)
-        out += [name, answer, "status 4"]
-    put("refused.commands", ["regs"])
-    with open(os.path.join(FOLDER, "stdout"), "w") as file:
-        file.write("".join(line + "\n" for line in out))
+    for name, compiler, source in COMPILED:
+        subprocess.run(compiler + [os.path.join(SHADERS, source), "-o", path_of(name)], check=True)
 
 
 if __name__ == "__main__":

@@ -5,14 +5,19 @@
 
 A call of a file `*.runs` is a line `== WHAT: MODULE: WORDS`, the text of the setup, and behind `-- commands` the input. The
 transcripts are worked out by hand from the manual, docs/SETUP.md and the standard; the numbers in runs_of_values.py and
-arithmetic.py by Python. None is taken from the program that is tested.
+arithmetic.py by Python, and those of memory.runs, flow.runs and group.runs by the interpreters memory_runs.py, flow.py and
+group_runs.py. None is taken from the program that is tested.
 """
 import os
 import struct
 import arithmetic
+import flow
+import group_runs
+import make
+import memory_runs
 import runs_of_setups as setups
 import runs_of_values as values
-from listings import TOP
+from listings import TOP, Inst, laid_out
 
 FOLDER = os.path.join(TOP, "crates", "spv_runs")
 DATA = os.path.join(FOLDER, "data")
@@ -147,6 +152,8 @@ def calls():
     yield "invocations.runs", [("two", "two.spv", DEBUG, "spvdbg-setup 1\nrounds 20\n", "goto 1\n", DONE, setups.RETURNED)] + [
         ("several", "blocks.spv", DEBUG, setup, "goto 1\n", DONE, out) for setup, out in setups.OF_TWO
     ]
+    for file, runs in (("memory.runs", memory_runs), ("flow.runs", flow), ("group.runs", group_runs)):
+        yield file, [(what, name, DEBUG, *row) for what, name, *row in runs.calls()]
 
 
 # Lines with their canonical lines, or the code of their refusal, by hand from the manual's table of commands.
@@ -303,6 +310,14 @@ def modules():
     yield from values.modules()
 
 
+def made(n):
+    """What is made for a number: sizes, texts, and the module's listing."""
+    module, setup, commands = make.module(n), make.setup(n), make.commands(n)
+    listing, _ = laid_out([Inst(name, *operands) for name, operands in make.instructions(n)])
+    sizes = "make %d: module %d, setup %d, commands %d\n" % (n, len(module), len(setup), len(commands))
+    return sizes + setup + commands + listing + "status 0\n"
+
+
 def main():
     out = arithmetic.written()
     # each byte as a line: only a line feed and a space are nothing
@@ -316,6 +331,7 @@ def main():
             text += "== %s: %s: %s\n%s-- commands\n%s" % (what, module, words, setup, commands)
             out += "%s: %s: %s\n%sstatus %d\n" % (what, module, words, written, status)
         write(file, text)
+    out += made(1) + made(64)
     write("lines", "".join(line + "\n" for line, _ in LINES))
     out += "lines\n" + "".join(due + "\n" for _, due in LINES)
     with open(os.path.join(FOLDER, "stdout"), "w") as file:

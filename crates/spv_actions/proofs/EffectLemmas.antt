@@ -27,9 +27,8 @@ use Rattle.spv_actions.specs.Fits.{LevelFits, ResultFits}
 use Rattle.spv_actions.specs.Planned.{IsDue, IsTaken, gained, shown}
 use Rattle.spv_actions.specs.Sites.{Computes, IsGain, Site, accepted, due, values}
 use Rattle.spv_state.specs.declared.actions.Action.{Action}
-use Rattle.spv_state.specs.declared.actions.Action.TheVariants.{Compute, Load, Store, CopyMemory, Chain, ArrayLength, Branch, BranchConditional, Switch, Call, Return, ReturnValue, Unreachable, ControlBarrier, MemoryBarrier, Atomic, Other}
+use Rattle.spv_state.specs.declared.actions.Action.TheVariants.{Compute, Load, Store, CopyMemory, Chain, ArrayLength, Branch, BranchConditional, Switch, Call, Return, ReturnValue, Unreachable, ControlBarrier, MemoryBarrier, Atomic}
 use Rattle.spv_state.specs.declared.actions.AtomicOp.{AtomicOp}
-use Rattle.spv_state.specs.State.{State}
 use Rattle.spv_actions.specs.declared.causes.Cause.{Cause}
 use Rattle.spv_actions.specs.declared.causes.Cause.TheVariants.{NoValue}
 use Rattle.spv_actions.specs.declared.effects.Control.TheVariants.{Next}
@@ -42,7 +41,7 @@ use Rattle.spv_actions.proofs.ComputationLemmas.{read_there}
 
 -- what an instruction of an opcode does that is neither an atomic nor computes
 abbrev IsNamed : ℕ → Action → Type 0
-IsNamed op (Compute c) = ⊥
+IsNamed op Compute = ⊥
 IsNamed op Load = op ≡ 61
 IsNamed op Store = op ≡ 62
 IsNamed op CopyMemory = op ≡ 63
@@ -58,7 +57,6 @@ IsNamed op Unreachable = op ≡ 255
 IsNamed op ControlBarrier = op ≡ 224
 IsNamed op MemoryBarrier = op ≡ 225
 IsNamed op (Atomic operation) = ⊥
-IsNamed op Other = ⊥
 
 named_are : AllByRecursion (λ (e : ℕ × Action). IsNamed e.0 e.1) named
 named_are =
@@ -66,7 +64,7 @@ named_are =
 
 -- what an instruction is that does something
 abbrev pub IsActing : Inst → Action → Type 0
-IsActing i (Compute c) = computation_of i ≡ Some c
+IsActing i Compute = (reads i.op named ≡ None) × (atomic_op i.op ≡ None)
 IsActing i Load = i.op ≡ 61
 IsActing i Store = i.op ≡ 62
 IsActing i CopyMemory = i.op ≡ 63
@@ -82,10 +80,9 @@ IsActing i Unreachable = i.op ≡ 255
 IsActing i ControlBarrier = i.op ≡ 224
 IsActing i MemoryBarrier = i.op ≡ 225
 IsActing i (Atomic operation) = atomic_op i.op ≡ Some operation
-IsActing i Other = ⊤
 
 named_acts : (i : Inst) (x : Action) → IsNamed i.op x → IsActing i x
-named_acts i (Compute c) h = absurd h
+named_acts i Compute h = absurd h
 named_acts i Load h = h
 named_acts i Store h = h
 named_acts i CopyMemory h = h
@@ -101,25 +98,19 @@ named_acts i Unreachable h = h
 named_acts i ControlBarrier h = h
 named_acts i MemoryBarrier h = h
 named_acts i (Atomic operation) h = absurd h
-named_acts i Other h = absurd h
 
 pub acts : (i : Inst) → IsActing i (action_of i)
 unfolding action_of
-acts i = by_read (reads i.op named) refl (atomic_op i.op) refl (computation_of i) refl
+acts i = by_read (reads i.op named) refl (atomic_op i.op) refl
   where
-    by_read : (o : Option Action) → reads i.op named ≡ o → (q : Option AtomicOp) → atomic_op i.op ≡ q → (p : Option Computation) → computation_of i ≡ p
-        → IsActing i (unwrap_or (option_or (option_or o (option_map Atomic q)) (option_map Compute p)) Other)
-    by_read None e None a None g = tt
-    by_read None e None a (Some c) g = g
-    by_read None e (Some operation) a p g = a
-    by_read (Some x) e q a p g = named_acts i x (read_there IsNamed i.op x named named_are e)
+    by_read : (o : Option Action) → reads i.op named ≡ o → (q : Option AtomicOp) → atomic_op i.op ≡ q → IsActing i (unwrap_or (option_or o (option_map Atomic q)) Compute)
+    by_read None e None a = (e, a)
+    by_read None e (Some operation) a = a
+    by_read (Some x) e q a = named_acts i x (read_there IsNamed i.op x named named_are e)
 
 -- what an instruction is, by its action
 pub acting : (i : Inst) (x : Action) → action_of i ≡ x → IsActing i x
 acting i x is = subst (IsActing i) is (acts i)
-
-pub computing : (i : Inst) (c : Computation) → action_of i ≡ Compute c → computation_of i ≡ Some c
-computing i c is = acting i (Compute c) is
 
 pub loading : (i : Inst) → action_of i ≡ Load → i.op ≡ 61
 loading i is = acting i Load is
@@ -138,24 +129,24 @@ result_is : (x : Site) (c : Computation) → computation_of x.inst ≡ Some c �
 unfolding result_of
 result_is x c is = ap (option_and_then (result_by (accepted x) x.inst (values x))) is
 
-compute_due : (x : Site) (c : Computation) (o : Option Value) → action_of x.inst ≡ Compute c → result_by (accepted x) x.inst (values x) c ≡ o → due x ≡ (ok_or o NoValue >>= (λ v. Ok (gives v)))
-compute_due x c o is result =
-    due_by x (Compute c) is ∙ ap (λ (p : Option Value). ok_or p NoValue >>= (λ v. Ok (gives v))) (result_is x c (computing x.inst c is) ∙ result)
+compute_due : (x : Site) (c : Computation) (o : Option Value) → action_of x.inst ≡ Compute → computation_of x.inst ≡ Some c → result_by (accepted x) x.inst (values x) c ≡ o
+    → due x ≡ (ok_or o NoValue >>= (λ v. Ok (gives v)))
+compute_due x c o is has result = due_by x Compute is ∙ ap (λ (p : Option Value). ok_or p NoValue >>= (λ v. Ok (gives v))) (result_is x c has ∙ result)
 
 -- the effect of a result
 abbrev pub planned : Gain → Effect
 planned gain = record { store = None; gain = gain; control = Next }
 
-pub computed_due : (x : Site) (c : Computation) (gain : Gain) (v : Value) → action_of x.inst ≡ Compute c → Computes x c v (Ok gain) → due x ≡ Ok (shown (planned gain) v)
-computed_due x c Nothing v is h = absurd h.1
-computed_due x c Row v is h = compute_due x c (Some v) is h.0
-computed_due x c (Pointer q) v is h = compute_due x c (Some (Ptr q)) is h.0
-computed_due x c (Handed l) v is h = absurd h.1
+pub computed_due : (x : Site) (c : Computation) (gain : Gain) (v : Value) → action_of x.inst ≡ Compute → computation_of x.inst ≡ Some c → Computes x c v (Ok gain) → due x ≡ Ok (shown (planned gain) v)
+computed_due x c Nothing v is has h = absurd h.1
+computed_due x c Row v is has h = compute_due x c (Some v) is has h.0
+computed_due x c (Pointer q) v is has h = compute_due x c (Some (Ptr q)) is has h.0
+computed_due x c (Handed l) v is has h = absurd h.1
 
-pub computed_fault : (x : Site) (c : Computation) (v : Value) (r : Result Effect (Fail Cause)) (e : Fail Cause) → action_of x.inst ≡ Compute c → Computes x c v (Err e) → r ≡ Err e → IsDue (due x) v r
-computed_fault x c v r (Refused cause) is h same =
-    subst (λ (s : Result Effect (Fail Cause)). IsDue (due x) v s) (sym same) (compute_due x c None is h.0 ∙ ap (λ (k : Cause). Err k) (sym h.1))
-computed_fault x c v r NoMemory is h same = subst (λ (s : Result Effect (Fail Cause)). IsDue (due x) v s) (sym same) tt
+pub computed_fault : (x : Site) (c : Computation) (v : Value) (r : Result Effect (Fail Cause)) (e : Fail Cause) → action_of x.inst ≡ Compute → computation_of x.inst ≡ Some c → Computes x c v (Err e) → r ≡ Err e → IsDue (due x) v r
+computed_fault x c v r (Refused cause) is has h same =
+    subst (λ (s : Result Effect (Fail Cause)). IsDue (due x) v s) (sym same) (compute_due x c None is has h.0 ∙ ap (λ (k : Cause). Err k) (sym h.1))
+computed_fault x c v r NoMemory is has h same = subst (λ (s : Result Effect (Fail Cause)). IsDue (due x) v s) (sym same) tt
 
 -- ---- what it fits
 
@@ -175,14 +166,14 @@ result_fits a d v sound h = by_level (out-Value v) (result_plain a d v sound h)
     by_level (Value-F.List vs) plain = h
     by_level (Value-F.Ptr q) plain = absurd (cc)
 
-pub gain_fits : (a : Accepted) (d : Inst) (gain : Gain) (v : Value) → AreSound a.types → IsGain a d gain v → ResultFits a d (gained gain v)
-gain_fits a d Nothing v sound h = absurd h
-gain_fits a d Row v sound h = result_fits a d v sound h
-gain_fits a d (Pointer q) v sound h = rw (out_pointer q) h
-gain_fits a d (Handed c) v sound h = absurd h
+pub gain_fits : (x : Site) (gain : Gain) (v : Value) → AreSound (accepted x).types → IsGain x gain v → ResultFits (accepted x) x.inst (gained gain v)
+gain_fits x Nothing v sound h = absurd h
+gain_fits x Row v sound h = result_fits (accepted x) x.inst v sound h
+gain_fits x (Pointer q) v sound h = rw (out_pointer q) h.0
+gain_fits x (Handed c) v sound h = absurd h
 
-pub gain_taken : (a : Accepted) (d : Inst) (s : State) (i : ℕ) (gain : Gain) (v : Value) → AreSound a.types → IsGain a d gain v → IsTaken s i (planned gain) v
-gain_taken a d s i Nothing v sound h = absurd h
-gain_taken a d s i Row v sound h = (result_plain a d v sound h, tt)
-gain_taken a d s i (Pointer q) v sound h = (tt, tt)
-gain_taken a d s i (Handed c) v sound h = absurd h
+pub gain_taken : (x : Site) (gain : Gain) (v : Value) → AreSound (accepted x).types → IsGain x gain v → IsTaken x.state x.inv (planned gain) v
+gain_taken x Nothing v sound h = absurd h
+gain_taken x Row v sound h = (result_plain (accepted x) x.inst v sound h, tt)
+gain_taken x (Pointer q) v sound h = (tt, tt)
+gain_taken x (Handed c) v sound h = absurd h

@@ -1,5 +1,5 @@
 -- What calls and returns with a value do.
-use Rattle.std.proofs.Common.{◌≡◌, ◌∙◌, ℕ, true, List, Option, Some, None, Result, Ok, Err, ok_or, map, refl, sym, ap, subst}
+use Rattle.std.proofs.Common.{◌≡◌, ◌∙◌, ℕ, true, List, length, Option, Some, None, Result, Ok, Err, ok_or, map, refl, sym, ap, subst}
 use Rattle.spv_base.specs.Answers.{Answers}
 use Rattle.spv_base.specs.State.{Roots}
 use Rattle.spv_base.specs.declared.causes.Fail.{Fail}
@@ -19,9 +19,13 @@ use Rattle.spv_results.specs.Operands.{IsOperand, known}
 use Rattle.spv_valid.specs.Acceptance.{Accepted}
 use Rattle.spv_base.specs.declared.instructions.Inst.{Inst}
 use Rattle.spv_state.specs.Actions.{action_of}
+use Rattle.spv_state.specs.Events.{passed}
 use Rattle.spv_state.specs.Sound.{HasVariables, IsCallOf, IsSoundFrame}
 use Rattle.spv_state.specs.Start.{frame_roots}
+use Rattle.spv_state.specs.Roots.{IsRooted}
+use Rattle.spv_state.specs.State.{depth_of, frames_of}
 use Rattle.spv_state.specs.declared.actions.Action.TheVariants.{Call, ReturnValue}
+use Rattle.spv_state.proofs.StartSound.{passed_sound}
 use Rattle.spv_actions.specs.Calls.{arguments, callee, called, enters, parameters_of}
 use Rattle.spv_actions.specs.Effects as spec
 use Rattle.spv_actions.specs.Effects.{Enter, Leave, ◌>>=◌, goes}
@@ -37,30 +41,46 @@ use Rattle.spv_actions.proofs.OperandLemmas.{data_type, plain_none}
 
 -- ---- OpFunctionCall
 
--- into a frame with variables
-abbrev into : Frame → Roots → Result spec.Effect Cause
-into f es = Ok (goes (Enter f es))
+-- the frame that a call makes, behind the debug events that it passes first
+abbrev pub begun : Site → Frame → Frame
+begun x f = passed (accepted x) (length (frames_of x.state x.inv)) f
 
-call_due : (x : Site) → action_of x.inst ≡ Call → due x ≡ (frame_due x (callee x.inst) >>= (λ f. into f (frame_roots (accepted x) (callee x.inst))))
+-- into a frame with variables
+abbrev into : Site → Frame → Roots → Result spec.Effect Cause
+into x f es = Ok (goes (Enter (begun x f) es))
+
+call_due : (x : Site) → action_of x.inst ≡ Call → due x ≡ (frame_due x (callee x.inst) >>= (λ f. into x f (frame_roots (accepted x) (callee x.inst))))
 call_due x is = due_by x Call is ∙ by_arguments (arguments x.program x.state x.inv x.frame x.inst 1 (parameters_of (accepted x) (callee x.inst)))
   where
-    by_arguments : (r : Result (List (ℕ × Value)) Cause) → (r >>= (λ rs. Ok (enters (accepted x) (callee x.inst) rs)))
-        ≡ ((r >>= (λ rs. Ok (called (accepted x) (callee x.inst) rs))) >>= (λ f. into f (frame_roots (accepted x) (callee x.inst))))
+    by_arguments : (r : Result (List (ℕ × Value)) Cause) → (r >>= (λ rs. Ok (enters (accepted x) (length (frames_of x.state x.inv)) (callee x.inst) rs)))
+        ≡ ((r >>= (λ rs. Ok (called (accepted x) (callee x.inst) rs))) >>= (λ f. into x f (frame_roots (accepted x) (callee x.inst))))
     by_arguments (Ok rs) = refl
     by_arguments (Err cause) = refl
 
 module _ (x : Site) (is : action_of x.inst ≡ Call) (function : ℕ) (named : function ≡ callee x.inst) where
-  own_due : due x ≡ (frame_due x function >>= (λ f. into f (frame_roots (accepted x) function)))
-  own_due = call_due x is ∙ ap (λ (n : ℕ). frame_due x n >>= (λ f. into f (frame_roots (accepted x) n))) (sym named)
+  own_due : due x ≡ (frame_due x function >>= (λ f. into x f (frame_roots (accepted x) function)))
+  own_due = call_due x is ∙ ap (λ (n : ℕ). frame_due x n >>= (λ f. into x f (frame_roots (accepted x) n))) (sym named)
 
-  pub call_gives : (f : Frame) (es : Roots) → frame_due x function ≡ Ok f → es ≡ frame_roots (accepted x) function → due x ≡ Ok (goes (Enter f es))
-  call_gives f es frame variables_are =
-      own_due ∙ ap (λ (r : Result Frame Cause). r >>= (λ g. into g (frame_roots (accepted x) function))) frame ∙ ap (into f) (sym variables_are)
+  pub call_gives : (f g : Frame) (es : Roots) → frame_due x function ≡ Ok f → g ≡ begun x f → es ≡ frame_roots (accepted x) function → due x ≡ Ok (goes (Enter g es))
+  call_gives f g es frame made variables_are =
+      own_due ∙ ap (λ (r : Result Frame Cause). r >>= (λ h. into x h (frame_roots (accepted x) function))) frame ∙ ap (into x f) (sym variables_are)
+      ∙ ap (λ (h : Frame). Ok (goes (Enter h es))) (sym made)
 
   pub call_faults : (v : Value) (r : Result Effect (Fail Cause)) (e : Fail Cause) → Answers (frame_due x function) (Err e) → r ≡ Err e → IsDue (due x) v r
   call_faults v r (Refused cause) h same =
-      subst (λ (s : Result Effect (Fail Cause)). IsDue (due x) v s) (sym same) (own_due ∙ ap (λ (s : Result Frame Cause). s >>= (λ g. into g (frame_roots (accepted x) function))) h)
+      subst (λ (s : Result Effect (Fail Cause)). IsDue (due x) v s) (sym same) (own_due ∙ ap (λ (s : Result Frame Cause). s >>= (λ g. into x g (frame_roots (accepted x) function))) h)
   call_faults v r NoMemory h same = subst (λ (s : Result Effect (Fail Cause)). IsDue (due x) v s) (sym same) tt
+
+-- the frame is as sound as it was, and of the same function
+pub begun_sound : (x : Site) (f g : Frame) → g ≡ begun x f → IsSoundFrame (accepted x) f → IsSoundFrame (accepted x) g
+begun_sound x f g made sound = subst (IsSoundFrame (accepted x)) (sym made) (passed_sound (accepted x) (length (frames_of x.state x.inv)) f sound)
+
+pub begun_rooted : (x : Site) (f g : Frame) → g ≡ begun x f → IsRooted (accepted x) (frames_of x.state x.inv) (depth_of x.state x.inv) f
+    → IsRooted (accepted x) (frames_of x.state x.inv) (depth_of x.state x.inv) g
+begun_rooted x f g made rooted = subst (IsRooted (accepted x) (frames_of x.state x.inv) (depth_of x.state x.inv)) (sym made) rooted
+
+pub begun_plan : (x : Site) (f g : Frame) (p : Planned) → g ≡ begun x f → f.plan ≡ p → g.plan ≡ p
+begun_plan x f g p made plan = ap (λ (h : Frame). h.plan) made ∙ plan
 
 plan_function : (a : Accepted) (function : ℕ) → (plan_of a function).function ≡ function
 unfolding plan_of

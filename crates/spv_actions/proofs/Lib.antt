@@ -9,6 +9,8 @@ pub mod PointerLemmas
 pub mod SiteLemmas
 pub mod KeptLemmas
 pub mod EffectLemmas
+pub mod ActionLemmas
+pub mod RootedLemmas
 pub mod AccessLemmas
 pub mod ParameterLemmas
 pub mod WithinLemmas

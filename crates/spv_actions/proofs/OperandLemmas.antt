@@ -1,5 +1,5 @@
 -- What operands stand for where a run has come to their instruction.
-use Rattle.std.proofs.Common.{◌≡◌, ◌≢◌, ◌∙◌, ℕ, zero, suc, ◌==◌, Bool, true, false, cond, not, List, [], ◌∷◌, slice_get, Option, Some, None, refl, sym, ap, subst}
+use Rattle.std.proofs.Common.{◌≡◌, ◌≢◌, ◌∙◌, ◌<◌, ℕ, zero, suc, ◌==◌, length, Bool, true, false, cond, not, List, [], ◌∷◌, slice_get, Option, Some, None, refl, sym, ap, subst}
 use Rattle.std.proofs.Math.Logic.{∥∥₁_elim, ∥∥₁_map}
 use Rattle.std.proofs.Props.{props}
 use Rattle.std.proofs.lemmas.Bool.{both_ways, eqb-true, not-true}
@@ -64,6 +64,9 @@ recovered id ks has = by_number (number_of id ks) refl (∥∥₁_elim has (hlev
 
 pub plans_are : (x : Site) → ∥ IsSite x ∥₁ → x.state.plans ≡ plans_in (accepted x)
 plans_are x site = ∥∥₁_elim site (hlevel (props, codes)) (λ (is : IsSite x). is.sound.plans)
+
+pub inside_is : (x : Site) → ∥ IsSite x ∥₁ → x.inv < length x.state.stacks
+inside_is x site = ∥∥₁_elim site (hlevel props) (λ (is : IsSite x). is.inside)
 
 pub of_function : (x : Site) → ∥ IsSite x ∥₁ → IsOfFunction (accepted x) x.frame.plan
 of_function x site = record {

@@ -50,8 +50,10 @@ use Rattle.spv_results.specs.Operands.{known}
 use Rattle.spv_results.proofs.ShapeProps.{shape_prop}
 use Rattle.spv_results.proofs.SoundTypes.{sound_types}
 use Rattle.spv_state.specs.Sound.{IsSoundFrame}
-use Rattle.spv_state.specs.State.{with_level, with_register, with_registers}
+use Rattle.spv_state.specs.Roots.{IsRooted}
+use Rattle.spv_state.specs.State.{depth_of, frames_of, with_level, with_register, with_registers}
 use Rattle.spv_state.proofs.Known.{IsKnown, known_as}
+use Rattle.spv_state.proofs.StartSound.{fresh_rooted}
 use Rattle.spv_state.proofs.SlotLemmas.{no_value}
 use Rattle.spv_state.proofs.Stands.{IsOne, member_one, stand_inst}
 use Rattle.spv_actions.specs.Calls.{arguments, called, parameters_of}
@@ -65,6 +67,7 @@ use Rattle.spv_actions.proofs.KeepsFrames.{RegisterFits, register_kept, register
 use Rattle.spv_actions.proofs.OperandLemmas.{plain_none, recovered}
 use Rattle.spv_actions.proofs.ParameterLemmas.{drop_here}
 use Rattle.spv_actions.proofs.PointerLemmas.{pointed, pointer_form, reference_shape}
+use Rattle.spv_actions.proofs.RootedLemmas.{IsOwnRoot, register_rooted}
 
 -- ---- registers, by the laws of plans
 
@@ -195,17 +198,19 @@ pub record Begins (x : Site) (function n : ℕ) (g : Frame) : Type 0 where
   pub so_far : call_from x (drop n (parameters_of (accepted x) function)) (suc n) g ≡ frame_due x function
   pub sound : IsSoundFrame (accepted x) g
   pub plan : g.plan ≡ plan_of (accepted x) function
+  pub rooted : IsRooted (accepted x) (frames_of x.state x.inv) (depth_of x.state x.inv) g
 
 pub begins_fresh : (x : Site) (function : ℕ) (g : Frame) → g ≡ fresh (plan_of (accepted x) function) → IsSoundFrame (accepted x) (fresh (plan_of (accepted x) function)) → Begins x function 0 g
 begins_fresh x function g is sound = record {
   so_far = ap (call_from x (parameters_of (accepted x) function) 1) is ∙ sym (due_is x function);
   sound = subst (IsSoundFrame (accepted x)) (sym is) sound;
   plan = ap (λ (f : Frame). f.plan) is;
+  rooted = subst (IsRooted (accepted x) (frames_of x.state x.inv) (depth_of x.state x.inv)) (sym is) (fresh_rooted (accepted x) (frames_of x.state x.inv) (depth_of x.state x.inv) (plan_of (accepted x) function));
 }
 
 pub begins_next : (x : Site) (function n : ℕ) (g new : Frame) (i : Inst) (v : Whole) → slice_get (parameters_in (accepted x) function) n ≡ Some i → values x (suc n) ≡ Some v → RegisterFits (accepted x) i.id v (out-Value v)
-    → new ≡ with_register i.id v g → Begins x function n g → Begins x function (suc n) new
-begins_next x function n g new i v at value fits made b =
+    → ((q : Reference) → pointer_of v ≡ Some q → IsOwnRoot x q.root) → new ≡ with_register i.id v g → Begins x function n g → Begins x function (suc n) new
+begins_next x function n g new i v at value fits root made b =
     let there : slice_get (parameters_of (accepted x) function) n ≡ Some i.id = map_at (λ (j : Inst). j.id) (parameters_in (accepted x) function) n i at in
     let next : call_from x (drop n (parameters_of (accepted x) function)) (suc n) g ≡ call_from x (drop (suc n) (parameters_of (accepted x) function)) (suc (suc n)) (with_register i.id v g)
     = ap (λ (is : List ℕ). call_from x is (suc n) g) (drop_here (parameters_of (accepted x) function) n i.id there)
@@ -214,6 +219,7 @@ begins_next x function n g new i v at value fits made b =
       so_far = ap (call_from x (drop (suc n) (parameters_of (accepted x) function)) (suc (suc n))) made ∙ sym next ∙ b.so_far;
       sound = subst (IsSoundFrame (accepted x)) (sym made) (register_kept (accepted x) g i.id v fits b.sound);
       plan = ap (λ (f : Frame). f.plan) made ∙ (register_stays g i.id v).0 ∙ b.plan;
+      rooted = subst (IsRooted (accepted x) (frames_of x.state x.inv) (depth_of x.state x.inv)) (sym made) (register_rooted (accepted x) (frames_of x.state x.inv) (depth_of x.state x.inv) g i.id v root b.rooted);
     }
 
 pub begins_fault : (x : Site) (function n : ℕ) (g : Frame) (i : Inst) → slice_get (parameters_in (accepted x) function) n ≡ Some i → values x (suc n) ≡ None → Begins x function n g → frame_due x function ≡ Err NoValue

@@ -1,6 +1,6 @@
 -- What an effect that was worked out has, so that it can be done without failing and leaves a sound state. No definition of a step speaks of
 -- it: these are the conditions of calls inside a step.
-use Rattle.std.specs.Prelude.{◌≡◌, ℕ, List, Option, Some, None, IsSome, ⊤}
+use Rattle.std.specs.Prelude.{◌≡◌, ℕ, ◌-◌, List, length, Option, Some, None, IsSome, ⊤}
 use Rattle.std.specs.List.{AllByRecursion}
 use Rattle.spv_base.specs.Entries.{reads}
 use Rattle.spv_base.specs.State.{Roots}
@@ -19,8 +19,9 @@ use Rattle.spv_valid.specs.Acceptance.{Accepted}
 use Rattle.spv_initial.specs.Start.{variables}
 use Rattle.spv_initial.specs.Variables.{targets_of}
 use Rattle.spv_state.specs.Program.{Program}
+use Rattle.spv_state.specs.Roots.{IsRoot, IsRooted}
 use Rattle.spv_state.specs.Sound.{HasVariables, IsBarrier, IsCallOf, IsSoundFrame, StandsIn}
-use Rattle.spv_state.specs.State.{State}
+use Rattle.spv_state.specs.State.{State, frames_of}
 use Rattle.spv_actions.specs.Effects.{Control, Effect, Next, Jump, Enter, Leave, Wait}
 
 -- a part that is there, and a value of its type
@@ -68,7 +69,22 @@ ControlFits a d (Enter frame es) = EnterFits a d frame es
 ControlFits a d (Leave v) = LeaveFits a d v
 ControlFits a d Wait = IsBarrier a d.word
 
+-- a pointer that a register takes names a variable that is there for the top one of some frames
+abbrev pub ResultRooted : Accepted → List Frame → Option Value → Type 0
+ResultRooted a frames None = ⊤
+ResultRooted a frames (Some v) = (q : Pointer) → pointer_in (out-Value v) ≡ Some q → IsRoot a frames (length frames - 1) q.root
+
+-- and so does each pointer that a function is called with
+abbrev pub ControlRooted : Accepted → List Frame → Control → Type 0
+ControlRooted a frames Next = ⊤
+ControlRooted a frames (Jump block phis) = ⊤
+ControlRooted a frames (Enter frame es) = IsRooted a frames (length frames - 1) frame
+ControlRooted a frames (Leave v) = ⊤
+ControlRooted a frames Wait = ⊤
+
 pub record Fits (p : Program) (s : State) (i : ℕ) (d : Inst) (e : Effect) : Type 0 where
   pub store : StoreFits s i e.store
   pub result : ResultFits p.accepted d e.result
   pub control : ControlFits p.accepted d e.control
+  pub rooted : ResultRooted p.accepted (frames_of s i) e.result
+  pub passed : ControlRooted p.accepted (frames_of s i) e.control

@@ -8,7 +8,7 @@ use Rattle.spv_state.specs.Actions.{action_of}
 use Rattle.spv_state.specs.Program.{Program}
 use Rattle.spv_state.specs.State.{State, depth_of}
 use Rattle.spv_state.specs.declared.actions.Action.{Action}
-use Rattle.spv_state.specs.declared.actions.Action.TheVariants.{Compute, Load, Store, CopyMemory, Chain, ArrayLength, Branch, BranchConditional, Switch, Call, Return, ReturnValue, Unreachable, ControlBarrier, MemoryBarrier, Atomic, Other}
+use Rattle.spv_state.specs.declared.actions.Action.TheVariants.{Compute, Load, Store, CopyMemory, Chain, ArrayLength, Branch, BranchConditional, Switch, Call, Return, ReturnValue, Unreachable, ControlBarrier, MemoryBarrier, Atomic}
 use Rattle.spv_actions.specs.Calls.{call_effect, return_effect}
 use Rattle.spv_actions.specs.Accesses.{copy_memory_effect, load_effect, store_effect}
 use Rattle.spv_actions.specs.Chains.{chain_effect}
@@ -24,9 +24,8 @@ use Rattle.spv_actions.specs.declared.causes.Cause.TheVariants.{NoValue, Unreach
 abbrev pub compute_effect : Program → State → ℕ → Frame → Inst → Result Effect Cause
 compute_effect p s i f d = ok_or (result_of p.accepted d (operand_value p.accepted f (depth_of s i) d)) NoValue >>= (λ v. Ok (gives v))
 
--- No program has an executable of an action that isn't done yet, and none of the last row.
 abbrev pub row : Program → State → ℕ → Frame → Inst → Action → Result Effect Cause
-row p s i f d (Compute c) = compute_effect p s i f d
+row p s i f d Compute = compute_effect p s i f d
 row p s i f d Load = load_effect p s i f d
 row p s i f d Store = store_effect p s i f d
 row p s i f d CopyMemory = copy_memory_effect p s i f d
@@ -42,7 +41,6 @@ row p s i f d Unreachable = Err Stops
 row p s i f d ControlBarrier = control_barrier_effect p s i f d
 row p s i f d MemoryBarrier = memory_barrier_effect p s i f d
 row p s i f d (Atomic op) = atomic_effect p s i f d op
-row p s i f d Other = Err Stops
 
 unfoldable pub effect_of : Program → State → ℕ → Frame → Inst → Result Effect Cause
 effect_of p s i f d = row p s i f d (action_of d)

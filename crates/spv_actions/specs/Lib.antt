@@ -14,3 +14,4 @@ pub mod Kept
 pub mod Planned
 pub mod Sites
 pub mod Passing
+pub mod Laws

@@ -28,8 +28,9 @@ use Rattle.spv_actions.specs.Effects.{◌>>=◌, loaded, pointer}
 use Rattle.spv_actions.specs.Instructions.{effect_of}
 use Rattle.spv_actions.specs.Planned.{gained}
 use Rattle.spv_state.specs.Program.{Program}
+use Rattle.spv_state.specs.Roots.{IsRoot}
 use Rattle.spv_state.specs.Sound.{IsSound}
-use Rattle.spv_state.specs.State.{State, depth_of, top_of}
+use Rattle.spv_state.specs.State.{State, depth_of, frames_of, top_of}
 use Rattle.spv_actions.specs.declared.causes.Cause.{Cause}
 use Rattle.spv_actions.specs.declared.causes.Cause.TheVariants.{NoValue}
 use Rattle.spv_actions.specs.declared.effects.Gain.{Gain}
@@ -98,15 +99,15 @@ Finds due (Err NoMemory) = ⊤
 
 -- ---- results
 
--- what a register takes has the instruction's type
-abbrev pub IsGain : Accepted → Inst → Gain → Value → Type 0
-IsGain a d Nothing v = ⊥
-IsGain a d Row v = IsResult a d v
-IsGain a d (Pointer q) v = HasShape a.types (target_in a) d.ty (Ptr q)
-IsGain a d (Handed c) v = ⊥
+-- what a register takes has the instruction's type, and a pointer names a variable that is there
+abbrev pub IsGain : Site → Gain → Value → Type 0
+IsGain x Nothing v = ⊥
+IsGain x Row v = IsResult (accepted x) x.inst v
+IsGain x (Pointer q) v = HasShape (accepted x).types (target_in (accepted x)) x.inst.ty (Ptr q) × IsRoot (accepted x) (frames_of x.state x.inv) (depth_of x.state x.inv) q.root
+IsGain x (Handed c) v = ⊥
 
 -- what the computation gives, or an operand has no value; or memory ran out
 abbrev pub Computes : Site → Computation → Value → Result Gain (Fail Cause) → Type 0
-Computes x c v (Ok gain) = (result_by (accepted x) x.inst (values x) c ≡ gained gain v) × IsGain (accepted x) x.inst gain v
+Computes x c v (Ok gain) = (result_by (accepted x) x.inst (values x) c ≡ gained gain v) × IsGain x gain v
 Computes x c v (Err (Refused cause)) = (result_by (accepted x) x.inst (values x) c ≡ None) × (cause ≡ NoValue)
 Computes x c v (Err NoMemory) = ⊤

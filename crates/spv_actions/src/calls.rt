@@ -10,6 +10,7 @@ ghost use Rattle.spv_mem.specs.Memory.{AreVariables};
 ghost use Rattle.spv_operands.specs.Operands.{IsPlain, shown};
 ghost use Rattle.spv_plans.specs.Plans.{functions_in, plan_of};
 ghost use Rattle.spv_state.specs.Actions.{action_of};
+ghost use Rattle.spv_state.specs.Roots.{IsRooted};
 ghost use Rattle.spv_state.specs.Sound.{IsSoundFrame};
 ghost use Rattle.spv_state.specs.Start.{frame_roots};
 ghost use Rattle.spv_state.specs.State as state;
@@ -90,8 +91,10 @@ fn frame_of(site: &Site, plan: &Rc<Plan>, function: u32) -> Result<Frame, Fail<C
     ensures due { Answers (frame_due site.now function) result }
     ensures sound { IfOk result (IsSoundFrame site.now.program.accepted) }
     ensures plan { IfOk result (λ frame. frame.plan ≡ plan_of site.now.program.accepted function) }
+    ensures rooted { IfOk result (IsRooted site.now.program.accepted (state.frames_of site.now.state site.now.inv) (state.depth_of site.now.state site.now.inv)) }
 {
     functions_have_their_plans();
+    site.is_reached();
     registers_are_apart();
     registers_have_types();
     results_have_registers();
@@ -126,7 +129,8 @@ pub fn call(site: &Site) -> Result<Effect, Fail<Cause>>
     call_is_kept(site);
     let function = callee(site);
     let plan = site.plan(function);
-    let frame = frame_of(site, plan, function)?;
+    let fresh = frame_of(site, plan, function)?;
+    let frame = site.begun(fresh)?;
     let locals = locals_of(site, function)?;
     Ok(Effect {
         store: None,

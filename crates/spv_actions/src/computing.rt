@@ -1,5 +1,6 @@
 //! What the instructions that compute do: their register takes the value that spv_results gives for their operands.
-ghost use Rattle.std.specs.Prelude.{◌≡◌, IfOk, false};
+ghost use Rattle.std.specs.Prelude.{◌≡◌, IfOk, Some, false};
+ghost use Rattle.spv_results.specs.Computations.{computation_of};
 ghost use Rattle.spv_state.specs.Actions.{action_of};
 ghost use Rattle.spv_actions.specs.Kept.{Keeps};
 ghost use Rattle.spv_actions.specs.Planned.{IsDue, IsTaken, PlannedFits};
@@ -42,13 +43,27 @@ fn gain(site: &Site, computation: Computation, row: &mut Row) -> Result<Gain, Fa
     }
 }
 
+/// What the instruction computes: an executable of an accepted module that is neither named nor an atomic computes a value.
+fn computation_at(site: &Site) -> Computation
+    requires { action_of site.now.inst ≡ Action.Compute }
+    ensures { computation_of site.now.inst ≡ Some result }
+{
+    site.is_reached();
+    let _insts = site.accepted().insts();
+    match Computation::of(site.inst()) {
+        Some(computation) => computation,
+        None => unreachable!(),
+    }
+}
+
 /// An instruction that computes: its register takes the result.
-pub fn compute(site: &Site, computation: Computation, row: &mut Row) -> Result<Effect, Fail<Cause>>
-    requires { action_of site.now.inst ≡ Action.Compute computation }
+pub fn compute(site: &Site, row: &mut Row) -> Result<Effect, Fail<Cause>>
+    requires { action_of site.now.inst ≡ Action.Compute }
     ensures due { IsDue (spec.due site.now) row.new result }
     ensures fits { PlannedFits site.now.program site.now.state site.now.inv site.now.inst row.new result }
     ensures taken { IfOk result (λ e. IsTaken site.now.state site.now.inv e row.new) }
 {
+    let computation = computation_at(site);
     is_kept(site, computation);
     let _insts = site.accepted().insts();
     let gain = gain(site, computation, row)?;

@@ -178,6 +178,7 @@ fn copy_object(site: &Site, row: &mut Row) -> Result<Gain, Fail<Cause>>
     requires sized { has_runtime site.now.program.accepted.types site.now.inst.ty ≡ false }
     ensures { Computes site.now Computation.Copy row.new result }
 {
+    site.is_reached();
     let _insts = site.accepted().insts();
     let operand = site.operand(0)?;
     if let Some(part) = operand.part() {

@@ -87,7 +87,7 @@ pub fn effect_at(
 {
     let site = Site::of(alloc, m, w, inv, frame, inst);
     match Action::of(inst) {
-        Action::Compute(computation) => compute(&site, computation, row),
+        Action::Compute => compute(&site, row),
         Action::Load => load(&site, row),
         Action::Store => store(&site, row),
         Action::Return => Ok(Effect {
@@ -107,6 +107,5 @@ pub fn effect_at(
         Action::ControlBarrier => control_barrier(&site, row),
         Action::MemoryBarrier => memory_barrier(&site, row),
         Action::Atomic(operation) => atomic(&site, operation, row),
-        Action::Other => Err(Fail::Refused(Cause::Unreachable)),
     }
 }

@@ -15,6 +15,7 @@ pub mod effects;
 mod kept;
 mod kept_calls;
 mod kept_control;
+pub mod laws;
 mod lengths;
 mod phis;
 pub mod sites;

@@ -6,6 +6,7 @@ ghost use Rattle.spv_plans.specs.Plans.{functions_in, plan_of};
 ghost use Rattle.spv_index.specs.Definitions.{at, result_type};
 ghost use Rattle.spv_actions.specs.Sites as spec;
 ghost use Rattle.spv_actions.specs.Sites.{Finds, is_data_at};
+ghost use Rattle.spv_state.specs.Events.{IsReadable, passed};
 ghost use Rattle.spv_state.specs.Sound.{IsSound};
 ghost use Rattle.spv_state.specs.State as state;
 ghost use Rattle.spv_operands.specs.Operands.{IsPlain, pointer_of, referred, shown};
@@ -17,7 +18,7 @@ use spv_frame::{Frame, Plan};
 use spv_mem::Memory;
 use spv_operands::laws::operands_have_shapes;
 use spv_operands::{Operand, Reference, operand as operand_by, operand_of};
-use spv_state::{Runnable, Whole, plan_in};
+use spv_state::{Runnable, Whole, pass_events, plan_in};
 use spv_valid::Module;
 use spv_values::Part;
 use std::alloc::Global;
@@ -156,6 +157,16 @@ impl<'a> Site<'a> {
         ensures { result.now.value ≡ plan_of self.now.program.accepted function }
     {
         plan_in(self.m.accepted(), self.w.plans(), function)
+    }
+
+    /// The frame that a call of this instruction makes, above those of the invocation, behind the debug events that it passes first.
+    pub fn begun(&self, mut frame: Frame) -> Result<Frame, NoMemory>
+        requires { IsReadable self.now.program.accepted frame }
+        ensures { IfOk result (λ begun. begun ≡ passed self.now.program.accepted (length (state.frames_of self.now.state self.now.inv)) frame) }
+    {
+        let depth = self.w.stack(self.inv).depth() as u32;
+        pass_events(self.alloc, self.m, self.w.plans(), &mut frame, depth)?;
+        Ok(frame)
     }
 
     /// The instruction.

@@ -9,3 +9,4 @@ pub mod Checks
 pub mod Splits
 pub mod Readings
 pub mod Decodings
+pub mod OpeningLemmas

@@ -3,7 +3,7 @@ ghost use Rattle.std.specs.Prelude.{◌≡◌, ◌≤◌, ◌<◌, IfOk, OnOk, l
 ghost use Rattle.spv_base.specs.Answers.{Answers};
 ghost use Rattle.spv_setup.specs.Settings.{settings_of};
 ghost use Rattle.spv_valid.specs.Validity.{IsValid};
-ghost use Rattle.spv_state.specs.Program.{program_of};
+ghost use Rattle.spv_state.specs.Program.{IsFitting};
 ghost use Rattle.spv_app.specs.Limits.{setup_limit};
 ghost use Rattle.spv_app.specs.Opening.{opening, accepted_in, invocations_of, journaled, schedule_for, started, of_setup, of_module};
 
@@ -128,37 +128,19 @@ fn fit_setup(
     }
 }
 
-/// The module as it can be run with the setup, refused as a pair is. Refuses code 0 at word 5 where its workgroup has more than one
-/// invocation, or the machine can't do one of its executables yet.
-#[tactic(auto, unfolding(spv_state::specs::Program::program_of))]
-fn run_module(
-    alloc: Global,
-    accepted: Module,
-    setup: Setup,
-) -> Result<Runnable, Fail<OpeningRefusal>>
-    ensures due { Answers (of_module (program_of accepted setup)) result }
-    ensures same { IfOk result (λ program. program.accepted ≡ accepted) }
-{
-    match Runnable::of(alloc, accepted, setup) {
-        Ok(program) => Ok(program),
-        Err(Fail::Refused(refusal)) => Err(Fail::Refused(OpeningRefusal::Module(refusal))),
-        Err(Fail::NoMemory) => Err(Fail::NoMemory),
-    }
-}
-
-/// The group of a module and a setup, at the first position, where the setup fits the module and the module can be run.
+/// The group of a module and a setup, at the first position, where the setup fits the module.
 fn start(alloc: Global, accepted: Module, setup: Setup) -> Result<Group, Fail<OpeningRefusal>>
     requires { IsValid accepted }
     ensures view { Answers (journaled (started setup accepted)) result }
     ensures start { IfOk result (λ group. group.group.position ≡ 0) }
 {
     let schedule = fit_setup(alloc, &accepted, &setup)?;
-    let program = run_module(alloc, accepted, setup)?;
+    let program = Runnable::of(alloc, accepted, setup)?;
     Ok(Group::open(alloc, program, schedule)?)
 }
 
-/// Opens a pair: the setup's text is looked at first, then the module, then whether the setup fits it, and then whether it can
-/// be run. The group stands at the first position.
+/// Opens a pair: the setup's text is looked at first, then the module, and then whether the setup fits it. The group stands at the first
+/// position.
 #[tactic(auto, unfolding(crate::specs::Opening::opening))]
 pub fn open(alloc: Global, binary: Vec<u8>, setup: Vec<u8>) -> Result<Group, Fail<OpeningRefusal>>
     requires { length setup.items ≤ setup_limit }

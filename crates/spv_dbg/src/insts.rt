@@ -56,7 +56,7 @@ fn names_set(index: &Index, inst: &Inst) -> bool
 
 /// The number of an instruction of the set, and None for another one.
 #[tactic(auto, unfolding(crate::specs::Marks::set_number))]
-pub(crate) fn set_number(index: &Index, inst: &Inst) -> Option<u32>
+pub fn set_number(index: &Index, inst: &Inst) -> Option<u32>
     ensures { result ≡ spec.set_number index.now.insts inst.now }
 {
     if inst.op != op::EXT_INST || !names_set(index, inst) {

@@ -11,7 +11,7 @@ use std::marker::Model;
 
 /// Items under keys, of which the first under a key is the one that is found. Contracts see the list of both.
 #[derive(Drop)]
-pub(crate) struct Keyed<T> {
+pub struct Keyed<T> {
     entries: Vec<(u32, T)>,
     /// By key, the number of its first entry.
     places: Table<usize>,
@@ -55,7 +55,7 @@ fn item_with<T>(entries: &[(u32, T)], number: Option<usize>) -> Option<&T>
 
 impl<T: Drop> Keyed<T> {
     /// These entries.
-    pub(crate) fn of(alloc: Global, entries: Vec<(u32, T)>) -> Result<Keyed<T>, NoMemory>
+    pub fn of(alloc: Global, entries: Vec<(u32, T)>) -> Result<Keyed<T>, NoMemory>
         ensures { IfOk result (λ keyed. keyed ≡ entries.items) }
     {
         let keys = keys_of(alloc, entries.as_slice())?;
@@ -64,7 +64,7 @@ impl<T: Drop> Keyed<T> {
     }
 
     /// The item under a key. In constant time for a key below 1,048,576.
-    pub(crate) fn get(&self, key: u32) -> Option<&T>
+    pub fn get(&self, key: u32) -> Option<&T>
         ensures { option_copied result ≡ reads key self.now }
     {
         item_with(self.entries.as_slice(), self.places.get(key))

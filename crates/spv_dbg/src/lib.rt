@@ -21,6 +21,7 @@ mod strings;
 mod tables;
 
 pub use frames::{Bit, ShownFrame};
-pub use insts::DebugInst;
+pub use insts::{DebugInst, set_number};
+pub use keyed::Keyed;
 pub use laws::well_formed_records_are_those_of_the_table;
 pub use tables::DebugTables;

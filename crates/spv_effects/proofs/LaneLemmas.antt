@@ -1,7 +1,8 @@
 -- The row of lanes that are a value is these lanes.
-use Rattle.std.proofs.Common.{◌≡◌, ◌∙◌, List, [], ◌∷◌, length, map, slice_set, refl, arith}
+use Rattle.std.proofs.Common.{◌≡◌, ◌∙◌, List, [], ◌∷◌, length, map, slice_index_or, ap, refl, arith}
 use Rattle.std.specs.List.{flat_map}
-use Rattle.spv_base.specs.Lane.{Lane}
+use Rattle.std.specs.Simd.Lanes.{zip2}
+use Rattle.spv_base.specs.Lane.{Lane, undefined_lane}
 use Rattle.spv_base.specs.declared.values.Value.{Scalar}
 use Rattle.spv_types.specs.Rows.{leaves}
 use Rattle.spv_types.proofs.RowLemmas.{leaves_many}
@@ -18,8 +19,14 @@ leaves_of_lanes [] = leaves_many []
 leaves_of_lanes (c ∷ []) = scalar_leaf c
 leaves_of_lanes (c ∷ (d ∷ cs)) = leaves_many (map Scalar (c ∷ (d ∷ cs))) ∙ leaves_scalars (c ∷ (d ∷ cs))
 
-pub one_lane : (cs : List Lane) (c : Lane) → length cs ≡ 1 → of_lanes (slice_set cs 0 c) ≡ Scalar c
+pub one_leaf : (c : Lane) → length (leaves (Scalar c)) ≡ 1
+one_leaf c = ap length (scalar_leaf c)
+
+-- an operation on the one lane of two scalars
+pub one_of_two : (f : Lane → Lane → Lane) (cs ds : List Lane) → length cs ≡ 1 → length ds ≡ 1 → Scalar (f (slice_index_or cs 0 (undefined_lane 0)) (slice_index_or ds 0 (undefined_lane 0))) ≡ of_lanes (zip2 f cs ds)
 unfolding of_lanes
-one_lane [] c h = absurd (omega arith)
-one_lane (d ∷ []) c h = refl
-one_lane (d ∷ (e ∷ cs)) c h = absurd (omega arith)
+one_of_two f [] ds one two = absurd (omega arith)
+one_of_two f (c ∷ (b ∷ cs)) ds one two = absurd (omega arith)
+one_of_two f (c ∷ []) [] one two = absurd (omega arith)
+one_of_two f (c ∷ []) (d ∷ []) one two = refl
+one_of_two f (c ∷ []) (d ∷ (e ∷ ds)) one two = absurd (omega arith)

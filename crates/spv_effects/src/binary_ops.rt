@@ -6,7 +6,7 @@ ghost use Rattle.spv_alu.specs.Binary.{binary_lane};
 ghost use Rattle.spv_effects.specs.BinaryOps.{MayMeet, binary_value};
 ghost use Rattle.spv_types.specs.Rows.{leaves};
 
-use crate::lanes::of_lanes;
+use crate::lanes::{lane_of, of_lanes, put_lane};
 use spv_alu::BinaryOp;
 use spv_base::Cell;
 use spv_values::{Part, Row};
@@ -17,6 +17,10 @@ pub fn binary(operation: BinaryOp, a: &Part, b: &Part, into: &mut Row)
     ensures value { into.new ≡ binary_value operation a.now b.now }
     ensures room { length (leaves into.new) ≡ length (leaves into.old) }
 {
+    if into.len() == 1 {
+        put_lane(into, operation.apply(lane_of(a), lane_of(b)));
+        return;
+    }
     let mut cells = into.take_cells();
     binary_cells(operation, a.cells(), b.cells(), cells.as_mut_slice());
     *into = of_lanes(cells);

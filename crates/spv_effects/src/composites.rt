@@ -126,7 +126,5 @@ pub fn copy(a: &Part, into: &mut Row)
     ensures value { into.new ≡ a.now }
     ensures room { length (leaves into.new) ≡ length (leaves into.old) }
 {
-    let mut cells = into.take_cells();
-    cells.as_mut_slice().copy_from_slice(a.cells());
-    *into = Row::with_tree(cells, a.tree());
+    into.copy_part(a);
 }

@@ -27,13 +27,11 @@ pub(crate) fn lane_of(part: &Part) -> Cell
 }
 
 /// Puts a scalar into a row of one cell.
-#[tactic(auto, using(crate::proofs::LaneLemmas::one_lane))]
+#[tactic(auto, using(crate::proofs::LaneLemmas::one_leaf))]
 pub(crate) fn put_lane(into: &mut Row, lane: Cell)
     requires { length (leaves into.old) ≡ 1 }
     ensures value { into.new ≡ Scalar lane }
     ensures room { length (leaves into.new) ≡ 1 }
 {
-    let mut cells = into.take_cells();
-    cells[0] = lane;
-    *into = of_lanes(cells);
+    into.put_lane(lane);
 }

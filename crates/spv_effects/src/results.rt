@@ -22,6 +22,9 @@ pub fn resize(row: &mut Row, len: usize) -> Result<(), NoMemory>
     ensures err { OnErr result (leaves row.new ≡ leaves row.old) }
     ensures within { len ≤ length (leaves row.old) → IsOk result }
 {
+    if row.len() == len {
+        return Ok(());
+    }
     let mut cells = row.take_cells();
     let resized = cells.resize(len, undefined(1));
     *row = of_lanes(cells);

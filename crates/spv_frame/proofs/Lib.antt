@@ -1,6 +1,7 @@
 pub mod RegisterLemmas
 pub mod FrameLemmas
 pub mod PlanLemmas
+pub mod NumberLemmas
 pub mod StackLemmas
 pub mod ContentLemmas
 pub mod CallLemmas

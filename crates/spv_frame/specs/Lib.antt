@@ -1,8 +1,10 @@
 pub mod Registers
+pub mod Events
 pub mod Frames
 pub mod Plans
 pub mod Stacks
 pub mod Contents
 pub mod Phis
 pub mod Calls
+pub mod Numbers
 pub mod Functions

@@ -6,9 +6,10 @@ ghost use Rattle.spv_frame.specs.Registers.{IsPointerSlotOf, IsSlotOf, marked};
 ghost use Rattle.spv_types.specs.Rows.{leaves};
 
 use crate::contents::Content;
+use crate::events::DebugEvent;
 use crate::plans::Plan;
 use crate::slots::{PointerSlot, Slot};
-use spv_base::{NoMemory, PassedEvent, Pointer, Value};
+use spv_base::{NoMemory, Pointer};
 use spv_values::{Part, Row};
 use std::alloc::Global;
 use std::marker::Model;
@@ -23,7 +24,7 @@ pub struct Frame {
     pub(crate) row: Row,
     pub(crate) has: Vec<bool>,
     pub(crate) pointers: Vec<Option<Pointer>>,
-    pub(crate) events: Vec<PassedEvent>,
+    pub(crate) events: Vec<DebugEvent>,
 }
 
 impl Model for Frame {
@@ -84,7 +85,7 @@ impl Frame {
     }
 
     /// The debug events that were passed, the oldest first.
-    pub fn events(&self) -> &[PassedEvent]
+    pub fn events(&self) -> &[DebugEvent]
         ensures { result.now ≡ self.now.events }
     {
         self.events.as_slice()
@@ -153,7 +154,7 @@ impl Frame {
     }
 
     /// Appends a debug event that was passed.
-    pub fn append(&mut self, event: PassedEvent) -> Result<(), NoMemory>
+    pub fn append(&mut self, event: DebugEvent) -> Result<(), NoMemory>
         ensures ok { OnOk result (self.new ≡ record self.old { events = self.old.events ++ event ∷ [] }) }
         ensures err { OnErr result (self.new ≡ self.old) }
     {
@@ -161,8 +162,17 @@ impl Frame {
         Ok(())
     }
 
+    /// Appends debug events that were passed, all or none.
+    pub fn append_all(&mut self, mut events: Vec<DebugEvent>) -> Result<(), NoMemory>
+        ensures ok { OnOk result (self.new ≡ record self.old { events = self.old.events ++ events.items }) }
+        ensures err { OnErr result (self.new ≡ self.old) }
+    {
+        self.events.append(&mut events)?;
+        Ok(())
+    }
+
     /// Takes the last debug event away. It takes no memory.
-    pub fn drop_event(&mut self) -> PassedEvent
+    pub fn drop_event(&mut self) -> DebugEvent
         requires { self.old.events ≢ [] }
         ensures after { self.new ≡ record self.old { events = self.new.events } }
         ensures handed { self.old.events ≡ self.new.events ++ result ∷ [] }
@@ -221,32 +231,12 @@ fn pointer_copied(alloc: Global, pointer: &Option<Pointer>) -> Result<Option<Poi
 }
 
 /// Equal events.
-fn events_copied(alloc: Global, events: &[PassedEvent]) -> Result<Vec<PassedEvent>, NoMemory>
+fn events_copied(alloc: Global, events: &[DebugEvent]) -> Result<Vec<DebugEvent>, NoMemory>
     ensures { IfOk result (λ copies. copies.items ≡ events.now) }
 {
     let mut copies = Vec::with_capacity(alloc, events.len())?;
     for event in events {
-        copies.push(event_copied(alloc, event)?)?;
+        copies.push(event.copy(alloc)?)?;
     }
     Ok(copies)
-}
-
-/// An equal event.
-fn event_copied(alloc: Global, event: &PassedEvent) -> Result<PassedEvent, NoMemory>
-    ensures { IfOk result (λ copy. copy ≡ event.now) }
-{
-    Ok(PassedEvent {
-        word: event.word,
-        value: value_copied(alloc, &event.value)?,
-    })
-}
-
-/// An equal value, and none where there is none.
-fn value_copied(alloc: Global, value: &Option<Value>) -> Result<Option<Value>, NoMemory>
-    ensures { IfOk result (λ copy. copy ≡ value.now) }
-{
-    match value {
-        Some(value) => Ok(Some(value.copy(alloc)?)),
-        None => Ok(None),
-    }
 }

@@ -3,16 +3,19 @@
 
 pub mod calls;
 pub mod contents;
+pub mod events;
 pub mod frames;
 pub mod functions;
 pub mod laws;
 pub mod listing;
+pub mod numbers;
 pub mod phis;
 pub mod plans;
 pub mod slots;
 pub mod stacks;
 
 pub use contents::{Argument, Content, Source};
+pub use events::{Captured, DebugEvent};
 pub use frames::Frame;
 pub use functions::{Plans, Register};
 pub use plans::Plan;

@@ -12,10 +12,11 @@ ghost use Rattle.spv_frame.specs.Stacks.{Stacked, on_top, top};
 ghost use Rattle.spv_types.specs.Rows.{leaves};
 
 use crate::contents::{Argument, Content, Source};
+use crate::events::DebugEvent;
 use crate::frames::Frame;
 use crate::plans::Plan;
 use crate::slots::{PointerSlot, Slot};
-use spv_base::{NoMemory, PassedEvent, Pointer};
+use spv_base::{NoMemory, Pointer};
 use spv_values::Row;
 use std::alloc::Global;
 use std::marker::Model;
@@ -24,7 +25,7 @@ use std::rc::Rc;
 /// The calls of an invocation. Contracts see their frames by depth, and how many there is room for.
 #[derive(Drop)]
 pub struct Stack {
-    frames: Vec<Frame>,
+    pub(crate) frames: Vec<Frame>,
     room: u32,
 }
 
@@ -179,7 +180,7 @@ impl Stack {
     }
 
     /// Appends a debug event to those that the top frame passed.
-    pub fn append(&mut self, event: PassedEvent) -> Result<(), NoMemory>
+    pub fn append(&mut self, event: DebugEvent) -> Result<(), NoMemory>
         requires { self.old.frames ≢ [] }
         ensures ok { OnOk result (self.new ≡ record self.old { frames = on_top (λ f. record f { events = f.events ++ event ∷ [] }) self.old.frames }) }
         ensures err { OnErr result (self.new ≡ self.old) }
@@ -188,8 +189,18 @@ impl Stack {
         self.frames[top].append(event)
     }
 
+    /// Appends debug events to those that the top frame passed, all or none.
+    pub fn append_all(&mut self, events: Vec<DebugEvent>) -> Result<(), NoMemory>
+        requires { self.old.frames ≢ [] }
+        ensures ok { OnOk result (self.new ≡ record self.old { frames = on_top (λ f. record f { events = f.events ++ events.items }) self.old.frames }) }
+        ensures err { OnErr result (self.new ≡ self.old) }
+    {
+        let top = self.frames.len() - 1;
+        self.frames[top].append_all(events)
+    }
+
     /// Takes the last debug event of the top frame away, and gives it. It takes no memory, and undoes `append`.
-    pub fn drop_event(&mut self) -> PassedEvent
+    pub fn drop_event(&mut self) -> DebugEvent
         requires { IsSomeAnd (top self.old.frames) (λ f. f.events ≢ []) }
         ensures { self.old ≡ record self.new { frames = on_top (λ f. record f { events = f.events ++ result ∷ [] }) self.new.frames } }
     {

@@ -1,1 +1,6 @@
 pub mod UndoLemmas
+pub mod RingLemmas
+pub mod StoreLemmas
+pub mod LawLemmas
+pub mod RecordLemmas
+pub mod EntryLemmas

@@ -1,8 +1,7 @@
 -- What callers see of a state whose changes are recorded.
-use Rattle.std.specs.Prelude.{◌≡◌, ◌≢◌, ◌≤◌, ◌+◌, ℕ, List, [], ◌∷◌, length, Option, Some, None, option_map, slice_get}
+use Rattle.std.specs.Prelude.{◌≡◌, ◌≤◌, ◌+◌, ℕ, List, [], ◌∷◌, length, Option, Some, None, option_map}
 use Rattle.std.specs.Option.{IsSomeAnd, option_map_or}
 use Rattle.spv_base.specs.declared.happenings.Happening.{Happening}
-use Rattle.spv_mem.specs.Memory.{Levels}
 use Rattle.spv_state.specs.State.{State}
 use Rattle.spv_journal.specs.Events.{Event, begun, fitting, newest, older, opened}
 use Rattle.spv_journal.specs.Undo.{Moment, before, past}
@@ -21,10 +20,6 @@ past_of w = past (opened w.gathered w.ring) w.state
 -- an event of an invocation is being made
 abbrev pub IsMaking : Option Event → ℕ → Type 0
 IsMaking o i = IsSomeAnd o (λ (v : Event). v.happening.inv ≡ i)
-
--- the variables of the top frame of an invocation are there, and no more than there is room for
-abbrev pub HasLocals : State → ℕ → Type 0
-HasLocals s i = (l : Levels) → slice_get s.memory.locals i ≡ Some l → (l.list ≢ []) × (length l.list ≤ l.room)
 
 -- how many changes it has
 abbrev pub changes_in : Option Event → ℕ

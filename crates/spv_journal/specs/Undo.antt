@@ -1,43 +1,36 @@
 -- What an entry undoes, and the states that events lead back to.
-use Rattle.std.specs.Prelude.{◌≡◌, ◌≢◌, ◌<◌, ℕ, true, List, [], ◌∷◌, Option, Some, IsSome, length, option_map, slice_get, ⊤}
+use Rattle.std.specs.Prelude.{◌≡◌, ◌≢◌, ◌<◌, ℕ, true, List, [], ◌∷◌, Option, Some, None, IsSome, length, option_map, slice_get, ⊤}
 use Rattle.std.specs.List.{list_all}
 use Rattle.std.specs.Option.{IsSomeAnd}
 use Rattle.spv_base.specs.declared.happenings.Happening.{Happening}
-use Rattle.spv_base.specs.declared.values.Pointer.{Pointer}
-use Rattle.spv_base.specs.declared.values.Value.{Value}
 use Rattle.spv_frame.specs.Frames.{Held as Frame}
-use Rattle.spv_frame.specs.Registers.{marked, sizes}
+use Rattle.spv_frame.specs.Numbers.{HasCells, HasPointer, with_pointer, with_value}
 use Rattle.spv_frame.specs.Stacks.{Stacked}
-use Rattle.spv_mem.specs.Memory.{AreVariables, Held as Memory, HasRoom, MayStore, load_of, root_value}
-use Rattle.spv_state.specs.State.{State, on_frame, pop_frame, push_frame, put_store, set_status, top_of, with_pc}
+use Rattle.spv_mem.specs.Memory.{AreVariables, HasRoom, MayStore, load_of}
+use Rattle.spv_mem.specs.Singles.{NamesRow}
+use Rattle.spv_state.specs.State.{State, close_barrier, drop_event, on_frame, pop_frame, push_frame, put_store, set_status, top_of, with_pc}
 use Rattle.spv_statuses.specs.Invocations.{IsWithin, is_passed}
-use Rattle.spv_types.specs.Rows.{HasRow, leaves}
+use Rattle.spv_types.specs.Rows.{leaves}
 use Rattle.spv_journal.specs.Events.{Event}
-use Rattle.spv_journal.specs.Inverses.{close_barrier, drop_event, put_back_pointer, put_back_value}
 use Rattle.spv_journal.specs.declared.entries.Entry.{Entry}
-use Rattle.spv_journal.specs.declared.entries.Entry.TheVariants.{Leaf, Part, CellRegister, RowRegister, PointerRegister, FramePushed, FramePopped, PcMoved, EventAppended, StatusChanged, BarrierOpened}
+use Rattle.spv_journal.specs.declared.entries.Entry.TheVariants.{Leaf, Part, NoValue, CellRegister, RowRegister, PointerRegister, FramePushed, FramePopped, PcMoved, EventAppended, StatusChanged, BarrierOpened}
 
 -- ---- one change
 
 -- the inverse of a change of an invocation
 abbrev pub undo : ℕ → Entry → State → State
-undo i (Leaf root leaf cell path tree) s = put_store i (Some (record { root = root; path = path.value }, tree.value)) s
+undo i (Leaf root leaf path value) s = put_store i (Some (record { root = root; path = path.value }, value)) s
 undo i (Part b) s = put_store i (Some (b.value.place, b.value.row)) s
-undo i (CellRegister n cell has tree) s = on_frame i (put_back_value n (marked tree.value has)) s
-undo i (RowRegister b) s = on_frame i (put_back_value b.value.number (marked b.value.content.row b.value.content.has)) s
-undo i (PointerRegister n o) s = on_frame i (put_back_pointer n (option_map (λ b. b.value) o)) s
+undo i (NoValue n) s = on_frame i (with_value n None) s
+undo i (CellRegister n value) s = on_frame i (with_value n (Some value)) s
+undo i (RowRegister b) s = on_frame i (with_value b.value.number (Some b.value.row)) s
+undo i (PointerRegister n o) s = on_frame i (with_pointer n (option_map (λ b. b.value) o)) s
 undo i FramePushed s = pop_frame i s
 undo i (FramePopped b) s = push_frame i b.value.frame b.value.locals s
 undo i (PcMoved pc) s = on_frame i (with_pc pc) s
 undo i EventAppended s = on_frame i drop_event s
 undo i (StatusChanged status) s = set_status i status s
 undo i (BarrierOpened word) s = close_barrier word s
-
--- a pointer names one leaf of a variable, which lies behind some others
-pub record NamesLeaf (m : Memory) (i : ℕ) (p : Pointer) (leaf : ℕ) : Type 0 where
-  pub value : Value
-  pub is : root_value m i p.root ≡ Some value
-  pub row : HasRow value p.path leaf 1
 
 -- there is room for a frame more and its variables
 pub record HasRooms (s : State) (i : ℕ) : Type 0 where
@@ -46,25 +39,31 @@ pub record HasRooms (s : State) (i : ℕ) : Type 0 where
   pub levels : i < length s.memory.locals
   pub level : HasRoom s.memory i
 
--- the top frame has a register of a value with a number, of so many cells
-abbrev pub HasRegister : State → ℕ → ℕ → ℕ → Type 0
-HasRegister s i n cells = (i < length s.stacks) × IsSomeAnd (top_of s i) (λ (f : Frame). slice_get (sizes f.plan.values) n ≡ Some cells)
+-- an invocation has a top frame, of which something is so
+abbrev pub HasTop : State → ℕ → (Frame → Type 0) → Type 0
+HasTop s i P = (i < length s.stacks) × IsSomeAnd (top_of s i) P
 
 -- the inverse may be done
 abbrev pub CanUndo : ℕ → Entry → State → Type 0
-CanUndo i (Leaf root leaf cell path tree) s =
-    ∥ NamesLeaf s.memory i (record { root = root; path = path.value }) leaf ∥₁ × ∥ MayStore s.memory i (record { root = root; path = path.value }) tree.value ∥₁
-    × (leaves tree.value ≡ cell ∷ [])
+CanUndo i (Leaf root leaf path value) s =
+    IsSome (load_of s.memory i (record { root = root; path = path.value })) × ∥ NamesRow s.memory i (record { root = root; path = path.value }) leaf 1 ∥₁
+    × ∥ MayStore s.memory i (record { root = root; path = path.value }) value ∥₁
 CanUndo i (Part b) s = IsSome (load_of s.memory i b.value.place) × ∥ MayStore s.memory i b.value.place b.value.row ∥₁
-CanUndo i (CellRegister n cell has tree) s = HasRegister s i n 1 × (leaves tree.value ≡ cell ∷ [])
-CanUndo i (RowRegister b) s = HasRegister s i b.value.number (length (leaves b.value.content.row))
-CanUndo i (PointerRegister n o) s = (i < length s.stacks) × IsSomeAnd (top_of s i) (λ (f : Frame). n < length f.plan.pointers)
+CanUndo i (NoValue n) s = HasTop s i (λ f. n < length f.plan.values)
+CanUndo i (CellRegister n value) s = HasTop s i (HasCells n 1)
+CanUndo i (RowRegister b) s = HasTop s i (HasCells b.value.number (length (leaves b.value.row)))
+CanUndo i (PointerRegister n o) s = HasTop s i (HasPointer n)
 CanUndo i FramePushed s = (i < length s.stacks) × (i < length s.memory.locals)
 CanUndo i (FramePopped b) s = HasRooms s i × ∥ AreVariables s.memory.types s.memory.targets b.value.locals ∥₁
 CanUndo i (PcMoved pc) s = (i < length s.stacks) × IsSome (top_of s i)
-CanUndo i EventAppended s = (i < length s.stacks) × IsSomeAnd (top_of s i) (λ (f : Frame). f.events ≢ [])
+CanUndo i EventAppended s = HasTop s i (λ f. f.events ≢ [])
 CanUndo i (StatusChanged status) s = (i < length s.statuses.list) × IsWithin s.statuses.words status
 CanUndo i (BarrierOpened word) s = (list_all is_passed s.statuses.list ≡ true) × (word < s.statuses.words)
+
+-- an entry leads from a state t back to s
+pub record Undoes (i : ℕ) (e : Entry) (s t : State) : Type 0 where
+  pub back : undo i e t ≡ s
+  pub can : CanUndo i e t
 
 -- ---- events
 

@@ -1,13 +1,13 @@
 //! The primitive changes of a state, each recorded. Where memory runs out nothing changes.
-ghost use Rattle.std.specs.Prelude.{◌≡◌, ◌<◌, ◌+◌, ℕ, IsSome, None, OnErr, OnOk, Some, length, slice_get, true};
+ghost use Rattle.std.specs.Prelude.{◌≡◌, ◌<◌, ◌+◌, ℕ, IsSome, None, OnErr, OnOk, Some, length, option_map, slice_get, true};
 ghost use Rattle.std.specs.Option.{IsSomeAnd};
 ghost use Rattle.spv_base.specs.declared.values.Value.{Ptr, out-Value};
 ghost use Rattle.spv_frame.specs.Stacks.{Stacked};
 ghost use Rattle.spv_index.specs.Definitions.{result_type};
-ghost use Rattle.spv_journal.specs.Held.{HasLocals, IsMaking, Records};
-ghost use Rattle.spv_journal.specs.Inverses.{append_event};
+ghost use Rattle.spv_journal.specs.Held.{IsMaking, Records};
 ghost use Rattle.spv_mem.specs.Memory.{AreVariables, HasRoom, MayStore, load_of};
 ghost use Rattle.spv_plans.specs.Plans.{plans_in};
+ghost use Rattle.spv_state.specs.Rooms.{HasLocals};
 ghost use Rattle.spv_state.specs.Sound.{IsSoundFrame};
 ghost use Rattle.spv_state.specs.State as state;
 ghost use Rattle.spv_statuses.specs.Group.{all_wait_at};
@@ -15,13 +15,28 @@ ghost use Rattle.spv_statuses.specs.Invocations.{IsWithin};
 ghost use Rattle.spv_types.specs.Rows.{leaves, no_roots};
 ghost use Rattle.spv_types.specs.Shapes.{HasShape, pointer_in};
 
+use crate::entries::{Entry, OldFrame};
+use crate::noting::{keep, keep_frame, part_entry, pointer_entry, value_entry};
 use crate::recorded::Recorded;
-use spv_base::{NoMemory, PassedEvent, Pointer};
-use spv_frame::Frame;
+use spv_base::{NoMemory, Pointer};
+use spv_frame::{DebugEvent, Frame};
 use spv_mem::Locals;
+use spv_state::Whole;
 use spv_statuses::Status;
 use spv_valid::Module;
 use spv_values::Row;
+
+/// Where the top frame of an invocation stands, which is there.
+fn pc_of(whole: &Whole, i: u32) -> u32
+    requires inside { i < length whole.now.stacks }
+    requires frames { IsSome (state.top_of whole.now i) }
+    ensures { option_map (λ f. f.pc) (state.top_of whole.now i) ≡ Some result }
+{
+    match whole.top(i) {
+        Some(frame) => frame.pc(),
+        None => unreachable!(),
+    }
+}
 
 impl Recorded {
     /// Puts a value where a pointer of an invocation leads; the old one is in the row then.
@@ -34,7 +49,10 @@ impl Recorded {
         ensures recorded { Records (1 + length (leaves row.old)) self.old self.new }
         ensures err { OnErr result ((self.new ≡ self.old) × (row.new ≡ row.old)) }
     {
-        Err(NoMemory)
+        let entry = part_entry(self.alloc, &self.whole, i, pointer, row)?;
+        keep(&mut self.journal, entry)?;
+        self.whole.store(i, pointer, row);
+        Ok(())
     }
 
     /// Puts a value in the register with an id of the top frame of an invocation, if the frame has it; the old one is in the row then.
@@ -55,7 +73,17 @@ impl Recorded {
         ensures recorded { Records 1 self.old self.new }
         ensures err { OnErr result ((self.new ≡ self.old) × (row.new ≡ row.old)) }
     {
-        Err(NoMemory)
+        match self.whole.held_value(accepted, i, id, row) {
+            Some(held) => {
+                let number = held.number;
+                let entry = value_entry(self.alloc, &held, row)?;
+                keep(&mut self.journal, entry)?;
+                let mut has = true;
+                self.whole.exchange_value(i, number, row, &mut has);
+                Ok(())
+            }
+            None => Ok(()),
+        }
     }
 
     /// Puts a pointer in the register with an id of the top frame of an invocation, if the frame has it.
@@ -74,7 +102,17 @@ impl Recorded {
         ensures recorded { Records 1 self.old self.new }
         ensures err { OnErr result (self.new ≡ self.old) }
     {
-        Err(NoMemory)
+        match self.whole.held_pointer(accepted, i, id) {
+            Some(held) => {
+                let number = held.number;
+                let entry = pointer_entry(self.alloc, &held)?;
+                keep(&mut self.journal, entry)?;
+                let mut taken = Some(pointer);
+                self.whole.exchange_pointer(i, number, &mut taken);
+                Ok(())
+            }
+            None => Ok(()),
+        }
     }
 
     /// Moves the top frame of an invocation to an instruction.
@@ -86,7 +124,10 @@ impl Recorded {
         ensures recorded { Records 1 self.old self.new }
         ensures err { OnErr result (self.new ≡ self.old) }
     {
-        Err(NoMemory)
+        let entry = Entry::PcMoved(pc_of(&self.whole, i));
+        keep(&mut self.journal, entry)?;
+        self.whole.set_pc(i, pc);
+        Ok(())
     }
 
     /// Gives an invocation another status.
@@ -98,7 +139,14 @@ impl Recorded {
         ensures recorded { Records 1 self.old self.new }
         ensures err { OnErr result (self.new ≡ self.old) }
     {
-        Err(NoMemory)
+        let old = self.whole.set_status(i, status);
+        match keep(&mut self.journal, Entry::StatusChanged(old)) {
+            Ok(()) => Ok(()),
+            Err(error) => {
+                self.whole.set_status(i, old);
+                Err(error)
+            }
+        }
     }
 
     /// Makes a frame with its variables the top one of an invocation, where there is room for them.
@@ -113,7 +161,9 @@ impl Recorded {
         ensures recorded { Records 1 self.old self.new }
         ensures err { OnErr result (self.new ≡ self.old) }
     {
-        Err(NoMemory)
+        keep(&mut self.journal, Entry::FramePushed)?;
+        self.whole.enter(i, frame, locals);
+        Ok(())
     }
 
     /// Drops the top frame of an invocation, with its variables.
@@ -127,7 +177,14 @@ impl Recorded {
         ensures recorded { Records 1 self.old self.new }
         ensures err { OnErr result (self.new ≡ self.old) }
     {
-        Err(NoMemory)
+        let (frame, locals) = self.whole.take_frame(i);
+        match keep_frame(self.alloc, &mut self.journal, OldFrame { frame, locals }) {
+            Ok(()) => Ok(()),
+            Err(left) => {
+                self.whole.enter(i, left.frame, left.locals);
+                Err(NoMemory)
+            }
+        }
     }
 
     /// Opens the barrier at a word, at which all invocations wait: each has passed it then.
@@ -139,18 +196,27 @@ impl Recorded {
         ensures recorded { Records 1 self.old self.new }
         ensures err { OnErr result (self.new ≡ self.old) }
     {
-        Err(NoMemory)
+        keep(&mut self.journal, Entry::BarrierOpened(word))?;
+        self.whole.open_barrier(word);
+        Ok(())
     }
 
     /// Appends a debug event to those that the top frame of an invocation passed.
-    pub fn append(&mut self, i: u32, event: PassedEvent) -> Result<(), NoMemory>
+    pub fn append(&mut self, i: u32, event: DebugEvent) -> Result<(), NoMemory>
         requires making { IsMaking self.old.gathered i }
         requires inside { i < length self.old.state.stacks }
         requires frames { IsSome (state.top_of self.old.state i) }
-        ensures ok { OnOk result (self.new.state ≡ state.on_frame i (append_event event) self.old.state) }
+        ensures ok { OnOk result (self.new.state ≡ state.on_frame i (state.append_event event) self.old.state) }
         ensures recorded { Records 1 self.old self.new }
         ensures err { OnErr result (self.new ≡ self.old) }
     {
-        Err(NoMemory)
+        self.whole.append(i, event)?;
+        match keep(&mut self.journal, Entry::EventAppended) {
+            Ok(()) => Ok(()),
+            Err(error) => {
+                self.whole.drop_event(i);
+                Err(error)
+            }
+        }
     }
 }

@@ -1,9 +1,9 @@
 //! Entries: what one primitive change of a state was before.
-use spv_base::{Cell, Ghost, Path, Pointer, Root, Value};
-use spv_frame::{Content, Frame};
+use spv_base::{Ghost, Path, Pointer, Root};
+use spv_frame::Frame;
 use spv_mem::Locals;
 use spv_statuses::Status;
-use spv_values::Row;
+use spv_values::{Row, Single};
 
 /// A part of a variable as it was, and where it lies.
 #[derive(Drop)]
@@ -12,11 +12,11 @@ pub struct OldPart {
     pub row: Row,
 }
 
-/// What a register of a value held, by the number of the register in the plan of its frame.
+/// The value that a register had, by the number of the register in the plan of its frame.
 #[derive(Drop)]
-pub struct OldRegister {
+pub struct OldValue {
     pub number: usize,
-    pub content: Content,
+    pub row: Row,
 }
 
 /// A frame that was left, with its variables.
@@ -26,30 +26,26 @@ pub struct OldFrame {
     pub locals: Locals,
 }
 
-/// What one primitive change was before. Registers and frames are those of the invocation whose event it is, in the frame that is
-/// the top one when the entry is undone. An entry of one cell takes no memory beside its own.
+/// What one primitive change was before. Registers are those of the top frame of the invocation whose event it is, by their numbers in
+/// the frame's plan. An entry of one cell takes no memory beside its own.
 #[derive(Drop)]
 pub enum Entry {
-    /// A leaf of a variable: which variable, the leaves before it, and its cell.
+    /// A leaf of a variable had a value: which variable, and how many leaves lie before this one. The path leads to it.
     Leaf {
         root: Root,
         leaf: usize,
-        cell: Cell,
         path: Ghost<Path>,
-        tree: Ghost<Value>,
+        value: Single,
     },
-    /// A part of a variable that isn't one leaf.
+    /// A part of a variable that isn't one leaf had a value.
     Part(Box<OldPart>),
-    /// A register of one cell, and whether it had a value.
-    CellRegister {
-        number: usize,
-        cell: Cell,
-        has: bool,
-        tree: Ghost<Value>,
-    },
-    /// A register of another number of cells.
-    RowRegister(Box<OldRegister>),
-    /// A register of a pointer, and what it held, if it held one.
+    /// A register had no value.
+    NoValue(usize),
+    /// A register of one cell had a value.
+    CellRegister { number: usize, value: Single },
+    /// A register of another number of cells had a value.
+    RowRegister(Box<OldValue>),
+    /// A register had a pointer or none.
     PointerRegister {
         number: usize,
         held: Option<Box<Pointer>>,

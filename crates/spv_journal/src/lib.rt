@@ -4,7 +4,10 @@
 pub mod changes;
 pub mod entries;
 pub mod journal;
+mod noting;
 pub mod recorded;
+mod rings;
+mod undoing;
 
 pub use entries::Entry;
 pub use journal::Journal;

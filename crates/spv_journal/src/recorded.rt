@@ -14,6 +14,7 @@ use std::marker::Model;
 /// journal can be undone, one after the other.
 #[derive(Drop)]
 pub struct Recorded {
+    pub(crate) alloc: Global,
     pub(crate) whole: Whole,
     pub(crate) journal: Journal,
 }
@@ -42,17 +43,18 @@ impl Recorded {
         ensures { IfOk result (λ r. r ≡ record { state = whole; ring = []; gathered = None; limit = limit }) }
     {
         Ok(Recorded {
+            alloc,
             whole,
             journal: Journal::new(alloc, limit)?,
         })
     }
 
     /// An equal state, and no events, with room for so many marks and entries.
-    pub fn copy(&self, _alloc: Global, _limit: usize) -> Result<Recorded, NoMemory>
-        requires { 1 ≤ _limit }
-        ensures { IfOk result (λ r. r ≡ record { state = self.now.state; ring = []; gathered = None; limit = _limit }) }
+    pub fn copy(&self, alloc: Global, limit: usize) -> Result<Recorded, NoMemory>
+        requires { 1 ≤ limit }
+        ensures { IfOk result (λ r. r ≡ record { state = self.now.state; ring = []; gathered = None; limit = limit }) }
     {
-        Err(NoMemory)
+        Recorded::new(alloc, self.whole.copy(alloc)?, limit)
     }
 
     /// The state.

@@ -1,5 +1,5 @@
 -- An effect that fits is the definition's, piece by piece, and leaves a sound state.
-use Rattle.std.proofs.Common.{◌≡◌, ◌∙◌, ℕ, Bool, true, false, Option, Some, None, length, length-set, slice_set, refl, sym, ap, subst}
+use Rattle.std.proofs.Common.{◌≡◌, ◌∙◌, ℕ, ◌-◌, Bool, true, false, List, Option, Some, None, length, length-set, slice_set, refl, sym, ap, subst}
 use Rattle.std.proofs.lemmas.List.{length-replicate}
 use Rattle.std.specs.Prelude.{if◌then◌else◌}
 use Rattle.std.specs.Option.{option_map}
@@ -10,23 +10,28 @@ use Rattle.spv_base.specs.declared.values.Pointer.{Pointer}
 use Rattle.spv_base.specs.declared.values.Value.{Value}
 use Rattle.spv_valid.specs.Acceptance.{Accepted}
 use Rattle.spv_frame.specs.Frames.{Held as Frame}
+use Rattle.spv_frame.specs.Stacks.{on_top}
 use Rattle.spv_statuses.specs.Group.{Held as Statuses, all_wait_at}
 use Rattle.spv_statuses.specs.declared.invocations.Status.TheVariants.{Arrived, Passed, Finished}
 use Rattle.spv_actions.specs.Effects.{Control, Effect, Next, Jump, Enter, Leave, Wait}
-use Rattle.spv_actions.specs.Fits.{ControlFits, Fits, LeaveFits}
+use Rattle.spv_actions.specs.Fits.{ControlFits, ControlRooted, Fits, LeaveFits, ResultRooted}
 use Rattle.spv_actions.specs.Planned.{gained, gone, shown}
+use Rattle.spv_actions.proofs.KeepsFrames.{register_stays}
 use Rattle.spv_actions.specs.declared.effects.Effect.{Effect as CodeEffect}
 use Rattle.spv_state.specs.Program.{Program}
+use Rattle.spv_state.specs.Roots.{IsRooted}
 use Rattle.spv_state.specs.Sound.{IsSound}
-use Rattle.spv_state.specs.State.{State, open_barrier, pop_frame, put_store, top_of}
+use Rattle.spv_state.specs.State.{State, depth_of, frames_of, on_frame, open_barrier, pop_frame, put_store, top_of, with_register}
+use Rattle.spv_state.proofs.Lists.{length_change}
+use Rattle.spv_state.proofs.RootLemmas.{ids_changed, rooted_stays}
 use Rattle.spv_machine.specs.Reached.{IsReached}
 use Rattle.spv_machine.specs.Step.{apply, arrival_with, arrived, by_control, go, go_on, happening_of, leave, opened, opens, put_result, resume, stored_at}
 use Rattle.spv_machine.proofs.KeepsBarriers.{arrive_sound}
 use Rattle.spv_machine.proofs.KeepsCalls.{entered_sound, finished_sound}
 use Rattle.spv_machine.proofs.KeepsControl.{next_kept}
 use Rattle.spv_machine.proofs.KeepsJumps.{jump_kept}
-use Rattle.spv_machine.proofs.ReachedLemmas.{Facts, set_reached, stored_reached, word_is}
-use Rattle.spv_machine.proofs.Leaves.{CalledBy, LeftAt, left_all, left_finished, left_to}
+use Rattle.spv_machine.proofs.ReachedLemmas.{Facts, frames_changed, set_reached, stored_frames, stored_reached, word_is}
+use Rattle.spv_machine.proofs.Leaves.{CalledBy, LeftAt, given_rooted, left_all, left_finished, left_to}
 
 -- ---- a sound state behind each way of control
 
@@ -34,6 +39,28 @@ module _ (p : Program) (known : Facts p.accepted) (s : State) (i : ℕ) (d : Ins
   go_on_sound : ((word : ℕ) × (reads d.word p.accepted.flow.nexts ≡ Some (Some word))) → IsSound p (go_on p.accepted i s)
   go_on_sound next =
       next_kept p known.known s i next.0 r.frame r.sound r.ready r.top (subst (λ (n : ℕ). reads n p.accepted.flow.nexts ≡ Some (Some next.0)) (word_is p s i d r) next.1)
+
+-- what a function is called with is there behind the result too
+frame_passed : (a : Accepted) (s : State) (i id : ℕ) (v : Value) (f : Frame) → IsRooted a (frames_of s i) (depth_of s i) f → IsRooted a (frames_of (on_frame i (with_register id v) s) i) (depth_of (on_frame i (with_register id v) s) i) f
+frame_passed a s i id v f passed =
+    let fs = frames_of s i in
+    let g : Frame → Frame = with_register id v in
+    let own : IsRooted a (on_top g fs) (length fs - 1) f = rooted_stays a fs (on_top g fs) (length fs - 1) f (λ n le. ids_changed a g (length fs - 1) n fs (λ h. (register_stays h id v).0)) passed in
+    subst (λ (gs : List Frame). IsRooted a gs (length gs - 1) f) (sym (frames_changed s i g))
+    (subst (λ (n : ℕ). IsRooted a (on_top g fs) (n - 1) f) (sym (length_change (length fs - 1) g fs)) own)
+
+control_stays : (a : Accepted) (s : State) (i id : ℕ) (o : Option Value) (c : Control) → ControlRooted a (frames_of s i) c → ControlRooted a (frames_of (put_result i id o s) i) c
+control_stays a s i id None c passed = passed
+control_stays a s i id (Some v) Next passed = tt
+control_stays a s i id (Some v) (Jump block phis) passed = tt
+control_stays a s i id (Some v) (Enter frame es) passed = frame_passed a s i id v frame passed
+control_stays a s i id (Some v) (Leave value) passed = tt
+control_stays a s i id (Some v) Wait passed = tt
+
+-- what a register takes is there behind the store
+pub stored_rooted : (a : Accepted) (s after : State) (i : ℕ) (store : Option (Pointer × Value)) (o : Option Value) → after ≡ put_store i store s → ResultRooted a (frames_of s i) o → ResultRooted a (frames_of after i) o
+stored_rooted a s after i store o is h =
+    subst (λ (fs : List Frame). ResultRooted a fs o) (sym (ap (λ (x : State). frames_of x i) is ∙ stored_frames s i store)) h
 
 module _ (p : Program) (known : Facts p.accepted) where
   leave_sound : (s : State) (i : ℕ) (d : Inst) (o : Option Value) → IsReached p s i d → LeaveFits p.accepted d o → IsSound p (leave p.accepted i o s)
@@ -43,23 +70,25 @@ module _ (p : Program) (known : Facts p.accepted) where
       by_left None e = subst (IsSound p) (sym (left_finished p known s i d r o e)) (finished_sound p s i r.sound r.ready (left_all p known s i d r e))
       by_left (Some c) e =
           let by : CalledBy p s i d c = left_to p known s i d r c e in
-          let two = set_reached p known.known (pop_frame i s) i c o by.reached (by.fits o fits) in
+          let two = set_reached p known.known (pop_frame i s) i c o by.reached (by.fits o fits) (given_rooted p known s i d o r fits (frames_of (pop_frame i s) i)) in
           subst (IsSound p) (sym (by.leaves o)) (go_on_sound p known (put_result i c.id o (pop_frame i s)) i c two by.next)
 
-  pub gone_sound : (s : State) (i : ℕ) (d : Inst) (c : Control) → IsReached p s i d → ControlFits p.accepted d c → IsSound p (go p.accepted i d.word c s)
-  gone_sound s i d Next r fits = go_on_sound p known s i d r fits
-  gone_sound s i d (Jump block phis) r fits = jump_kept p s i d block phis known.accepted known.known r (word_is p s i d r) fits
-  gone_sound s i d (Enter frame es) r fits = entered_sound p s i r.sound r.ready d r.frame frame es r.top (word_is p s i d r) fits
-  gone_sound s i d (Leave o) r fits = leave_sound s i d o r fits
-  gone_sound s i d Wait r fits = arrive_sound p s i d.word r.frame r.sound r.ready r.top (sym (word_is p s i d r)) fits
+  pub gone_sound : (s : State) (i : ℕ) (d : Inst) (c : Control) → IsReached p s i d → ControlFits p.accepted d c → ControlRooted p.accepted (frames_of s i) c → IsSound p (go p.accepted i d.word c s)
+  gone_sound s i d Next r fits passed = go_on_sound p known s i d r fits
+  gone_sound s i d (Jump block phis) r fits passed = jump_kept p s i d block phis known.accepted known.known r (word_is p s i d r) fits
+  gone_sound s i d (Enter frame es) r fits passed = entered_sound p s i r.sound r.ready d r.frame frame es r.top (word_is p s i d r) fits passed
+  gone_sound s i d (Leave o) r fits passed = leave_sound s i d o r fits
+  gone_sound s i d Wait r fits passed = arrive_sound p s i d.word r.frame r.sound r.ready r.top (sym (word_is p s i d r)) fits
 
   -- an effect that fits leaves a sound state
   pub applied_sound : (s : State) (i : ℕ) (d : Inst) (e : Effect) → IsReached p s i d → Fits p s i d e → IsSound p (apply p.accepted i d e s)
   applied_sound s i d e r fits =
       let first = put_store i e.store s in
       let one = stored_reached p s i d e.store r in
-      let two = set_reached p known.known first i d e.result one fits.result in
+      let frames = sym (stored_frames s i e.store) in
+      let two = set_reached p known.known first i d e.result one fits.result (subst (λ (fs : List Frame). ResultRooted p.accepted fs e.result) frames fits.rooted) in
       gone_sound (put_result i d.id e.result first) i d e.control two fits.control
+      (control_stays p.accepted first i d.id e.result e.control (subst (λ (fs : List Frame). ControlRooted p.accepted fs e.control) frames fits.passed))
 
 -- ---- the event
 

@@ -41,6 +41,7 @@ status_changed a t u k l same waits s = record {
   first = s.first;
   calls = s.calls;
   waits = λ f at. waits f at (s.waits f at);
+  rooted = s.rooted;
 }
 
 pub status_sound : (p : Program) (s : State) (i : ℕ) (u : Status) → IsSound p s
@@ -54,6 +55,8 @@ status_sound p s i u sound changed = record {
   stacks = sound.stacks ∙ sym (length-set s.statuses.list i u);
   levels = sound.levels ∙ sym (length-set s.statuses.list i u);
   privates = sound.privates ∙ sym (length-set s.statuses.list i u);
+  shared = sound.shared;
+  own = sound.own;
   each = subst (λ (ls : List Levels). AreSoundStacks p.accepted (slice_set s.statuses.list i u) s.stacks ls) (change_none i s.memory.locals)
       (subst (λ (ks : List Stacked). AreSoundStacks p.accepted (slice_set s.statuses.list i u) ks (change i (λ l. l) s.memory.locals)) (change_none i s.stacks)
       (subst (λ (ts : List Status). AreSoundStacks p.accepted ts (change i (λ k. k) s.stacks) (change i (λ l. l) s.memory.locals)) (sym (set_is_change i u s.statuses.list))
@@ -103,6 +106,8 @@ opened_sound p s word sound all = record {
   stacks = sound.stacks ∙ sym (length-replicate (length s.statuses.list) Passed);
   levels = sound.levels ∙ sym (length-replicate (length s.statuses.list) Passed);
   privates = sound.privates ∙ sym (length-replicate (length s.statuses.list) Passed);
+  shared = sound.shared;
+  own = sound.own;
   each = λ i t k l status stack level.
       let is = replicated (length s.statuses.list) i Passed t status in
       let old = status_there s.statuses.list i is.1 in

@@ -15,9 +15,11 @@ use Rattle.spv_valid.specs.Acceptance.{Accepted, IsAccepted}
 use Rattle.spv_valid.specs.Validity.{IsValid}
 use Rattle.spv_actions.specs.Fits.{EnterFits}
 use Rattle.spv_state.specs.Program.{Program}
+use Rattle.spv_state.specs.Roots.{IsRooted}
 use Rattle.spv_state.specs.Sound.{HasVariables, IsCallOf, IsSound, IsSoundFrame, IsSoundStack}
-use Rattle.spv_state.specs.State.{State, pop_frame, push_frame, set_status, top_of, with_top, without_last, without_locals, without_top}
+use Rattle.spv_state.specs.State.{State, depth_of, frames_of, pop_frame, push_frame, set_status, top_of, with_top, without_last, without_locals, without_top}
 use Rattle.spv_state.proofs.Lists.{change_none, changed_at, length_change, set_is_change}
+use Rattle.spv_state.proofs.RootLemmas.{ids_pushed, ids_taken, rooted_deeper, rooted_stays}
 use Rattle.spv_machine.proofs.Depths.{AreCalls, AreSoundFrames, frames_within}
 use Rattle.spv_machine.proofs.KeepsStacks.{AreSoundStacks, one_changed}
 
@@ -128,8 +130,22 @@ module _ (a : Accepted) (k : Stacked) (l : Levels) (s : IsSoundStack a Ready k l
       let other = s.levels in
       omega arith
 
-  pub pushed_stack : HasVariables a f es → IsSoundStack a Ready (with_top f k) (record l { list = l.list ++ es ∷ [] })
-  pushed_stack variables = record {
+  -- what the registers hold is there, and what the function is called with
+  pushed_rooted : IsRooted a k.frames (length k.frames - 1) f → (depth : ℕ) (g : Frame) → slice_get (k.frames ++ f ∷ []) depth ≡ Some g → IsRooted a (k.frames ++ f ∷ []) depth g
+  pushed_rooted passed depth g at = by_place (last_or k.frames f depth g at)
+    where
+      by_place : (slice_get k.frames depth ≡ Some g) ⊎ ((depth ≡ length k.frames) × (g ≡ f)) → IsRooted a (k.frames ++ f ∷ []) depth g
+      by_place (inl old) =
+          let within = slice_get_within k.frames depth g old in
+          rooted_stays a k.frames (k.frames ++ f ∷ []) depth g (λ n le. ids_pushed a f n k.frames (omega arith)) (s.rooted depth g old)
+      by_place (inr last) =
+          let some = some_frames in
+          let own = rooted_stays a k.frames (k.frames ++ f ∷ []) (length k.frames - 1) f (λ n le. ids_pushed a f n k.frames (omega arith)) passed in
+          let low : length k.frames - 1 ≤ depth = let e = last.0 in omega arith in
+          subst (IsRooted a (k.frames ++ f ∷ []) depth) (sym last.1) (rooted_deeper a (k.frames ++ f ∷ []) (length k.frames - 1) depth f low own)
+
+  pub pushed_stack : HasVariables a f es → IsRooted a k.frames (length k.frames - 1) f → IsSoundStack a Ready (with_top f k) (record l { list = l.list ++ es ∷ [] })
+  pushed_stack variables passed = record {
     room = s.room;
     levels = s.levels;
     finished = (λ e. absurd (cc), λ e. let count = length-append k.frames (f ∷ []) in let none = ap length e in absurd (omega arith));
@@ -138,6 +154,7 @@ module _ (a : Accepted) (k : Stacked) (l : Levels) (s : IsSoundStack a Ready k l
     first = pushed_first;
     calls = pushed_calls;
     waits = λ g at. tt;
+    rooted = pushed_rooted passed;
   }
 
 -- ---- out of a function
@@ -146,6 +163,12 @@ without_same : (a : Accepted) (k : Stacked) (l : Levels) → AllZip (HasVariable
 without_same a k l all =
     subst (λ (n : ℕ). AllZip (HasVariables a) (without_last k.frames) (take (n - 1) l.list)) (sym (zip_length (HasVariables a) k.frames l.list all))
     (zip_take (HasVariables a) (length k.frames - 1) k.frames l.list all)
+
+popped_rooted : (a : Accepted) (t : Status) (k : Stacked) (l : Levels) → IsSoundStack a t k l → (depth : ℕ) (f : Frame) → slice_get (without_last k.frames) depth ≡ Some f → IsRooted a (without_last k.frames) depth f
+popped_rooted a t k l s depth f at =
+    let within = slice_get_within (without_last k.frames) depth f at in
+    let count : length (without_last k.frames) ≡ length k.frames - 1 = length_taken (length k.frames - 1) k.frames (omega arith) in
+    rooted_stays a k.frames (without_last k.frames) depth f (λ n le. ids_taken a (length k.frames - 1) n k.frames (omega arith)) (s.rooted depth f (taken_at (length k.frames - 1) depth k.frames f at))
 
 pub popped_stack : (a : Accepted) (k : Stacked) (l : Levels) → IsSoundStack a Ready k l → without_last k.frames ≢ [] → IsSoundStack a Ready (without_top k) (without_locals l)
 popped_stack a k l s some = record {
@@ -157,6 +180,7 @@ popped_stack a k l s some = record {
   first = λ f at. s.first f (taken_at (length k.frames - 1) 0 k.frames f at);
   calls = λ depth f g at above. s.calls depth f g (taken_at (length k.frames - 1) depth k.frames f at) (taken_at (length k.frames - 1) (suc depth) k.frames g above);
   waits = λ f at. tt;
+  rooted = popped_rooted a Ready k l s;
 }
 
 pub finished_stack : (a : Accepted) (k : Stacked) (l : Levels) → IsSoundStack a Ready k l → without_last k.frames ≡ [] → IsSoundStack a Finished (without_top k) (without_locals l)
@@ -169,6 +193,7 @@ finished_stack a k l s none = record {
   first = λ f at. s.first f (taken_at (length k.frames - 1) 0 k.frames f at);
   calls = λ depth f g at above. s.calls depth f g (taken_at (length k.frames - 1) depth k.frames f at) (taken_at (length k.frames - 1) (suc depth) k.frames g above);
   waits = λ f at. tt;
+  rooted = popped_rooted a Ready k l s;
 }
 
 -- the frame below the top one, which stands at the call
@@ -193,8 +218,8 @@ popped_top s i k at = ap (λ (o : Option Stacked). top (option_map_or (λ (x : S
 
 module _ (p : Program) (s : State) (i : ℕ) (sound : IsSound p s) (ready : slice_get s.statuses.list i ≡ Some Ready) where
   -- a frame that is entered
-  pub entered_sound : (d : Inst) (own f : Frame) (es : Roots) → top_of s i ≡ Some own → d.word ≡ own.pc → EnterFits p.accepted d f es → IsSound p (push_frame i f es s)
-  entered_sound d own f es is here fits = record {
+  pub entered_sound : (d : Inst) (own f : Frame) (es : Roots) → top_of s i ≡ Some own → d.word ≡ own.pc → EnterFits p.accepted d f es → IsRooted p.accepted (frames_of s i) (depth_of s i) f → IsSound p (push_frame i f es s)
+  entered_sound d own f es is here fits passed = record {
     plans = sound.plans;
     types = sound.types;
     targets = sound.targets;
@@ -202,6 +227,8 @@ module _ (p : Program) (s : State) (i : ℕ) (sound : IsSound p s) (ready : slic
     stacks = length_change i (with_top f) s.stacks ∙ sound.stacks;
     levels = length_change i (λ (l : Levels). record l { list = l.list ++ es ∷ [] }) s.memory.locals ∙ sound.levels;
     privates = sound.privates;
+    shared = sound.shared;
+    own = sound.own;
     each = subst (λ (ts : List Status). AreSoundStacks p.accepted ts (change i (with_top f) s.stacks) (change i (λ (l : Levels). record l { list = l.list ++ es ∷ [] }) s.memory.locals)) (change_none i s.statuses.list)
         (one_changed p.accepted i (λ t. t) (with_top f) (λ (l : Levels). record l { list = l.list ++ es ∷ [] }) s.statuses.list s.stacks s.memory.locals sound.each
         (λ t k l status stack level kept. pushed t k l (let own_status = ready in cc) stack kept));
@@ -212,7 +239,8 @@ module _ (p : Program) (s : State) (i : ℕ) (sound : IsSound p s) (ready : slic
         let mine : IsSoundStack a Ready k l = subst (λ (u : Status). IsSoundStack a u k l) same kept in
         let top_is : top k.frames ≡ Some own = sym (ap (λ (o : Option Stacked). top (option_map_or (λ (x : Stacked). x.frames) o [])) stack) ∙ is in
         let call : IsCallOf a own.pc f.plan.function = subst (λ (n : ℕ). IsCallOf a n f.plan.function) here fits.call in
-        subst (λ (u : Status). IsSoundStack a u (with_top f k) (record l { list = l.list ++ es ∷ [] })) (sym same) (pushed_stack a k l mine f own es top_is fits.sound call fits.locals)
+        subst (λ (u : Status). IsSoundStack a u (with_top f k) (record l { list = l.list ++ es ∷ [] })) (sym same) (pushed_stack a k l mine f own es top_is fits.sound call fits.locals
+        (subst (λ (fs : List Frame). IsRooted a fs (length fs - 1) f) (ap (λ (o : Option Stacked). option_map_or (λ (x : Stacked). x.frames) o []) stack) passed))
 
   -- a frame that is left, where one stays
   pub popped_sound : (f : Frame) → top_of (pop_frame i s) i ≡ Some f → IsSound p (pop_frame i s)
@@ -224,6 +252,8 @@ module _ (p : Program) (s : State) (i : ℕ) (sound : IsSound p s) (ready : slic
     stacks = length_change i without_top s.stacks ∙ sound.stacks;
     levels = length_change i without_locals s.memory.locals ∙ sound.levels;
     privates = sound.privates;
+    shared = sound.shared;
+    own = sound.own;
     each = subst (λ (ts : List Status). AreSoundStacks p.accepted ts (change i without_top s.stacks) (change i without_locals s.memory.locals)) (change_none i s.statuses.list)
         (one_changed p.accepted i (λ t. t) without_top without_locals s.statuses.list s.stacks s.memory.locals sound.each
         (λ t k l status stack level kept. popped t k l (let own_status = ready in cc) stack kept));
@@ -246,6 +276,8 @@ module _ (p : Program) (s : State) (i : ℕ) (sound : IsSound p s) (ready : slic
     stacks = length_change i without_top s.stacks ∙ sound.stacks ∙ sym (length-set s.statuses.list i Finished);
     levels = length_change i without_locals s.memory.locals ∙ sound.levels ∙ sym (length-set s.statuses.list i Finished);
     privates = sound.privates ∙ sym (length-set s.statuses.list i Finished);
+    shared = sound.shared;
+    own = sound.own;
     each = subst (λ (ts : List Status). AreSoundStacks p.accepted ts (change i without_top s.stacks) (change i without_locals s.memory.locals)) (sym (set_is_change i Finished s.statuses.list))
         (one_changed p.accepted i (λ _. Finished) without_top without_locals s.statuses.list s.stacks s.memory.locals sound.each
         (λ t k l status stack level kept.

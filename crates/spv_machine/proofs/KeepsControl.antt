@@ -9,16 +9,18 @@ use Rattle.spv_mem.specs.Memory.{Levels}
 use Rattle.spv_frame.specs.Frames.{Held as Frame}
 use Rattle.spv_frame.specs.Stacks.{Stacked, top}
 use Rattle.spv_statuses.specs.declared.invocations.Status.{Status}
-use Rattle.spv_statuses.specs.declared.invocations.Status.TheVariants.{Ready, Passed}
+use Rattle.spv_statuses.specs.declared.invocations.Status.TheVariants.{Ready, Arrived, Passed, Finished}
 use Rattle.spv_valid.specs.Acceptance.{Accepted}
+use Rattle.spv_state.specs.Events.{pass, passed}
 use Rattle.spv_state.specs.Program.{Program}
 use Rattle.spv_state.specs.Sound.{IsSound, IsSoundFrame, IsSoundStack, StandsAs, StandsIn}
-use Rattle.spv_state.specs.State.{State, on_frame, on_frames, set_status, top_of, with_pc}
-use Rattle.spv_machine.specs.Step.{go_on, next_of}
+use Rattle.spv_state.specs.State.{State, depth_of, on_frame, on_frames, set_status, top_of, with_pc}
+use Rattle.spv_machine.specs.Step.{go_on, next_of, to_next}
 use Rattle.spv_actions.proofs.KeepsFrames.{moved_kept}
 use Rattle.spv_machine.proofs.KeepsStacks.{AreSoundStacks, one_changed, top_kept}
 use Rattle.spv_state.proofs.Known.{IsKnown, goes_on}
 use Rattle.spv_state.proofs.Lists.{change_none, length_change, set_is_change}
+use Rattle.spv_state.proofs.StartSound.{passed_sound}
 use Rattle.spv_state.proofs.Standing.{Standing, at_standing, next_stands, standing, stands_there}
 use Rattle.spv_state.proofs.Stands.{class_is}
 
@@ -36,6 +38,8 @@ status_kept p s i u g sound changed = record {
   stacks = length_change i (on_frames g) s.stacks ∙ sound.stacks ∙ sym (length-set s.statuses.list i u);
   levels = sound.levels ∙ sym (length-set s.statuses.list i u);
   privates = sound.privates ∙ sym (length-set s.statuses.list i u);
+  shared = sound.shared;
+  own = sound.own;
   each = subst (λ (ls : List Levels). AreSoundStacks p.accepted (slice_set s.statuses.list i u) (change i (on_frames g) s.stacks) ls) (change_none i s.memory.locals)
       (subst (λ (ts : List Status). AreSoundStacks p.accepted ts (change i (on_frames g) s.stacks) (change i (λ l. l) s.memory.locals)) (sym (set_is_change i u s.statuses.list))
       (one_changed p.accepted i (λ _. u) (on_frames g) (λ l. l) s.statuses.list s.stacks s.memory.locals sound.each changed));
@@ -53,10 +57,29 @@ frame_kept p s i g sound changed = record {
   stacks = length_change i (on_frames g) s.stacks ∙ sound.stacks;
   levels = sound.levels;
   privates = sound.privates;
+  shared = sound.shared;
+  own = sound.own;
   each = subst (λ (ls : List Levels). AreSoundStacks p.accepted s.statuses.list (change i (on_frames g) s.stacks) ls) (change_none i s.memory.locals)
       (subst (λ (ts : List Status). AreSoundStacks p.accepted ts (change i (on_frames g) s.stacks) (change i (λ l. l) s.memory.locals)) (change_none i s.statuses.list)
       (one_changed p.accepted i (λ t. t) (on_frames g) (λ l. l) s.statuses.list s.stacks s.memory.locals sound.each changed));
 }
+
+-- ---- past debug instructions
+
+passed_stands : (a : Accepted) (t : Status) (depth : ℕ) (f : Frame) → StandsAs a t f → StandsAs a t (passed a depth f)
+passed_stands a Ready depth f h = tt
+passed_stands a (Arrived word) depth f h = h
+passed_stands a Passed depth f h = h
+passed_stands a Finished depth f h = tt
+
+-- the top frame passes debug events
+pub pass_kept : (p : Program) (s : State) (i : ℕ) → IsSound p s → IsSound p (pass p.accepted i s)
+pass_kept p s i sound =
+    let a = p.accepted in
+    let depth : ℕ = depth_of s i in
+    let g : Frame → Frame = passed a depth in
+    frame_kept p s i g sound (λ t k l status stack level kept.
+    top_kept a t t k l g (λ f. refl) kept (λ e. e, λ e. e) (λ f here sf. passed_sound a depth f sf) (λ f here rooted. rooted) (λ f here stands. passed_stands a t depth f stands))
 
 -- ---- the top frame of an invocation
 
@@ -115,10 +138,10 @@ module _ (p : Program) (known : IsKnown p.accepted) where
   next_kept s i word f sound ready is next =
       let a = p.accepted in
       let g : Frame → Frame = λ x. with_pc (next_of a x.pc) x in
-      frame_kept p s i g sound (λ t k l status stack level kept.
+      pass_kept p (to_next a i s) i (frame_kept p s i g sound (λ t k l status stack level kept.
       let same : Ready ≡ t = cc in
-      top_kept a t t k l g (λ x. refl) kept (λ e. e, λ e. e) (λ x here sx. moved_top s i word k x f is next stack here sx)
-      (λ x here stands. subst (λ (u : Status). StandsAs a u (g x)) same tt))
+      top_kept a t t k l g (λ x. refl) kept (λ e. e, λ e. e) (λ x here sx. moved_top s i word k x f is next stack here sx) (λ x here rooted. rooted)
+      (λ x here stands. subst (λ (u : Status). StandsAs a u (g x)) same tt)))
 
   -- a Passed invocation goes on, and is Ready
   pub past_kept : (s : State) (i word : ℕ) (f : Frame) → IsSound p s → slice_get s.statuses.list i ≡ Some Passed → top_of s i ≡ Some f → reads f.pc p.accepted.flow.nexts ≡ Some (Some word)
@@ -126,6 +149,6 @@ module _ (p : Program) (known : IsKnown p.accepted) where
   past_kept s i word f sound passed is next =
       let a = p.accepted in
       let g : Frame → Frame = λ x. with_pc (next_of a x.pc) x in
-      status_kept p s i Ready g sound (λ t k l status stack level kept.
+      pass_kept p (set_status i Ready (to_next a i s)) i (status_kept p s i Ready g sound (λ t k l status stack level kept.
       let same : Passed ≡ t = cc in
-      top_kept a t Ready k l g (λ x. refl) kept (λ e. absurd (cc), λ e. absurd (cc)) (λ x here sx. moved_top s i word k x f is next stack here sx) (λ x here stands. tt))
+      top_kept a t Ready k l g (λ x. refl) kept (λ e. absurd (cc), λ e. absurd (cc)) (λ x here sx. moved_top s i word k x f is next stack here sx) (λ x here rooted. rooted) (λ x here stands. tt)))

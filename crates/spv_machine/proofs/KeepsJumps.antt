@@ -1,5 +1,5 @@
 -- A branch leaves a sound state: the block is one of the function, and the values of its phis have their types.
-use Rattle.std.proofs.Common.{◌≡◌, ◌∙◌, ℕ, suc, ◌==◌, ◌&&◌, Bool, true, false, cond, List, [], ◌∷◌, Option, Some, None, slice_get, refl, sym, ap, subst}
+use Rattle.std.proofs.Common.{◌≡◌, ◌∙◌, ℕ, suc, ◌==◌, ◌&&◌, Bool, true, false, cond, List, [], ◌∷◌, ◌-◌, length, Option, Some, None, slice_get, refl, sym, ap, subst}
 use Rattle.std.proofs.Math.Logic.{∥∥₁_elim}
 use Rattle.std.proofs.Props.{props}
 use Rattle.std.proofs.lemmas.Bool.{and_parts, eq-eqb, eqb-true}
@@ -29,7 +29,9 @@ use Rattle.spv_valid.proofs.AcceptedLemmas.{accepted_passes}
 use Rattle.spv_valid.proofs.PassLemmas.{flow_is}
 use Rattle.spv_actions.specs.Fits.{IsOfType, JumpFits, LevelFits}
 use Rattle.spv_actions.proofs.KeepsFrames.{RegisterFits, moved_kept, register_kept, register_stays}
+use Rattle.spv_actions.proofs.RootedLemmas.{register_rooted}
 use Rattle.spv_state.specs.Program.{Program}
+use Rattle.spv_state.specs.Roots.{IsRooted}
 use Rattle.spv_state.specs.Sound.{IsSound, IsSoundFrame, StandsAs, StandsIn}
 use Rattle.spv_state.specs.State.{State, with_pc, with_register, with_registers}
 use Rattle.spv_state.proofs.Blocks.{Entered, Listed, block_inside, listed, rooted}
@@ -37,8 +39,8 @@ use Rattle.spv_state.proofs.Known.{IsKnown}
 use Rattle.spv_state.proofs.Standing.{stands_there}
 use Rattle.spv_state.proofs.Stands.{IsOne}
 use Rattle.spv_machine.specs.Reached.{IsReached}
-use Rattle.spv_machine.specs.Step.{first_of, jump}
-use Rattle.spv_machine.proofs.KeepsControl.{frame_kept, top_at}
+use Rattle.spv_machine.specs.Step.{first_of, jump, to_block}
+use Rattle.spv_machine.proofs.KeepsControl.{frame_kept, pass_kept, top_at}
 use Rattle.spv_machine.proofs.KeepsStacks.{top_kept}
 
 -- ---- where a block begins
@@ -132,6 +134,11 @@ pub registers_kept : (a : Accepted) (f : Frame) (rs : List (ℕ × Value)) → A
 registers_kept a f [] all s = s
 registers_kept a f (r ∷ rs) all s = registers_kept a (with_register r.0 r.1 f) rs all.1 (register_kept a f r.0 r.1 (type_fits a r.0 r.1 all.0) s)
 
+registers_rooted : (a : Accepted) (fs : List Frame) (depth : ℕ) (f : Frame) (rs : List (ℕ × Value)) → AllByRecursion (λ (r : ℕ × Value). IsOfType a r.0 r.1) rs → IsRooted a fs depth f → IsRooted a fs depth (with_registers rs f)
+registers_rooted a fs depth f [] all h = h
+registers_rooted a fs depth f (r ∷ rs) all h =
+    registers_rooted a fs depth (with_register r.0 r.1 f) rs all.1 (register_rooted a fs depth f r.0 r.1 (λ q is. let plain = all.0.plain in absurd (cc)) h)
+
 pub registers_stay : (f : Frame) (rs : List (ℕ × Value)) → ((with_registers rs f).plan ≡ f.plan) × ((with_registers rs f).pc ≡ f.pc)
 registers_stay f [] = (refl, refl)
 registers_stay f (r ∷ rs) =
@@ -146,7 +153,7 @@ pub jump_kept : (p : Program) (s : State) (i : ℕ) (d : Inst) (block : ℕ) (ph
 jump_kept p s i d block phis accepted known r here fits =
     let a = p.accepted in
     let g : Frame → Frame = λ f. with_pc (first_of a block) (with_registers phis f) in
-    frame_kept p s i g r.sound (λ t k l status stack level kept.
+    pass_kept p (to_block a i block phis s) i (frame_kept p s i g r.sound (λ t k l status stack level kept.
     let same : Ready ≡ t = let own = r.ready in cc in
     top_kept a t t k l g (λ f. (registers_stay f phis).0) kept (λ e. e, λ e. e) (λ f top_f sf.
     let own : r.frame ≡ f = let one = r.top in let other = top_at s i k f stack top_f in cc in
@@ -154,4 +161,5 @@ jump_kept p s i d block phis accepted known r here fits =
     let target : StandsIn a f.plan.function (first_of a block) = target_stands a f.plan.function block accepted known (fits.entered f.plan.function stands) in
     moved_kept a (with_registers phis f) (first_of a block) (subst (λ (q : Planned). StandsIn a q.function (first_of a block)) (sym (registers_stay f phis).0) target)
     (registers_kept a f phis fits.values sf))
-    (λ f top_f stands. subst (λ (u : Status). StandsAs a u (g f)) same tt))
+    (λ f top_f rooted. registers_rooted a k.frames (length k.frames - 1) f phis fits.values rooted)
+    (λ f top_f stands. subst (λ (u : Status). StandsAs a u (g f)) same tt)))

@@ -13,8 +13,10 @@ use Rattle.spv_statuses.specs.declared.invocations.Status.{Status}
 use Rattle.spv_statuses.specs.declared.invocations.Status.TheVariants.{Finished}
 use Rattle.spv_valid.specs.Acceptance.{Accepted}
 use Rattle.spv_state.specs.Sound.{HasVariables, IsCallOf, IsSoundFrame, IsSoundStack, StandsAs}
+use Rattle.spv_state.specs.Roots.{IsRooted}
 use Rattle.spv_state.specs.State.{on_frames}
 use Rattle.spv_state.proofs.Lists.{change_here, change_other, changed_from, length_change}
+use Rattle.spv_state.proofs.RootLemmas.{ids_changed, rooted_stays}
 
 -- ---- invocation by invocation
 
@@ -94,8 +96,9 @@ module _ (a : Accepted) (t u : Status) (k : Stacked) (l : Levels) (g : Frame →
       by_is (inl here) = let within = slice_get_within k.frames (suc depth) other above in let e = here.0 in absurd (omega arith)
 
   pub top_kept : IsSoundStack a t k l → ((u ≡ Finished) ↔ (t ≡ Finished)) → ((f : Frame) → top k.frames ≡ Some f → IsSoundFrame a f → IsSoundFrame a (g f))
+      → ((f : Frame) → top k.frames ≡ Some f → IsRooted a k.frames (length k.frames - 1) f → IsRooted a k.frames (length k.frames - 1) (g f))
       → ((f : Frame) → top k.frames ≡ Some f → StandsAs a t f → StandsAs a u (g f)) → IsSoundStack a u (on_frames g k) l
-  top_kept s same sound waits = record {
+  top_kept s same sound roots waits = record {
     room = s.room;
     levels = s.levels;
     finished = (λ e. frames_stay g k.frames (s.finished.0 (same.0 e)), λ e. same.1 (s.finished.1 (no_frames g k.frames e)));
@@ -104,6 +107,7 @@ module _ (a : Accepted) (t u : Status) (k : Stacked) (l : Levels) (g : Frame →
     first = λ f at. let was = frame_of g k.frames 0 f at in function_stays 0 f was ∙ s.first was.before was.at;
     calls = λ depth f other at above. called depth f other (frame_of g k.frames depth f at) (frame_of g k.frames (suc depth) other above);
     waits = λ f at. waiting f (frame_of g k.frames (length (on_top g k.frames) - 1) f at);
+    rooted = λ depth f at. rooted depth f (frame_of g k.frames depth f at);
   } where
     last : length (on_top g k.frames) - 1 ≡ length k.frames - 1
     last = ap (λ (n : ℕ). n - 1) (length_change (length k.frames - 1) g k.frames)
@@ -116,6 +120,15 @@ module _ (a : Accepted) (t u : Status) (k : Stacked) (l : Levels) (g : Frame →
         by_is (inl here) =
             let own : top k.frames ≡ Some was.before = subst (λ (n : ℕ). slice_get k.frames n ≡ Some was.before) here.0 was.at in
             subst (IsSoundFrame a) (sym here.1) (sound was.before own (s.frames depth was.before was.at))
+
+    rooted : (depth : ℕ) (f : Frame) → FrameOf g k.frames depth f → IsRooted a (on_top g k.frames) depth f
+    rooted depth f was = rooted_stays a k.frames (on_top g k.frames) depth f (λ n le. ids_changed a g (length k.frames - 1) n k.frames plan) (by_is was.is)
+      where
+        by_is : ((depth ≡ length k.frames - 1) × (f ≡ g was.before)) ⊎ ((depth ≢ length k.frames - 1) × (f ≡ was.before)) → IsRooted a k.frames depth f
+        by_is (inr old) = subst (IsRooted a k.frames depth) (sym old.1) (s.rooted depth was.before was.at)
+        by_is (inl here) =
+            let own : top k.frames ≡ Some was.before = subst (λ (n : ℕ). slice_get k.frames n ≡ Some was.before) here.0 was.at in
+            subst (λ (n : ℕ). IsRooted a k.frames n f) (sym here.0) (subst (IsRooted a k.frames (length k.frames - 1)) (sym here.1) (roots was.before own (s.rooted (length k.frames - 1) was.before own)))
 
     called : (depth : ℕ) (f other : Frame) → FrameOf g k.frames depth f → FrameOf g k.frames (suc depth) other → IsCallOf a f.pc other.plan.function
     called depth f other was above =

@@ -17,15 +17,13 @@ use Rattle.spv_frame.specs.Stacks.{Stacked}
 use Rattle.spv_statuses.specs.declared.invocations.Status.{Status}
 use Rattle.spv_valid.specs.Acceptance.{Accepted}
 use Rattle.spv_state.specs.Program.{Program}
+use Rattle.spv_state.specs.Roots.{ids_in as keys}
 use Rattle.spv_state.specs.Sound.{HasVariables, IsSound, IsSoundStack}
 use Rattle.spv_state.specs.State.{State, put_store}
 use Rattle.spv_state.proofs.Entries.{keys_stay}
 use Rattle.spv_state.proofs.Lists.{change_here, change_other, changed_from, length_change}
 
 -- ---- the variables of frames are those that they were
-
-abbrev pub keys : Roots → List ℕ
-keys es = map (λ (e : ℕ × Value). e.0) es
 
 abbrev pub all_keys : List Roots → List (List ℕ)
 all_keys xs = map keys xs
@@ -62,18 +60,40 @@ pub record SameLevels (old : List Levels) (i : ℕ) (l : Levels) : Type 0 where
   pub room : l.room ≡ before.room
   pub keys : all_keys l.list ≡ all_keys before.list
 
+-- the variables that an invocation has for itself, with their ids
+pub record SameOwn (old : List Roots) (i : ℕ) (es : Roots) : Type 0 where
+  pub before : Roots
+  pub at : slice_get old i ≡ Some before
+  pub ids : keys es ≡ keys before
+
 pub record SameVariables (old new : Memory) : Type 0 where
   pub types : new.types ≡ old.types
   pub targets : new.targets ≡ old.targets
   pub privates : length new.privates ≡ length old.privates
+  pub shared : keys new.shared ≡ keys old.shared
+  pub own : (i : ℕ) (es : Roots) → slice_get new.privates i ≡ Some es → SameOwn old.privates i es
   pub locals : length new.locals ≡ length old.locals
   pub levels : (i : ℕ) (l : Levels) → slice_get new.locals i ≡ Some l → SameLevels old.locals i l
+
+same_own : (old : List Roots) (i : ℕ) (es : Roots) → slice_get old i ≡ Some es → SameOwn old i es
+same_own old i es at = record { before = es; at = at; ids = refl }
+
+-- those of an invocation, changed to others with their ids
+own_changed : (old : List Roots) (i j : ℕ) (es new ks : Roots) → slice_get old i ≡ Some es → keys new ≡ keys es → slice_get (slice_set old i new) j ≡ Some ks → SameOwn old j ks
+own_changed [] i j es new ks here same at = absurd (cc)
+own_changed (x ∷ xs) zero zero es new ks here same at =
+    let was : x ≡ es = cc in
+    let is : new ≡ ks = cc in
+    record { before = x; at = refl; ids = ap keys (sym is) ∙ same ∙ ap keys (sym was) }
+own_changed (x ∷ xs) zero (suc j) es new ks here same at = record { before = ks; at = at; ids = refl }
+own_changed (x ∷ xs) (suc i) zero es new ks here same at = record { before = ks; at = at; ids = refl }
+own_changed (x ∷ xs) (suc i) (suc j) es new ks here same at = let rest = own_changed xs i j es new ks here same at in record { before = rest.before; at = rest.at; ids = rest.ids }
 
 unchanged : (old : List Levels) (i : ℕ) (l : Levels) → slice_get old i ≡ Some l → SameLevels old i l
 unchanged old i l at = record { before = l; at = at; room = refl; keys = refl }
 
 same_memory : (m : Memory) → SameVariables m m
-same_memory m = record { types = refl; targets = refl; privates = refl; locals = refl; levels = unchanged m.locals }
+same_memory m = record { types = refl; targets = refl; privates = refl; shared = refl; own = same_own m.privates; locals = refl; levels = unchanged m.locals }
 
 -- the variables at a depth of an invocation, changed to others with their ids
 levels_changed : (ls : List Levels) (i depth j : ℕ) (es new : Roots) (l : Levels) → option_and_then (λ (k : Levels). slice_get k.list depth) (slice_get ls i) ≡ Some es → keys new ≡ keys es
@@ -96,13 +116,17 @@ levels_changed ls i depth j es new l there same at = by_number (cases_eq i j)
         }
 
 stored_in : (m : Memory) (i : ℕ) (r : Root) (es new : Roots) → roots_in m i r ≡ Some es → keys new ≡ keys es → SameVariables m (with_roots i r new m)
-stored_in m i (Shared id) es new at same = record { types = refl; targets = refl; privates = refl; locals = refl; levels = unchanged m.locals }
+stored_in m i (Shared id) es new at same =
+    let is : m.shared ≡ es = cc in
+    record { types = refl; targets = refl; privates = refl; shared = same ∙ ap keys (sym is); own = same_own m.privates; locals = refl; levels = unchanged m.locals }
 stored_in m i (Private id) es new at same =
-    record { types = refl; targets = refl; privates = length-set m.privates i new; locals = refl; levels = unchanged m.locals }
+    record { types = refl; targets = refl; privates = length-set m.privates i new; shared = refl; own = λ j ks there. own_changed m.privates i j es new ks at same there; locals = refl; levels = unchanged m.locals }
 stored_in m i (Local depth id) es new at same = record {
   types = refl;
   targets = refl;
   privates = refl;
+  shared = refl;
+  own = same_own m.privates;
   locals = length_change i (with_level depth new) m.locals;
   levels = λ j l there. levels_changed m.locals i depth j es new l at same there;
 }
@@ -126,6 +150,7 @@ stack_kept a t k old new room same s = record {
   first = s.first;
   calls = s.calls;
   waits = s.waits;
+  rooted = s.rooted;
 }
 
 pub memory_kept : (p : Program) (s : State) (new : Memory) → SameVariables s.memory new → IsSound p s → IsSound p (record s { memory = new })
@@ -137,6 +162,8 @@ memory_kept p s new same sound = record {
   stacks = sound.stacks;
   levels = same.locals ∙ sound.levels;
   privates = same.privates ∙ sound.privates;
+  shared = same.shared ∙ sound.shared;
+  own = λ i es at. let was = same.own i es at in was.ids ∙ sound.own i was.before was.at;
   each = λ i t k l status stack level.
       let was = same.levels i l level in
       stack_kept p.accepted t k was.before l was.room was.keys (sound.each i t k was.before status stack was.at);

@@ -16,7 +16,8 @@ use Rattle.spv_valid.specs.Acceptance.{Accepted}
 use Rattle.spv_frame.specs.Frames.{Held as Frame}
 use Rattle.spv_frame.specs.Stacks.{Stacked, top}
 use Rattle.spv_statuses.specs.declared.invocations.Status.TheVariants.{Ready, Finished}
-use Rattle.spv_actions.specs.Fits.{EnterFits, LeaveFits, ResultFits}
+use Rattle.spv_actions.specs.Fits.{EnterFits, LeaveFits, ResultFits, ResultRooted}
+use Rattle.spv_actions.proofs.RootedLemmas.{plain_rooted}
 use Rattle.spv_state.specs.Program.{Program}
 use Rattle.spv_state.specs.Sound.{IsCallOf, IsSoundFrame, IsSoundStack, StandsIn}
 use Rattle.spv_state.specs.State.{State, pop_frame, set_status, top_of, without_last}
@@ -113,6 +114,11 @@ pub given_plain : (p : Program) → Facts p.accepted → (s : State) (i : ℕ) (
 given_plain p known s i d v r fits =
     let own = own_frame p known s i d r in
     (fits r.frame.plan.function (subst (StandsIn p.accepted r.frame.plan.function) (sym (word_is p s i d r)) own.stands)).plain
+
+-- so no pointer is given
+pub given_rooted : (p : Program) → Facts p.accepted → (s : State) (i : ℕ) (d : Inst) (o : Option Value) → IsReached p s i d → LeaveFits p.accepted d o → (fs : List Frame) → ResultRooted p.accepted fs o
+given_rooted p known s i d None r fits fs = tt
+given_rooted p known s i d (Some v) r fits fs = plain_rooted p.accepted fs v (given_plain p known s i d v r fits)
 
 -- ---- room for a call
 

@@ -8,6 +8,11 @@ pub mod KeepsCalls
 pub mod KeepsBarriers
 pub mod ReachedLemmas
 pub mod Leaves
+pub mod LeaveLemmas
 pub mod Phis
 pub mod Applied
 pub mod Outcomes
+pub mod WeightLemmas
+pub mod EventLemmas
+pub mod Recording
+pub mod PassedLemmas

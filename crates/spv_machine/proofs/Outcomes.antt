@@ -1,5 +1,5 @@
 -- What a step of an invocation is, by its status.
-use Rattle.std.proofs.Common.{◌≡◌, ◌≢◌, ◌∙◌, ℕ, ◌-◌, ◌<◌, Bool, false, List, [], ◌∷◌, Option, Some, None, Result, Ok, Err, IfOk, length, slice_get, refl, sym, ap, subst, arith}
+use Rattle.std.proofs.Common.{◌≡◌, ◌≢◌, ◌∙◌, ℕ, ◌-◌, ◌<◌, Bool, false, List, [], ◌∷◌, Option, Some, None, Result, Ok, Err, length, slice_get, refl, sym, ap, subst, arith}
 use Rattle.std.proofs.lemmas.Option.{slice_get_within}
 use Rattle.std.specs.Option.{IsSomeAnd}
 use Rattle.spv_base.specs.Entries.{reads}
@@ -15,13 +15,12 @@ use Rattle.spv_statuses.specs.declared.invocations.Status.{Status}
 use Rattle.spv_statuses.specs.declared.invocations.Status.TheVariants.{Ready, Arrived, Passed, Finished}
 use Rattle.spv_valid.specs.Acceptance.{Accepted}
 use Rattle.spv_actions.specs.Instructions.{effect_of}
-use Rattle.spv_actions.specs.Planned.{IsDue, shown}
+use Rattle.spv_actions.specs.Planned.{IsDue}
 use Rattle.spv_state.specs.Program.{Program}
 use Rattle.spv_machine.specs.Reached.{IsReached, IsStepBy}
 use Rattle.spv_state.specs.Sound.{IsBarrier, IsSound, IsSoundFrame, IsSoundStack, StandsAs}
 use Rattle.spv_state.specs.State.{State, on_frame, on_frames, set_status, top_of, with_pc}
-use Rattle.spv_machine.specs.Step.{Idles, Moves, at_frame, at_inst, by_status, fault_in, go_on, next_of, outcome, past_frame, plain, step_of}
-use Rattle.spv_machine.specs.Weights.{effect_weight, frame_weight, inst_weight, result_weight, status_weight, weight_of}
+use Rattle.spv_machine.specs.Step.{Idles, Moves, at_frame, at_inst, by_status, fault_in, go_on, next_of, outcome, past_frame, plain, step_of, to_next}
 use Rattle.spv_actions.specs.declared.causes.Cause.{Cause}
 use Rattle.spv_actions.specs.declared.effects.Effect.{Effect}
 use Rattle.spv_machine.proofs.KeepsControl.{got, stands_before, top_at}
@@ -112,9 +111,9 @@ barrier_next p s i f known h is =
     let next = stands_before a h.frame.plan.function h.frame.pc barrier.0 known h.sound.stands barrier.1 (barrier_goes (sets_of a.insts) barrier.0 barrier.2) in
     (next.0, subst (λ (x : Frame). reads x.pc a.flow.nexts ≡ Some (Some next.0)) own next.1)
 
--- ---- on to the next executable, where the top frame stands
+-- ---- to the next executable, where the top frame stands
 
-pub moved_is : (a : Accepted) (s : State) (i word : ℕ) (f : Frame) → top_of s i ≡ Some f → word ≡ next_of a f.pc → on_frame i (with_pc word) s ≡ go_on a i s
+pub moved_is : (a : Accepted) (s : State) (i word : ℕ) (f : Frame) → top_of s i ≡ Some f → word ≡ next_of a f.pc → on_frame i (with_pc word) s ≡ to_next a i s
 moved_is a s i word f is next =
     ap (λ (ks : List Stacked). record s { stacks = ks })
     (change_same i (on_frames (with_pc word)) (on_frames (λ x. with_pc (next_of a x.pc) x)) s.stacks (λ k stack.
@@ -141,28 +140,3 @@ passed_faultless p s i passed = ap (λ (o : Option Status). fault_in (by_status 
     by_frame : (o : Option Frame) → fault_in (past_frame p s i o) ≡ None
     by_frame None = refl
     by_frame (Some f) = refl
-
--- ---- weights
-
-reached_weight : (p : Program) (s : State) (i : ℕ) (d : Inst) (r : IsReached p s i d) → weight_of p s i ≡ result_weight (effect_of p s i r.frame d)
-unfolding weight_of
-reached_weight p s i d r = ap (status_weight p s i) r.ready ∙ ap (frame_weight p s i) r.top ∙ ap (inst_weight p s i r.frame) r.at
-
-pub weight_by : (p : Program) (s : State) (i : ℕ) (d : Inst) (f : Frame) (v : Value) (result : Result Effect (Fail Cause)) → IsReached p s i d → top_of s i ≡ Some f → IsDue (effect_of p s i f d) v result
-    → IfOk result (λ (e : Effect). weight_of p s i ≡ effect_weight (shown e v))
-weight_by p s i d f v (Ok e) r is due =
-    let same : r.frame ≡ f = let own = r.top in cc in
-    reached_weight p s i d r ∙ ap (λ (x : Frame). result_weight (effect_of p s i x d)) same ∙ ap result_weight due
-weight_by p s i d f v (Err error) r is due = tt
-
-pub passed_weight : (p : Program) (s : State) (i : ℕ) → slice_get s.statuses.list i ≡ Some Passed → weight_of p s i ≡ 4
-unfolding weight_of
-passed_weight p s i status = ap (status_weight p s i) status
-
-pub arrived_weight : (p : Program) (s : State) (i word : ℕ) → slice_get s.statuses.list i ≡ Some (Arrived word) → weight_of p s i ≡ 4
-unfolding weight_of
-arrived_weight p s i word status = ap (status_weight p s i) status
-
-pub finished_weight : (p : Program) (s : State) (i : ℕ) → slice_get s.statuses.list i ≡ Some Finished → weight_of p s i ≡ 4
-unfolding weight_of
-finished_weight p s i status = ap (status_weight p s i) status

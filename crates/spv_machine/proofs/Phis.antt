@@ -13,12 +13,13 @@ use Rattle.spv_frame.specs.Stacks.{Stacked, on_top}
 use Rattle.spv_actions.specs.Fits.{IsOfType, JumpFits}
 use Rattle.spv_actions.specs.Planned.{phi_value}
 use Rattle.spv_actions.specs.declared.effects.PhiValue.{PhiValue}
+use Rattle.spv_actions.proofs.RootedLemmas.{plain_rooted}
 use Rattle.spv_state.specs.Program.{Program}
 use Rattle.spv_state.specs.Sound.{StandsIn}
-use Rattle.spv_state.specs.State.{State, on_frame, on_frames, with_pc, with_register, with_registers}
+use Rattle.spv_state.specs.State.{State, frames_of, on_frame, on_frames, with_pc, with_register, with_registers}
 use Rattle.spv_state.proofs.Lists.{change_none, change_same, change_still, length_change}
 use Rattle.spv_machine.specs.Reached.{IsReached}
-use Rattle.spv_machine.specs.Step.{first_of, jump}
+use Rattle.spv_machine.specs.Step.{first_of, to_block}
 use Rattle.spv_machine.proofs.KeepsJumps.{type_fits}
 use Rattle.spv_machine.proofs.ReachedLemmas.{Facts, register_reached, word_is}
 use Rattle.spv_machine.proofs.Leaves.{own_frame}
@@ -52,13 +53,13 @@ PhisLeft p i d rs s end = IsReached p s i d × AllByRecursion (λ (r : ℕ × Va
 
 pub phi_put : (p : Program) → Facts p.accepted → (i : ℕ) (d : Inst) (r : ℕ × Value) (rs : List (ℕ × Value)) (s new end : State) → PhisLeft p i d (r ∷ rs) s end → new ≡ on_frame i (with_register r.0 r.1) s → PhisLeft p i d rs new end
 phi_put p known i d r rs s new end left put = (
-  subst (λ (x : State). IsReached p x i d) (sym put) (register_reached p known.known s i d r.0 r.1 left.0 (type_fits p.accepted r.0 r.1 left.1.0)),
+  subst (λ (x : State). IsReached p x i d) (sym put) (register_reached p known.known s i d r.0 r.1 left.0 (type_fits p.accepted r.0 r.1 left.1.0) (plain_rooted p.accepted (frames_of s i) r.1 left.1.0.plain)),
   left.1.1,
   ap (on_frame i (with_registers rs)) put ∙ on_frame_twice i (with_registers rs) (with_register r.0 r.1) s ∙ left.2,
 )
 
--- the branch, where its phis have their values
-pub jump_is : (p : Program) (i block word : ℕ) (rs : List (ℕ × Value)) (s s1 : State) → s1 ≡ on_frame i (with_registers rs) s → word ≡ first_of p.accepted block → on_frame i (with_pc word) s1 ≡ jump p.accepted i block rs s
+-- to the block, where its phis have their values
+pub jump_is : (p : Program) (i block word : ℕ) (rs : List (ℕ × Value)) (s s1 : State) → s1 ≡ on_frame i (with_registers rs) s → word ≡ first_of p.accepted block → on_frame i (with_pc word) s1 ≡ to_block p.accepted i block rs s
 jump_is p i block word rs s s1 put first =
     ap (on_frame i (with_pc word)) put ∙ ap (λ (n : ℕ). on_frame i (with_pc n) (on_frame i (with_registers rs) s)) first ∙ on_frame_twice i (with_pc (first_of p.accepted block)) (with_registers rs) s
 

@@ -15,20 +15,21 @@ use Rattle.spv_mem.specs.Memory.{load_of}
 use Rattle.spv_valid.specs.Acceptance.{Accepted, IsAccepted}
 use Rattle.spv_valid.specs.Validity.{IsValid}
 use Rattle.spv_frame.specs.Frames.{Held as Frame}
-use Rattle.spv_frame.specs.Stacks.{Stacked, top}
+use Rattle.spv_frame.specs.Stacks.{Stacked, on_top, top}
 use Rattle.spv_statuses.specs.declared.invocations.Status.{Status}
 use Rattle.spv_statuses.specs.declared.invocations.Status.TheVariants.{Ready}
 use Rattle.spv_actions.specs.Effects.{Leave}
-use Rattle.spv_actions.specs.Fits.{LevelFits, ResultFits}
+use Rattle.spv_actions.specs.Fits.{LevelFits, ResultFits, ResultRooted}
 use Rattle.spv_actions.specs.Planned.{IsGained, IsGiven, gained, gone}
 use Rattle.spv_actions.specs.declared.effects.Control.{Control as CodeControl}
 use Rattle.spv_actions.specs.declared.effects.Control.TheVariants.{Next as CodeNext, Jump as CodeJump, Enter as CodeEnter, Leave as CodeLeave, Give as CodeGive, Wait as CodeWait}
 use Rattle.spv_actions.specs.declared.effects.Gain.{Gain}
 use Rattle.spv_actions.specs.declared.effects.Gain.TheVariants.{Nothing, Row, Pointer as PointerTo, Handed}
 use Rattle.spv_actions.proofs.KeepsFrames.{RegisterFits, register_kept, register_stays}
+use Rattle.spv_actions.proofs.RootedLemmas.{register_rooted}
 use Rattle.spv_state.specs.Program.{Program}
 use Rattle.spv_state.specs.Sound.{StandsAs}
-use Rattle.spv_state.specs.State.{State, on_frame, on_frames, put_store, top_of, with_register}
+use Rattle.spv_state.specs.State.{State, frames_of, on_frame, on_frames, put_store, top_of, with_register}
 use Rattle.spv_state.proofs.Known.{IsKnown, known_as}
 use Rattle.spv_state.proofs.Lists.{change_here, changed_at, length_change}
 use Rattle.spv_state.proofs.Stands.{Stood, stand_inst, stood}
@@ -101,6 +102,22 @@ frame_changed s i g f is = by_stack (slice_get s.stacks i) (change_here i (on_fr
     by_stack None there own = absurd (cc)
     by_stack (Some k) there own = rw there (top_changed k.frames g f own)
 
+-- the frames behind a store, and behind a change of the top one
+pub stored_frames : (s : State) (i : ℕ) (o : Option (Pointer × Value)) → frames_of (put_store i o s) i ≡ frames_of s i
+stored_frames s i None = refl
+stored_frames s i (Some e) = refl
+
+pub frames_changed : (s : State) (i : ℕ) (g : Frame → Frame) → frames_of (on_frame i g s) i ≡ on_top g (frames_of s i)
+frames_changed s i g = ap (λ (o : Option Stacked). option_map_or (λ (k : Stacked). k.frames) o []) (change_here i (on_frames g) s.stacks) ∙ by_stack (slice_get s.stacks i)
+  where
+    by_stack : (o : Option Stacked) → option_map_or (λ (k : Stacked). k.frames) (option_map (on_frames g) o) [] ≡ on_top g (option_map_or (λ (k : Stacked). k.frames) o [])
+    by_stack None = refl
+    by_stack (Some k) = refl
+
+-- the frames of an invocation with a stack
+frames_are : (s : State) (i : ℕ) (k : Stacked) → slice_get s.stacks i ≡ Some k → frames_of s i ≡ k.frames
+frames_are s i k at = ap (λ (o : Option Stacked). option_map_or (λ (x : Stacked). x.frames) o []) at
+
 module _ (p : Program) (known : IsKnown p.accepted) where
   -- the type of its register is that of its result
   pub result_fits : (s : State) (i : ℕ) (d : Inst) (v : Value) → IsReached p s i d → ResultFits p.accepted d (Some v) → RegisterFits p.accepted d.id v (out-Value v)
@@ -117,14 +134,16 @@ module _ (p : Program) (known : IsKnown p.accepted) where
       (λ ty typed. plain_shape p.accepted ty v (out-Value v) (result_fits s i d v r fits ty typed) plain)
 
   -- a register of the top frame takes a value of its type
-  pub register_reached : (s : State) (i : ℕ) (d : Inst) (id : ℕ) (v : Value) → IsReached p s i d → RegisterFits p.accepted id v (out-Value v) → IsReached p (on_frame i (with_register id v) s) i d
-  register_reached s i d id v r fits =
+  pub register_reached : (s : State) (i : ℕ) (d : Inst) (id : ℕ) (v : Value) → IsReached p s i d → RegisterFits p.accepted id v (out-Value v) → ResultRooted p.accepted (frames_of s i) (Some v)
+      → IsReached p (on_frame i (with_register id v) s) i d
+  register_reached s i d id v r fits rooted =
       let g : Frame → Frame = with_register id v in
       let stays = register_stays r.frame id v in
       record {
         sound = frame_kept p s i g r.sound (λ t k l status stack level kept.
             let same : Ready ≡ t = let own = r.ready in cc in
             top_kept p.accepted t t k l g (λ f. (register_stays f id v).0) kept (λ e. e, λ e. e) (λ f here sf. register_kept p.accepted f id v fits sf)
+            (λ f here held. register_rooted p.accepted k.frames (length k.frames - 1) f id v (subst (λ (fs : List Frame). ResultRooted p.accepted fs (Some v)) (frames_are s i k stack) rooted) held)
             (λ f here stands. subst (λ (u : Status). StandsAs p.accepted u (g f)) same tt));
         ready = r.ready;
         frame = g r.frame;
@@ -132,9 +151,9 @@ module _ (p : Program) (known : IsKnown p.accepted) where
         at = ap (at p.accepted.insts) stays.1 ∙ r.at;
       }
 
-  pub set_reached : (s : State) (i : ℕ) (d : Inst) (o : Option Value) → IsReached p s i d → ResultFits p.accepted d o → IsReached p (put_result i d.id o s) i d
-  set_reached s i d None r fits = r
-  set_reached s i d (Some v) r fits = register_reached s i d d.id v r (result_fits s i d v r fits)
+  pub set_reached : (s : State) (i : ℕ) (d : Inst) (o : Option Value) → IsReached p s i d → ResultFits p.accepted d o → ResultRooted p.accepted (frames_of s i) o → IsReached p (put_result i d.id o s) i d
+  set_reached s i d None r fits rooted = r
+  set_reached s i d (Some v) r fits rooted = register_reached s i d d.id v r (result_fits s i d v r fits) rooted
 
 -- ---- the module
 

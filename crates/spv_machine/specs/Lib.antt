@@ -2,4 +2,5 @@ pub mod Step
 pub mod Reached
 pub mod Weights
 pub mod World
+pub mod Recording
 pub mod Does

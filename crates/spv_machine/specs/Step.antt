@@ -20,6 +20,7 @@ use Rattle.spv_statuses.specs.declared.invocations.Status.{Status}
 use Rattle.spv_statuses.specs.declared.invocations.Status.TheVariants.{Ready, Arrived, Passed, Finished}
 use Rattle.spv_actions.specs.Effects.{Control, Effect, Next, Jump, Enter, Leave, Wait, code_of}
 use Rattle.spv_actions.specs.Instructions.{effect_of}
+use Rattle.spv_state.specs.Events.{pass}
 use Rattle.spv_state.specs.Program.{Program}
 use Rattle.spv_state.specs.State.{State, on_frame, open_barrier, pop_frame, push_frame, put_store, set_status, top_of, with_pc, with_register, with_registers}
 use Rattle.spv_actions.specs.declared.causes.Cause.{Cause}
@@ -34,17 +35,25 @@ abbrev pub put_result : ℕ → ℕ → Option Value → State → State
 put_result i id None s = s
 put_result i id (Some v) s = on_frame i (with_register id v) s
 
--- on to the next executable
+-- to the next executable
+abbrev pub to_next : Accepted → ℕ → State → State
+to_next a i s = on_frame i (λ (f : Frame). with_pc (next_of a f.pc) f) s
+
+-- on to it, past the debug instructions before it
 abbrev pub go_on : Accepted → ℕ → State → State
-go_on a i s = on_frame i (λ (f : Frame). with_pc (next_of a f.pc) f) s
+go_on a i s = pass a i (to_next a i s)
 
 -- the first executable of the block with a label
 abbrev pub first_of : Accepted → ℕ → ℕ
 first_of a label = unwrap_or (reads label a.flow.blocks) 0
 
 -- to a block, whose phis take their values at once
+abbrev pub to_block : Accepted → ℕ → ℕ → List (ℕ × Value) → State → State
+to_block a i block phis s = on_frame i (λ (f : Frame). with_pc (first_of a block) (with_registers phis f)) s
+
+-- the same, past the debug instructions before its first executable
 abbrev pub jump : Accepted → ℕ → ℕ → List (ℕ × Value) → State → State
-jump a i block phis s = on_frame i (λ (f : Frame). with_pc (first_of a block) (with_registers phis f)) s
+jump a i block phis s = pass a i (to_block a i block phis s)
 
 -- the id of the instruction at a word
 abbrev pub id_at : Accepted → ℕ → ℕ

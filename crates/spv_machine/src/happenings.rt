@@ -1,13 +1,14 @@
 //! The event of a step, as all invocations see it.
-ghost use Rattle.std.specs.Prelude.{◌≡◌};
+ghost use Rattle.std.specs.Prelude.{◌≡◌, ◌<◌, length};
 ghost use Rattle.spv_base.specs.declared.values.Value.{Value};
 ghost use Rattle.spv_actions.specs.Planned.{shown};
 ghost use Rattle.spv_machine.specs.Step as spec;
 
-use spv_actions::Effect;
+use spv_actions::{Control, Effect};
 use spv_base::{Happening, Kind, Root};
 use spv_index::literal_operand;
 use spv_ops::storage_class;
+use spv_state::Whole;
 use spv_valid::Module;
 
 /// An event that writes nothing that all invocations see.
@@ -55,7 +56,7 @@ fn written(accepted: &Module, inv: u32, word: u32, root: Root) -> Happening
 }
 
 /// The event of what an effect stores.
-pub(crate) fn stored(accepted: &Module, inv: u32, word: u32, effect: &Effect) -> Happening
+fn stored(accepted: &Module, inv: u32, word: u32, effect: &Effect) -> Happening
     ensures { (v : Value) → result ≡ spec.stored_at accepted.now inv word (shown effect.now v).store }
 {
     match &effect.store {
@@ -65,7 +66,7 @@ pub(crate) fn stored(accepted: &Module, inv: u32, word: u32, effect: &Effect) ->
 }
 
 /// The event of an arrival at a barrier that opens then, or doesn't.
-pub(crate) fn arrival(inv: u32, word: u32, opens: bool) -> Happening
+fn arrival(inv: u32, word: u32, opens: bool) -> Happening
     ensures { result ≡ spec.arrival_with inv word opens }
 {
     Happening {
@@ -74,5 +75,25 @@ pub(crate) fn arrival(inv: u32, word: u32, opens: bool) -> Happening
         word,
         root: 0,
         line: 0,
+    }
+}
+
+/// The event of an effect, in the state before it.
+pub(crate) fn happening_of(
+    accepted: &Module,
+    whole: &Whole,
+    inv: u32,
+    word: u32,
+    effect: &Effect,
+) -> Happening
+    requires { inv < length whole.now.statuses.list }
+    ensures { (v : Value) → result ≡ spec.happening_of accepted.now whole.now inv word (shown effect.now v) }
+{
+    match &effect.control {
+        Control::Next => stored(accepted, inv, word, effect),
+        Control::Wait => arrival(inv, word, whole.statuses().all_wait_with(inv, word)),
+        Control::Jump { .. } | Control::Enter { .. } | Control::Leave | Control::Give => {
+            plain(inv, word)
+        }
     }
 }

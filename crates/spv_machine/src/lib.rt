@@ -4,6 +4,8 @@
 pub mod applying;
 pub mod execution;
 pub mod happenings;
+mod passing;
+mod finishing;
 pub mod world;
 
 pub use execution::{Did, StepErr, fault_of, step, unstep};

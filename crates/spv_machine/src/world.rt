@@ -22,12 +22,13 @@ pub struct World {
 impl Model for World {
     ghost use Rattle.std.specs.Prelude.{◌≡◌, None};
     ghost use Rattle.std.specs.Coded.{codes};
+    ghost use Rattle.spv_base.specs.contracts.values.Value as value;
     ghost use Rattle.spv_journal.specs.contracts.entries.Entry as entry;
     ghost use Rattle.spv_machine.specs.World.{Held, seen};
 
     ghost Value = { Held };
 
-    ghost coded = { Prim.hlevel (codes, entry.the_row.coded) };
+    ghost coded = { Prim.hlevel (codes, value.the_row.coded, entry.the_row.coded) };
 
     ghost view = { λ w. seen w.recorded };
 

@@ -8,7 +8,6 @@ use Rattle.spv_base.specs.Entries.{reads}
 use Rattle.spv_base.specs.Lane.{IsLane, Lane}
 use Rattle.spv_base.specs.Parts.{part_at}
 use Rattle.spv_base.specs.declared.values.Pointer.{Pointer}
-use Rattle.spv_base.specs.declared.values.Root.{Root}
 use Rattle.spv_base.specs.declared.values.Root.TheVariants.{Shared}
 use Rattle.spv_base.specs.declared.values.Value.{Value, Scalar, out-Value}
 use Rattle.spv_types.specs.declared.forms.Form.{Form}

@@ -9,3 +9,4 @@ pub mod CellLemmas
 pub mod ArrayLemmas
 pub mod BlankLemmas
 pub mod ConditionLemmas
+pub mod SingleLemmas

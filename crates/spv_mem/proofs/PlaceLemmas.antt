@@ -1,9 +1,11 @@
 -- Where the part that a path names lies in the row of a variable, by numbers of 64 bits.
-use Rattle.std.proofs.Common.{◌≡◌, ◌∙◌, ◌⊎◌, ℕ, ◌+◌, ◌-◌, ◌<◌, ◌≤◌, ◌^◌, true, false, List, length, Option, Some, None, inl, inr, refl, sym, ap, subst, arith}
+use Rattle.std.proofs.Common.{◌≡◌, ◌∙◌, ◌⊎◌, ℕ, ◌+◌, ◌-◌, ◌<◌, ◌≤◌, ◌^◌, true, false, List, [], ◌++◌, append-nil, drop, take, length, Option, Some, None, inl, inr, refl, sym, ap, subst, arith}
 use Rattle.std.specs.Option.{option_map, option_map_or}
+use Rattle.std.proofs.Math.Seq.{drop-length, take-length}
 use Rattle.std.proofs.Math.Logic.{∥∥₁_elim, ∥∥₁_map}
 use Rattle.std.proofs.Props.{props}
 use Rattle.std.specs.Coded.{codes}
+use Rattle.spv_base.specs.Lane.{Lane}
 use Rattle.spv_base.specs.Parts.{part_at}
 use Rattle.spv_base.specs.contracts.values.Value.{the_row}
 use Rattle.spv_base.specs.declared.values.Value.{Value}
@@ -16,6 +18,7 @@ use Rattle.spv_types.specs.Types.{Types}
 use Rattle.spv_types.proofs.RowCounts.{shapes_count}
 use Rattle.spv_types.proofs.RowPlaces.{lies_within, part_lies}
 use Rattle.spv_types.proofs.RowShapes.{shapes_keep}
+use Rattle.spv_values.specs.Places.{IsRowAt}
 use Rattle.spv_mem.specs.Targets.{Fits, elements_in, is_counted, is_past}
 use Rattle.spv_mem.proofs.CountLemmas.{counted_is}
 use Rattle.spv_mem.proofs.PartLemmas.{Found, NotFound, names}
@@ -117,3 +120,14 @@ row_there ts id path v start t fits low short leaf typed = ∥∥₁_map fits (�
       | inl c ↦ absurd (let n = counted_is (cells_of ts t) c in let i = n.1 in cc)
       | inr s ↦ omega (arith, s)
     ]
+
+-- the whole of a value lies in its row
+pub whole_row : (v : Value) (path : List ℕ) (n : ℕ) → path ≡ [] → n ≡ length (leaves v) → IsRowAt v path 0 n
+whole_row v path n none long = subst (λ (p : List ℕ). IsRowAt v p 0 n) (sym none) (subst (λ (k : ℕ). IsRowAt v [] 0 k) (sym long) (record {
+  there = refl;
+  within = omega arith;
+  row = λ w is. take-length (leaves v) ∙ ap leaves (let e : v ≡ w = cc in e);
+  written = λ u.
+      let zero : length (leaves v) ≡ 0 + length (leaves v) = omega arith in
+      sym (ap (λ (ls : List Lane). leaves u ++ ls) (drop-length (leaves v)) ∙ append-nil (leaves u)) ∙ ap (λ (k : ℕ). leaves u ++ drop k (leaves v)) zero;
+}))

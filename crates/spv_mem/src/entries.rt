@@ -19,7 +19,7 @@ use std::marker::Model;
 /// Variables under their ids. Contracts see a list of ids, each with its tree.
 #[derive(Drop)]
 pub struct Roots {
-    entries: Vec<(u32, Variable)>,
+    pub(crate) entries: Vec<(u32, Variable)>,
 }
 
 impl Model for Roots {
@@ -105,7 +105,7 @@ impl Roots {
     }
 
     /// Where the variable with an id stands. The place is looked at first; where it is not there, the others are.
-    fn find(&self, id: u32, place: usize) -> Option<usize>
+    pub(crate) fn find(&self, id: u32, place: usize) -> Option<usize>
         ensures { MatchOption result (reads id self.now ≡ None) (λ k. IsAt id k self.now) }
     {
         match self.entries.get(place) {
@@ -119,6 +119,14 @@ impl Roots {
         ensures { IsTrue result ↔ reads id self.now ≡ None }
     {
         self.find(id, place).is_none()
+    }
+
+    /// The value of the variable with an id, lent.
+    pub(crate) fn whole(&self, id: u32, place: usize) -> Option<Part<'_>>
+        ensures { result ≡ reads id self.now }
+    {
+        let k = self.find(id, place)?;
+        Some(self.entries[k].1.whole())
     }
 
     /// The part that a path names in the variable with an id.

@@ -13,8 +13,8 @@ use std::marker::Model;
 /// The locals of an invocation. Contracts see their list, by depth, and how many there is room for.
 #[derive(Drop)]
 pub(crate) struct Levels {
-    list: Vec<Locals>,
-    room: u32,
+    pub(crate) list: Vec<Locals>,
+    pub(crate) room: u32,
 }
 
 impl Model for Levels {

@@ -11,6 +11,7 @@ pub mod entries;
 pub mod laws;
 pub mod levels;
 pub mod places;
+pub mod singles;
 pub mod storage;
 pub mod targets;
 pub mod variables;

@@ -1,7 +1,7 @@
 //! Memory: loads and stores of parts of variables.
 ghost use Rattle.std.specs.Prelude.{◌≡◌, IfOk, [], Err, Ok, length, option_copied, replicate, if◌then◌else◌};
 ghost use Rattle.spv_base.specs.declared.causes.MemErr.TheVariants.{OutOfBounds as Outside};
-ghost use Rattle.spv_mem.specs.Memory.{AreTargets, IsMemory, Loads, MayStore, Stores, empty, id_in, load_of, roots_in};
+ghost use Rattle.spv_mem.specs.Memory.{AreTargets, IsMemory, Loads, MayStore, Stores, empty, id_in, load_of, root_value, roots_in};
 
 use crate::entries::Roots;
 use crate::levels::{Levels, exchange_at, exchange_level};
@@ -48,7 +48,7 @@ pub(crate) fn id_in(root: Root) -> u32
 }
 
 /// What a store answers.
-fn answer(there: bool) -> Result<(), MemErr>
+pub(crate) fn answer(there: bool) -> Result<(), MemErr>
     ensures { result ≡ (if there then Ok tt else Err Outside) }
 {
     if there {
@@ -128,6 +128,15 @@ impl Memory {
         let target = self.targets.get(id)?;
         let roots = self.roots(inv, p.root)?;
         roots.load(self.types.as_ref(), target, id, &p.path)
+    }
+
+    /// The value of the variable that a root of an invocation names, lent; none where there is no such variable. It takes no memory.
+    pub fn whole(&self, inv: u32, root: Root) -> Option<Part<'_>>
+        ensures { result ≡ root_value self.now inv root }
+    {
+        let id = id_in(root);
+        let roots = self.roots(inv, root)?;
+        roots.whole(id, self.targets.place(id))
     }
 
     /// The part that a pointer of an invocation names. It takes no memory.

@@ -21,8 +21,8 @@ use std::marker::Model;
 /// element has no cells, as a struct without members.
 #[derive(Drop)]
 pub struct Variable {
-    row: Row,
-    elements: u32,
+    pub(crate) row: Row,
+    pub(crate) elements: u32,
 }
 
 impl Model for Variable {
@@ -73,6 +73,13 @@ impl Variable {
         self.elements
     }
 
+    /// The whole value, lent.
+    pub fn whole(&self) -> Part<'_>
+        ensures { result ≡ self.now }
+    {
+        self.row.as_part()
+    }
+
     /// Whether a path leads past the end of the runtime array.
     fn is_past(&self, types: &TypeTable, ty: u32, indexes: &[u64]) -> bool
         ensures { result ≡ is_past types.now (elements_in self.now) ty indexes.now }
@@ -84,8 +91,22 @@ impl Variable {
             }
     }
 
-    /// Where the part that a path names lies, in a variable of a type; none where there is no such part.
-    fn place(&self, types: &TypeTable, ty: u32, path: &Path) -> Option<Place>
+    /// Where the part that a path names lies, in a variable of a type; none where there is no such part. Most paths lead to the whole.
+    #[tactic(auto, using(crate::proofs::PlaceLemmas::whole_row))]
+    pub(crate) fn place(&self, types: &TypeTable, ty: u32, path: &Path) -> Option<Place>
+        requires { ∥ Fits types.now ty self.now ∥₁ }
+        ensures { MatchOption result (part_at self.now path.now ≡ None) (λ p. IsRowAt self.now path.now p.start p.len) }
+    {
+        if path.as_slice().is_empty() {
+            let len = self.row.len();
+            Some(Place { start: 0, len })
+        } else {
+            self.part_place(types, ty, path)
+        }
+    }
+
+    /// The same by the types, for any path.
+    fn part_place(&self, types: &TypeTable, ty: u32, path: &Path) -> Option<Place>
         requires { ∥ Fits types.now ty self.now ∥₁ }
         ensures { MatchOption result (part_at self.now path.now ≡ None) (λ p. IsRowAt self.now path.now p.start p.len) }
     {

@@ -129,7 +129,7 @@ constants_defined a is =
 
 -- ---- no function has begun before the functions
 
-variable_outside : (stage : Stage) → stage ≡ Outside → (c : Class) (position : Position) (i : Inst) → position.stage ≡ stage → (c ≡ Beginning → ⊥) → (position_after position c i).stage ≡ Outside
+pub variable_outside : (stage : Stage) → stage ≡ Outside → (c : Class) (position : Position) (i : Inst) → position.stage ≡ stage → (c ≡ Beginning → ⊥) → (position_after position c i).stage ≡ Outside
 variable_outside stage out Beginning position i is apart = absurd (apart refl)
 variable_outside stage out Parameter position i is apart = is ∙ out
 variable_outside stage out End position i is apart = refl

@@ -9,3 +9,4 @@ pub mod ShapeLemmas
 pub mod OperandLemmas
 pub mod FrameLemmas
 pub mod ReadingLemmas
+pub mod ClassLemmas

@@ -115,7 +115,7 @@ holds_open true false true false h g f = absurd (cc)
 holds_open true false false m h g f = absurd (cc)
 holds_open false c e m h g f = absurd (cc)
 
-block_form : (o : Option Form) → is_block o ≡ true → (members : List Member) × (block : Bool) × (o ≡ Some (Struct members block))
+pub block_form : (o : Option Form) → is_block o ≡ true → (members : List Member) × (block : Bool) × (o ≡ Some (Struct members block))
 block_form None h = absurd (cc)
 block_form (Some Void) h = absurd (cc)
 block_form (Some Boolean) h = absurd (cc)
@@ -132,7 +132,7 @@ asks_block : (b c d e : Bool) → b ≡ true → (not ((b || c) || d) || e) ≡ 
 asks_block true c d e h g = g
 asks_block false c d e h g = absurd (cc)
 
-variable_kept : (all : List Inst) (ts : Types) (i : Inst) → i.op ≡ 59 → keeps_rules all ts i ≡ true → keeps_pointer all ts i (form_of ts i.ty) ≡ true
+pub variable_kept : (all : List Inst) (ts : Types) (i : Inst) → i.op ≡ 59 → keeps_rules all ts i ≡ true → keeps_pointer all ts i (form_of ts i.ty) ≡ true
 unfolding keeps_rules defined_form
 variable_kept all ts i op h = rw op at h
 
@@ -140,7 +140,7 @@ variable_rule : (op : ℕ) → op ≡ 59 → rule_of op ≡ Memory Variable
 unfolding memory_rule
 variable_rule op is = rw is refl
 
-local_kept : (k : Known) (p : Placed) → KeepsBody k p → p.inst.op ≡ 59 → KeepsVariable k p.inst
+pub local_kept : (k : Known) (p : Placed) → KeepsBody k p → p.inst.op ≡ 59 → KeepsVariable k p.inst
 local_kept k p kept op = subst (KeepsRule k p) (variable_rule p.inst.op op) kept.1
 
 module _ (a : Accepted) (is : IsAccepted a) (valid : IsValid a) where
@@ -175,7 +175,7 @@ module _ (a : Accepted) (is : IsAccepted a) (valid : IsValid a) where
     sound : AreSound (types_in a.insts front)
     sound = front_sound a.insts front (i ∷ later) none
 
-    form_later : (q : ℕ) (f : Form) → form_of (types_in a.insts front) q ≡ Some f → form_of (declared a.insts) q ≡ Some f
+    pub form_later : (q : ℕ) (f : Form) → form_of (types_in a.insts front) q ≡ Some f → form_of (declared a.insts) q ≡ Some f
     form_later q f h = subst (λ (ts : Types). form_of ts q ≡ Some f) back (form_stays a.insts front (i ∷ later) q f h)
 
     pub plain_later : (q : ℕ) → is_data (form_of (types_in a.insts front) q) ≡ true → has_runtime (types_in a.insts front) q ≡ false → has_runtime a.types q ≡ false
@@ -271,6 +271,11 @@ target_read ts (j ∷ insts) i d (first, rest) (suc k, lt, is) by = by_case (dec
         let other : x.id ≡ j.id = (by_is ts j x e).1.0 in
         let test : (x.id == d.id) ≡ false = ne_eqb x.id d.id (λ same. apart (sym own ∙ sym same ∙ other)) in
         rw test more
+
+-- what its instruction declares
+pub variable_by : (a : Accepted) → IsValid a → (i : Inst) → Contains a.insts i → i.op ≡ 59 → (p : Pointed) → pointee (form_of a.types i.ty) ≡ Some p → may_hold a.types p.class p.target ≡ true
+    → declared_by a.types i ≡ Some (variable_of i p)
+variable_by a valid i at op p type may = declared_is a.types i p op (named a i valid at op) type may
 
 pub variable_declared : (a : Accepted) → IsAccepted a → IsValid a → (i : Inst) → Contains a.insts i → i.op ≡ 59 → IsDeclared a i
 variable_declared a is valid i at op =

@@ -1,21 +1,21 @@
-//! One call of the program, on a counter of its own.
+//! Calls of the program, each on a counter of its own, and what they write.
 ghost use Rattle.std.specs.Prelude.{◌≡◌, ◌<◌, IfOk};
 
 use spv_app::{Status, debug_main};
 use spv_base::{MemoryFiles, MemorySink, MemorySource, Probe, Steps};
 use std::alloc::Global;
 use std::collections::BTreeMap;
-use std::io;
+use std::io::Write;
 use std::marker::Brand;
 use std::sync::ledger::{Blank, Ledger};
+use std::{io, rt};
 
 /// The files `module` and `setup`.
-pub fn files_of(alloc: Global, module: Vec<u8>, setup: &str) -> io::Result<MemoryFiles>
+pub fn files_of(alloc: Global, module: Vec<u8>, setup: Vec<u8>) -> io::Result<MemoryFiles>
     ensures { IfOk result (λ files. files.faults ≡ 0) }
 {
     let mut held = BTreeMap::new(alloc);
     held.insert(String::from_str(alloc, "module")?, module)?;
-    let setup = Vec::from_slice(alloc, setup.as_bytes())?;
     held.insert(String::from_str(alloc, "setup")?, setup)?;
     Ok(MemoryFiles::new(alloc, held))
 }
@@ -62,4 +62,19 @@ pub fn call(
     let mut out = MemorySink::new(alloc);
     let status = call_counted::<Brand>(alloc, Blank::new(1), words, files, commands, &mut out);
     (status, out.bytes)
+}
+
+/// Says what a call writes, and how it ends.
+pub fn report<R: rt::Files + Print + AllocGlobal>(
+    rt: &R,
+    line: &str,
+    files: &mut MemoryFiles,
+    commands: Vec<u8>,
+) -> io::Result<()>
+    requires { files.old.faults ≡ 0 }
+{
+    let alloc = rt.alloc();
+    let (status, written) = call(alloc, &words_of(alloc, line)?, files, commands);
+    io::writer(rt).write_all(&written)?;
+    println!(rt; "status {}", status as u8)
 }

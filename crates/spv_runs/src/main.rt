@@ -1,13 +1,14 @@
 //! Calls the program as a user would, and says what it writes and how it ends: blocks of instructions of each group that computes,
-//! and calls that stand in files with their words, setups and commands. What is due is worked out by `bench/runs.py`.
+//! and calls that stand in files with their words, setups and commands, and inputs that are made from a number. What is due is worked out
+//! by `bench/runs.py`.
 #![tactic(auto)]
 
 mod calls;
+mod made;
 
-ghost use Rattle.std.specs.Prelude.{◌≡◌};
-
-use crate::calls::{call, files_of, words_of};
-use spv_base::{Fail, MemoryFiles};
+use crate::calls::{files_of, report};
+use crate::made::report_made;
+use spv_base::Fail;
 use spv_cmd::{parse, print};
 use std::io::Write;
 use std::{fs, io, rt};
@@ -27,28 +28,16 @@ const GROUPS: [(&str, &str, &str); 9] = [
 ];
 
 /// The files of calls, in the order of the output.
-const CALLS: [&str; 5] = [
+const CALLS: [&str; 8] = [
     "commands.runs",
     "words.runs",
     "setups.runs",
     "values.runs",
     "invocations.runs",
+    "memory.runs",
+    "flow.runs",
+    "group.runs",
 ];
-
-/// Says what a call writes, and how it ends.
-fn report<R: rt::Files + Print + AllocGlobal>(
-    rt: &R,
-    line: &str,
-    files: &mut MemoryFiles,
-    commands: Vec<u8>,
-) -> io::Result<()>
-    requires { files.old.faults ≡ 0 }
-{
-    let alloc = rt.alloc();
-    let (status, written) = call(alloc, &words_of(alloc, line)?, files, commands);
-    io::writer(rt).write_all(&written)?;
-    println!(rt; "status {}", status as u8)
-}
 
 /// Says what `debug` writes for a module and some commands, and how it ends.
 fn report_group<R: rt::Files + Print + AllocGlobal>(
@@ -58,8 +47,7 @@ fn report_group<R: rt::Files + Print + AllocGlobal>(
     commands: &str,
 ) -> io::Result<()> {
     println!(rt; "{name}")?;
-    let setup = fs::read_to_string(rt, "setup")?;
-    let mut files = files_of(rt.alloc(), fs::read(rt, module)?, &setup)?;
+    let mut files = files_of(rt.alloc(), fs::read(rt, module)?, fs::read(rt, "setup")?)?;
     report(
         rt,
         "spvdbg debug module setup",
@@ -78,6 +66,7 @@ fn report_call<R: rt::Files + Print + AllocGlobal>(
     println!(rt; "{line}")?;
     if let Some((_, rest)) = line.split_once(": ") {
         if let Some((module, words)) = rest.split_once(": ") {
+            let setup = Vec::from_slice(rt.alloc(), setup.as_bytes())?;
             let mut files = files_of(rt.alloc(), fs::read(rt, module)?, setup)?;
             let commands = Vec::from_slice(rt.alloc(), commands.as_bytes())?;
             report(rt, words, &mut files, commands)?;
@@ -122,6 +111,8 @@ fn main(rt: HostRuntime) -> io::Result<()> {
     for file in CALLS {
         report_calls(&rt, file)?;
     }
+    report_made(&rt, 1)?;
+    report_made(&rt, 64)?;
     println!(rt; "lines")?;
     let lines = fs::read_to_string(&rt, "lines")?;
     for line in lines.split_terminator('\n') {

@@ -4,7 +4,7 @@ use Rattle.std.specs.Prelude.{slice_get}
 use Rattle.spv_setup.specs.declared.pieces.Piece.{Piece}
 use Rattle.spv_setup.specs.Pieces.{piece_entries, pieces_entries, StartFrom, Exists, ArePieces, IsPieceAt}
 use Rattle.std.specs.List.{repeat, range_with_len}
-use Rattle.std.proofs.Math.Nat.{mod-eq_of_lt, add-mod_left}
+use Rattle.std.proofs.Math.Nat.{mod-eq_of_lt, add-mod_left, mod-one}
 use Rattle.std.proofs.lemmas.Bool.{cases_lt}
 use Rattle.std.proofs.lemmas.List.{take_all}
 use Rattle.std.proofs.lemmas.List.FromFn.{length-range_with_len, get_or-range_with_len}
@@ -135,3 +135,7 @@ list_grows k ps new p more is e = ap (pieces_entries k) is ∙ entries_push k ps
 
 pub middle_at : (low high : ℕ) → 1 < high - low → (low < low + (high - low) / 2) × (low + (high - low) / 2 < high)
 middle_at low high h = (grind arith, grind arith)
+
+-- the turn of the one invocation
+pub one_turn : (n : ℕ) → n % 1 ≡ 0
+one_turn n = mod-one n

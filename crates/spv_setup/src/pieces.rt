@@ -1,5 +1,5 @@
 //! The pieces that a schedule is kept as.
-ghost use Rattle.std.specs.Prelude.{◌≡◌, ◌<◌, ◌∷◌, [], ℕ, Some, None, slice_get, length};
+ghost use Rattle.std.specs.Prelude.{◌≡◌, ◌<◌, ◌%◌, ◌∷◌, [], ℕ, Some, None, slice_get, length};
 ghost use Rattle.spv_setup.specs.Pieces.{piece_entries, Exists, turns_of};
 ghost use Rattle.spv_setup.specs.Schedule.{entries_in, stray_line};
 
@@ -31,6 +31,19 @@ impl Turn {
             Turn::Of(_) => 1,
             Turn::Each => invocations,
         }
+    }
+}
+
+/// Whose turn it is at a place, where each invocation has one in turn. A division costs as much as a small event.
+#[tactic(auto, using(crate::proofs::Schedule_lemmas::one_turn))]
+fn turn_at(invocations: u32, place: u32) -> u32
+    requires { 0 < invocations }
+    ensures { result ≡ place % invocations }
+{
+    if invocations == 1 {
+        0
+    } else {
+        place % invocations
     }
 }
 
@@ -76,7 +89,7 @@ impl Piece {
     {
         match self.turn {
             Turn::Of(invocation) => invocation,
-            Turn::Each => place % invocations,
+            Turn::Each => turn_at(invocations, place),
         }
     }
 }

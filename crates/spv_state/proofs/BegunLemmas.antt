@@ -15,6 +15,7 @@ use Rattle.spv_initial.specs.declared.variables.Declared.{Declared}
 use Rattle.spv_plans.specs.Plans.{plan_of, plans_in}
 use Rattle.spv_statuses.specs.Group.{Held as Statuses}
 use Rattle.spv_statuses.specs.declared.invocations.Status.TheVariants.{Ready}
+use Rattle.spv_state.specs.Events.{passed}
 use Rattle.spv_state.specs.Program.{Program, words_of}
 use Rattle.spv_state.specs.Rooms.{AreBounded, IsBounded}
 use Rattle.spv_state.specs.Start.{begun, start_of}
@@ -63,12 +64,13 @@ begun_is a b s t function ds m new module_is setup_is function_is are made enter
 
 -- ---- the stacks
 
-abbrev one_frame : Planned → ℕ → Stacked
-one_frame plan room = record { frames = fresh plan ∷ []; room = room }
+-- one frame with a plan, in an accepted module
+abbrev one_frame : Accepted → Planned → ℕ → Stacked
+one_frame a plan room = record { frames = passed a 0 (fresh plan) ∷ []; room = room }
 
-pub start_bounded : (plan : Planned) (room count : ℕ) (ks : List Stacked) → ks ≡ replicate count (one_frame plan room) → 0 < room → room < 2 ^ 32 → AreBounded ks
-start_bounded plan room count ks are some narrow i k at =
-    let own : k ≡ one_frame plan room = replicated count i (one_frame plan room) k (ap (λ (xs : List Stacked). slice_get xs i) (sym are) ∙ at) in
+pub start_bounded : (a : Accepted) (plan : Planned) (room count : ℕ) (ks : List Stacked) → ks ≡ replicate count (one_frame a plan room) → 0 < room → room < 2 ^ 32 → AreBounded ks
+start_bounded a plan room count ks are some narrow i k at =
+    let own : k ≡ one_frame a plan room = replicated count i (one_frame a plan room) k (ap (λ (xs : List Stacked). slice_get xs i) (sym are) ∙ at) in
     subst IsBounded (sym own) (record { within = omega (arith, some); narrow = narrow })
 
 -- ---- the state
@@ -79,17 +81,17 @@ all_ready count words = record { list = replicate count Ready; words = words }
 abbrev start_memory : Program → Memory
 start_memory p = begun p.accepted (starting p.accepted p.setup)
 
-abbrev start_stacks : Accepted → List Stacked
-start_stacks a = replicate (invocations a) (one_frame (plan_of a a.entry) a.depth)
+abbrev start_stacks : Accepted → Accepted → List Stacked
+start_stacks a b = replicate (invocations b) (one_frame a (plan_of b b.entry) b.depth)
 
 pub start_is : (p : Program) (b : Accepted) (ps : List Planned) (m : Memory) (ks : List Stacked) (ts : Statuses) (plan : Planned) (count room words : ℕ) → b ≡ p.accepted → ps ≡ plans_in b
-    → m ≡ begun p.accepted (starting p.accepted p.setup) → plan ≡ plan_of b b.entry → count ≡ invocations b → room ≡ b.depth → ks ≡ replicate count (one_frame plan room)
+    → m ≡ begun p.accepted (starting p.accepted p.setup) → plan ≡ plan_of b b.entry → count ≡ invocations b → room ≡ b.depth → ks ≡ replicate count (one_frame p.accepted plan room)
     → words ≡ words_of b → ts ≡ all_ready count words → seen ps m ks ts ≡ start_of p
 unfolding start_of
 start_is p b ps m ks ts plan count room words module_is plans memory plan_is count_is room_is stacks words_is statuses =
     ap (λ (xs : List Planned). seen xs m ks ts) plans ∙ ap (λ (x : Memory). seen (plans_in b) x ks ts) memory
     ∙ ap (λ (xs : List Stacked). seen (plans_in b) (start_memory p) xs ts)
-    (stacks ∙ ap (λ (x : Planned). replicate count (one_frame x room)) plan_is ∙ ap (λ (n : ℕ). replicate count (one_frame (plan_of b b.entry) n)) room_is
-    ∙ ap (λ (n : ℕ). replicate n (one_frame (plan_of b b.entry) b.depth)) count_is)
-    ∙ ap (λ (x : Statuses). seen (plans_in b) (start_memory p) (start_stacks b) x) (statuses ∙ ap (all_ready count) words_is ∙ ap (λ (n : ℕ). all_ready n (words_of b)) count_is)
-    ∙ ap (λ (x : Accepted). seen (plans_in x) (start_memory p) (start_stacks x) (all_ready (invocations x) (words_of x))) module_is
+    (stacks ∙ ap (λ (x : Planned). replicate count (one_frame p.accepted x room)) plan_is ∙ ap (λ (n : ℕ). replicate count (one_frame p.accepted (plan_of b b.entry) n)) room_is
+    ∙ ap (λ (n : ℕ). replicate n (one_frame p.accepted (plan_of b b.entry) b.depth)) count_is)
+    ∙ ap (λ (x : Statuses). seen (plans_in b) (start_memory p) (start_stacks p.accepted b) x) (statuses ∙ ap (all_ready count) words_is ∙ ap (λ (n : ℕ). all_ready n (words_of b)) count_is)
+    ∙ ap (λ (x : Accepted). seen (plans_in x) (start_memory p) (start_stacks p.accepted x) (all_ready (invocations x) (words_of x))) module_is

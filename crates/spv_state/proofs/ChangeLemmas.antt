@@ -33,7 +33,7 @@ put_bounded ks i k new inside here all keeps j x at =
       | inr is ↦ subst IsBounded (sym is.1) (keeps (all i k (slice_get-get_or ks i k inside ∙ ap (λ (y : Stacked). Some y) (sym here))))
     ]
 
-length_change : {A : Type 0} (i : ℕ) (f : A → A) (xs : List A) → length (change i f xs) ≡ length xs
+pub length_change : {A : Type 0} (i : ℕ) (f : A → A) (xs : List A) → length (change i f xs) ≡ length xs
 length_change i f [] = refl
 length_change zero f (x ∷ xs) = refl
 length_change (suc i) f (x ∷ xs) = ap suc (length_change i f xs)
@@ -48,7 +48,7 @@ top_bounded g k new made bounded =
     })
 
 -- a frame that is taken away keeps them
-without_is : {A : Type 0} (xs : List A) (x : A) → take (length (xs ++ x ∷ []) - 1) (xs ++ x ∷ []) ≡ xs
+pub without_is : {A : Type 0} (xs : List A) (x : A) → take (length (xs ++ x ∷ []) - 1) (xs ++ x ∷ []) ≡ xs
 without_is {A} xs x = ap (λ (n : ℕ). take n (xs ++ x ∷ [])) (count xs) ∙ front xs
   where
     count : (ys : List A) → length (ys ++ x ∷ []) - 1 ≡ length ys

@@ -10,8 +10,14 @@ pub mod VariableLemmas
 pub mod EnterLemmas
 pub mod SizeLemmas
 pub mod PlanLemmas
+pub mod RootLemmas
+pub mod VariableStart
+pub mod OperandRoots
 pub mod StartSound
 pub mod BegunLemmas
 pub mod ChangeLemmas
 pub mod SlotLemmas
 pub mod TopLemmas
+pub mod EventLemmas
+pub mod UndoingLemmas
+pub mod NumberLemmas

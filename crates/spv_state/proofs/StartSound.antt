@@ -22,10 +22,13 @@ use Rattle.spv_plans.specs.Plans.{IsPlan, functions_in, plan_of}
 use Rattle.spv_operands.specs.Shapes.{AreShaped}
 use Rattle.spv_statuses.specs.declared.invocations.Status.{Status}
 use Rattle.spv_statuses.specs.declared.invocations.Status.TheVariants.{Ready}
-use Rattle.spv_state.specs.Program.{Program}
+use Rattle.spv_state.specs.Events.{passed}
+use Rattle.spv_state.specs.Program.{IsFitting, Program}
+use Rattle.spv_state.specs.Roots.{IsRooted}
 use Rattle.spv_state.specs.Sound.{HasPlaces, IsSound, IsSoundFrame, IsSoundStack, StandsIn}
 use Rattle.spv_state.specs.Start.{frame_roots, start_of}
 use Rattle.spv_state.proofs.EntryLemmas.{entry_listed}
+use Rattle.spv_state.proofs.VariableStart.{own_begins, shared_begin}
 
 -- ---- lists
 
@@ -101,6 +104,10 @@ fresh_shaped a p = record {
   pointers = λ id ty q at of. absurd (let gone : Some q ≡ None = none_read id p.pointers (Some q) at in cc);
 }
 
+-- it holds no pointers
+pub fresh_rooted : (a : Accepted) (frames : List Frame) (depth : ℕ) (p : Planned) → IsRooted a frames depth (fresh p)
+fresh_rooted a frames depth p id q at = absurd (let gone : Some q ≡ None = none_read id p.pointers (Some q) at in cc)
+
 -- as a call or a run begins a function
 pub function_frame : HavePlans → (a : Accepted) (function : ℕ) → ∥ IsAccepted a ∥₁ → ∥ Contains (functions_in a) function ∥₁ → IsSoundFrame a (fresh (plan_of a function))
 unfolding plan_of
@@ -111,13 +118,22 @@ function_frame has a function accepted known = record {
   shaped = fresh_shaped a (plan_of a function);
 }
 
-entry_frame : HavePlans → (a : Accepted) → ∥ IsAccepted a ∥₁ → ∥ IsValid a ∥₁ → IsSoundFrame a (fresh (plan_of a a.entry))
+pub entry_frame : HavePlans → (a : Accepted) → ∥ IsAccepted a ∥₁ → ∥ IsValid a ∥₁ → IsSoundFrame a (fresh (plan_of a a.entry))
 entry_frame has a accepted valid = function_frame has a a.entry accepted (∥∥₁_map valid (λ (v : IsValid a). entry_listed a v))
+
+-- a frame that passes debug events goes on being sound
+pub passed_sound : (a : Accepted) (depth : ℕ) (f : Frame) → IsSoundFrame a f → IsSoundFrame a (passed a depth f)
+passed_sound a depth f s = record {
+  plan = s.plan;
+  places = record { values = s.places.values; pointers = s.places.pointers };
+  stands = s.stands;
+  shaped = record { values = s.shaped.values; pointers = s.shaped.pointers };
+}
 
 -- ---- the stack of each invocation
 
 abbrev entry_stack : Accepted → Stacked
-entry_stack a = record { frames = fresh (plan_of a a.entry) ∷ []; room = a.depth }
+entry_stack a = record { frames = passed a 0 (fresh (plan_of a a.entry)) ∷ []; room = a.depth }
 
 abbrev entry_levels : Accepted → Levels
 entry_levels a = record { list = frame_roots a a.entry ∷ []; room = a.depth }
@@ -132,18 +148,19 @@ sound_stack has a accepted valid = record {
   room = refl;
   levels = refl;
   finished = (λ e. absurd (cc), λ e. absurd (cc));
-  frames = λ depth f at. subst (IsSoundFrame a) (sym (one_frame (fresh (plan_of a a.entry)) f depth at)) (entry_frame has a accepted valid);
+  frames = λ depth f at. subst (IsSoundFrame a) (sym (one_frame (passed a 0 (fresh (plan_of a a.entry))) f depth at)) (passed_sound a 0 (fresh (plan_of a a.entry)) (entry_frame has a accepted valid));
   variables = (refl, tt);
-  first = λ f at. ap (λ (g : Frame). g.plan.function) (one_frame (fresh (plan_of a a.entry)) f 0 at);
+  first = λ f at. ap (λ (g : Frame). g.plan.function) (one_frame (passed a 0 (fresh (plan_of a a.entry))) f 0 at);
   calls = λ depth f g at above. absurd (cc);
   waits = λ f at. tt;
+  rooted = λ depth f at. subst (IsRooted a (passed a 0 (fresh (plan_of a a.entry)) ∷ []) depth) (sym (one_frame (passed a 0 (fresh (plan_of a a.entry))) f depth at)) (fresh_rooted a (passed a 0 (fresh (plan_of a a.entry)) ∷ []) depth (plan_of a a.entry));
 }
 
 -- ---- the state
 
-pub start_sound : HavePlans → (p : Program) → ∥ IsAccepted p.accepted ∥₁ → ∥ IsValid p.accepted ∥₁ → IsSound p (start_of p)
+pub start_sound : HavePlans → (p : Program) → ∥ IsAccepted p.accepted ∥₁ → ∥ IsValid p.accepted ∥₁ → IsFitting p.accepted p.setup → IsSound p (start_of p)
 unfolding start_of starting
-start_sound has p accepted valid =
+start_sound has p accepted valid fits =
     let a : Accepted = p.accepted in
     let count : ℕ = invocations a in
     record {
@@ -154,6 +171,8 @@ start_sound has p accepted valid =
       stacks = length_replicate count (entry_stack a) ∙ sym (length_replicate count Ready);
       levels = length_map _ _ ∙ length_replicate count (record { list = []; room = a.depth }) ∙ sym (length_replicate count Ready);
       privates = length_map (own_roots a p.setup (variables a)) (range_with_len 0 count) ∙ length_range 0 count ∙ sym (length_replicate count Ready);
+      shared = shared_begin a p.setup accepted valid fits;
+      own = own_begins a p.setup accepted valid fits;
       each = λ i t k l status stack level.
           subst (λ (x : Status). IsSoundStack a x k l) (sym (replicated count i Ready t status))
           (subst (λ (x : Stacked). IsSoundStack a Ready x l) (sym (replicated count i (entry_stack a) k stack))

@@ -4,9 +4,8 @@ use Rattle.std.specs.Prelude.{ℕ, [], ◌∷◌, List, Option, unwrap_or}
 use Rattle.std.specs.Option.{option_map, option_or}
 use Rattle.spv_base.specs.Entries.{reads}
 use Rattle.spv_base.specs.declared.instructions.Inst.{Inst}
-use Rattle.spv_results.specs.Computations.{computation_of}
 use Rattle.spv_state.specs.declared.actions.Action.{Action}
-use Rattle.spv_state.specs.declared.actions.Action.TheVariants.{Compute, Load, Store, CopyMemory, Chain, ArrayLength, Branch, BranchConditional, Switch, Call, Return, ReturnValue, Unreachable, ControlBarrier, MemoryBarrier, Atomic, Other}
+use Rattle.spv_state.specs.declared.actions.Action.TheVariants.{Compute, Load, Store, CopyMemory, Chain, ArrayLength, Branch, BranchConditional, Switch, Call, Return, ReturnValue, Unreachable, ControlBarrier, MemoryBarrier, Atomic}
 use Rattle.spv_state.specs.declared.actions.AtomicOp.{AtomicOp}
 use Rattle.spv_state.specs.declared.actions.AtomicOp.TheVariants as atomic
 
@@ -26,5 +25,6 @@ atomics =
 unfoldable pub atomic_op : ℕ → Option AtomicOp
 atomic_op op = reads op atomics
 
+-- An instruction at which a run stops and that is none of these computes a value.
 unfoldable pub action_of : Inst → Action
-action_of i = unwrap_or (option_or (option_or (reads i.op named) (option_map Atomic (atomic_op i.op))) (option_map Compute (computation_of i))) Other
+action_of i = unwrap_or (option_or (reads i.op named) (option_map Atomic (atomic_op i.op))) Compute

@@ -5,4 +5,6 @@ pub mod Rooms
 pub mod Slots
 pub mod Sound
 pub mod Variables
+pub mod Events
 pub mod Start
+pub mod Roots

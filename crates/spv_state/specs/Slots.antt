@@ -1,8 +1,14 @@
 -- Where the register with an id lies among those of a function, if there is one.
-use Rattle.std.specs.Prelude.{◌≡◌, ℕ, List, Option, Some, None}
+use Rattle.std.specs.Prelude.{◌≡◌, ℕ, List, Option, Some, None, length}
+use Rattle.spv_base.specs.declared.values.Pointer.{Pointer}
+use Rattle.spv_base.specs.declared.values.Value.{Value}
+use Rattle.spv_frame.specs.Calls.{id_at}
+use Rattle.spv_frame.specs.Frames.{Held as Frame}
+use Rattle.spv_frame.specs.Numbers.{HasCells, HasPointer, HoldsPointer, HoldsValue}
 use Rattle.spv_frame.specs.Registers.{IsPointerSlotOf, IsSlotOf, Rooms, ids, number_of}
 use Rattle.spv_frame.specs.declared.slots.PointerSlot.{PointerSlot}
 use Rattle.spv_frame.specs.declared.slots.Slot.{Slot}
+use Rattle.spv_types.specs.Rows.{leaves}
 
 abbrev pub HasSlot : Rooms → ℕ → Option Slot → Type 0
 HasSlot rs id None = number_of id (ids rs) ≡ None
@@ -11,3 +17,16 @@ HasSlot rs id (Some s) = IsSlotOf rs s × (s.id ≡ id)
 abbrev pub HasPointerSlot : List ℕ → ℕ → Option PointerSlot → Type 0
 HasPointerSlot ks id None = number_of id ks ≡ None
 HasPointerSlot ks id (Some s) = IsPointerSlotOf ks s × (s.id ≡ id)
+
+-- The register with an id in a frame has a number and so many cells, and holds a value of as many, or none.
+pub record IsHeld (id k : ℕ) (f : Frame) (n : ℕ) (o : Option Value) : Type 0 where
+  pub named : id_at (ids f.plan.values) n ≡ id
+  pub cells : HasCells n k f
+  pub holds : HoldsValue n o f
+  pub long : (w : Value) → o ≡ Some w → length (leaves w) ≡ k
+
+-- the same of a pointer
+pub record IsHeldPointer (id : ℕ) (f : Frame) (n : ℕ) (o : Option Pointer) : Type 0 where
+  pub named : id_at f.plan.pointers n ≡ id
+  pub there : HasPointer n f
+  pub holds : HoldsPointer n o f

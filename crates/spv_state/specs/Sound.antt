@@ -22,7 +22,7 @@ use Rattle.spv_statuses.specs.declared.invocations.Status.{Status}
 use Rattle.spv_statuses.specs.declared.invocations.Status.TheVariants.{Ready, Arrived, Passed, Finished}
 use Rattle.spv_state.specs.Program.{Program, words_of}
 use Rattle.spv_state.specs.State.{State}
-use Rattle.spv_state.specs.Start.{frame_roots}
+use Rattle.spv_state.specs.Roots.{IsRooted, ids_in, local_ids, own_ids, shared_ids}
 
 -- ---- frames
 
@@ -48,7 +48,7 @@ pub record IsSoundFrame (a : Accepted) (f : Frame) : Type 0 where
 
 -- a frame has exactly the variables of its function
 abbrev pub HasVariables : Accepted → Frame → Roots → Type 0
-HasVariables a f es = map (λ (e : ℕ × Value). e.0) es ≡ map (λ (e : ℕ × Value). e.0) (frame_roots a f.plan.function)
+HasVariables a f es = ids_in es ≡ local_ids a f.plan.function
 
 -- ---- invocations
 
@@ -78,6 +78,8 @@ pub record IsSoundStack (a : Accepted) (t : Status) (k : Stacked) (l : Levels) :
   pub first : (f : Frame) → slice_get k.frames 0 ≡ Some f → f.plan.function ≡ a.entry
   pub calls : (depth : ℕ) (f g : Frame) → slice_get k.frames depth ≡ Some f → slice_get k.frames (suc depth) ≡ Some g → IsCallOf a f.pc g.plan.function
   pub waits : (f : Frame) → top k.frames ≡ Some f → StandsAs a t f
+  -- a pointer that a register holds names a variable that is there
+  pub rooted : (depth : ℕ) (f : Frame) → slice_get k.frames depth ≡ Some f → IsRooted a k.frames depth f
 
 -- ---- states
 
@@ -90,5 +92,8 @@ pub record IsSound (p : Program) (s : State) : Type 0 where
   pub stacks : length s.stacks ≡ length s.statuses.list
   pub levels : length s.memory.locals ≡ length s.statuses.list
   pub privates : length s.memory.privates ≡ length s.statuses.list
+  -- the variables that all invocations share, and those that each has for itself, are exactly the module's
+  pub shared : ids_in s.memory.shared ≡ shared_ids p.accepted
+  pub own : (i : ℕ) (es : Roots) → slice_get s.memory.privates i ≡ Some es → ids_in es ≡ own_ids p.accepted
   pub each : (i : ℕ) (t : Status) (k : Stacked) (l : Levels) → slice_get s.statuses.list i ≡ Some t → slice_get s.stacks i ≡ Some k
       → slice_get s.memory.locals i ≡ Some l → IsSoundStack p.accepted t k l

@@ -8,6 +8,7 @@ use Rattle.spv_frame.specs.Frames.{Held as Frame, fresh}
 use Rattle.spv_plans.specs.Plans.{plan_of, plans_in}
 use Rattle.spv_statuses.specs.declared.invocations.Status.{Status}
 use Rattle.spv_statuses.specs.declared.invocations.Status.TheVariants.{Ready}
+use Rattle.spv_state.specs.Events.{passed}
 use Rattle.spv_state.specs.Program.{Program, words_of}
 use Rattle.spv_state.specs.State.{State}
 use Rattle.spv_state.specs.Variables.{variables_of}
@@ -20,11 +21,11 @@ frame_roots a function = local_roots a (variables_of a function)
 abbrev pub begun : Accepted → Memory → Memory
 begun a m = record m { locals = map (λ (l : Levels). record l { list = l.list ++ frame_roots a a.entry ∷ [] }) m.locals }
 
--- Each invocation is Ready, and stands at the first executable of the entry function.
+-- Each invocation is Ready, and has come to the first executable of the entry function.
 unfoldable pub start_of : Program → State
 start_of p = record {
   plans = plans_in p.accepted;
   memory = begun p.accepted (starting p.accepted p.setup);
-  stacks = replicate (invocations p.accepted) (record { frames = fresh (plan_of p.accepted p.accepted.entry) ∷ []; room = p.accepted.depth });
+  stacks = replicate (invocations p.accepted) (record { frames = passed p.accepted 0 (fresh (plan_of p.accepted p.accepted.entry)) ∷ []; room = p.accepted.depth });
   statuses = record { list = replicate (invocations p.accepted) Ready; words = words_of p.accepted };
 }

@@ -3,6 +3,7 @@ use Rattle.std.specs.Prelude.{ℕ, ◌-◌, ◌++◌, List, [], ◌∷◌, lengt
 use Rattle.std.specs.Option.{option_map_or}
 use Rattle.spv_base.specs.Entries.{change, writes}
 use Rattle.spv_base.specs.State.{Roots}
+use Rattle.spv_base.specs.declared.values.PassedEvent.{PassedEvent}
 use Rattle.spv_base.specs.declared.values.Pointer.{Pointer}
 use Rattle.spv_base.specs.declared.values.Value.{Value, out-Value}
 use Rattle.spv_base.specs.declared.values.Value.TheOpen.{Value-F}
@@ -13,7 +14,7 @@ use Rattle.spv_frame.specs.Stacks.{Stacked, on_top, top}
 use Rattle.spv_mem.specs.Memory.{Held as Memory, Levels, entered, stored}
 use Rattle.spv_statuses.specs.Group.{Held as Statuses}
 use Rattle.spv_statuses.specs.declared.invocations.Status.{Status}
-use Rattle.spv_statuses.specs.declared.invocations.Status.TheVariants.{Passed}
+use Rattle.spv_statuses.specs.declared.invocations.Status.TheVariants.{Arrived, Passed}
 
 pub record State : Type 0 where
   pub plans : List Planned  -- of the module's functions
@@ -95,3 +96,17 @@ push_frame i f es s = record s { memory = entered i es s.memory; stacks = change
 -- a barrier opens: every invocation is Passed
 abbrev pub open_barrier : State → State
 open_barrier s = record s { statuses = record s.statuses { list = replicate (length s.statuses.list) Passed } }
+
+-- ---- inverses, where the change itself isn't one
+
+-- a frame passes a debug event
+abbrev pub append_event : PassedEvent → Frame → Frame
+append_event e f = record f { events = f.events ++ e ∷ [] }
+
+-- a frame hasn't passed its last debug event
+abbrev pub drop_event : Frame → Frame
+drop_event f = record f { events = without_last f.events }
+
+-- a barrier closes again: every invocation waits there
+abbrev pub close_barrier : ℕ → State → State
+close_barrier word s = record s { statuses = record s.statuses { list = replicate (length s.statuses.list) (Arrived word) } }

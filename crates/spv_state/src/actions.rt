@@ -4,7 +4,6 @@ ghost use Rattle.spv_state.specs.Actions as spec;
 
 use spv_base::Inst;
 use spv_ops::op;
-use spv_results::Computation;
 
 /// What an atomic does to the integer at its pointer (SPIR-V 1.6 section 3.42.18).
 #[derive(Clone, Copy, Debug, PartialEq, Eq)]
@@ -57,7 +56,7 @@ impl AtomicOp {
 #[derive(Clone, Copy, Debug, PartialEq, Eq)]
 pub enum Action {
     /// It computes a value.
-    Compute(Computation),
+    Compute,
     Load,
     Store,
     CopyMemory,
@@ -74,12 +73,10 @@ pub enum Action {
     ControlBarrier,
     MemoryBarrier,
     Atomic(AtomicOp),
-    /// No instruction of a block.
-    Other,
 }
 
 impl Action {
-    /// What an instruction does, by its opcode.
+    /// What an instruction does at which a run stops, by its opcode.
     #[tactic(auto, unfolding(crate::specs::Actions::action_of))]
     pub fn of(inst: &Inst) -> Action
         ensures { result ≡ spec.action_of inst.now }
@@ -101,10 +98,7 @@ impl Action {
             op::UNREACHABLE => Action::Unreachable,
             _ => match AtomicOp::of(inst.op) {
                 Some(operation) => Action::Atomic(operation),
-                None => match Computation::of(inst) {
-                    Some(computation) => Action::Compute(computation),
-                    None => Action::Other,
-                },
+                None => Action::Compute,
             },
         }
     }

@@ -1,14 +1,23 @@
 //! Laws of runs.
-ghost use Rattle.std.specs.Prelude.{◌≡◌, ◌<◌, ℕ, Some, length};
+ghost use Rattle.std.specs.Prelude.{◌≡◌, ◌<◌, ℕ, Some, length, slice_get};
+ghost use Rattle.spv_base.specs.Entries.{reads};
+ghost use Rattle.spv_base.specs.declared.values.Pointer.{Pointer};
+ghost use Rattle.spv_base.specs.declared.values.Value.{Value};
 ghost use Rattle.spv_frame.specs.Frames.{Held as Frame};
 ghost use Rattle.spv_initial.specs.Start.{invocations};
-ghost use Rattle.spv_valid.specs.Acceptance.{Accepted};
+ghost use Rattle.spv_index.specs.Definitions.{result_type};
+ghost use Rattle.spv_operands.specs.Operands.{pointer_of};
+ghost use Rattle.spv_operands.specs.Values.{value_of};
+ghost use Rattle.spv_valid.specs.Acceptance.{Accepted, IsAccepted};
 ghost use Rattle.spv_valid.specs.Validity.{IsValid};
 ghost use Rattle.spv_state.specs.Program.{Program};
+ghost use Rattle.spv_state.specs.Roots.{FindsVariable};
 ghost use Rattle.spv_state.specs.Sound.{IsSound, IsSoundFrame};
-ghost use Rattle.spv_state.specs.State.{State, top_of};
+ghost use Rattle.spv_state.specs.State.{State, depth_of, frames_of, top_of};
 ghost use Rattle.spv_state.specs.Start.{start_of};
 ghost use Rattle.spv_plans.specs.Registered.{IsOfFunction};
+
+use spv_valid::accepted_modules_are_valid;
 
 /// A law, with nothing to run: a run starts with all invocations of its module, of which there is one at least.
 pub fn runs_start_with_all()
@@ -21,3 +30,14 @@ pub fn top_frames_are_sound()
     ensures frame { (p : Program) (s : State) (i : ℕ) (f : Frame) → IsSound p s → top_of s i ≡ Some f → IsSoundFrame p.accepted f }
     ensures function { (a : Accepted) (f : Frame) → IsSoundFrame a f → IsOfFunction a f.plan }
 {}
+
+/// A law, with nothing to run: in a sound state a pointer finds its variable, where a register of a frame holds it, or an operand of the top
+/// frame stands for it. So where it names no part of memory, its path leads outside the variable's value.
+pub fn pointers_find_their_variables()
+    ensures registers { (p : Program) (s : State) (i depth id : ℕ) (f : Frame) (q : Pointer) → IsSound p s → slice_get (frames_of s i) depth ≡ Some f
+        → reads id f.pointers ≡ Some (Some q) → FindsVariable s.memory i q }
+    ensures operands { (p : Program) (s : State) (i id ty : ℕ) (f : Frame) (v : Value) (q : Pointer) → IsAccepted p.accepted → IsSound p s → top_of s i ≡ Some f
+        → value_of p.accepted f (depth_of s i) id ≡ Some v → result_type p.accepted.insts id ≡ Some ty → pointer_of v ≡ Some q → FindsVariable s.memory i q }
+{
+    accepted_modules_are_valid();
+}

@@ -6,10 +6,12 @@ ghost use Rattle.spv_initial.specs.Start.{local_roots, starting};
 ghost use Rattle.spv_initial.specs.Variables.{AreDeclared, HaveTargets};
 ghost use Rattle.spv_mem.specs.Memory.{Levels};
 ghost use Rattle.spv_plans.specs.Plans.{plan_of, plans_in};
+ghost use Rattle.spv_state.specs.Events.{IsReadable, passed};
 ghost use Rattle.spv_state.specs.Program as program;
 ghost use Rattle.spv_state.specs.Sound.{IsSound};
 ghost use Rattle.spv_state.specs.Start as spec;
 
+use crate::events::pass_events;
 use crate::plans::plan_in;
 use crate::runnable::Runnable;
 use crate::whole::Whole;
@@ -79,24 +81,52 @@ fn entry_plan<'a>(accepted: &Module, plans: &'a Plans) -> &'a Rc<Plan>
     plan_in(accepted, plans, accepted.entry())
 }
 
+/// The frame of the entry function, with a plan, as a run begins it.
+fn frame(alloc: Global, m: &Runnable, plans: &Plans, plan: &Rc<Plan>) -> Result<Frame, NoMemory>
+    requires plans { plans.now ≡ plans_in m.now.accepted }
+    requires frame { IsReadable m.now.accepted (fresh plan.now.value) }
+    ensures { IfOk result (λ frame. frame ≡ passed m.now.accepted 0 (fresh plan.now.value)) }
+{
+    let mut frame = Frame::new(alloc, plan)?;
+    pass_events(alloc, m, plans, &mut frame, 0)?;
+    Ok(frame)
+}
+
 /// The calls of an invocation at the start: one frame with a plan.
-fn stack(alloc: Global, plan: &Rc<Plan>, room: u32) -> Result<Stack, NoMemory>
-    requires { 0 < room }
-    ensures { IfOk result (λ stack. stack ≡ record { frames = fresh plan.now.value ∷ []; room = room }) }
+fn stack(
+    alloc: Global,
+    m: &Runnable,
+    plans: &Plans,
+    plan: &Rc<Plan>,
+    room: u32,
+) -> Result<Stack, NoMemory>
+    requires room { 0 < room }
+    requires plans { plans.now ≡ plans_in m.now.accepted }
+    requires frame { IsReadable m.now.accepted (fresh plan.now.value) }
+    ensures { IfOk result (λ stack. stack ≡ record { frames = passed m.now.accepted 0 (fresh plan.now.value) ∷ []; room = room }) }
 {
     let mut stack = Stack::new(alloc, room)?;
-    stack.give_back(Frame::new(alloc, plan)?);
+    stack.give_back(frame(alloc, m, plans, plan)?);
     Ok(stack)
 }
 
 /// Those of so many invocations.
-fn stacks(alloc: Global, plan: &Rc<Plan>, room: u32, count: u32) -> Result<Vec<Stack>, NoMemory>
-    requires { 0 < room }
-    ensures { IfOk result (λ stacks. stacks.items ≡ replicate count (record { frames = fresh plan.now.value ∷ []; room = room })) }
+fn stacks(
+    alloc: Global,
+    m: &Runnable,
+    plans: &Plans,
+    plan: &Rc<Plan>,
+    room: u32,
+    count: u32,
+) -> Result<Vec<Stack>, NoMemory>
+    requires room { 0 < room }
+    requires plans { plans.now ≡ plans_in m.now.accepted }
+    requires frame { IsReadable m.now.accepted (fresh plan.now.value) }
+    ensures { IfOk result (λ stacks. stacks.items ≡ replicate count (record { frames = passed m.now.accepted 0 (fresh plan.now.value) ∷ []; room = room })) }
 {
     let mut stacks = Vec::with_capacity(alloc, count as usize)?;
     for _number in 0..count {
-        stacks.push(stack(alloc, plan, room)?)?;
+        stacks.push(stack(alloc, m, plans, plan, room)?)?;
     }
     Ok(stacks)
 }
@@ -105,12 +135,13 @@ fn stacks(alloc: Global, plan: &Rc<Plan>, room: u32, count: u32) -> Result<Vec<S
 fn whole(alloc: Global, m: &Runnable) -> Result<Whole, NoMemory>
     ensures { IfOk result (λ whole. whole ≡ spec.start_of m.now) }
 {
+    functions_have_their_plans();
     let accepted = m.accepted();
     let _insts = accepted.insts();
     let count = invocations(accepted);
     let plans = plans_of(alloc, accepted)?;
     let plan = entry_plan(accepted, &plans);
-    let stacks = stacks(alloc, plan, accepted.depth(), count)?;
+    let stacks = stacks(alloc, m, &plans, plan, accepted.depth(), count)?;
     Ok(Whole {
         plans,
         memory: memory(alloc, m)?,
@@ -150,6 +181,7 @@ impl Whole {
     {
         functions_have_their_plans();
         let _insts = m.accepted().insts();
+        let _setup = m.setup();
         whole(alloc, m)
     }
 

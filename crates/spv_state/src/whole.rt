@@ -1,10 +1,10 @@
 //! The state of a workgroup, and its primitive changes. Each takes no memory and can't fail.
-ghost use Rattle.std.specs.Prelude.{◌≡◌, ◌<◌, IsSome, Some, length, slice_get, option_copied, true};
+ghost use Rattle.std.specs.Prelude.{◌≡◌, ◌<◌, IsSome, Some, length, slice_get, option_copied, option_map, true};
 ghost use Rattle.spv_frame.specs.Stacks.{Stacked};
 ghost use Rattle.spv_mem.specs.Memory.{AreVariables, HasRoom, MayStore, load_of};
 ghost use Rattle.spv_statuses.specs.Group.{all_wait_at};
 ghost use Rattle.spv_statuses.specs.Invocations.{IsWithin};
-ghost use Rattle.spv_state.specs.Rooms.{IsBounded};
+ghost use Rattle.spv_state.specs.Rooms.{HasLocals, IsBounded};
 ghost use Rattle.spv_state.specs.State as state;
 
 use spv_base::Pointer;
@@ -37,6 +37,19 @@ impl Model for Whole {
     ghost view = { λ w. record { plans = w.plans; memory = w.memory; stacks = w.stacks.items; statuses = w.statuses } };
 
     ghost invariant = { λ w. (vec_len w.stacks < 2 ^ 32) × AreBounded w.stacks.items };
+}
+
+/// A frame and its variables, which are there.
+fn both(frame: Option<Frame>, locals: Option<Locals>) -> (Frame, Locals)
+    requires frame { IsSome frame }
+    requires locals { IsSome locals }
+    ensures frame { frame ≡ Some result.0 }
+    ensures locals { locals ≡ Some result.1 }
+{
+    match (frame, locals) {
+        (Some(frame), Some(locals)) => (frame, locals),
+        _ => unreachable!(),
+    }
 }
 
 impl Whole {
@@ -104,22 +117,40 @@ impl Whole {
         let _stored = self.memory.store(i, pointer, row);
     }
 
-    /// Moves the top frame of an invocation to an instruction.
-    pub fn set_pc(&mut self, i: u32, pc: u32)
+    /// Moves the top frame of an invocation to an instruction, and hands back where it stood.
+    pub fn set_pc(&mut self, i: u32, pc: u32) -> u32
         requires inside { i < length self.old.stacks }
         requires frames { IsSome (state.top_of self.old i) }
-        ensures { self.new ≡ state.on_frame i (state.with_pc pc) self.old }
+        ensures after { self.new ≡ state.on_frame i (state.with_pc pc) self.old }
+        ensures handed { option_map (λ f. f.pc) (state.top_of self.old i) ≡ Some result }
     {
-        let _before = self.stacks[i as usize].set_pc(pc);
+        self.stacks[i as usize].set_pc(pc)
     }
 
-    /// Gives an invocation another status.
-    pub fn set_status(&mut self, i: u32, status: Status)
+    /// Gives an invocation another status, and hands back the one that it had.
+    pub fn set_status(&mut self, i: u32, status: Status) -> Status
         requires inside { i < length self.old.statuses.list }
         requires within { IsWithin self.old.statuses.words status }
-        ensures { self.new ≡ state.set_status i status self.old }
+        ensures after { self.new ≡ state.set_status i status self.old }
+        ensures handed { slice_get self.old.statuses.list i ≡ Some result }
+        ensures within { IsWithin self.old.statuses.words result }
     {
-        let _before = self.statuses.exchange(i, status);
+        self.statuses.exchange(i, status)
+    }
+
+    /// Takes the top frame of an invocation away, with its variables, and hands both back.
+    pub fn take_frame(&mut self, i: u32) -> (Frame, Locals)
+        requires stacks { i < length self.old.stacks }
+        requires locals { i < length self.old.memory.locals }
+        requires frames { IsSome (state.top_of self.old i) }
+        requires variables { HasLocals self.old i }
+        ensures after { self.new ≡ state.pop_frame i self.old }
+        ensures back { self.old ≡ state.push_frame i result.0 result.1 self.new }
+        ensures variables { ∥ AreVariables self.old.memory.types self.old.memory.targets result.1 ∥₁ }
+    {
+        let frame = self.stacks[i as usize].leave();
+        let locals = self.memory.leave_locals(i);
+        both(frame, locals)
     }
 
     /// Drops the top frame of an invocation, with its variables.

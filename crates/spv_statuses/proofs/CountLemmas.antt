@@ -1,5 +1,5 @@
 -- Counts of elements that pass a test, and what they tell of all of them.
-use Rattle.std.proofs.Common.{◌≡◌, ◌≢◌, ◌∙◌, ◌<◌, ◌≤◌, ◌+◌, ◌*◌, ◌&&◌, ◌||◌, ℕ, zero, suc, Bool, true, false, cond, not, nat_eq, nat_lt, List, [], ◌∷◌, Some, length, replicate, refl, sym, ap, subst, arith, slice_get, slice_set, slice_index_or}
+use Rattle.std.proofs.Common.{◌≡◌, ◌≢◌, ◌∙◌, ◌<◌, ◌≤◌, ◌+◌, ◌*◌, ◌&&◌, ◌||◌, ℕ, zero, suc, Bool, true, false, cond, not, nat_eq, nat_lt, List, [], ◌∷◌, Some, length, length-set, replicate, refl, sym, ap, subst, arith, slice_get, slice_set, slice_index_or}
 use Rattle.std.specs.List.{count_by, list_all, list_any}
 use Rattle.std.proofs.lemmas.List.{length-replicate}
 use Rattle.std.proofs.lemmas.List.Folds.{sum_by-replicate}
@@ -91,6 +91,16 @@ count_set p (z ∷ zs) (suc i) x y h =
     let b : count_by p (slice_set (z ∷ zs) (suc i) y) ≡ cond (p z) 1 0 + count_by p (slice_set zs i y) = count_cons p z (slice_set zs i y) in
     omega (arith, r, a, b)
 
+-- all pass once an element is one that passes, where as many others pass
+with_step : (b : Bool) (c d n : ℕ) → d + cond b 1 0 ≡ c + 1 → nat_eq (c + cond (not b) 1 0) n ≡ nat_eq d n
+with_step true c d n e = let same : c + 0 ≡ d = omega arith in ap (λ (k : ℕ). nat_eq k n) same
+with_step false c d n e = let same : c + 1 ≡ d = omega arith in ap (λ (k : ℕ). nat_eq k n) same
+
+pub all_with : {X : Type 0} (p : X → Bool) (xs : List X) (i : ℕ) (x y : X) → slice_get xs i ≡ Some x → p y ≡ true → nat_eq (count_by p xs + cond (not (p x)) 1 0) (length xs) ≡ list_all p (slice_set xs i y)
+all_with p xs i x y here passes =
+    let set : count_by p (slice_set xs i y) + cond (p x) 1 0 ≡ count_by p xs + 1 = count_set p xs i x y here ∙ ap (λ (b : Bool). count_by p xs + cond b 1 0) passes in
+    with_step (p x) (count_by p xs) (count_by p (slice_set xs i y)) (length xs) set ∙ ap (nat_eq (count_by p (slice_set xs i y))) (sym (length-set xs i y)) ∙ all_counted p (slice_set xs i y)
+
 -- an element that passes is counted
 pub count_has : {X : Type 0} (p : X → Bool) (xs : List X) (i : ℕ) (x : X) → slice_get xs i ≡ Some x → cond (p x) 1 0 ≤ count_by p xs
 count_has p [] i x h = cc
@@ -154,7 +164,7 @@ set_back (z ∷ zs) (suc i) x y h = ap (λ ws. z ∷ ws) (set_back zs i x y h)
 
 -- ---- places of barriers
 
-same_word : (word : ℕ) → waits_at word (Arrived word) ≡ true
+pub same_word : (word : ℕ) → waits_at word (Arrived word) ≡ true
 same_word word = grind arith
 
 other_word : (w word : ℕ) → w ≢ word → waits_at w (Arrived word) ≡ false

@@ -83,6 +83,15 @@ impl Statuses {
         self.waiting.at(word) == self.list.len()
     }
 
+    /// Whether all invocations wait at the barrier at a word once an invocation does. In constant time.
+    pub fn all_wait_with(&self, inv: u32, word: u32) -> bool
+        requires { inv < length self.now.list }
+        ensures { result ≡ spec.all_wait_at word (slice_set self.now.list inv (Status.Arrived word)) }
+    {
+        let more = !self.get(inv).waits_at(word);
+        self.waiting.at(word) + usize::from(more) == self.list.len()
+    }
+
     /// Whether all invocations are finished. In constant time.
     #[tactic(auto, using(crate::proofs::CountLemmas::all_counted))]
     pub fn all_finished(&self) -> bool

@@ -38,6 +38,16 @@ impl Status {
         }
     }
 
+    /// Whether it waits at the barrier at a word.
+    pub fn waits_at(self, word: u32) -> bool
+        ensures { result ≡ spec.waits_at word self }
+    {
+        match self {
+            Status::Arrived(at) => at == word,
+            Status::Ready | Status::Passed | Status::Finished => false,
+        }
+    }
+
     /// The status without the barrier.
     pub fn kind(self) -> Status4
         ensures { result ≡ spec.kind self }

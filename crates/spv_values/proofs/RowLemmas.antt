@@ -63,6 +63,11 @@ pub scalar_leaf : (c : Lane) → leaves (Scalar c) ≡ c ∷ []
 unfolding leaves
 scalar_leaf c = search (rules, the_lemmas)
 
+pub one_set : (ls : List Lane) (c : Lane) → length ls ≡ 1 → leaves (Scalar c) ≡ slice_set ls 0 c
+one_set [] c h = absurd cc
+one_set (d ∷ []) c h = scalar_leaf c
+one_set (d ∷ e ∷ ls) c h = absurd cc
+
 pub one_row : (v : Value) (c : Lane) → IsSome (scalar_in (out-Value v)) → leaves (Scalar c) ≡ slice_set (leaves v) 0 c
 one_row v c h = level (out-Value v) refl h
   where

@@ -7,7 +7,8 @@ ghost use Rattle.spv_types.specs.Shapes.{scalar_in};
 ghost use Rattle.spv_values.specs.Places.{IsRowAt};
 
 use crate::parts::Part;
-use crate::trees::{no_parts, part_of, replaced, same, scalar};
+use crate::singles::Single;
+use crate::trees::{no_parts, part_by, part_of, replaced_by, same, scalar, shadow};
 use spv_base::{Cell, Ghost, NoMemory, Path, Value};
 use std::alloc::Global;
 use std::marker::Model;
@@ -119,6 +120,25 @@ impl Row {
         self.tree = scalar(&self.tree, &cell);
     }
 
+    /// Puts a scalar in the place of a value of one cell. It takes no memory.
+    #[tactic(auto, using(crate::proofs::RowLemmas::scalar_leaf, crate::proofs::RowLemmas::one_set))]
+    pub fn put_lane(&mut self, cell: Cell)
+        requires { length (leaves self.old) ≡ 1 }
+        ensures { self.new ≡ Scalar cell }
+    {
+        self.cells[0] = cell;
+        self.tree = scalar(&self.tree, &cell);
+    }
+
+    /// Takes the value of a part of as many cells. It takes no memory.
+    pub fn copy_part(&mut self, part: &Part)
+        requires { length (leaves self.old) ≡ length (leaves part.now) }
+        ensures { self.new ≡ part.now }
+    {
+        self.cells.as_mut_slice().copy_from_slice(part.cells());
+        self.tree = part.tree();
+    }
+
     /// Takes the cells out, to be filled anew, and leaves none. It takes no memory.
     #[tactic(auto, using(crate::proofs::RowLemmas::no_leaves))]
     pub fn take_cells(&mut self) -> Vec<Cell>
@@ -131,15 +151,39 @@ impl Row {
     }
 
     /// Exchanges the part that a path names, which lies behind `start` cells, with a value of as many cells.
-    #[tactic(auto, using(crate::proofs::RowLemmas::row_within, crate::proofs::RowLemmas::row_is))]
     pub fn exchange(&mut self, path: &Path, start: usize, other: &mut Row)
         requires { IsRowAt self.old path.now start (length (leaves other.old)) }
         ensures after { self.new ≡ with_part self.old path.now other.old }
         ensures handed { part_at self.old path.now ≡ Some other.new }
     {
+        self.exchange_by(&shadow(path), start, other);
+    }
+
+    /// The same, where no code reads the path.
+    #[tactic(auto, using(crate::proofs::RowLemmas::row_within, crate::proofs::RowLemmas::row_is))]
+    pub fn exchange_by(&mut self, path: &Ghost<Path>, start: usize, other: &mut Row)
+        requires { IsRowAt self.old path.now.value start (length (leaves other.old)) }
+        ensures after { self.new ≡ with_part self.old path.now.value other.old }
+        ensures handed { part_at self.old path.now.value ≡ Some other.new }
+    {
         self.cells[start..start + other.cells.len()].swap_with_slice(other.cells.as_mut_slice());
-        let part = part_of(&self.tree, path);
-        self.tree = replaced(&self.tree, path, &other.tree);
+        let part = part_by(&self.tree, path);
+        self.tree = replaced_by(&self.tree, path, &other.tree);
         other.tree = part;
+    }
+
+    /// Exchanges the part that a path names, which is the cell behind `start` others, with a value of one cell. It takes no memory.
+    #[tactic(auto, using(crate::proofs::RowLemmas::row_within, crate::proofs::RowLemmas::row_is, crate::proofs::SingleLemmas::cell_is, crate::proofs::SingleLemmas::cell_put, crate::proofs::SingleLemmas::cell_within))]
+    pub fn exchange_single(&mut self, path: &Ghost<Path>, start: usize, other: &mut Single)
+        requires { IsRowAt self.old path.now.value start 1 }
+        ensures after { self.new ≡ with_part self.old path.now.value other.old }
+        ensures handed { part_at self.old path.now.value ≡ Some other.new }
+    {
+        let cell = self.cells[start];
+        self.cells[start] = other.cell;
+        other.cell = cell;
+        let old = part_by(&self.tree, path);
+        self.tree = replaced_by(&self.tree, path, &other.tree);
+        other.tree = old;
     }
 }

@@ -40,3 +40,32 @@ pub fn no_parts(tree: &Ghost<Value>) -> Ghost<Value>
 {
     tree.by(tree, tree)
 }
+
+/// A path that only proofs read.
+pub fn shadow(path: &Path) -> Ghost<Path>
+    ensures { result.value ≡ path.now }
+{
+    let none = Ghost::of();
+    shadow_by(&none, path)
+}
+
+fn shadow_by(none: &Ghost<Path>, path: &Path) -> Ghost<Path>
+    ensures { result.value ≡ path.now }
+{
+    none.by(path, path)
+}
+
+/// The part that a path names which only proofs read.
+pub fn part_by(tree: &Ghost<Value>, path: &Ghost<Path>) -> Ghost<Value>
+    requires { IsSome (part_at tree.now.value path.now.value) }
+    ensures { part_at tree.now.value path.now.value ≡ Some result.value }
+{
+    tree.by(path, tree)
+}
+
+/// A tree with another part where such a path leads.
+pub fn replaced_by(tree: &Ghost<Value>, path: &Ghost<Path>, part: &Ghost<Value>) -> Ghost<Value>
+    ensures { result.value ≡ with_part tree.now.value path.now.value part.now.value }
+{
+    tree.by(path, part)
+}

@@ -56,4 +56,6 @@ returns-clause-fits c =
       store = subst (λ (v : Value). StoreFits c.args.site.now.state c.args.site.now.inv (Some (c.in_ok-place.place, v))) (sym c.in_ok-copied.ensures) fits;
       result = tt;
       control = c.copy_memory_is_kept.ensures.next;
+      rooted = tt;
+      passed = tt;
     }

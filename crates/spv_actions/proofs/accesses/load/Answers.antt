@@ -11,6 +11,8 @@ use Rattle.spv_actions.specs.Effects.{gives}
 use Rattle.spv_actions.specs.Sites.{due, part_of, values}
 use Rattle.spv_actions.proofs.AccessLemmas.{load_gives, load_missing, load_outside, load_shape, no_value_due, outside_due}
 use Rattle.spv_actions.proofs.EffectLemmas.{loading, result_fits, result_plain}
+use Rattle.spv_actions.proofs.RootedLemmas.{result_rooted}
+use Rattle.spv_state.specs.State.{frames_of}
 use Rattle.spv_actions.proofs.accesses.load.Goals as goal
 
 pub load_is_kept-requires : goal.load_is_kept-requires
@@ -36,7 +38,7 @@ returns-clause-fits c =
     let memory : ∥ IsMemory c.args.site.now.state.memory ∥₁ = subst (λ (m : Memory). ∥ IsMemory m ∥₁) c.memory.ensures c.variables_are_shaped.ensures in
     let shape = load_shape c.args.site.now (subst (λ (a : Accepted). AreSound a.types) c.accepted.ensures (sound_types c.accepted.result.now c.insts-insts.ensures.valid)) (subst (λ (a : Accepted). ∥ IsValid a ∥₁) c.accepted.ensures c.insts-insts.ensures.valid) c.is_reached.ensures (shown c.in_ok-at.at) c.in_ok-at.ensures.shape c.in_ok-part.field-0 c.load_is_kept.ensures.rule memory c.in_ok-part.ensures in
     let own : IsResult c.args.site.now.program.accepted c.args.site.now.inst c.copied.new.row = subst (IsResult c.args.site.now.program.accepted c.args.site.now.inst) (sym c.in_ok-copied.ensures) shape in
-    record { store = tt; result = result_fits c.args.site.now.program.accepted c.args.site.now.inst c.copied.new.row (subst (λ (a : Accepted). AreSound a.types) c.accepted.ensures (sound_types c.accepted.result.now c.insts-insts.ensures.valid)) own; control = c.load_is_kept.ensures.next }
+    record { store = tt; result = result_fits c.args.site.now.program.accepted c.args.site.now.inst c.copied.new.row (subst (λ (a : Accepted). AreSound a.types) c.accepted.ensures (sound_types c.accepted.result.now c.insts-insts.ensures.valid)) own; control = c.load_is_kept.ensures.next; rooted = result_rooted c.args.site.now.program.accepted (frames_of c.args.site.now.state c.args.site.now.inv) c.args.site.now.inst c.copied.new.row (subst (λ (a : Accepted). AreSound a.types) c.accepted.ensures (sound_types c.accepted.result.now c.insts-insts.ensures.valid)) own; passed = tt }
 
 pub returns-clause-taken : goal.returns-clause-taken
 returns-clause-taken c =

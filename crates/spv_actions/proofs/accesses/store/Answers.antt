@@ -45,4 +45,6 @@ returns-clause-fits c =
       store = store_fits c.args.site.now (subst (λ (a : Accepted). AreSound a.types) c.accepted.ensures (sound_types c.accepted.result.now c.insts-insts.ensures.valid)) (subst (λ (a : Accepted). ∥ IsValid a ∥₁) c.accepted.ensures c.insts-insts.ensures.valid) c.is_reached.ensures (shown c.in_ok-at.at) c.in_ok-at.ensures.shape c.in_ok-_part._part c.copied.new.row c.in_ok-place.place c.store_is_kept.ensures.rule c.in_ok-_part.ensures c.in_ok-place.ensures own;
       result = tt;
       control = c.store_is_kept.ensures.next;
+      rooted = tt;
+      passed = tt;
     }

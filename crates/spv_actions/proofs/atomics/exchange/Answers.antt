@@ -6,6 +6,8 @@ use Rattle.spv_valid.specs.Acceptance.{Accepted}
 use Rattle.spv_results.proofs.SoundTypes.{sound_types}
 use Rattle.spv_actions.proofs.AtomicLemmas.{exchange_fits}
 use Rattle.spv_actions.proofs.EffectLemmas.{result_fits}
+use Rattle.spv_actions.proofs.RootedLemmas.{result_rooted}
+use Rattle.spv_state.specs.State.{frames_of}
 use Rattle.spv_actions.proofs.atomics.exchange.Goals as goal
 
 pub returns-clause-fits : goal.returns-clause-fits
@@ -15,4 +17,6 @@ returns-clause-fits c =
       store = exchange_fits c.args.site.now c.args.target c.requires.target (subst (λ (m : Memory). ∥ IsMemory m ∥₁) c.memory.ensures c.variables_are_shaped.ensures) c.args.new c.put.new.row c.in_ok-put.ensures c.is_lane.ensures c.requires.width;
       result = result_fits c.args.site.now.program.accepted c.args.site.now.inst (Scalar c.args.target.1) sound c.requires.result;
       control = c.requires.next;
+      rooted = result_rooted c.args.site.now.program.accepted (frames_of c.args.site.now.state c.args.site.now.inv) c.args.site.now.inst (Scalar c.args.target.1) sound c.requires.result;
+      passed = tt;
     }

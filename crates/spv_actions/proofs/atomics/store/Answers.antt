@@ -41,4 +41,6 @@ returns-clause-fits c =
       store = exchange_fits c.args.site.now (c.in_ok-place.place, c.in_ok-place._old) c.in_ok-place.ensures.is (subst (λ (m : Memory). ∥ IsMemory m ∥₁) c.memory.ensures c.variables_are_shaped.ensures) c.in_ok-value.value c.put.new.row c.in_ok-put.ensures c.is_lane.ensures same;
       result = tt;
       control = c.requires.next;
+      rooted = tt;
+      passed = tt;
     }

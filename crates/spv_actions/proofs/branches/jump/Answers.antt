@@ -23,4 +23,6 @@ returns-clause-fits c v =
         values = block_fits c.operands_have_shapes.ensures.values c.args.site.now accepts valid c.is_reached.ensures (block_at c.args.site.now.program.accepted.insts c.args.site.now.inst.word)
             (known c.args.site.now.program.accepted accepts valid) c.in-Some.block (map phi_value c.in_ok-phis.phis.items) c.phis_are_kept.ensures c.in_ok-phis.ensures;
       };
+      rooted = tt;
+      passed = tt;
     }

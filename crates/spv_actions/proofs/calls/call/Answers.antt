@@ -1,9 +1,10 @@
 use Rattle.std.proofs.Common.{◌≡◌, ℕ, Err, rules, subst, sym}
 use Rattle.std.specs.List.{Contains}
 use Rattle.spv_plans.specs.Plans.{functions_in}
+use Rattle.spv_state.proofs.EventLemmas.{readable}
 use Rattle.spv_state.specs.declared.actions.Action.TheVariants.{Call}
 use Rattle.spv_actions.proofs.EffectLemmas.{acting}
-use Rattle.spv_actions.proofs.EnterLemmas.{call_faults, call_gives, enter_fits}
+use Rattle.spv_actions.proofs.EnterLemmas.{begun_plan, begun_rooted, begun_sound, call_faults, call_gives, enter_fits}
 use Rattle.spv_actions.proofs.calls.call.Goals as goal
 
 pub call_is_kept-requires : goal.call_is_kept-requires
@@ -15,19 +16,26 @@ plan-plan-requires c = subst (λ (f : ℕ). ∥ Contains (functions_in c.args.si
 pub frame_of-requires-clause-known : goal.frame_of-requires-clause-known
 frame_of-requires-clause-known c = subst (λ (f : ℕ). ∥ Contains (functions_in c.args.site.now.program.accepted) f ∥₁) (sym c.callee-function.ensures) c.call_is_kept.ensures.known
 
-pub returns-in_err-frame-clause-due : goal.returns-in_err-frame-clause-due
-returns-in_err-frame-clause-due c v =
-    let same : c.from_residual.result ≡ Err c.in_err-frame.field-0.0 = search rules in
-    call_faults c.args.site.now c.requires c.callee-function.result c.callee-function.ensures v c.from_residual.result c.in_err-frame.field-0.0 c.in_err-frame.ensures.due same
+pub begun-requires : goal.begun-requires
+begun-requires c = readable c.args.site.now.program.accepted c.in_ok-fresh.fresh c.in_ok-fresh.ensures.sound
+
+pub returns-in_err-fresh-clause-due : goal.returns-in_err-fresh-clause-due
+returns-in_err-fresh-clause-due c v =
+    let same : c.from_residual.result ≡ Err c.in_err-fresh.field-0.0 = search rules in
+    call_faults c.args.site.now c.requires c.callee-function.result c.callee-function.ensures v c.from_residual.result c.in_err-fresh.field-0.0 c.in_err-fresh.ensures.due same
 
 pub returns-clause-due : goal.returns-clause-due
 returns-clause-due c v =
-    call_gives c.args.site.now c.requires c.callee-function.result c.callee-function.ensures c.in_ok-frame.frame c.in_ok-locals.locals c.in_ok-frame.ensures.due c.in_ok-locals.ensures.value
+    call_gives c.args.site.now c.requires c.callee-function.result c.callee-function.ensures c.in_ok-fresh.fresh c.in_ok-frame.frame c.in_ok-locals.locals c.in_ok-fresh.ensures.due c.in_ok-frame.ensures
+    c.in_ok-locals.ensures.value
 
 pub returns-clause-fits : goal.returns-clause-fits
 returns-clause-fits c v = record {
   store = tt;
   result = tt;
   control = enter_fits c.args.site.now.program.accepted c.args.site.now.inst c.callee-function.result c.in_ok-frame.frame c.in_ok-locals.locals c.callee-function.ensures c.call_is_kept.ensures.call
-      c.in_ok-frame.ensures.sound c.in_ok-frame.ensures.plan c.in_ok-locals.ensures.value c.in_ok-locals.ensures.are;
+      (begun_sound c.args.site.now c.in_ok-fresh.fresh c.in_ok-frame.frame c.in_ok-frame.ensures c.in_ok-fresh.ensures.sound)
+      (begun_plan c.args.site.now c.in_ok-fresh.fresh c.in_ok-frame.frame _ c.in_ok-frame.ensures c.in_ok-fresh.ensures.plan) c.in_ok-locals.ensures.value c.in_ok-locals.ensures.are;
+  rooted = tt;
+  passed = begun_rooted c.args.site.now c.in_ok-fresh.fresh c.in_ok-frame.frame c.in_ok-frame.ensures c.in_ok-fresh.ensures.rooted;
 }

@@ -11,6 +11,7 @@ use Rattle.spv_state.proofs.StartSound.{function_frame}
 use Rattle.spv_actions.specs.Passing.{IsParameter, Suits, frame_due}
 use Rattle.spv_actions.specs.Sites.{values}
 use Rattle.spv_actions.proofs.PassingLemmas.{Begins, argument_missing, begins_all, begins_fault, begins_fresh, begins_next, parameter_there, passed_at}
+use Rattle.spv_actions.proofs.RootedLemmas.{site_root}
 use Rattle.spv_actions.proofs.calls.frame_of.Goals as goal
 
 pub loop-number-init : goal.loop-number-init
@@ -54,7 +55,9 @@ loop-number-preserved c =
     let place : Place = get_or c.parameters-parameters.result.now n (Value 0) in
     let made = c.in_ok-put.ensures id (subst (λ (p : Planned). IsParameter p place id) (sym (c.deref-in-loop-number.ensures ∙ c.requires.plan)) there.passed.is) in
     subst (λ (m : ℕ). Begins x c.args.function m c.put.new.frame) next
-    (begins_next x c.args.function n c.loop-number.frame c.put.new.frame there.parameter v there.at (ap (values x) next ∙ c.in_ok-operand.ensures.value) there.passed.fits made c.loop-number.invariant)
+    (begins_next x c.args.function n c.loop-number.frame c.put.new.frame there.parameter v there.at (ap (values x) next ∙ c.in_ok-operand.ensures.value) there.passed.fits
+    (λ q is. site_root x (suc n) there.parameter.ty v q c.accepted.result.now c.accepted.ensures c.insts-insts.ensures.accepted c.insts-insts.ensures.valid c.is_reached.ensures (ap (values x) next ∙ c.in_ok-operand.ensures.value)
+    (c.requires.passes n there.parameter there.at) is) made c.loop-number.invariant)
 
 pub returns-clause-due : goal.returns-clause-due
 returns-clause-due c =

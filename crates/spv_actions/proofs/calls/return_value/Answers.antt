@@ -31,4 +31,4 @@ returns-clause-fits c =
     let held : c.copied.new.row ≡ c.in_ok-value.value = search rules in
     let own : IsOperand a c.args.site.now.inst 0 c.copied.new.row = subst (IsOperand a c.args.site.now.inst 0) (sym held) c.in_ok-value.ensures.shape in
     let sound = subst (λ (x : Accepted). AreSound x.types) c.accepted.ensures (sound_types c.accepted.result.now c.insts-insts.ensures.valid) in
-    record { store = tt; result = tt; control = c.return_value_is_kept.ensures.returns c.copied.new.row (operand_plain a c.args.site.now.inst 0 c.copied.new.row sound c.return_value_is_kept.ensures.data own) own }
+    record { store = tt; result = tt; control = c.return_value_is_kept.ensures.returns c.copied.new.row (operand_plain a c.args.site.now.inst 0 c.copied.new.row sound c.return_value_is_kept.ensures.data own) own; rooted = tt; passed = tt }

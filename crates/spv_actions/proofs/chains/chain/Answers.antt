@@ -8,6 +8,9 @@ use Rattle.spv_actions.specs.Chains.{chained, indexes}
 use Rattle.spv_actions.specs.Sites.{due, values}
 use Rattle.spv_actions.proofs.AccessLemmas.{no_value_due, outside_due}
 use Rattle.spv_actions.proofs.ChainLemmas.{chain_data, chain_fails, chain_fits, chain_gives, chain_missing, chain_without}
+use Rattle.spv_actions.proofs.RootedLemmas.{chain_rooted, chain_typed, site_root}
+use Rattle.spv_results.specs.Operands.{known}
+use Rattle.spv_state.specs.State.{frames_of}
 use Rattle.spv_actions.proofs.chains.chain.Goals as goal
 
 pub indexes-requires : goal.indexes-requires
@@ -44,4 +47,8 @@ returns-clause-fits c = λ v.
     let valid = subst (λ (a : Accepted). ∥ IsValid a ∥₁) c.accepted.ensures c.insts-insts.ensures.valid in
     let fits = chain_fits c.operands_have_shapes.ensures.values c.operands_have_shapes.ensures.pointers c.constants_are_meant.ensures c.args.site.now c.accepted.result.now c.accepted.ensures c.insts-insts.ensures.accepted sound valid
     c.is_reached.ensures c.chain_is_kept.ensures.rule (shown c.in_ok-base.base) c.in_ok-base.ensures.shape c.as_slice.result.now (c.in_ok-indexes.ensures ∙ ap Ok (sym cells)) c.in_ok-pointer.pointer c.in_ok-pointer.ensures in
-    record { store = tt; result = fits; control = c.chain_is_kept.ensures.next }
+    let base = shown c.in_ok-base.base in
+    let type = chain_typed (known c.args.site.now.program.accepted) c.args.site.now.inst c.chain_is_kept.ensures.rule in
+    let rooted = chain_rooted c.args.site.now.program.accepted (frames_of c.args.site.now.state c.args.site.now.inv) base c.as_slice.result.now c.in_ok-pointer.pointer
+    (λ q is. site_root c.args.site.now 0 type.0 base q c.accepted.result.now c.accepted.ensures c.insts-insts.ensures.accepted c.insts-insts.ensures.valid c.is_reached.ensures c.in_ok-base.ensures.value type.1 is) c.in_ok-pointer.ensures in
+    record { store = tt; result = fits; control = c.chain_is_kept.ensures.next; rooted = rooted; passed = tt }

@@ -5,6 +5,7 @@ use Rattle.spv_valid.specs.Acceptance.{Accepted}
 use Rattle.spv_operands.specs.Operands.{pointer_of, referred, shown}
 use Rattle.spv_results.proofs.SoundTypes.{sound_types}
 use Rattle.spv_actions.proofs.PointerLemmas.{lent_shape, pointer_is, pointer_shape}
+use Rattle.spv_actions.proofs.RootedLemmas.{site_root}
 use Rattle.spv_actions.proofs.computing_composites.copy_object.Goals as goal
 
 pub copy_value-requires-clause-shape : goal.copy_value-requires-clause-shape
@@ -16,4 +17,10 @@ returns c =
     let v = shown c.in_ok-operand.operand in
     let q = c.in_ok-owned-in-Some-pointer.field-0 in
     let is : pointer_of v ≡ Some q = sym (c.pointer.ensures c.in_ok-operand.ensures.plain) ∙ ap (option_map referred) c.in-Some-pointer.is ∙ ap Some (sym c.in_ok-owned-in-Some-pointer.ensures) in
-    (c.in_ok-operand.ensures.value ∙ ap Some (pointer_is v q is), pointer_shape c.args.site.now.program.accepted (subst (λ (a : Accepted). AreSound a.types) c.accepted.ensures (sound_types c.accepted.result.now c.insts-insts.ensures.valid)) c.args.site.now.inst 0 v c.in_ok-operand.ensures.shape c.args.site.now.inst.ty q c.requires.rule is)
+    (
+      c.in_ok-operand.ensures.value ∙ ap Some (pointer_is v q is),
+      (
+        pointer_shape c.args.site.now.program.accepted (subst (λ (a : Accepted). AreSound a.types) c.accepted.ensures (sound_types c.accepted.result.now c.insts-insts.ensures.valid)) c.args.site.now.inst 0 v c.in_ok-operand.ensures.shape c.args.site.now.inst.ty q c.requires.rule is,
+        site_root c.args.site.now 0 c.args.site.now.inst.ty v q c.accepted.result.now c.accepted.ensures c.insts-insts.ensures.accepted c.insts-insts.ensures.valid c.is_reached.ensures c.in_ok-operand.ensures.value c.requires.rule is,
+      ),
+    )

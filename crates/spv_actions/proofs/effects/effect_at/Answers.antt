@@ -1,5 +1,5 @@
 use Rattle.std.proofs.Common.{IfOk, subst, sym}
-use Rattle.spv_state.specs.declared.actions.Action.TheVariants.{Unreachable, Other, Return}
+use Rattle.spv_state.specs.declared.actions.Action.TheVariants.{Unreachable, Return}
 use Rattle.spv_actions.specs.Planned.{IsDue, IsTaken, PlannedFits}
 use Rattle.spv_actions.specs.Sites.{Site, due}
 use Rattle.spv_actions.proofs.EffectLemmas.{due_by}
@@ -8,10 +8,6 @@ use Rattle.spv_actions.proofs.effects.effect_at.Goals as goal
 pub returns-in-Return-clause-due : goal.returns-in-Return-clause-due
 returns-in-Return-clause-due c =
     due_by (record { program = c.args.m.now; state = c.args.w.now; inv = c.args.inv; frame = c.args.frame.now; inst = c.args.inst.now }) Return (sym c.in-Return.ensures)
-
-pub returns-in-Other-clause-due : goal.returns-in-Other-clause-due
-returns-in-Other-clause-due c =
-    due_by (record { program = c.args.m.now; state = c.args.w.now; inv = c.args.inv; frame = c.args.frame.now; inst = c.args.inst.now }) Other (sym c.in-Other.ensures)
 
 pub returns-in-Unreachable-clause-due : goal.returns-in-Unreachable-clause-due
 returns-in-Unreachable-clause-due c =

@@ -12,6 +12,8 @@ use Rattle.spv_actions.specs.Sites.{due, values}
 use Rattle.spv_actions.proofs.AccessLemmas.{no_value_due, outside_due}
 use Rattle.spv_actions.proofs.EffectLemmas.{result_fits, result_plain}
 use Rattle.spv_actions.proofs.LengthLemmas.{leads_to_array, length_gives, length_missing, length_outside, length_shape}
+use Rattle.spv_actions.proofs.RootedLemmas.{result_rooted}
+use Rattle.spv_state.specs.State.{frames_of}
 use Rattle.spv_actions.proofs.lengths.array_length.Goals as goal
 
 pub length-requires-clause-array : goal.length-requires-clause-array
@@ -43,4 +45,4 @@ returns-clause-fits c =
     let small : c.in_ok-count.count < 2 ^ 32 = search rules in
     let shape = length_shape c.args.site.now c.in_ok-count.count sound c.length_is_kept.ensures.rule small in
     let own : IsResult c.args.site.now.program.accepted c.args.site.now.inst c.put_scalar.new.row = subst (IsResult c.args.site.now.program.accepted c.args.site.now.inst) (sym held) shape in
-    record { store = tt; result = result_fits c.args.site.now.program.accepted c.args.site.now.inst c.put_scalar.new.row sound own; control = c.length_is_kept.ensures.next }
+    record { store = tt; result = result_fits c.args.site.now.program.accepted c.args.site.now.inst c.put_scalar.new.row sound own; control = c.length_is_kept.ensures.next; rooted = result_rooted c.args.site.now.program.accepted (frames_of c.args.site.now.state c.args.site.now.inv) c.args.site.now.inst c.put_scalar.new.row sound own; passed = tt }

@@ -1,75 +1,113 @@
-use Rattle.std.proofs.Common.{◌≡◌, ◌∙◌, ◌<◌, ℕ, None, Some, ap, length, subst, sym}
+use Rattle.std.proofs.Common.{◌≡◌, ◌∙◌, ◌+◌, ◌<◌, ℕ, None, Some, ap, arith, length, subst, sym}
 use Rattle.std.proofs.lemmas.Option.{slice_get_within}
+use Rattle.std.proofs.lemmas.Result.{on_ok_weaker}
 use Rattle.std.specs.Option.{option_and_then}
 use Rattle.spv_index.specs.Definitions.{at}
 use Rattle.spv_frame.specs.Frames.{Held as Frame}
 use Rattle.spv_actions.specs.Planned.{gained}
-use Rattle.spv_state.specs.State.{State, set_status, top_of, without_top}
+use Rattle.spv_journal.specs.Held.{Records}
+use Rattle.spv_state.specs.State.{State, frames_of, set_status, top_of, without_top}
 use Rattle.spv_state.proofs.Lists.{length_change}
 use Rattle.spv_statuses.specs.declared.invocations.Status.TheVariants.{Finished, Ready}
 use Rattle.spv_machine.specs.Reached.{IsReached}
-use Rattle.spv_machine.specs.Step.{go_on, put_result}
+use Rattle.spv_machine.specs.Step.{go_on, leave, put_result}
+use Rattle.spv_machine.specs.Weights.{events_before, taking}
 use Rattle.spv_machine.proofs.Outcomes.{reached_inside}
-use Rattle.spv_machine.proofs.Leaves.{CalledBy, LeftAt, left_finished, left_to}
+use Rattle.spv_machine.proofs.LeaveLemmas.{leave_locals, reached_some}
+use Rattle.spv_machine.proofs.Leaves.{CalledBy, LeftAt, given_rooted, left_finished, left_to}
 use Rattle.spv_machine.proofs.ReachedLemmas.{Facts, facts, levels_inside}
+use Rattle.spv_machine.proofs.Recording.{records_more, records_on}
 use Rattle.spv_machine.proofs.applying.leave.Goals as goal
 
 pub leave-requires-clause-stacks : goal.leave-requires-clause-stacks
-leave-requires-clause-stacks c = reached_inside c.args.m.now c.args.whole.now c.args.inv c.args.inst.now c.requires.reached
+leave-requires-clause-stacks c = reached_inside c.args.m.now c.args.recorded.now.state c.args.inv c.args.inst.now c.requires.reached
 
 pub leave-requires-clause-locals : goal.leave-requires-clause-locals
-leave-requires-clause-locals c = levels_inside c.args.m.now c.args.whole.now c.args.inv c.args.inst.now c.requires.reached
+leave-requires-clause-locals c = levels_inside c.args.m.now c.args.recorded.now.state c.args.inv c.args.inst.now c.requires.reached
+
+pub leave-requires-clause-frames : goal.leave-requires-clause-frames
+leave-requires-clause-frames c = reached_some c.args.m.now c.args.recorded.now.state c.args.inv c.args.inst.now c.requires.reached
+
+pub leave-requires-clause-variables : goal.leave-requires-clause-variables
+leave-requires-clause-variables c =
+    let p = c.args.m.now in
+    let known : Facts p.accepted = facts p.accepted c.accepted-accepted.result.now c.accepted-accepted.ensures.module c.insts-insts.ensures.accepted c.insts-insts.ensures.valid in
+    leave_locals p known c.args.recorded.now.state c.args.inv c.args.inst.now c.requires.reached
 
 pub caller-requires : goal.caller-requires
 caller-requires c =
-    let s = c.args.whole.now in
+    let s = c.args.recorded.now.state in
     let own = reached_inside c.args.m.now s c.args.inv c.args.inst.now c.requires.reached in
-    subst (λ (x : State). c.args.inv < length x.stacks) (sym c.leave.ensures) (subst (λ (n : ℕ). c.args.inv < n) (sym (length_change c.args.inv without_top s.stacks)) own)
+    subst (λ (x : State). c.args.inv < length x.stacks) (sym c.in_ok-leave.ensures.ok ∙ sym c.whole.ensures) (subst (λ (n : ℕ). c.args.inv < n) (sym (length_change c.args.inv without_top s.stacks)) own)
 
 pub set_status-requires-clause-inside : goal.set_status-requires-clause-inside
 set_status-requires-clause-inside c =
-    subst (λ (x : State). c.args.inv < length x.statuses.list) (sym c.leave.ensures) (slice_get_within c.args.whole.now.statuses.list c.args.inv Ready c.requires.reached.ready)
+    subst (λ (x : State). c.args.inv < length x.statuses.list) (sym c.in_ok-leave.ensures.ok) (slice_get_within c.args.recorded.now.state.statuses.list c.args.inv Ready c.requires.reached.ready)
 
 pub resume-requires-clause-reached : goal.resume-requires-clause-reached
 resume-requires-clause-reached c =
     let p = c.args.m.now in
     let known : Facts p.accepted = facts p.accepted c.accepted-accepted.result.now c.accepted-accepted.ensures.module c.insts-insts.ensures.accepted c.insts-insts.ensures.valid in
-    let here : LeftAt p c.args.whole.now c.args.inv ≡ Some c.in-Some.call.now
-    = ap (λ (x : State). option_and_then (λ (f : Frame). at p.accepted.insts f.pc) (top_of x c.args.inv)) (sym c.leave.ensures) ∙ sym c.in-Some.ensures in
-    let by : CalledBy p c.args.whole.now c.args.inv c.args.inst.now c.in-Some.call.now = left_to p known c.args.whole.now c.args.inv c.args.inst.now c.requires.reached c.in-Some.call.now here in
-    subst (λ (x : State). IsReached p x c.args.inv c.in-Some.call.now) (sym c.leave.ensures) by.reached
+    let here : LeftAt p c.args.recorded.now.state c.args.inv ≡ Some c.in-Some.call.now
+    = ap (λ (x : State). option_and_then (λ (f : Frame). at p.accepted.insts f.pc) (top_of x c.args.inv)) (sym c.in_ok-leave.ensures.ok ∙ sym c.whole.ensures) ∙ sym c.in-Some.ensures in
+    let by : CalledBy p c.args.recorded.now.state c.args.inv c.args.inst.now c.in-Some.call.now = left_to p known c.args.recorded.now.state c.args.inv c.args.inst.now c.requires.reached c.in-Some.call.now here in
+    subst (λ (x : State). IsReached p x c.args.inv c.in-Some.call.now) (sym c.in_ok-leave.ensures.ok) by.reached
 
 pub resume-requires-clause-next : goal.resume-requires-clause-next
 resume-requires-clause-next c =
     let p = c.args.m.now in
     let known : Facts p.accepted = facts p.accepted c.accepted-accepted.result.now c.accepted-accepted.ensures.module c.insts-insts.ensures.accepted c.insts-insts.ensures.valid in
-    let here : LeftAt p c.args.whole.now c.args.inv ≡ Some c.in-Some.call.now
-    = ap (λ (x : State). option_and_then (λ (f : Frame). at p.accepted.insts f.pc) (top_of x c.args.inv)) (sym c.leave.ensures) ∙ sym c.in-Some.ensures in
-    (left_to p known c.args.whole.now c.args.inv c.args.inst.now c.requires.reached c.in-Some.call.now here).next
+    let here : LeftAt p c.args.recorded.now.state c.args.inv ≡ Some c.in-Some.call.now
+    = ap (λ (x : State). option_and_then (λ (f : Frame). at p.accepted.insts f.pc) (top_of x c.args.inv)) (sym c.in_ok-leave.ensures.ok ∙ sym c.whole.ensures) ∙ sym c.in-Some.ensures in
+    (left_to p known c.args.recorded.now.state c.args.inv c.args.inst.now c.requires.reached c.in-Some.call.now here).next
 
 pub resume-requires-clause-fits : goal.resume-requires-clause-fits
 resume-requires-clause-fits c =
     let p = c.args.m.now in
     let known : Facts p.accepted = facts p.accepted c.accepted-accepted.result.now c.accepted-accepted.ensures.module c.insts-insts.ensures.accepted c.insts-insts.ensures.valid in
-    let here : LeftAt p c.args.whole.now c.args.inv ≡ Some c.in-Some.call.now
-    = ap (λ (x : State). option_and_then (λ (f : Frame). at p.accepted.insts f.pc) (top_of x c.args.inv)) (sym c.leave.ensures) ∙ sym c.in-Some.ensures in
-    (left_to p known c.args.whole.now c.args.inv c.args.inst.now c.requires.reached c.in-Some.call.now here).fits (gained c.args.gain c.args.row.now) c.requires.fits
+    let here : LeftAt p c.args.recorded.now.state c.args.inv ≡ Some c.in-Some.call.now
+    = ap (λ (x : State). option_and_then (λ (f : Frame). at p.accepted.insts f.pc) (top_of x c.args.inv)) (sym c.in_ok-leave.ensures.ok ∙ sym c.whole.ensures) ∙ sym c.in-Some.ensures in
+    (left_to p known c.args.recorded.now.state c.args.inv c.args.inst.now c.requires.reached c.in-Some.call.now here).fits (gained c.args.gain c.args.row.now) c.requires.fits
 
-pub returns-in-Some : goal.returns-in-Some
-returns-in-Some c =
+pub resume-requires-clause-rooted : goal.resume-requires-clause-rooted
+resume-requires-clause-rooted c =
     let p = c.args.m.now in
     let known : Facts p.accepted = facts p.accepted c.accepted-accepted.result.now c.accepted-accepted.ensures.module c.insts-insts.ensures.accepted c.insts-insts.ensures.valid in
-    let here : LeftAt p c.args.whole.now c.args.inv ≡ Some c.in-Some.call.now
-    = ap (λ (x : State). option_and_then (λ (f : Frame). at p.accepted.insts f.pc) (top_of x c.args.inv)) (sym c.leave.ensures) ∙ sym c.in-Some.ensures in
-    let by : CalledBy p c.args.whole.now c.args.inv c.args.inst.now c.in-Some.call.now = left_to p known c.args.whole.now c.args.inv c.args.inst.now c.requires.reached c.in-Some.call.now here in
+    given_rooted p known c.args.recorded.now.state c.args.inv c.args.inst.now (gained c.args.gain c.args.row.now) c.requires.reached c.requires.fits (frames_of c.leave.new.self.state c.args.inv)
+
+pub returns-in-Some-clause-ok : goal.returns-in-Some-clause-ok
+returns-in-Some-clause-ok c =
+    let p = c.args.m.now in
+    let known : Facts p.accepted = facts p.accepted c.accepted-accepted.result.now c.accepted-accepted.ensures.module c.insts-insts.ensures.accepted c.insts-insts.ensures.valid in
+    let here : LeftAt p c.args.recorded.now.state c.args.inv ≡ Some c.in-Some.call.now
+    = ap (λ (x : State). option_and_then (λ (f : Frame). at p.accepted.insts f.pc) (top_of x c.args.inv)) (sym c.in_ok-leave.ensures.ok ∙ sym c.whole.ensures) ∙ sym c.in-Some.ensures in
+    let by : CalledBy p c.args.recorded.now.state c.args.inv c.args.inst.now c.in-Some.call.now = left_to p known c.args.recorded.now.state c.args.inv c.args.inst.now c.requires.reached c.in-Some.call.now here in
     let o = gained c.args.gain c.args.row.now in
-    c.resume.ensures ∙ ap (λ (x : State). go_on p.accepted c.args.inv (put_result c.args.inv c.in-Some.call.now.id o x)) c.leave.ensures ∙ sym (by.leaves o)
+    on_ok_weaker c.resume.result (λ gone. gone ∙ ap (λ (x : State). go_on p.accepted c.args.inv (put_result c.args.inv c.in-Some.call.now.id o x)) c.in_ok-leave.ensures.ok ∙ sym (by.leaves o)) c.resume.ensures.ok
 
-pub returns-in-None : goal.returns-in-None
-returns-in-None c =
+pub returns-in-Some-clause-recorded : goal.returns-in-Some-clause-recorded
+returns-in-Some-clause-recorded c =
+    let p = c.args.m.now in
+    let a = p.accepted in
+    let i = c.args.inv in
+    let s = c.args.recorded.now.state in
+    let known : Facts p.accepted = facts p.accepted c.accepted-accepted.result.now c.accepted-accepted.ensures.module c.insts-insts.ensures.accepted c.insts-insts.ensures.valid in
+    let here : LeftAt p s i ≡ Some c.in-Some.call.now
+    = ap (λ (x : State). option_and_then (λ (f : Frame). at p.accepted.insts f.pc) (top_of x i)) (sym c.in_ok-leave.ensures.ok ∙ sym c.whole.ensures) ∙ sym c.in-Some.ensures in
+    let by : CalledBy p s i c.args.inst.now c.in-Some.call.now = left_to p known s i c.args.inst.now c.requires.reached c.in-Some.call.now here in
+    let o = gained c.args.gain c.args.row.now in
+    let left : go_on a i (put_result i c.in-Some.call.now.id o c.leave.new.self.state) ≡ leave a i o s
+    = ap (λ (x : State). go_on a i (put_result i c.in-Some.call.now.id o x)) c.in_ok-leave.ensures.ok ∙ sym (by.leaves o) in
+    let two = subst (λ (x : State). Records (taking o + (events_before a x i + 1)) c.leave.new.self c.resume.new.recorded) left c.resume.ensures.recorded in
+    records_more (1 + (taking o + (events_before a (leave a i o s) i + 1))) (taking o + (events_before a (leave a i o s) i + 2)) c.args.recorded.now c.resume.new.recorded (omega arith)
+    (records_on 1 (taking o + (events_before a (leave a i o s) i + 1)) c.args.recorded.now c.leave.new.self c.resume.new.recorded c.leave.ensures.recorded two)
+
+pub returns-in-None-clause-ok : goal.returns-in-None-clause-ok
+returns-in-None-clause-ok c =
     let p = c.args.m.now in
     let known : Facts p.accepted = facts p.accepted c.accepted-accepted.result.now c.accepted-accepted.ensures.module c.insts-insts.ensures.accepted c.insts-insts.ensures.valid in
-    let none : LeftAt p c.args.whole.now c.args.inv ≡ None
-    = ap (λ (x : State). option_and_then (λ (f : Frame). at p.accepted.insts f.pc) (top_of x c.args.inv)) (sym c.leave.ensures) ∙ sym c.in-None.ensures in
-    c.set_status.ensures ∙ ap (set_status c.args.inv Finished) c.leave.ensures
-    ∙ sym (left_finished p known c.args.whole.now c.args.inv c.args.inst.now c.requires.reached (gained c.args.gain c.args.row.now) none)
+    let none : LeftAt p c.args.recorded.now.state c.args.inv ≡ None
+    = ap (λ (x : State). option_and_then (λ (f : Frame). at p.accepted.insts f.pc) (top_of x c.args.inv)) (sym c.in_ok-leave.ensures.ok ∙ sym c.whole.ensures) ∙ sym c.in-None.ensures in
+    on_ok_weaker c.set_status.result (λ set. set ∙ ap (set_status c.args.inv Finished) c.in_ok-leave.ensures.ok
+    ∙ sym (left_finished p known c.args.recorded.now.state c.args.inv c.args.inst.now c.requires.reached (gained c.args.gain c.args.row.now) none))
+    c.set_status.ensures.ok

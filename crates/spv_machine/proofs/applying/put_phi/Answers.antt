@@ -4,7 +4,7 @@ use Rattle.spv_machine.proofs.applying.put_phi.Goals as goal
 
 pub set_value-requires-clause-frame : goal.set_value-requires-clause-frame
 set_value-requires-clause-frame c =
-    reached_frame c.args.m.now c.args.whole.now c.args.inv c.args.inst.now c.accepted-accepted.result.now c.accepted-accepted.ensures.module c.requires.reached
+    reached_frame c.args.m.now c.args.recorded.now.state c.args.inv c.args.inst.now c.accepted-accepted.result.now c.accepted-accepted.ensures.module c.requires.reached
 
 pub set_value-requires-clause-value : goal.set_value-requires-clause-value
 set_value-requires-clause-value c =

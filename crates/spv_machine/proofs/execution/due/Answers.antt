@@ -1,5 +1,6 @@
 use Rattle.std.proofs.Common.{sym}
-use Rattle.spv_machine.proofs.Outcomes.{step_by, weight_by}
+use Rattle.spv_machine.proofs.Outcomes.{step_by}
+use Rattle.spv_machine.proofs.WeightLemmas.{weight_by}
 use Rattle.spv_machine.proofs.execution.due.Goals as goal
 
 pub returns-clause-due : goal.returns-clause-due

@@ -20,4 +20,4 @@ enter_each-requires-clause-targets c =
 pub returns : goal.returns
 returns c =
     begun_is c.args.m.now.accepted c.accepted-accepted.result.now c.args.m.now.setup c.setup.result.now c.entry.result c.variables-list.result.now c.in_ok-memory.memory c.enter_each.new.memory
-    c.accepted-accepted.ensures.module c.setup.ensures c.entry.ensures.entry c.variables-list.ensures c.in_ok-memory.ensures c.in_ok-enter_each.ensures
+    c.accepted-accepted.ensures.module c.setup.ensures.setup c.entry.ensures.entry c.variables-list.ensures c.in_ok-memory.ensures c.in_ok-enter_each.ensures

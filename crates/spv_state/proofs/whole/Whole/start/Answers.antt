@@ -13,5 +13,5 @@ returns-clause-sound c =
     let p = c.args.m.now in
     let accepted = subst (λ (a : Accepted). ∥ IsAccepted a ∥₁) c.accepted.ensures.module c.insts-insts.ensures.accepted in
     let valid = subst (λ (a : Accepted). ∥ IsValid a ∥₁) c.accepted.ensures.module c.insts-insts.ensures.valid in
-    let sound = start_sound c.functions_have_their_plans.ensures.has p accepted valid in
+    let sound = start_sound c.functions_have_their_plans.ensures.has p accepted valid c.setup-setup.ensures.fits in
     IfOk-weaker c.whole.result (λ w. w ≡ start_of p) (IsSound p) (λ w is. subst (IsSound p) (sym is) sound) c.whole.ensures

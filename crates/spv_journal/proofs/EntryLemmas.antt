@@ -1,0 +1,155 @@
+-- Registers, frames and parts whose entries lead back.
+use Rattle.std.proofs.Common.{◌≡◌, ◌∙◌, ℕ, zero, suc, ◌-◌, ◌<◌, ◌≤◌, ◌==◌, List, [], ◌∷◌, Option, Some, None, IsSome, length, map, option_map, slice_get, refl, sym, ap, subst, arith, rules}
+use Rattle.std.specs.Option.{IsSomeAnd, option_map_or}
+use Rattle.spv_base.specs.Entries.{change, reads, writes}
+use Rattle.spv_base.specs.State.{Roots}
+use Rattle.spv_base.specs.declared.values.Pointer.{Pointer}
+use Rattle.spv_base.specs.declared.values.Value.{Value, Ptr, out-Value, the_lemmas}
+use Rattle.spv_base.specs.declared.values.Value.TheOpen.{Value-F}
+use Rattle.spv_types.specs.Rows.{leaves}
+use Rattle.spv_types.specs.Shapes.{pointer_in}
+use Rattle.spv_frame.specs.Frames.{Held as Frame}
+use Rattle.spv_frame.specs.Numbers.{HasCells, HasPointer, HoldsPointer, HoldsValue, with_pointer, with_value}
+use Rattle.spv_frame.specs.Registers.{ids, number_of}
+use Rattle.spv_frame.specs.Stacks.{Stacked, on_top, top}
+use Rattle.spv_frame.proofs.NumberLemmas.{inside}
+use Rattle.spv_mem.specs.Memory.{Held as Memory, IsMemory, MayStore, load_of}
+use Rattle.spv_mem.specs.Singles.{NamesRow}
+use Rattle.spv_valid.specs.Acceptance.{Accepted}
+use Rattle.spv_state.specs.Slots.{IsHeld, IsHeldPointer}
+use Rattle.spv_state.specs.Sound.{IsSoundFrame}
+use Rattle.spv_state.specs.State.{State, on_frame, on_frames, put_store, top_of, with_level, with_register}
+use Rattle.spv_state.proofs.Entries.{writes_nothing}
+use Rattle.spv_state.proofs.Lists.{change_same, change_still}
+use Rattle.spv_journal.specs.Entries.{KeepsPointer, KeepsValue}
+use Rattle.spv_journal.specs.Undo.{HasTop, Undoes, undo}
+use Rattle.spv_journal.specs.declared.entries.Entry.{Entry}
+use Rattle.spv_journal.specs.declared.entries.Entry.TheVariants.{Leaf, Part, NoValue, CellRegister, RowRegister, PointerRegister, FramePushed, FramePopped, PcMoved, EventAppended, StatusChanged, BarrierOpened}
+use Rattle.spv_journal.proofs.LawLemmas.{frame_back, has_top, pointer_back, value_back}
+
+-- one level of a pointer
+out_pointer : (p : Pointer) → out-Value (Ptr p) ≡ Value-F.Ptr p
+out_pointer p = search (rules, the_lemmas)
+
+some_and : {X : Type 0} (o : Option X) (P Q : X → Type 0) → ((x : X) → P x → Q x) → IsSomeAnd o P → IsSomeAnd o Q
+some_and None P Q f h = h
+some_and (Some x) P Q f h = f x h
+
+-- ---- values
+
+pub value_undone : (i id n k : ℕ) (o : Option Value) (e : Entry) (v : Value) (s : State) → i < length s.stacks → IsSomeAnd (top_of s i) (λ f. IsHeld id k f n o) → KeepsValue n o k e
+    → Undoes i e s (on_frame i (with_value n (Some v)) s)
+value_undone i id n k o e v s low held keeps = each e keeps
+  where
+    back : (m : ℕ) (x : Option Value) → m ≡ n → o ≡ x → on_frame i (with_value m x) (on_frame i (with_value n (Some v)) s) ≡ s
+    back m x same was =
+        ap (λ (y : ℕ). on_frame i (with_value y x) (on_frame i (with_value n (Some v)) s)) same
+        ∙ frame_back i (with_value n x) (with_value n (Some v)) s
+        (some_and (top_of s i) (λ f. IsHeld id k f n o) (λ f. with_value n x (with_value n (Some v) f) ≡ f) (λ f h. value_back n x (Some v) f (subst (λ (y : Option Value). HoldsValue n y f) was h.holds)) held)
+
+    cells : (m j : ℕ) → m ≡ n → k ≡ j → HasTop (on_frame i (with_value n (Some v)) s) i (HasCells m j)
+    cells m j same count =
+        has_top i (with_value n (Some v)) s (HasCells m j) low
+        (some_and (top_of s i) (λ f. IsHeld id k f n o) (λ f. HasCells m j (with_value n (Some v) f))
+        (λ f h. subst (λ (y : ℕ). HasCells y j f) (sym same) (subst (λ (y : ℕ). HasCells n y f) count h.cells)) held)
+
+    numbered : (m : ℕ) → m ≡ n → HasTop (on_frame i (with_value n (Some v)) s) i (λ f. m < length f.plan.values)
+    numbered m same =
+        has_top i (with_value n (Some v)) s (λ f. m < length f.plan.values) low
+        (some_and (top_of s i) (λ f. IsHeld id k f n o) (λ f. m < length f.plan.values) (λ f h. subst (λ (y : ℕ). y < length f.plan.values) (sym same) (inside f.plan.values n k h.cells)) held)
+
+    each : (x : Entry) → KeepsValue n o k x → Undoes i x s (on_frame i (with_value n (Some v)) s)
+    each (NoValue m) h = record { back = back m None h.0 h.1; can = numbered m h.0 }
+    each (CellRegister m w) h = record { back = back m (Some w) h.0 h.1; can = cells m 1 h.0 h.2 }
+    each (RowRegister b) h = record { back = back b.value.number (Some b.value.row) h.0 h.1; can = cells b.value.number (length (leaves b.value.row)) h.0 h.2 }
+    each (Leaf r l p w) h = absurd h
+    each (Part b) h = absurd h
+    each (PointerRegister m q) h = absurd h
+    each FramePushed h = absurd h
+    each (FramePopped b) h = absurd h
+    each (PcMoved pc) h = absurd h
+    each EventAppended h = absurd h
+    each (StatusChanged t) h = absurd h
+    each (BarrierOpened w) h = absurd h
+
+-- ---- pointers
+
+pub pointer_undone : (i id n : ℕ) (o : Option Pointer) (e : Entry) (q : Pointer) (s : State) → i < length s.stacks → IsSomeAnd (top_of s i) (λ f. IsHeldPointer id f n o) → KeepsPointer n o e
+    → Undoes i e s (on_frame i (with_pointer n (Some q)) s)
+pointer_undone i id n o e q s low held keeps = each e keeps
+  where
+    each : (x : Entry) → KeepsPointer n o x → Undoes i x s (on_frame i (with_pointer n (Some q)) s)
+    each (PointerRegister m b) h = record {
+      back = ap (λ (y : ℕ). on_frame i (with_pointer y (option_map (λ x. x.value) b)) (on_frame i (with_pointer n (Some q)) s)) h.0
+          ∙ frame_back i (with_pointer n (option_map (λ x. x.value) b)) (with_pointer n (Some q)) s
+          (some_and (top_of s i) (λ f. IsHeldPointer id f n o) (λ f. with_pointer n (option_map (λ x. x.value) b) (with_pointer n (Some q) f) ≡ f)
+          (λ f k. pointer_back n (option_map (λ x. x.value) b) (Some q) f (subst (λ (y : Option Pointer). HoldsPointer n y f) (sym h.1) k.holds)) held);
+      can = has_top i (with_pointer n (Some q)) s (HasPointer m) low
+          (some_and (top_of s i) (λ f. IsHeldPointer id f n o) (λ f. HasPointer m (with_pointer n (Some q) f)) (λ f k. subst (λ (y : ℕ). y < length f.plan.pointers) (sym h.0) k.there) held);
+    }
+    each (NoValue m) h = absurd h
+    each (CellRegister m w) h = absurd h
+    each (RowRegister b) h = absurd h
+    each (Leaf r l p w) h = absurd h
+    each (Part b) h = absurd h
+    each FramePushed h = absurd h
+    each (FramePopped b) h = absurd h
+    each (PcMoved pc) h = absurd h
+    each EventAppended h = absurd h
+    each (StatusChanged t) h = absurd h
+    each (BarrierOpened w) h = absurd h
+
+-- ---- the definitions' changes
+
+-- two changes that do the same to the top frame
+pub same_frames : (i : ℕ) (g h : Frame → Frame) (s : State) → IsSomeAnd (top_of s i) (λ f. g f ≡ h f) → on_frame i g s ≡ on_frame i h s
+same_frames i g h s same = ap (λ (ks : List Stacked). record s { stacks = ks }) (change_same i (on_frames g) (on_frames h) s.stacks (λ k at.
+    let is : top_of s i ≡ top k.frames = ap (λ (o : Option Stacked). top (option_map_or (λ (x : Stacked). x.frames) o [])) at in
+    ap (λ (fs : List Frame). record k { frames = fs })
+    (change_same (length k.frames - 1) g h k.frames (λ f here. let one : top_of s i ≡ Some f = is ∙ here in subst (λ (o : Option Frame). IsSomeAnd o (λ x. g x ≡ h x)) one same))))
+
+pub same_state : (i : ℕ) (g : Frame → Frame) (s : State) → IsSomeAnd (top_of s i) (λ f. g f ≡ f) → on_frame i g s ≡ s
+same_state i g s same = ap (λ (ks : List Stacked). record s { stacks = ks }) (change_still i (on_frames g) s.stacks (λ k at.
+    let is : top_of s i ≡ top k.frames = ap (λ (o : Option Stacked). top (option_map_or (λ (x : Stacked). x.frames) o [])) at in
+    ap (λ (fs : List Frame). record k { frames = fs })
+    (change_still (length k.frames - 1) g k.frames (λ f here. let one : top_of s i ≡ Some f = is ∙ here in subst (λ (o : Option Frame). IsSomeAnd o (λ x. g x ≡ x)) one same))))
+
+level_is : (id : ℕ) (v : Value) (l : Value-F Value) (f : Frame) → pointer_in l ≡ None → with_level id v l f ≡ record f { values = writes id (Some v) f.values }
+level_is id v (Value-F.Scalar c) f plain = refl
+level_is id v (Value-F.List vs) f plain = refl
+level_is id v (Value-F.Ptr q) f plain = absurd cc
+
+pub register_is : (i id n k : ℕ) (o : Option Value) (v : Value) (s : State) → pointer_in (out-Value v) ≡ None → IsSomeAnd (top_of s i) (λ f. IsHeld id k f n o)
+    → on_frame i (with_value n (Some v)) s ≡ on_frame i (with_register id v) s
+register_is i id n k o v s plain held =
+    same_frames i (with_value n (Some v)) (with_register id v) s
+    (some_and (top_of s i) (λ f. IsHeld id k f n o) (λ f. with_value n (Some v) f ≡ with_register id v f)
+    (λ f h. ap (λ (x : ℕ). record f { values = writes x (Some v) f.values }) h.named ∙ sym (level_is id v (out-Value v) f plain)) held)
+
+pub pointer_register_is : (i id n : ℕ) (o : Option Pointer) (q : Pointer) (s : State) → IsSomeAnd (top_of s i) (λ f. IsHeldPointer id f n o)
+    → on_frame i (with_pointer n (Some q)) s ≡ on_frame i (with_register id (Ptr q)) s
+pointer_register_is i id n o q s held =
+    same_frames i (with_pointer n (Some q)) (with_register id (Ptr q)) s
+    (some_and (top_of s i) (λ f. IsHeldPointer id f n o) (λ f. with_pointer n (Some q) f ≡ with_register id (Ptr q) f)
+    (λ f h. ap (λ (x : ℕ). record f { pointers = writes x (Some q) f.pointers }) h.named ∙ rw (out_pointer q) refl) held)
+
+-- a register that a frame doesn't have
+pub no_register : (a : Accepted) (i id : ℕ) (v : Value) (s : State) → pointer_in (out-Value v) ≡ None → IsSomeAnd (top_of s i) (IsSoundFrame a) → IsSomeAnd (top_of s i) (λ f. number_of id (ids f.plan.values) ≡ None)
+    → s ≡ on_frame i (with_register id v) s
+no_register a i id v s plain sound none = sym (same_state i (with_register id v) s (both (top_of s i) sound none))
+  where
+    both : (o : Option Frame) → IsSomeAnd o (IsSoundFrame a) → IsSomeAnd o (λ f. number_of id (ids f.plan.values) ≡ None) → IsSomeAnd o (λ f. with_register id v f ≡ f)
+    both None h g = h
+    both (Some f) h g =
+        level_is id v (out-Value v) f plain
+        ∙ ap (λ (es : List (ℕ × Option Value)). record f { values = es }) (writes_nothing id (Some v) f.values (ap (number_of id) h.places.values ∙ g))
+
+pub no_pointer_register : (a : Accepted) (i id : ℕ) (q : Pointer) (s : State) → IsSomeAnd (top_of s i) (IsSoundFrame a) → IsSomeAnd (top_of s i) (λ f. number_of id f.plan.pointers ≡ None)
+    → s ≡ on_frame i (with_register id (Ptr q)) s
+no_pointer_register a i id q s sound none = sym (same_state i (with_register id (Ptr q)) s (both (top_of s i) sound none))
+  where
+    both : (o : Option Frame) → IsSomeAnd o (IsSoundFrame a) → IsSomeAnd o (λ f. number_of id f.plan.pointers ≡ None) → IsSomeAnd o (λ f. with_register id (Ptr q) f ≡ f)
+    both None h g = h
+    both (Some f) h g =
+        let level : with_register id (Ptr q) f ≡ record f { pointers = writes id (Some q) f.pointers } = rw (out_pointer q) refl in
+        level ∙ ap (λ (es : List (ℕ × Option Pointer)). record f { pointers = es }) (writes_nothing id (Some q) f.pointers (ap (number_of id) h.places.pointers ∙ g))

@@ -1,0 +1,54 @@
+-- A change that is recorded.
+use Rattle.std.proofs.Common.{◌≡◌, ◌∙◌, ℕ, suc, ◌+◌, ◌≤◌, List, [], ◌∷◌, Option, Some, None, IsSome, length, option_map, refl, sym, ap, subst, arith}
+use Rattle.spv_state.specs.State.{State}
+use Rattle.spv_journal.specs.Events.{Event, Kept, opened, pushed}
+use Rattle.spv_journal.specs.Held.{Held, IsMaking, Records, changes_in, past_of}
+use Rattle.spv_journal.specs.Undo.{CanUndo, CanUndoAll, CanUnwind, Undoes, past, undo, undo_all}
+use Rattle.spv_journal.specs.declared.entries.Entry.{Entry}
+
+pub making_some : (g : Option Event) (i : ℕ) → IsMaking g i → IsSome g
+making_some None i h = absurd h
+making_some (Some v) i h = refl
+
+-- a state beside what a journal keeps
+abbrev pub held_of : State → Kept → Held
+held_of s k = record { state = s; ring = k.ring; gathered = k.gathered; limit = k.limit }
+
+abbrev pub with_entry : Entry → Kept → Kept
+with_entry e j = record j { gathered = option_map (pushed e) j.gathered }
+
+pub record Extended (n : ℕ) (old : Held) (t : State) (k : Kept) : Type 0 where
+  pub unwinds : CanUnwind (opened k.gathered k.ring) t
+  pub records : Records n old (held_of t k)
+
+pub extended : (n i : ℕ) (e : Entry) (s t : State) (j k : Kept) (old : Held) → held_of s j ≡ old → IsMaking old.gathered i → k ≡ with_entry e j → Undoes i e s t → CanUnwind (opened j.gathered j.ring) s → 1 ≤ n
+    → Extended n old t k
+extended n i e s t j k old is making added u can some =
+    subst (Extended n old t) (sym added)
+    (subst (λ (o : Held). Extended n o t (with_entry e j)) is (each j.ring j.limit j.gathered (subst (λ (o : Held). IsMaking o.gathered i) (sym is) making) can))
+  where
+    each : (vs : List Event) (limit : ℕ) (g : Option Event) → IsMaking g i → CanUnwind (opened g vs) s
+        → Extended n (record { state = s; ring = vs; gathered = g; limit = limit }) t (record { ring = vs; gathered = option_map (pushed e) g; limit = limit })
+    each vs limit None same h = absurd same
+    each vs limit (Some v) same h =
+        let b : undo v.happening.inv e t ≡ s = ap (λ (m : ℕ). undo m e t) same ∙ u.back in
+        record {
+          unwinds = (
+            (subst (λ (m : ℕ). CanUndo m e t) (sym same) u.can, subst (CanUndoAll v.happening.inv v.changes) (sym b) h.0),
+            subst (λ (x : State). CanUnwind vs (undo_all v.happening.inv v.changes x)) (sym b) h.1,
+          );
+          records = record {
+            past = ap (λ (x : State). record { happening = v.happening; state = undo_all v.happening.inv v.changes x } ∷ past vs (undo_all v.happening.inv v.changes x)) b;
+            ring = refl;
+            limit = refl;
+            happening = refl;
+            changes = omega (arith, some);
+          };
+        }
+
+-- nothing changed
+pub still : (n : ℕ) (old new : Held) → new ≡ old → Records n old new
+still n old new same = subst (Records n old) (sym same) (record { past = refl; ring = refl; limit = refl; happening = refl; changes = omega arith })
+
+pub still_unwinds : (s t : State) (j k : Kept) → k ≡ j → t ≡ s → CanUnwind (opened j.gathered j.ring) s → CanUnwind (opened k.gathered k.ring) t
+still_unwinds s t j k same back can = subst (CanUnwind (opened k.gathered k.ring)) (sym back) (subst (λ (x : Kept). CanUnwind (opened x.gathered x.ring) s) (sym same) can)

@@ -1,0 +1,194 @@
+-- A part of a variable that was stored, and the old one that is put back.
+use Rattle.std.proofs.Common.{◌≡◌, ◌∙◌, ℕ, zero, suc, ◌+◌, ◌≤◌, ◌==◌, Bool, true, false, cond, List, [], ◌∷◌, ◌++◌, Option, Some, None, IsSome, length, length-append, append_assoc, set-set, take, drop, arith, slice_get, slice_set, unwrap_or, refl, sym, ap, subst}
+use Rattle.std.specs.Option.{option_and_then, option_map, option_map_or}
+use Rattle.std.proofs.Math.Logic.{∥∥₁_elim, ∥∥₁_map}
+use Rattle.std.proofs.Props.{props}
+use Rattle.spv_base.specs.Entries.{change, reads, writes}
+use Rattle.spv_base.specs.Lane.{Lane}
+use Rattle.spv_base.specs.Parts.{part_at, with_part}
+use Rattle.spv_base.specs.State.{Roots}
+use Rattle.spv_base.specs.declared.values.Pointer.{Pointer}
+use Rattle.spv_base.specs.declared.values.Root.{Root}
+use Rattle.spv_base.specs.declared.values.Root.TheVariants.{Shared, Private, Local}
+use Rattle.spv_base.specs.declared.values.Value.{Value}
+use Rattle.spv_base.proofs.EntryLemmas.{change_back, writes_back}
+use Rattle.spv_base.proofs.PartLemmas.{slice_get-set_same}
+use Rattle.spv_types.specs.Rows.{leaves, no_roots}
+use Rattle.spv_types.specs.Shapes.{HasShape, reached}
+use Rattle.spv_types.proofs.RowChanges.{put_back, put_is_there, put_twice}
+use Rattle.spv_types.proofs.RowShapes.{shapes_keep}
+use Rattle.spv_values.specs.Places.{IsRowAt}
+use Rattle.spv_mem.specs.Memory.{Held as Memory, IsMemory, Levels, MayStore, id_in, load_of, root_value, roots_in, stored, with_level, with_roots}
+use Rattle.spv_mem.specs.Singles.{NamesRow}
+use Rattle.spv_mem.specs.Targets.{is_counted}
+use Rattle.spv_mem.proofs.MemoryLemmas.{set_same}
+use Rattle.spv_state.proofs.Lists.{change_here, change_still}
+
+-- ---- the list in which the variable stands
+
+level_put : (depth : ℕ) (es xs : Roots) (o : Option Levels) → option_and_then (λ (l : Levels). slice_get l.list depth) o ≡ Some xs → option_and_then (λ (l : Levels). slice_get l.list depth) (option_map (with_level depth es) o) ≡ Some es
+level_put depth es xs None h = cc
+level_put depth es xs (Some l) h = slice_get-set_same l.list depth xs es h
+
+roots_put : (m : Memory) (i : ℕ) (r : Root) (es xs : Roots) → roots_in m i r ≡ Some xs → roots_in (with_roots i r es m) i r ≡ Some es
+roots_put m i (Shared id) es xs h = refl
+roots_put m i (Private id) es xs h = slice_get-set_same m.privates i xs es h
+roots_put m i (Local depth id) es xs h =
+    ap (λ (o : Option Levels). option_and_then (λ (l : Levels). slice_get l.list depth) o) (change_here i (with_level depth es) m.locals) ∙ level_put depth es xs (slice_get m.locals i) h
+
+set_back : {A : Type 0} (xs : List A) (i : ℕ) (x y : A) → slice_get xs i ≡ Some x → slice_set (slice_set xs i y) i x ≡ xs
+set_back xs i x y h = set-set xs i y x ∙ set_same xs i x h
+
+level_at : (depth : ℕ) (xs : Roots) (o : Option Levels) (l : Levels) → option_and_then (λ (x : Levels). slice_get x.list depth) o ≡ Some xs → o ≡ Some l → slice_get l.list depth ≡ Some xs
+level_at depth xs None l h e = cc
+level_at depth xs (Some k) l h e = let same : k ≡ l = cc in subst (λ (x : Levels). slice_get x.list depth ≡ Some xs) same h
+
+roots_back : (m : Memory) (i : ℕ) (r : Root) (es xs : Roots) → roots_in m i r ≡ Some xs → with_roots i r xs (with_roots i r es m) ≡ m
+roots_back m i (Shared id) es xs h = let same : m.shared ≡ xs = cc in ap (λ (ys : Roots). record m { shared = ys }) (sym same)
+roots_back m i (Private id) es xs h = ap (λ (ls : List Roots). record m { privates = ls }) (set_back m.privates i xs es h)
+roots_back m i (Local depth id) es xs h =
+    ap (λ (ls : List Levels). record m { locals = ls })
+    (change_back i (with_level depth es) (with_level depth xs) m.locals
+    (λ l at. ap (λ (ls : List Roots). record l { list = ls }) (set_back l.list depth xs es (level_at depth xs (slice_get m.locals i) l h at))))
+
+types_stay : (m : Memory) (i : ℕ) (r : Root) (es : Roots) → ((with_roots i r es m).types ≡ m.types) × ((with_roots i r es m).targets ≡ m.targets)
+types_stay m i (Shared id) es = (refl, refl)
+types_stay m i (Private id) es = (refl, refl)
+types_stay m i (Local depth id) es = (refl, refl)
+
+-- ---- the variable
+
+reads_put : (k : ℕ) (x y : Value) (es : Roots) → reads k es ≡ Some y → reads k (writes k x es) ≡ Some x
+reads_put k x y [] h = cc
+reads_put k x y (e ∷ es) h = by_key (e.0 == k) refl h
+  where
+    by_key : (b : Bool) → (e.0 == k) ≡ b → cond b (Some e.1) (reads k es) ≡ Some y → reads k (cond b ((e.0, x) ∷ es) (e ∷ writes k x es)) ≡ Some x
+    by_key true same g = rw same refl
+    by_key false same g = rw same (reads_put k x y es g)
+
+-- the part that a pointer names, with its variable
+record Part (m : Memory) (i : ℕ) (p : Pointer) (w : Value) : Type 0 where
+  roots : Roots
+  value : Value
+  list : roots_in m i p.root ≡ Some roots
+  variable : reads (id_in p.root) roots ≡ Some value
+  part : part_at value p.path ≡ Some w
+
+part_of : (m : Memory) (i : ℕ) (p : Pointer) (w : Value) → load_of m i p ≡ Some w → Part m i p w
+part_of m i p w h = outer (roots_in m i p.root) refl h
+  where
+    inner : (es : Roots) → roots_in m i p.root ≡ Some es → (o : Option Value) → reads (id_in p.root) es ≡ o → option_and_then (λ v. part_at v p.path) o ≡ Some w → Part m i p w
+    inner es at None e g = absurd cc
+    inner es at (Some v) e g = record { roots = es; value = v; list = at; variable = e; part = g }
+
+    outer : (o : Option Roots) → roots_in m i p.root ≡ o → option_and_then (λ v. part_at v p.path) (option_and_then (reads (id_in p.root)) o) ≡ Some w → Part m i p w
+    outer None at g = absurd cc
+    outer (Some es) at g = inner es at (reads (id_in p.root) es) refl g
+
+-- the memory with another part
+record After (m : Memory) (i : ℕ) (p : Pointer) (u w : Value) (x : Part m i p w) : Type 0 where
+  is : stored i p u m ≡ with_roots i p.root (writes (id_in p.root) (with_part x.value p.path u) x.roots) m
+  list : roots_in (stored i p u m) i p.root ≡ Some (writes (id_in p.root) (with_part x.value p.path u) x.roots)
+  variable : reads (id_in p.root) (writes (id_in p.root) (with_part x.value p.path u) x.roots) ≡ Some (with_part x.value p.path u)
+
+after : (m : Memory) (i : ℕ) (p : Pointer) (u w : Value) (x : Part m i p w) → After m i p u w x
+after m i p u w x =
+    let is : stored i p u m ≡ with_roots i p.root (writes (id_in p.root) (with_part x.value p.path u) x.roots) m = rw (x.list, x.variable) refl in
+    record {
+      is = is;
+      list = ap (λ (n : Memory). roots_in n i p.root) is ∙ roots_put m i p.root (writes (id_in p.root) (with_part x.value p.path u) x.roots) x.roots x.list;
+      variable = reads_put (id_in p.root) (with_part x.value p.path u) x.value x.roots x.variable;
+    }
+
+value_after : (m : Memory) (i : ℕ) (p : Pointer) (u w : Value) (x : Part m i p w) → root_value (stored i p u m) i p.root ≡ Some (with_part x.value p.path u)
+value_after m i p u w x = let a = after m i p u w x in ap (λ (o : Option Roots). option_and_then (reads (id_in p.root)) o) a.list ∙ a.variable
+
+-- ---- what is put back
+
+pub store_back : (m : Memory) (i : ℕ) (p : Pointer) (u w : Value) → load_of m i p ≡ Some w → stored i p w (stored i p u m) ≡ m
+store_back m i p u w h =
+    let x = part_of m i p w h in
+    let a = after m i p u w x in
+    let id = id_in p.root in
+    let old : with_part (with_part x.value p.path u) p.path w ≡ x.value = put_twice p.path x.value w u w x.part ∙ put_back p.path x.value w x.part in
+    let entries : writes id (with_part (with_part x.value p.path u) p.path w) (writes id (with_part x.value p.path u) x.roots) ≡ x.roots =
+    ap (λ (v : Value). writes id v (writes id (with_part x.value p.path u) x.roots)) old ∙ writes_back id (with_part x.value p.path u) x.value x.roots (ap (λ (o : Option Value). unwrap_or o x.value) x.variable) in
+    let one : stored i p w (stored i p u m) ≡ with_roots i p.root (writes id (with_part (with_part x.value p.path u) p.path w) (writes id (with_part x.value p.path u) x.roots)) (stored i p u m) = rw (a.list, a.variable) refl in
+    one ∙ ap (λ (es : Roots). with_roots i p.root es (stored i p u m)) entries ∙ ap (with_roots i p.root x.roots) a.is ∙ roots_back m i p.root (writes id (with_part x.value p.path u) x.roots) x.roots x.list
+
+pub there_after : (m : Memory) (i : ℕ) (p : Pointer) (u w : Value) → load_of m i p ≡ Some w → IsSome (load_of (stored i p u m) i p)
+there_after m i p u w h =
+    let x = part_of m i p w h in
+    subst IsSome (sym (ap (λ (o : Option Value). option_and_then (λ v. part_at v p.path) o) (value_after m i p u w x) ∙ put_is_there p.path x.value w u x.part)) refl
+
+pub may_after : (m : Memory) (i : ℕ) (p : Pointer) (u w : Value) → load_of m i p ≡ Some w → ∥ IsMemory m ∥₁ → ∥ MayStore m i p u ∥₁ → ∥ MayStore (stored i p u m) i p w ∥₁
+may_after m i p u w h is may = ∥∥₁_elim is (hlevel props) (λ (k : IsMemory m). ∥∥₁_map may (λ (a : MayStore m i p u). go k a))
+  where
+    x : Part m i p w
+    x = part_of m i p w h
+
+    go : IsMemory m → MayStore m i p u → MayStore (stored i p u m) i p w
+    go k a ty v named there t y reach at =
+        let types = types_stay m i p.root (writes (id_in p.root) (with_part x.value p.path u) x.roots) in
+        let same_types : (stored i p u m).types ≡ m.types = ap (λ (n : Memory). n.types) (after m i p u w x).is ∙ types.0 in
+        let same_targets : (stored i p u m).targets ≡ m.targets = ap (λ (n : Memory). n.targets) (after m i p u w x).is ∙ types.1 in
+        let typed : reads (id_in p.root) m.targets ≡ Some ty = ap (reads (id_in p.root)) (sym same_targets) ∙ named in
+        let value : root_value m i p.root ≡ Some x.value = rw x.list x.variable in
+        let reach' : reached m.types ty p.path ≡ Some t = subst (λ ts. reached ts ty p.path ≡ Some t) same_types reach in
+        let put = a ty x.value typed value t w reach' x.part in
+        let var = k.variables i p.root x.roots x.list (id_in p.root) x.value x.variable in
+        let one : var.type ≡ ty = let e = var.named in cc in
+        let shape : HasShape m.types no_roots ty x.value = subst (λ (n : ℕ). HasShape m.types no_roots n x.value) one var.shape in
+        let kept = shapes_keep m.types no_roots k.sound p.path ty t x.value w u shape reach' x.part in
+        subst (λ ts. (is_counted ts t ≡ true) × HasShape ts no_roots t w) (sym same_types) (put.0, kept.0)
+
+-- the row of what was put lies where the row of the part lay
+front_long : {A : Type 0} (n : ℕ) (xs : List A) → n ≤ length xs → length (take n xs) ≡ n
+front_long zero xs h = refl
+front_long (suc n) [] h = absurd (omega arith)
+front_long (suc n) (x ∷ xs) h = ap suc (front_long n xs (omega arith))
+
+drop_front : {A : Type 0} (xs ys : List A) (n : ℕ) → length xs ≡ n → drop n (xs ++ ys) ≡ ys
+drop_front [] ys zero h = refl
+drop_front [] ys (suc n) h = absurd (omega (arith, h))
+drop_front (x ∷ xs) ys zero h = absurd (omega (arith, h))
+drop_front (x ∷ xs) ys (suc n) h = drop_front xs ys n (omega (arith, h))
+
+take_front : {A : Type 0} (xs ys : List A) (n : ℕ) → length xs ≡ n → take n (xs ++ ys) ≡ xs
+take_front [] ys zero h = refl
+take_front [] ys (suc n) h = absurd (omega (arith, h))
+take_front (x ∷ xs) ys zero h = absurd (omega (arith, h))
+take_front (x ∷ xs) ys (suc n) h = ap (λ zs. x ∷ zs) (take_front xs ys n (omega (arith, h)))
+
+row_after : (v : Value) (path : List ℕ) (u w : Value) (n : ℕ) → part_at v path ≡ Some w → IsRowAt v path n 1 → length (leaves u) ≡ 1 → IsRowAt (with_part v path u) path n 1
+row_after v path u w n at row one =
+    let within = row.within in
+    let front : length (take n (leaves v)) ≡ n = front_long n (leaves v) (omega (arith, within)) in
+    let all = row.written u in
+    let behind : List Lane = drop (n + 1) (leaves v) in
+    let first : drop n (leaves (with_part v path u)) ≡ leaves u ++ behind = ap (drop n) all ∙ drop_front (take n (leaves v)) (leaves u ++ behind) n front in
+    let long : length (leaves (with_part v path u)) ≡ n + (1 + length behind) =
+    ap length all ∙ length-append (take n (leaves v)) (leaves u ++ behind) ∙ ap (λ (k : ℕ). k + length (leaves u ++ behind)) front
+    ∙ ap (λ (k : ℕ). n + k) (length-append (leaves u) behind ∙ ap (λ (k : ℕ). k + length behind) one) in
+    record {
+      there = subst IsSome (sym (put_is_there path v w u at)) refl;
+      within = omega (arith, long);
+      row = λ x is.
+          let same : u ≡ x = let e = put_is_there path v w u at in cc in
+          ap (take 1) first ∙ take_front (leaves u) behind 1 one ∙ ap leaves same;
+      written = λ x.
+          let again : drop (n + 1) (leaves (with_part v path u)) ≡ behind =
+          ap (drop (n + 1)) (all ∙ sym (append_assoc (take n (leaves v)) (leaves u) behind)) ∙ drop_front (take n (leaves v) ++ leaves u) behind (n + 1) (length-append (take n (leaves v)) (leaves u) ∙ ap (λ (k : ℕ). k + length (leaves u)) front ∙ ap (λ (k : ℕ). n + k) one) in
+          let before : take n (leaves (with_part v path u)) ≡ take n (leaves v) = ap (take n) all ∙ take_front (take n (leaves v)) (leaves u ++ behind) n front in
+          ap leaves (put_twice path v w u x at) ∙ row.written x
+          ∙ ap (λ (ls : List Lane). ls ++ (leaves x ++ behind)) (sym before)
+          ∙ ap (λ (ls : List Lane). take n (leaves (with_part v path u)) ++ (leaves x ++ ls)) (sym again);
+    }
+
+pub names_after : (m : Memory) (i : ℕ) (p : Pointer) (u w : Value) (n : ℕ) → load_of m i p ≡ Some w → NamesRow m i p n 1 → length (leaves u) ≡ 1 → NamesRow (stored i p u m) i p n 1
+names_after m i p u w n h names one =
+    let x = part_of m i p w h in
+    let value : root_value m i p.root ≡ Some x.value = rw x.list x.variable in
+    let same : names.value ≡ x.value = let e = names.is in cc in
+    let row : IsRowAt x.value p.path n 1 = subst (λ (v : Value). IsRowAt v p.path n 1) same names.row in
+    record { value = with_part x.value p.path u; is = value_after m i p u w x; row = row_after x.value p.path u w n x.part row one }

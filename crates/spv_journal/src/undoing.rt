@@ -1,0 +1,95 @@
+//! Changes that are undone. It takes no memory.
+ghost use Rattle.std.specs.Prelude.{◌≡◌, [], option_map};
+ghost use Rattle.spv_journal.specs.Rings.{changes, events};
+ghost use Rattle.spv_journal.specs.Undo.{CanUndo, CanUndoAll, undo, undo_all};
+
+use crate::entries::{Entry, OldFrame, OldPart, OldValue};
+use crate::rings::{Item, pop_change};
+use circular_buffer::HeapCircularBuffer;
+use spv_base::Pointer;
+use spv_state::Whole;
+use std::collections::VecDeque;
+
+/// What is in a box, if there is one.
+fn unboxed(held: Option<Box<Pointer>>) -> Option<Pointer>
+    ensures { result ≡ option_map (λ b. b.value) held }
+{
+    match held {
+        Some(pointer) => Some(Box::into_inner(pointer)),
+        None => None,
+    }
+}
+
+/// Undoes one change of an invocation.
+pub(crate) fn undo(whole: &mut Whole, inv: u32, entry: Entry)
+    requires { CanUndo inv entry whole.old }
+    ensures { whole.new ≡ undo inv entry whole.old }
+{
+    match entry {
+        Entry::Leaf {
+            root,
+            leaf,
+            path,
+            value,
+        } => {
+            let mut held = value;
+            whole.exchange_single(inv, root, leaf, &path, &mut held);
+        }
+        Entry::Part(part) => {
+            let OldPart { place, mut row } = Box::into_inner(part);
+            whole.store(inv, &place, &mut row);
+        }
+        Entry::NoValue(number) => whole.clear_value(inv, number),
+        Entry::CellRegister { number, value } => {
+            let mut held = value;
+            let mut has = true;
+            whole.exchange_cell(inv, number, &mut held, &mut has);
+        }
+        Entry::RowRegister(register) => {
+            let OldValue { number, mut row } = Box::into_inner(register);
+            let mut has = true;
+            whole.exchange_value(inv, number, &mut row, &mut has);
+        }
+        Entry::PointerRegister { number, held } => {
+            let mut pointer = unboxed(held);
+            whole.exchange_pointer(inv, number, &mut pointer);
+        }
+        Entry::FramePushed => whole.leave(inv),
+        Entry::FramePopped(left) => {
+            let OldFrame { frame, locals } = Box::into_inner(left);
+            whole.enter(inv, frame, locals);
+        }
+        Entry::PcMoved(pc) => {
+            whole.set_pc(inv, pc);
+        }
+        Entry::EventAppended => whole.drop_event(inv),
+        Entry::StatusChanged(status) => {
+            whole.set_status(inv, status);
+        }
+        Entry::BarrierOpened(word) => whole.close_barrier(word),
+    }
+}
+
+/// Undoes changes of an invocation, the first of them first.
+pub(crate) fn undo_gathered(whole: &mut Whole, inv: u32, gathered: &mut VecDeque<Entry>)
+    requires { CanUndoAll inv gathered.old.items whole.old }
+    ensures whole { whole.new ≡ undo_all inv gathered.old.items whole.old }
+    ensures gathered { gathered.new.items ≡ [] }
+{
+    while let Some(entry) = gathered.pop_front() {
+        undo(whole, inv, entry);
+    }
+}
+
+/// Undoes the changes of an invocation that stand before the first mark of a ring.
+pub(crate) fn undo_changes(whole: &mut Whole, inv: u32, ring: &mut HeapCircularBuffer<Item>)
+    requires { CanUndoAll inv (changes ring.old.items) whole.old }
+    ensures whole { whole.new ≡ undo_all inv (changes ring.old.items) whole.old }
+    ensures events { events ring.new.items ≡ events ring.old.items }
+    ensures changes { changes ring.new.items ≡ [] }
+    ensures capacity { ring.new.capacity ≡ ring.old.capacity }
+{
+    while let Some(entry) = pop_change(ring) {
+        undo(whole, inv, entry);
+    }
+}

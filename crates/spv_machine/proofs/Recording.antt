@@ -1,0 +1,163 @@
+-- An event that is being made, step by step, and what becomes of it.
+use Rattle.std.proofs.Common.{◌≡◌, ◌∙◌, ℕ, suc, ◌+◌, ◌≤◌, List, [], ◌∷◌, Option, Some, None, Result, Ok, Err, OnOk, OnErr, IsSome, length, refl, sym, ap, subst, arith}
+use Rattle.std.specs.Prelude.{option_map}
+use Rattle.std.specs.Option.{option_map_or}
+use Rattle.spv_base.specs.declared.happenings.Happening.{Happening}
+use Rattle.spv_base.specs.declared.values.Pointer.{Pointer}
+use Rattle.spv_base.specs.declared.values.Value.{Value}
+use Rattle.spv_valid.specs.Acceptance.{Accepted}
+use Rattle.spv_actions.specs.Effects.{Effect}
+use Rattle.spv_journal.specs.Events.{Event, fitting, newest, older, opened}
+use Rattle.spv_journal.specs.Held.{Held as Recorded, IsMaking, Records, changes_in, marked, past_of, sealed, unwound}
+use Rattle.spv_journal.specs.Undo.{Moment, before, past}
+use Rattle.spv_state.specs.State.{State}
+use Rattle.spv_machine.specs.Does.{Does}
+use Rattle.spv_machine.specs.Recording.{Made, effect_entries, store_entries}
+use Rattle.spv_machine.specs.Weights.{effect_weight, leaves_stored}
+use Rattle.spv_machine.specs.Step.{Outcome, Moves}
+use Rattle.spv_machine.specs.World.{IsRecorded, seen}
+use Rattle.spv_machine.specs.declared.execution.Did.{Did}
+use Rattle.spv_machine.specs.declared.execution.Did.TheVariants.{Idle, Moved}
+use Rattle.spv_machine.specs.declared.execution.StepErr.{StepErr}
+use Rattle.spv_machine.specs.declared.execution.StepErr.TheVariants.{Fault as Faulted, NoMemory}
+
+-- ---- changes one after the other
+
+pub records_still : (w : Recorded) → Records 0 w w
+records_still w = record { past = refl; ring = refl; limit = refl; happening = refl; changes = omega arith }
+
+pub records_on : (n m : ℕ) (a b c : Recorded) → Records n a b → Records m b c → Records (n + m) a c
+records_on n m a b c one other = record {
+  past = other.past ∙ one.past;
+  ring = other.ring ∙ one.ring;
+  limit = other.limit ∙ one.limit;
+  happening = other.happening ∙ one.happening;
+  changes = let x = one.changes in let y = other.changes in omega arith;
+}
+
+pub records_more : (n m : ℕ) (a b : Recorded) → n ≤ m → Records n a b → Records m a b
+records_more n m a b few one = record {
+  past = one.past;
+  ring = one.ring;
+  limit = one.limit;
+  happening = one.happening;
+  changes = let x = one.changes in omega (arith, few, x);
+}
+
+-- where nothing changed
+pub records_same : (n : ℕ) (a b : Recorded) → b ≡ a → Records n a b
+records_same n a b same = subst (λ (x : Recorded). Records n a x) (sym same) (records_more 0 n a a (omega arith) (records_still a))
+
+making_as : (i : ℕ) (a b : Option Event) → option_map (λ (v : Event). v.happening) b ≡ option_map (λ (v : Event). v.happening) a → IsMaking a i → IsMaking b i
+making_as i None b same h = absurd h
+making_as i (Some v) None same h = absurd (cc)
+making_as i (Some v) (Some w) same h = let is : w.happening ≡ v.happening = cc in subst (λ (x : Happening). x.inv ≡ i) (sym is) h
+
+pub making_on : (n i : ℕ) (a b : Recorded) → IsMaking a.gathered i → Records n a b → IsMaking b.gathered i
+making_on n i a b making one = making_as i a.gathered b.gathered one.happening making
+
+some_as : (i : ℕ) (o : Option Event) → IsMaking o i → IsSome o
+some_as i None h = absurd h
+some_as i (Some v) h = refl
+
+pub making_some : (i : ℕ) (w : Recorded) → IsMaking w.gathered i → IsSome w.gathered
+making_some i w making = some_as i w.gathered making
+
+-- an event that has begun is one of its invocation
+pub marked_making : (h : Happening) (a b : Recorded) → b ≡ marked h a → IsMaking b.gathered h.inv
+marked_making h a b begins = subst (λ (x : Recorded). IsMaking x.gathered h.inv) (sym begins) refl
+
+-- ---- an event that was begun, and whose changes were made
+
+first_is : (x y : Moment) (xs ys : List Moment) → x ∷ xs ≡ y ∷ ys → x ≡ y
+first_is x y xs ys e = cc
+
+module _ (h : Happening) (n : ℕ) (a b c : Recorded) (none : a.gathered ≡ None) (begins : b ≡ marked h a) (on : Records n b c) where
+  gathered : (v : Event) × (c.gathered ≡ Some v)
+  gathered = by_event c.gathered refl
+    where
+      by_event : (o : Option Event) → c.gathered ≡ o → (v : Event) × (c.gathered ≡ Some v)
+      by_event None e =
+          let clash : None ≡ Some h = sym (ap (option_map (λ (v : Event). v.happening)) e) ∙ on.happening ∙ ap (λ (x : Recorded). option_map (λ (v : Event). v.happening) x.gathered) begins in
+          absurd (cc)
+      by_event (Some v) e = (v, e)
+
+  -- it leads back to the state in which it began
+  leads : (v : Event) → c.gathered ≡ Some v → ◌≡◌ {A = Moment} (record { happening = v.happening; state = before v c.state }) (record { happening = h; state = a.state })
+  leads v is =
+      first_is (record { happening = v.happening; state = before v c.state }) (record { happening = h; state = a.state }) (past c.ring (before v c.state)) (past a.ring a.state)
+      (ap (λ (o : Option Event). past (opened o c.ring) c.state) (sym is) ∙ on.past ∙ ap past_of begins)
+
+  ring_is : c.ring ≡ a.ring
+  ring_is = on.ring ∙ ap (λ (x : Recorded). x.ring) begins
+
+  limit_is : c.limit ≡ a.limit
+  limit_is = on.limit ∙ ap (λ (x : Recorded). x.limit) begins
+
+  few : (v : Event) → c.gathered ≡ Some v → length v.changes ≤ n
+  few v is =
+      let most = on.changes in
+      let at : changes_in c.gathered ≡ length v.changes = ap changes_in is in
+      let from : changes_in b.gathered ≡ 0 = ap (λ (x : Recorded). changes_in x.gathered) begins in
+      omega (arith, most, at, from)
+
+  pub recorded_is : (weight : ℕ) → suc n ≤ weight → IsRecorded h weight (seen a) (seen (sealed c))
+  recorded_is weight fits =
+      let v = gathered in record {
+        event = v.0;
+        happening = ap (λ (m : Moment). m.happening) (leads v.0 v.1);
+        leads = ap (λ (m : Moment). m.state) (leads v.0 v.1);
+        small = let most = few v.0 v.1 in omega (arith, most, fits);
+        ring = ap (λ (o : Option Event). fitting c.limit (opened o c.ring)) v.1 ∙ ap (λ (k : ℕ). fitting k (v.0 ∷ c.ring)) limit_is ∙ ap (λ (vs : List Event). fitting a.limit (v.0 ∷ vs)) ring_is;
+        limit = limit_is;
+      }
+
+  -- what was made of it is undone
+  pub given_up : unwound c ≡ a
+  given_up =
+      let v = gathered in
+      let state : option_map_or (λ (x : Event). before x c.state) (newest (opened c.gathered c.ring)) c.state ≡ a.state
+      = ap (λ (o : Option Event). option_map_or (λ (x : Event). before x c.state) (newest (opened o c.ring)) c.state) v.1 ∙ ap (λ (m : Moment). m.state) (leads v.0 v.1) in
+      let ring : older (opened c.gathered c.ring) ≡ a.ring = ap (λ (o : Option Event). older (opened o c.ring)) v.1 ∙ ring_is in
+      λ i. record { state = state i; ring = ring i; gathered = (sym none) i; limit = limit_is i }
+
+  -- the event is kept, or given up for want of memory
+  pub made_is : {E : Type 0} (weight : ℕ) (next : State) (done : Result (Unit {0}) E) (result : Result Did StepErr) (new : Recorded) → suc n ≤ weight → OnOk done (c.state ≡ next)
+      → OnOk done ((result ≡ Ok (Moved h)) × (new ≡ sealed c)) → OnErr done ((result ≡ Err NoMemory) × (new ≡ unwound c)) → Made h next weight result a new
+  made_is weight next (Ok u) result new fits reaches kept undone =
+      subst (λ (r : Result Did StepErr). Made h next weight r a new) (sym kept.0)
+      (subst (λ (x : Recorded). Made h next weight (Ok (Moved h)) a x) (sym kept.1) (refl, reaches, refl, recorded_is weight fits))
+  made_is weight next (Err e) result new fits reaches kept undone = subst (λ (r : Result Did StepErr). Made h next weight r a new) (sym undone.0) (undone.1 ∙ given_up)
+
+-- ---- what a step did
+
+pub made_does : (i : ℕ) (due : Outcome) (weight : ℕ) (h : Happening) (next : State) (result : Result Did StepErr) (old new : Recorded) → due ≡ Moves h next → Made h next weight result old new
+    → Does i due weight result (seen old) (seen new)
+made_does i due weight h next (Ok (Moved g)) old new is made =
+    (is ∙ ap (λ (x : Happening). Moves x next) (sym made.0) ∙ ap (Moves g) (sym made.1), subst (λ (x : Happening). IsRecorded x weight (seen old) (seen new)) (sym made.0) made.3)
+made_does i due weight h next (Ok Idle) old new is made = absurd made
+made_does i due weight h next (Err (Faulted f)) old new is made = absurd made
+made_does i due weight h next (Err NoMemory) old new is made = ap seen made
+
+pub made_none : (h : Happening) (next : State) (weight : ℕ) (result : Result Did StepErr) (old new : Recorded) → old.gathered ≡ None → Made h next weight result old new → new.gathered ≡ None
+made_none h next weight (Ok (Moved g)) old new none made = made.2
+made_none h next weight (Ok Idle) old new none made = absurd made
+made_none h next weight (Err (Faulted f)) old new none made = absurd made
+made_none h next weight (Err NoMemory) old new none made = ap (λ (x : Recorded). x.gathered) made ∙ none
+
+-- what both states have
+pub made_keeps : (P : State → Type 0) (h : Happening) (next : State) (weight : ℕ) (result : Result Did StepErr) (old new : Recorded) → P old.state → P next → Made h next weight result old new → P new.state
+made_keeps P h next weight (Ok (Moved g)) old new before behind made = subst P (sym made.1) behind
+made_keeps P h next weight (Ok Idle) old new before behind made = absurd made
+made_keeps P h next weight (Err (Faulted f)) old new before behind made = absurd made
+made_keeps P h next weight (Err NoMemory) old new before behind made = subst (λ (x : Recorded). P x.state) (sym made) before
+
+-- ---- weights
+
+store_few : (o : Option (Pointer × Value)) → store_entries o ≤ 1 + leaves_stored o
+store_few None = omega arith
+store_few (Some e) = omega arith
+
+-- the entries of an effect with its mark are no more than its weight
+pub effect_fits : (a : Accepted) (i : ℕ) (e : Effect) (t : State) → suc (effect_entries a i e t) ≤ effect_weight a i e t
+effect_fits a i e t = let few = store_few e.store in omega (arith, few)

@@ -1,0 +1,70 @@
+use Rattle.std.proofs.Common.{◌≡◌, ◌∙◌, ◌+◌, ℕ, Option, Some, ap, arith, subst, sym}
+use Rattle.std.proofs.lemmas.Result.{on_ok_weaker}
+use Rattle.std.specs.Option.{IsSomeAnd}
+use Rattle.spv_base.specs.Entries.{reads}
+use Rattle.spv_frame.specs.Frames.{Held as Frame}
+use Rattle.spv_statuses.specs.declared.invocations.Status.TheVariants.{Passed, Ready}
+use Rattle.spv_valid.specs.Acceptance.{Accepted}
+use Rattle.spv_journal.specs.Held.{Records}
+use Rattle.spv_state.specs.Events.{pass}
+use Rattle.spv_state.specs.Sound.{IsSoundFrame}
+use Rattle.spv_state.specs.State.{State, set_status}
+use Rattle.spv_state.proofs.Known.{IsKnown, known_as}
+use Rattle.spv_machine.specs.Step.{go_on, next_of}
+use Rattle.spv_machine.specs.Weights.{events_before}
+use Rattle.spv_machine.proofs.Outcomes.{HasTop, barrier_next, has_top, moved_is}
+use Rattle.spv_machine.proofs.Recording.{records_more, records_on}
+use Rattle.spv_machine.proofs.execution.move_past.Goals as goal
+
+pub word_behind-requires : goal.word_behind-requires
+word_behind-requires c =
+    let p = c.args.m.now in
+    let s = c.args.recorded.now.state in
+    let i = c.args.inv in
+    let known : IsKnown p.accepted = known_as p.accepted c.accepted-accepted.result.now c.accepted-accepted.ensures.module c.insts-insts.ensures.accepted c.insts-insts.ensures.valid in
+    let h : HasTop p s i Passed = has_top p s i Passed c.requires.sound c.requires.inv c.requires.passed (λ e. cc) in
+    let here : h.frame.pc ≡ c.args.pc = subst (λ (o : Option Frame). IsSomeAnd o (λ (f : Frame). f.pc ≡ c.args.pc)) h.top c.requires.stands in
+    let next = barrier_next p s i h.frame known h h.top in
+    (next.0, ap (λ (x : Accepted). reads c.args.pc x.flow.nexts) c.accepted-accepted.ensures.module ∙ ap (λ (n : ℕ). reads n p.accepted.flow.nexts) (sym here) ∙ next.1)
+
+pub come_to-requires-clause-frame : goal.come_to-requires-clause-frame
+come_to-requires-clause-frame c =
+    let p = c.args.m.now in
+    let h : HasTop p c.args.recorded.now.state c.args.inv Passed = has_top p c.args.recorded.now.state c.args.inv Passed c.requires.sound c.requires.inv c.requires.passed (λ e. cc) in
+    subst (λ (o : Option Frame). IsSomeAnd o (IsSoundFrame p.accepted)) (sym h.top) h.sound
+
+pub returns-clause-ok : goal.returns-clause-ok
+returns-clause-ok c =
+    let p = c.args.m.now in
+    let a = p.accepted in
+    let s = c.args.recorded.now.state in
+    let i = c.args.inv in
+    let h : HasTop p s i Passed = has_top p s i Passed c.requires.sound c.requires.inv c.requires.passed (λ e. cc) in
+    let here : h.frame.pc ≡ c.args.pc = subst (λ (o : Option Frame). IsSomeAnd o (λ (f : Frame). f.pc ≡ c.args.pc)) h.top c.requires.stands in
+    let next = c.word_behind.ensures ∙ ap (λ (x : Accepted). next_of x c.args.pc) c.accepted-accepted.ensures.module ∙ ap (next_of a) (sym here) in
+    let moved = c.in_ok-come_to.ensures.ok ∙ ap (pass a i) (moved_is a s i c.word_behind.result h.frame h.top next) in
+    on_ok_weaker c.set_status.result (λ set. set ∙ ap (set_status i Ready) moved) c.set_status.ensures.ok
+
+pub returns-clause-recorded : goal.returns-clause-recorded
+returns-clause-recorded c =
+    let p = c.args.m.now in
+    let a = p.accepted in
+    let s = c.args.recorded.now.state in
+    let i = c.args.inv in
+    let h : HasTop p s i Passed = has_top p s i Passed c.requires.sound c.requires.inv c.requires.passed (λ e. cc) in
+    let here : h.frame.pc ≡ c.args.pc = subst (λ (o : Option Frame). IsSomeAnd o (λ (f : Frame). f.pc ≡ c.args.pc)) h.top c.requires.stands in
+    let next = c.word_behind.ensures ∙ ap (λ (x : Accepted). next_of x c.args.pc) c.accepted-accepted.ensures.module ∙ ap (next_of a) (sym here) in
+    let one = subst (λ (x : State). Records (events_before a (pass a i x) i + 1) c.args.recorded.now c.come_to.new.recorded) (moved_is a s i c.word_behind.result h.frame h.top next) c.come_to.ensures.recorded in
+    records_on (events_before a (go_on a i s) i + 1) 1 c.args.recorded.now c.come_to.new.recorded c.set_status.new.self one c.set_status.ensures.recorded
+
+pub returns-in_err-come_to-clause-recorded : goal.returns-in_err-come_to-clause-recorded
+returns-in_err-come_to-clause-recorded c =
+    let p = c.args.m.now in
+    let a = p.accepted in
+    let s = c.args.recorded.now.state in
+    let i = c.args.inv in
+    let h : HasTop p s i Passed = has_top p s i Passed c.requires.sound c.requires.inv c.requires.passed (λ e. cc) in
+    let here : h.frame.pc ≡ c.args.pc = subst (λ (o : Option Frame). IsSomeAnd o (λ (f : Frame). f.pc ≡ c.args.pc)) h.top c.requires.stands in
+    let next = c.word_behind.ensures ∙ ap (λ (x : Accepted). next_of x c.args.pc) c.accepted-accepted.ensures.module ∙ ap (next_of a) (sym here) in
+    let one = subst (λ (x : State). Records (events_before a (pass a i x) i + 1) c.args.recorded.now c.come_to.new.recorded) (moved_is a s i c.word_behind.result h.frame h.top next) c.come_to.ensures.recorded in
+    records_more (events_before a (go_on a i s) i + 1) (events_before a (go_on a i s) i + 1 + 1) c.args.recorded.now c.come_to.new.recorded (omega arith) one

@@ -1,0 +1,3 @@
+mod Insts
+mod RowLemmas
+mod WordLemmas

@@ -1,0 +1,16 @@
+use Rattle.std.proofs.Common.{ℕ, ◌*◌, List, ◌++◌, ap, ◌∙◌, arith}
+use Rattle.std.specs.List.{flat_map}
+use Rattle.spv_ops.specs.Encoding.{encoding}
+use Rattle.spv_make.specs.Inputs.{words_for}
+use Rattle.spv_make.specs.Instructions.{instructions}
+use Rattle.spv_make.proofs.Insts.{instructions_are}
+use Rattle.spv_make.proofs.making.words_for.Goals as goal
+
+pub push_rows-requires : goal.push_rows-requires
+unfolding instructions
+push_rows-requires c = instructions_are (4 * c.args.n) (omega arith)
+
+pub returns : goal.returns
+unfolding words_for instructions
+returns c =
+    c.in_ok-push_rows.ensures ∙ ap (λ (words : List ℕ). words ++ flat_map encoding (instructions (4 * c.args.n))) c.in_ok-words.ensures

@@ -1,0 +1,4 @@
+pub mod Ids
+pub mod Instructions
+pub mod Rows
+pub mod Inputs
