@@ -1,4 +1,5 @@
 pub mod Spending
+pub mod Openings
 pub mod Transcripts
 pub mod Pieces
 pub mod Cuts

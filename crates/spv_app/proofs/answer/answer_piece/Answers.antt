@@ -55,3 +55,12 @@ returns-in_err-answer_byte-clause-cost g c =
     let e : drop c.loop-byte.byte-index c.args.piece.now ≡ b ∷ bs = drop_more c.args.piece.now c.loop-byte.byte-index 0 c.loop-byte-test.true in
     spending_stops c.args.session.now c.loop-byte.session (complete_from c.args.line.now.items c.args.piece.now) (complete_from line (drop c.loop-byte.byte-index c.args.piece.now)) (ended_by line b) (complete_from (line_after line b) bs)
     c.args.steps.now c.loop-byte.steps c.answer_byte.new.steps c.loop-byte.invariant.spending (ap (complete_from line) e) c.in_err-answer_byte.ensures.cost
+
+pub returns-in-Quit-clause-cost : goal.returns-in-Quit-clause-cost
+returns-in-Quit-clause-cost g c =
+    let b = get_or c.args.piece.now c.loop-byte.byte-index 0 in
+    let bs = drop (c.loop-byte.byte-index + 1) c.args.piece.now in
+    let line = c.loop-byte.line.items in
+    let e : drop c.loop-byte.byte-index c.args.piece.now ≡ b ∷ bs = drop_more c.args.piece.now c.loop-byte.byte-index 0 c.loop-byte-test.true in
+    spending_stops c.args.session.now c.loop-byte.session (complete_from c.args.line.now.items c.args.piece.now) (complete_from line (drop c.loop-byte.byte-index c.args.piece.now)) (ended_by line b) (complete_from (line_after line b) bs)
+    c.args.steps.now c.loop-byte.steps c.answer_byte.new.steps c.loop-byte.invariant.spending (ap (complete_from line) e) c.answer_byte.ensures.cost

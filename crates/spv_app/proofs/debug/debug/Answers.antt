@@ -1,7 +1,11 @@
-use Rattle.std.proofs.Common.{refl, inr}
+use Rattle.std.proofs.Common.{refl, inr, ap, subst, ◌∙◌}
 use Rattle.std.proofs.KnownBytes.{Keeps-refl}
 use Rattle.spv_app.specs.Debug.{Unopened, Refused, Opened}
+use Rattle.spv_app.specs.Command_loop.{Ran}
 use Rattle.spv_app.specs.File_status.{status_of_file}
+use Rattle.spv_app.specs.Opening.{opening}
+use Rattle.spv_session.specs.View.{Viewing, first_viewing}
+use Rattle.spv_app.proofs.Openings.{opened_is, refused_is}
 use Rattle.spv_app.proofs.debug.debug.Goals as goal
 
 pub returns-in-Err-clause-debugged : goal.returns-in-Err-clause-debugged
@@ -10,7 +14,7 @@ returns-in-Err-clause-debugged g c = rw c.from.ensures (Unopened (status_of_file
 pub returns-in-Err-Refused-clause-debugged : goal.returns-in-Err-Refused-clause-debugged
 returns-in-Err-Refused-clause-debugged g c =
     let s = c.tell_refusal.ensures.says in
-    Refused _ c.in-Ok.pair.0.items c.in-Ok.pair.1.items c.in-Err-Refused.refusal s.0 (c.in-Ok.ensures.asked refl) c.in-Ok.ensures.pair (rw c.in-Err-Refused.field-0-is at c.in-Err-Refused.ensures.opening) refl s.1 s.2 refl
+    Refused _ c.in-Ok.pair.0.items c.in-Ok.pair.1.items c.in-Err-Refused.refusal s.0 (c.in-Ok.ensures.asked refl) c.in-Ok.ensures.pair (refused_is (opening c.in-Ok.pair.0.items c.in-Ok.pair.1.items) c.in-Err-Refused.refusal (rw c.in-Err-Refused.field-0-is at c.in-Err-Refused.ensures.opening)) refl s.1 s.2 refl
 
 pub returns-in-Err-NoMemory-clause-debugged : goal.returns-in-Err-NoMemory-clause-debugged
 returns-in-Err-NoMemory-clause-debugged g c = Unopened _ (inr (inr (refl, inr (inr (c.in-Ok.ensures.asked refl))))) refl (Keeps-refl _) refl
@@ -20,4 +24,6 @@ returns-in-Err-open-clause-debugged g c = Unopened _ (inr (inr (refl, inr (inr (
 
 pub returns-clause-debugged : goal.returns-clause-debugged
 returns-clause-debugged g c =
-    Opened _ c.in-Ok.pair.0.items c.in-Ok.pair.1.items c.in-Ok-open.group (c.in-Ok.ensures.asked refl) c.in-Ok.ensures.pair c.in-Ok-open.ensures.opening (rw c.in-Ok-open-2.ensures at c.run.ensures.ran)
+    let opened = opened_is (opening c.in-Ok.pair.0.items c.in-Ok.pair.1.items) c.in-Ok-open.group c.in-Ok-open.ensures.opening in
+    Opened _ c.in-Ok.pair.0.items c.in-Ok.pair.1.items opened.0 (c.in-Ok.ensures.asked refl) c.in-Ok.ensures.pair opened.1
+    (subst (λ (v : Viewing). Ran v _ _ _) (c.in-Ok-open-2.ensures ∙ ap first_viewing opened.2) c.run.ensures.ran)
