@@ -1,3 +1,4 @@
+pub mod Spending
 pub mod Transcripts
 pub mod Pieces
 pub mod Cuts

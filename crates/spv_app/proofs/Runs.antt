@@ -6,31 +6,33 @@ use Rattle.spv_app.specs.declared.status.Stop.{Stop}
 use Rattle.spv_app.specs.declared.status.Stop.TheVariants as stop
 use Rattle.spv_app.specs.declared.status.Status.{Status}
 use Rattle.spv_app.specs.declared.status.Status.TheVariants.{Done, Usage, ModuleRefused, SetupRefused, FileFault, ReadFault, WriteFault, NoMemory, InputTooLong, FileTooLong}
-use Rattle.spv_session.specs.View.{View}
+use Rattle.spv_session.specs.View.{View, Viewing}
 use Rattle.spv_base.specs.Prefix.{IsPrefixOf, IsProperPrefixOf}
 use Rattle.spv_app.specs.Lines.{complete_from, rest_from, complete_lines, rest_of, lines_of, last_line}
 use Rattle.spv_app.specs.Limits.{input_limit, piece_limit}
 use Rattle.spv_app.specs.Outside.{Streams}
-use Rattle.spv_app.specs.Transcript.{transcript, transcript_cost, view_after, has_quit}
+use Rattle.spv_app.specs.Transcript.{transcript, view_after, has_quit, Reaches, Spends}
 use Rattle.spv_app.specs.Command_loop.{Says, AnswersInTime, with_rest, Ran}
 use Rattle.spv_app.specs.Stops.{StopSays, status_of}
-use Rattle.spv_app.proofs.Transcripts.{transcript_goes, transcript_quits, has_quit-append, transcript_front, prefix_refl, prefix_trans, prefix_under, prefix_nil, prefix_of_proper, proper_under, cost_goes, cost_front}
+use Rattle.spv_app.proofs.Transcripts.{transcript_goes, transcript_quits, has_quit-append, transcript_front, prefix_refl, prefix_trans, prefix_under, prefix_nil, prefix_of_proper, proper_under}
+use Rattle.spv_app.proofs.Spending.{reaches_more, spends_none, spends_front, spends_more, spends_reach}
 use Rattle.spv_app.proofs.Pieces.{view_more, quit_more, stop_more}
 use Rattle.spv_app.proofs.Cuts.{complete_from-append, rest_from-append, lines_from, lines_from-append}
 
 -- Between two reads: got was taken, put was written, all complete lines were answered, none of them is `quit`, and `line` has come of the next.
-pub record Stands (start : View) (old now : Streams) (view : View) (line : List ℕ) (count : ℕ) : Type 0 where
+pub record Stands (start : Viewing) (old now : Streams) (at : Viewing) (line : List ℕ) (count : ℕ) : Type 0 where
   pub got : List ℕ
   pub put : List ℕ
   pub taken : Consumes old.left now.left got
   pub written : Appends old.held now.held put
   pub counted : length got ≡ count
   pub goes : has_quit (complete_lines got) ≡ false
-  pub due : put ≡ transcript start (complete_lines got)
-  pub at : view ≡ view_after start (complete_lines got)
+  pub due : put ≡ transcript start.view (complete_lines got)
+  pub view : at.view ≡ view_after start.view (complete_lines got)
   pub rest : line ≡ rest_of got
   pub risen : old.steps ≤ now.steps
-  pub cost : now.steps ≤ old.steps + transcript_cost start (complete_lines got)
+  pub reaches : Reaches start at (complete_lines got)
+  pub spends : Spends start (complete_lines got) old.steps now.steps
 
 -- what is due from there on, of these bytes
 abbrev pub due_from : View → List ℕ → List ℕ → List ℕ
@@ -63,43 +65,43 @@ or_false : (a b : Bool) → (a || b) ≡ false → a ≡ false
 or_false true b h = absurd (cc)
 or_false false b h = refl
 
-module _ (start : View) (old now new : Streams) (view : View) (line : List ℕ) (count : ℕ)
-    (s : Stands start old now view line count) (piece x : List ℕ) where
+module _ (start : Viewing) (old now new : Streams) (at : Viewing) (line : List ℕ) (count : ℕ)
+    (s : Stands start old now at line count) (piece x : List ℕ) where
   abbrev more : List ℕ
   more = unwrap_or new.left []
 
   -- what is due of all is what was written and what is due from here on
-  due_all : transcript start (lines_of (with_rest (s.got ++ piece) new.left)) ≡ s.put ++ due_from view line (piece ++ more)
+  due_all : transcript start.view (lines_of (with_rest (s.got ++ piece) new.left)) ≡ s.put ++ due_from at.view line (piece ++ more)
   due_all =
-      ap (λ l. transcript start (lines_of l)) (append_assoc s.got piece more)
-      ∙ ap (transcript start) (lines_from-append [] s.got (piece ++ more))
-      ∙ transcript_goes start (complete_lines s.got) (lines_from (rest_of s.got) (piece ++ more)) s.goes
-      ∙ ap (λ l. l ++ due_from (view_after start (complete_lines s.got)) (rest_of s.got) (piece ++ more)) (sym s.due)
-      ∙ ap (λ v. s.put ++ due_from v (rest_of s.got) (piece ++ more)) (sym s.at)
-      ∙ ap (λ l. s.put ++ due_from view l (piece ++ more)) (sym s.rest)
+      ap (λ l. transcript start.view (lines_of l)) (append_assoc s.got piece more)
+      ∙ ap (transcript start.view) (lines_from-append [] s.got (piece ++ more))
+      ∙ transcript_goes start.view (complete_lines s.got) (lines_from (rest_of s.got) (piece ++ more)) s.goes
+      ∙ ap (λ l. l ++ due_from (view_after start.view (complete_lines s.got)) (rest_of s.got) (piece ++ more)) (sym s.due)
+      ∙ ap (λ v. s.put ++ due_from v (rest_of s.got) (piece ++ more)) (sym s.view)
+      ∙ ap (λ l. s.put ++ due_from at.view l (piece ++ more)) (sym s.rest)
 
   -- the lines that ended before the last piece were answered
-  in_time : length piece ≤ piece_limit → AnswersInTime start (s.got ++ piece) (s.put ++ x)
+  in_time : length piece ≤ piece_limit → AnswersInTime start.view (s.got ++ piece) (s.put ++ x)
   in_time h front rest e long =
       let f = front_of_front front rest s.got piece (sym e) (omega arith) in
       let cut : complete_lines s.got ≡ complete_lines front ++ complete_from (rest_of front) f.0 = ap complete_lines f.1 ∙ complete_from-append [] front f.0 in (
         or_false (has_quit (complete_lines front)) _ (sym (has_quit-append (complete_lines front) (complete_from (rest_of front) f.0)) ∙ ap has_quit (sym cut) ∙ s.goes),
-        prefix_trans _ s.put _ (subst (IsPrefixOf (transcript start (complete_lines front))) (ap (transcript start) (sym cut) ∙ sym s.due) (transcript_front start (complete_lines front) _)) (x, refl),
+        prefix_trans _ s.put _ (subst (IsPrefixOf (transcript start.view (complete_lines front))) (ap (transcript start.view) (sym cut) ∙ sym s.due) (transcript_front start.view (complete_lines front) _)) (x, refl),
       )
 
-  begins : (status : Status) → SaysLast status view line piece more x → IsPrefixOf x (due_from view line (piece ++ more))
+  begins : (status : Status) → SaysLast status at.view line piece more x → IsPrefixOf x (due_from at.view line (piece ++ more))
   begins Done h = subst (IsPrefixOf x) h.0 (prefix_refl x)
-  begins ReadFault h = subst (λ l. IsPrefixOf l (due_from view line (piece ++ more))) (sym h.0) (prefix_nil _)
+  begins ReadFault h = subst (λ l. IsPrefixOf l (due_from at.view line (piece ++ more))) (sym h.0) (prefix_nil _)
   begins WriteFault h = prefix_of_proper _ _ h
   begins NoMemory h = h
-  begins InputTooLong h = subst (λ l. IsPrefixOf l (due_from view line (piece ++ more))) (sym h) (prefix_nil _)
+  begins InputTooLong h = subst (λ l. IsPrefixOf l (due_from at.view line (piece ++ more))) (sym h) (prefix_nil _)
   begins Usage h = absurd h
   begins ModuleRefused h = absurd h
   begins SetupRefused h = absurd h
   begins FileFault h = absurd h
   begins FileTooLong h = absurd h
 
-  says : (status : Status) → SaysLast status view line piece more x → Says status start (s.got ++ piece) (with_rest (s.got ++ piece) new.left) (s.put ++ x)
+  says : (status : Status) → SaysLast status at.view line piece more x → Says status start.view (s.got ++ piece) (with_rest (s.got ++ piece) new.left) (s.put ++ x)
   says Done h = (
     ap (λ l. s.put ++ l) h.0 ∙ sym due_all,
     elim h.1 [
@@ -110,7 +112,7 @@ module _ (start : View) (old now new : Streams) (view : View) (line : List ℕ) 
   )
   says ReadFault h =
       let same : s.got ++ piece ≡ s.got = ap (λ l. s.got ++ l) h.1 ∙ append-nil s.got in
-      (ap (λ l. s.put ++ l) h.0 ∙ append-nil s.put ∙ s.due ∙ ap (λ l. transcript start (complete_lines l)) (sym same), ap (λ l. has_quit (complete_lines l)) same ∙ s.goes)
+      (ap (λ l. s.put ++ l) h.0 ∙ append-nil s.put ∙ s.due ∙ ap (λ l. transcript start.view (complete_lines l)) (sym same), ap (λ l. has_quit (complete_lines l)) same ∙ s.goes)
   says WriteFault h = subst (IsProperPrefixOf (s.put ++ x)) (sym due_all) (proper_under s.put x _ h)
   says NoMemory h = tt
   says InputTooLong h = tt
@@ -121,17 +123,17 @@ module _ (start : View) (old now new : Streams) (view : View) (line : List ℕ) 
   says FileTooLong h = h
 
   -- the steps of all lines so far, with those of the last piece
-  cost_all : transcript_cost start (lines_of (s.got ++ piece)) ≡ transcript_cost start (complete_lines s.got) + transcript_cost view (lines_from line piece)
-  cost_all =
-      ap (transcript_cost start) (lines_from-append [] s.got piece)
-      ∙ cost_goes start (complete_lines s.got) (lines_from (rest_of s.got) piece) s.goes
-      ∙ ap (λ v. transcript_cost start (complete_lines s.got) + transcript_cost v (lines_from (rest_of s.got) piece)) (sym s.at)
-      ∙ ap (λ l. transcript_cost start (complete_lines s.got) + transcript_cost view (lines_from l piece)) (sym s.rest)
+  spends_all : Spends at (lines_from line piece) now.steps new.steps → Spends start (lines_of (s.got ++ piece)) old.steps new.steps
+  spends_all h =
+      let lines : lines_of (s.got ++ piece) ≡ complete_lines s.got ++ lines_from line piece =
+      lines_from-append [] s.got piece ∙ ap (λ l. complete_lines s.got ++ lines_from l piece) (sym s.rest) in
+      subst (λ (l : List (List ℕ)). Spends start l old.steps new.steps) (sym lines)
+      (spends_more start at (complete_lines s.got) (lines_from line piece) old.steps now.steps new.steps s.goes s.view s.reaches s.spends h)
 
   -- an exit with a last piece
-  pub ran : (status : Status) → Consumes now.left new.left piece → Appends now.held new.held x → length piece ≤ piece_limit → SaysLast status view line piece more x
+  pub ran : (status : Status) → Consumes now.left new.left piece → Appends now.held new.held x → length piece ≤ piece_limit → SaysLast status at.view line piece more x
       → (status ≡ InputTooLong) ↔ (count + length piece ≡ input_limit + 1) → count + length piece ≤ input_limit + 1
-      → now.steps ≤ new.steps → new.steps ≤ now.steps + transcript_cost view (lines_from line piece)
+      → now.steps ≤ new.steps → Spends at (lines_from line piece) now.steps new.steps
       → Ran start old new status
   ran status took wrote short last long few risen cost = record {
     got = s.got ++ piece;
@@ -146,36 +148,34 @@ module _ (start : View) (old now new : Streams) (view : View) (line : List ℕ) 
         (λ h. e ∙ long.0 h, λ h. long.1 (sym e ∙ h));
     at_most = omega (arith, length-append s.got piece, s.counted);
     counted = omega (arith, s.risen);
-    cost = let all = cost_all in omega (arith, s.cost);
+    cost = spends_reach start (lines_of (s.got ++ piece)) old.steps new.steps (spends_all cost);
   }
 
 -- ---- one more piece that was answered
 
-pub stands_more : (start : View) (old now new : Streams) (view view' : View) (line line' : List ℕ) (count : ℕ) (piece : List ℕ)
-    → Stands start old now view line count → Consumes now.left new.left piece → Appends now.held new.held (transcript view (complete_from line piece))
-    → has_quit (complete_from line piece) ≡ false → view' ≡ view_after view (complete_from line piece) → line' ≡ rest_from line piece
-    → now.steps ≤ new.steps → new.steps ≤ now.steps + transcript_cost view (complete_from line piece)
-    → Stands start old new view' line' (count + length piece)
-stands_more start old now new view view' line line' count piece s took wrote go at rest risen cost =
+pub stands_more : (start : Viewing) (old now new : Streams) (at at' : Viewing) (line line' : List ℕ) (count : ℕ) (piece : List ℕ)
+    → Stands start old now at line count → Consumes now.left new.left piece → Appends now.held new.held (transcript at.view (complete_from line piece))
+    → has_quit (complete_from line piece) ≡ false → at'.view ≡ view_after at.view (complete_from line piece) → line' ≡ rest_from line piece
+    → now.steps ≤ new.steps → Reaches at at' (complete_from line piece) → Spends at (complete_from line piece) now.steps new.steps
+    → Stands start old new at' line' (count + length piece)
+stands_more start old now new at at' line line' count piece s took wrote go view rest risen reaches spends =
     let lines : complete_lines (s.got ++ piece) ≡ complete_lines s.got ++ complete_from line piece =
     complete_from-append [] s.got piece ∙ ap (λ l. complete_lines s.got ++ complete_from l piece) (sym s.rest) in
     record {
       got = s.got ++ piece;
-      put = s.put ++ transcript view (complete_from line piece);
+      put = s.put ++ transcript at.view (complete_from line piece);
       taken = Consumes-trans old.left now.left new.left s.got piece s.taken took;
       written = Appends-trans old.held now.held new.held s.put _ s.written wrote;
       counted = length-append s.got piece ∙ ap (λ n. n + length piece) s.counted;
       goes = ap has_quit lines ∙ quit_more (complete_lines s.got) (complete_from line piece) s.goes ∙ go;
-      due = ap (λ l. l ++ transcript view (complete_from line piece)) s.due ∙ ap (λ v. transcript start (complete_lines s.got) ++ transcript v (complete_from line piece)) s.at
-          ∙ sym (transcript_goes start (complete_lines s.got) (complete_from line piece) s.goes) ∙ ap (transcript start) (sym lines);
-      at = at ∙ ap (λ v. view_after v (complete_from line piece)) s.at ∙ sym (view_more start (complete_lines s.got) (complete_from line piece) s.goes) ∙ ap (view_after start) (sym lines);
+      due = ap (λ l. l ++ transcript at.view (complete_from line piece)) s.due ∙ ap (λ v. transcript start.view (complete_lines s.got) ++ transcript v (complete_from line piece)) s.view
+          ∙ sym (transcript_goes start.view (complete_lines s.got) (complete_from line piece) s.goes) ∙ ap (transcript start.view) (sym lines);
+      view = view ∙ ap (λ v. view_after v (complete_from line piece)) s.view ∙ sym (view_more start.view (complete_lines s.got) (complete_from line piece) s.goes) ∙ ap (view_after start.view) (sym lines);
       rest = rest ∙ ap (λ l. rest_from l piece) s.rest ∙ sym (rest_from-append [] s.got piece);
       risen = omega (arith, s.risen);
-      cost =
-          let all : transcript_cost start (complete_lines (s.got ++ piece)) ≡ transcript_cost start (complete_lines s.got) + transcript_cost view (complete_from line piece) =
-          ap (transcript_cost start) lines ∙ cost_goes start (complete_lines s.got) (complete_from line piece) s.goes
-          ∙ ap (λ v. transcript_cost start (complete_lines s.got) + transcript_cost v (complete_from line piece)) (sym s.at) in
-          omega (arith, s.cost);
+      reaches = subst (λ (l : List (List ℕ)). Reaches start at' l) (sym lines) (reaches_more start at at' (complete_lines s.got) (complete_from line piece) s.reaches reaches);
+      spends = subst (λ (l : List (List ℕ)). Spends start l old.steps new.steps) (sym lines)
+          (spends_more start at (complete_lines s.got) (complete_from line piece) old.steps now.steps new.steps s.goes s.view s.reaches s.spends spends);
     }
 
 -- ---- the exits
@@ -211,60 +211,60 @@ piece_front view line piece more =
     (transcript_front view (complete_from line piece) (lines_from (rest_from line piece) more))
 
 -- the lines that end in a piece take no more than all of it
-piece_cost : (view : View) (line piece : List ℕ) → transcript_cost view (complete_from line piece) ≤ transcript_cost view (lines_from line piece)
-piece_cost view line piece = cost_front view (complete_from line piece) (last_line (rest_from line piece))
+piece_spends : (at : Viewing) (line piece : List ℕ) (before after : ℕ) → Spends at (complete_from line piece) before after → Spends at (lines_from line piece) before after
+piece_spends at line piece before after h = spends_front at (complete_from line piece) (last_line (rest_from line piece)) before after h
 
-module _ (start : View) (old now new : Streams) (view : View) (line : List ℕ) (count : ℕ) (s : Stands start old now view line count) where
+module _ (start : Viewing) (old now new : Streams) (at : Viewing) (line : List ℕ) (count : ℕ) (s : Stands start old now at line count) where
   -- the streams as they are, but that the input was asked
   module _ (same_held : new.held ≡ now.held) (same_steps : new.steps ≡ now.steps) where
     pub ran_read_fault : Keeps now.left new.left → count ≤ input_limit → Ran start old new ReadFault
     ran_read_fault kept few =
-        ran start old now new view line count s [] [] ReadFault (takes_none now.left new.left kept) (subst (λ h. Appends now.held h []) (sym same_held) (writes_none now.held)) (omega arith) (refl, refl)
-        (within ReadFault (count + 0) (λ h. cc) (omega arith)) (omega arith) (omega arith) (omega arith)
+        ran start old now new at line count s [] [] ReadFault (takes_none now.left new.left kept) (subst (λ h. Appends now.held h []) (sym same_held) (writes_none now.held)) (omega arith) (refl, refl)
+        (within ReadFault (count + 0) (λ h. cc) (omega arith)) (omega arith) (omega arith) (spends_none at (lines_from line []) now.steps new.steps (omega arith))
 
     pub ran_too_long : (piece : List ℕ) (n : ℕ) → length piece ≡ n → n ≤ piece_limit → Consumes now.left new.left piece → count + n ≡ input_limit + 1 → Ran start old new InputTooLong
     ran_too_long piece n is short took long =
-        ran start old now new view line count s piece [] InputTooLong took (subst (λ h. Appends now.held h []) (sym same_held) (writes_none now.held)) (omega arith) refl
-        (λ _. omega arith, λ _. refl) (omega arith) (omega arith) (omega arith)
+        ran start old now new at line count s piece [] InputTooLong took (subst (λ h. Appends now.held h []) (sym same_held) (writes_none now.held)) (omega arith) refl
+        (λ _. omega arith, λ _. refl) (omega arith) (omega arith) (spends_none at (lines_from line piece) now.steps new.steps (omega arith))
 
   module _ (risen : now.steps ≤ new.steps) where
     -- at the end of the input
     module _ (last : List ℕ) (same : last ≡ line) (piece : List ℕ) (none : piece ≡ []) (took : Consumes now.left new.left piece) (end : IsAtEnd new.left) (few : count ≤ input_limit)
-        (cost : new.steps ≤ now.steps + transcript_cost view (last_line last)) where
-      ended_due : transcript view (last_line last) ≡ due_from view line ([] ++ unwrap_or new.left [])
-      ended_due = ap (λ l. transcript view (last_line l)) same ∙ ap (due_from view line) (sym (at_end_is_nil new.left end))
+        (cost : Spends at (last_line last) now.steps new.steps) where
+      ended_due : transcript at.view (last_line last) ≡ due_from at.view line ([] ++ unwrap_or new.left [])
+      ended_due = ap (λ l. transcript at.view (last_line l)) same ∙ ap (due_from at.view line) (sym (at_end_is_nil new.left end))
 
-      ended_cost : new.steps ≤ now.steps + transcript_cost view (lines_from line [])
-      ended_cost = subst (λ l. new.steps ≤ now.steps + transcript_cost view (last_line l)) same cost
+      ended_cost : Spends at (lines_from line []) now.steps new.steps
+      ended_cost = subst (λ (l : List ℕ). Spends at (last_line l) now.steps new.steps) same cost
 
-      pub ran_end : Appends now.held new.held (transcript view (last_line last)) → Ran start old new Done
+      pub ran_end : Appends now.held new.held (transcript at.view (last_line last)) → Ran start old new Done
       ran_end wrote =
-          ran start old now new view line count s [] (transcript view (last_line last)) Done (subst (Consumes now.left new.left) none took) wrote (omega arith)
+          ran start old now new at line count s [] (transcript at.view (last_line last)) Done (subst (Consumes now.left new.left) none took) wrote (omega arith)
           (ended_due, inl (at_end_is_nil new.left end)) (within Done (count + 0) (λ h. cc) (omega arith)) (omega arith) risen ended_cost
 
-      pub ran_end_stop : (stop : Stop) → (put : List ℕ) × Appends now.held new.held put × StopSays stop put (transcript view (last_line last)) → Ran start old new (status_of stop)
+      pub ran_end_stop : (stop : Stop) → (put : List ℕ) × Appends now.held new.held put × StopSays stop put (transcript at.view (last_line last)) → Ran start old new (status_of stop)
       ran_end_stop stop w =
-          ran start old now new view line count s [] w.0 (status_of stop) (subst (Consumes now.left new.left) none took) w.1 (omega arith)
-          (stop_says stop view line [] (unwrap_or new.left []) w.0 (subst (StopSays stop w.0) ended_due w.2)) (within (status_of stop) (count + 0) (stop_is_short stop) (omega arith)) (omega arith)
+          ran start old now new at line count s [] w.0 (status_of stop) (subst (Consumes now.left new.left) none took) w.1 (omega arith)
+          (stop_says stop at.view line [] (unwrap_or new.left []) w.0 (subst (StopSays stop w.0) ended_due w.2)) (within (status_of stop) (count + 0) (stop_is_short stop) (omega arith)) (omega arith)
           risen ended_cost
 
     -- after a piece
     module _ (piece : List ℕ) (n : ℕ) (is : length piece ≡ n) (short : n ≤ piece_limit) (took : Consumes now.left new.left piece) (few : count + n ≤ input_limit)
-        (cost : new.steps ≤ now.steps + transcript_cost view (complete_from line piece)) where
-      within_all : new.steps ≤ now.steps + transcript_cost view (lines_from line piece)
-      within_all = let front = piece_cost view line piece in omega arith
+        (cost : Spends at (complete_from line piece) now.steps new.steps) where
+      within_all : Spends at (lines_from line piece) now.steps new.steps
+      within_all = piece_spends at line piece now.steps new.steps cost
 
-      pub ran_quit : Appends now.held new.held (transcript view (complete_from line piece)) → has_quit (complete_from line piece) ≡ true → Ran start old new Done
+      pub ran_quit : Appends now.held new.held (transcript at.view (complete_from line piece)) → has_quit (complete_from line piece) ≡ true → Ran start old new Done
       ran_quit wrote quit =
-          ran start old now new view line count s piece (transcript view (complete_from line piece)) Done took wrote (omega arith) (
-            sym (transcript_quits view (complete_from line piece) (lines_from (rest_from line piece) (unwrap_or new.left [])) quit)
-                ∙ ap (transcript view) (sym (lines_from-append line piece (unwrap_or new.left []))),
+          ran start old now new at line count s piece (transcript at.view (complete_from line piece)) Done took wrote (omega arith) (
+            sym (transcript_quits at.view (complete_from line piece) (lines_from (rest_from line piece) (unwrap_or new.left [])) quit)
+                ∙ ap (transcript at.view) (sym (lines_from-append line piece (unwrap_or new.left []))),
             inr quit,
           )
           (within Done (count + length piece) (λ h. cc) (omega arith)) (omega arith) risen within_all
 
-      pub ran_stop : (stop : Stop) → (put : List ℕ) × Appends now.held new.held put × StopSays stop put (transcript view (complete_from line piece)) → Ran start old new (status_of stop)
+      pub ran_stop : (stop : Stop) → (put : List ℕ) × Appends now.held new.held put × StopSays stop put (transcript at.view (complete_from line piece)) → Ran start old new (status_of stop)
       ran_stop stop w =
-          ran start old now new view line count s piece w.0 (status_of stop) took w.1 (omega arith)
-          (stop_says stop view line piece (unwrap_or new.left []) w.0 (stop_more stop w.0 _ _ w.2 (piece_front view line piece (unwrap_or new.left []))))
+          ran start old now new at line count s piece w.0 (status_of stop) took w.1 (omega arith)
+          (stop_says stop at.view line piece (unwrap_or new.left []) w.0 (stop_more stop w.0 _ _ w.2 (piece_front at.view line piece (unwrap_or new.left []))))
           (within (status_of stop) (count + length piece) (stop_is_short stop) (omega arith)) (omega arith) risen within_all

@@ -1,9 +1,8 @@
 -- The replies to two lists of lines, one after the other.
-use Rattle.std.proofs.Common.{◌≡◌, ◌≤◌, ℕ, ◌+◌, true, false, cond, arith, ◌||◌, List, [], ◌∷◌, ◌++◌, refl, sym, ap, ◌∙◌, append_assoc, append-nil}
+use Rattle.std.proofs.Common.{◌≡◌, ℕ, true, false, cond, ◌||◌, List, [], ◌∷◌, ◌++◌, refl, sym, ap, ◌∙◌, append_assoc, append-nil}
 use Rattle.spv_session.specs.View.{View}
-use Rattle.spv_session.specs.Costs.{line_cost}
 use Rattle.spv_session.specs.Reply.{is_quit}
-use Rattle.spv_app.specs.Transcript.{text_of, view_of, transcript, transcript_cost, view_after, has_quit}
+use Rattle.spv_app.specs.Transcript.{text_of, view_of, transcript, view_after, has_quit}
 use Rattle.spv_base.specs.Prefix.{IsPrefixOf, IsProperPrefixOf}
 
 pub transcript-append : (v : View) (xs ys : List (List ℕ)) → transcript v (xs ++ ys) ≡ transcript v xs ++ cond (has_quit xs) [] (transcript (view_after v xs) ys)
@@ -53,27 +52,6 @@ quit_one x = elim (is_quit x) as (λ q. (q || false) ≡ q) [ true ↦ refl | fa
 -- what is due of the first lines is a front of what is due of all
 pub transcript_front : (v : View) (xs ys : List (List ℕ)) → IsPrefixOf (transcript v xs) (transcript v (xs ++ ys))
 transcript_front v xs ys = (cond (has_quit xs) [] (transcript (view_after v xs) ys), sym (transcript-append v xs ys))
-
--- ---- the steps of the replies
-
-cost-append : (v : View) (xs ys : List (List ℕ)) → transcript_cost v (xs ++ ys) ≡ transcript_cost v xs + cond (has_quit xs) 0 (transcript_cost (view_after v xs) ys)
-cost-append v [] ys = omega arith
-cost-append v (x ∷ xs) ys =
-    elim (is_quit x) as (λ q. line_cost v x + cond q 0 (transcript_cost (view_of v x) (xs ++ ys))
-    ≡ (line_cost v x + cond q 0 (transcript_cost (view_of v x) xs)) + cond (q || has_quit xs) 0 (transcript_cost (cond q (view_of v x) (view_after (view_of v x) xs)) ys)) [
-      | true ↦ omega arith
-      | false ↦ (let rest = cost-append (view_of v x) xs ys in omega arith)
-    ]
-
-pub cost_goes : (v : View) (xs ys : List (List ℕ)) → has_quit xs ≡ false → transcript_cost v (xs ++ ys) ≡ transcript_cost v xs + transcript_cost (view_after v xs) ys
-cost_goes v xs ys h = cost-append v xs ys ∙ ap (λ b. transcript_cost v xs + cond b 0 (transcript_cost (view_after v xs) ys)) h
-
--- the first lines take no more than all
-pub cost_front : (v : View) (xs ys : List (List ℕ)) → transcript_cost v xs ≤ transcript_cost v (xs ++ ys)
-cost_front v xs ys = let all = cost-append v xs ys in omega arith
-
-pub cost_one : (v : View) (x : List ℕ) → transcript_cost v (x ∷ []) ≡ line_cost v x
-cost_one v x = elim (is_quit x) as (λ q. line_cost v x + cond q 0 0 ≡ line_cost v x) [ true ↦ omega arith | false ↦ omega arith ]
 
 -- ---- fronts
 

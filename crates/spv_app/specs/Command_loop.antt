@@ -2,13 +2,13 @@
 use Rattle.std.specs.Prelude.{◌≡◌, ◌↔◌, ◌⊎◌, ℕ, ◌+◌, ◌≤◌, ◌<◌, true, false, List, [], ◌++◌, length, unwrap_or, Option}
 use Rattle.std.specs.Io.KnownBytes.{Appends, Consumes}
 use Rattle.spv_base.specs.Prefix.{IsPrefixOf, IsProperPrefixOf}
-use Rattle.spv_session.specs.View.{View}
+use Rattle.spv_session.specs.View.{View, Viewing}
 use Rattle.spv_app.specs.declared.status.Status.{Status}
 use Rattle.spv_app.specs.declared.status.Status.TheVariants.{Done, Usage, ModuleRefused, SetupRefused, FileFault, ReadFault, WriteFault, NoMemory, InputTooLong, FileTooLong}
 use Rattle.spv_app.specs.Limits.{input_limit, most_behind}
 use Rattle.spv_app.specs.Lines.{lines_of, complete_lines}
 use Rattle.spv_app.specs.Outside.{Streams}
-use Rattle.spv_app.specs.Transcript.{transcript, transcript_cost, has_quit}
+use Rattle.spv_app.specs.Transcript.{transcript, transcript_cost, has_quit, reach}
 
 -- what a status says of the bytes taken, of all the bytes that were left at entry, and of the bytes written
 abbrev pub Says : Status → View → List ℕ → List ℕ → List ℕ → Type 0
@@ -34,16 +34,17 @@ abbrev pub with_rest : List ℕ → Option (List ℕ) → List ℕ
 with_rest taken left = taken ++ unwrap_or left []
 
 -- a run of the command loop from a view
-pub record Ran (view : View) (before after : Streams) (status : Status) : Type 0 where
+pub record Ran (start : Viewing) (before after : Streams) (status : Status) : Type 0 where
   pub got : List ℕ  -- the bytes taken
   pub put : List ℕ  -- the bytes written
   pub taken : Consumes before.left after.left got
   pub written : Appends before.held after.held put
-  pub begins : IsPrefixOf put (transcript view (lines_of (with_rest got after.left)))
-  pub says : Says status view got (with_rest got after.left) put
-  pub in_time : AnswersInTime view got put
+  pub begins : IsPrefixOf put (transcript start.view (lines_of (with_rest got after.left)))
+  pub says : Says status start.view got (with_rest got after.left) put
+  pub in_time : AnswersInTime start.view got put
   pub too_long : (status ≡ InputTooLong) ↔ (length got ≡ input_limit + 1)
   pub at_most : length got ≤ input_limit + 1
-  -- the steps are those of the commands of the lines taken
+  -- The steps are those of the commands of the lines taken. Going back takes none to where events are kept, from the highest position of
+  -- these commands' views.
   pub counted : before.steps ≤ after.steps
-  pub cost : after.steps ≤ before.steps + transcript_cost view (lines_of got)
+  pub cost : after.steps ≤ before.steps + transcript_cost (reach start (lines_of got)) start.view (lines_of got)

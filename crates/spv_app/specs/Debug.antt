@@ -4,7 +4,7 @@ use Rattle.std.specs.Io.KnownBytes.{Appends, Keeps}
 use Rattle.spv_base.specs.Prefix.{IsProperPrefixOf}
 use Rattle.spv_base.specs.Outside.{Told, AsksFor, Holds, HoldsMore}
 use Rattle.spv_group.specs.Group.{Held as Group}
-use Rattle.spv_session.specs.View.{first_view}
+use Rattle.spv_session.specs.View.{first_view, first_viewing}
 use Rattle.spv_app.specs.declared.status.Status.{Status}
 use Rattle.spv_app.specs.declared.status.Status.TheVariants.{Done, ModuleRefused, SetupRefused, FileFault, WriteFault, NoMemory, FileTooLong}
 use Rattle.spv_app.specs.declared.opening.OpeningRefusal.{OpeningRefusal}
@@ -15,7 +15,7 @@ use Rattle.spv_app.specs.Outside.{Library, Outside}
 use Rattle.spv_app.specs.Transcript.{transcript}
 use Rattle.spv_app.specs.Command_line.{Names}
 use Rattle.spv_app.specs.Command_loop.{Ran}
-use Rattle.spv_app.specs.Opening.{opening, refusal_line}
+use Rattle.spv_app.specs.Opening.{opening, refusal_line, with_journal}
 
 -- ---- one line
 
@@ -90,7 +90,7 @@ pub data Debugged (names : Names) (before after : Outside) (unread : Type 0) : S
   -- the pair is opened: the command loop runs from the first view of its group
   Opened : (status : Status) (binary setup : List ℕ) (group : Group) → AsksForBoth names before.files after.files
       → IsPair before.files.told names binary setup → opening binary setup ≡ Ok group
-      → Ran (first_view group) before.streams after.streams status → Debugged names before after unread status
+      → Ran (first_viewing (with_journal group)) before.streams after.streams status → Debugged names before after unread status
 
 -- ---- what is due where nothing fails
 

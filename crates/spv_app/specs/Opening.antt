@@ -9,7 +9,7 @@ use Rattle.spv_setup.specs.declared.settings.Settings.{Settings}
 use Rattle.spv_setup.specs.Settings.{settings_of}
 use Rattle.spv_setup.specs.Schedule.{Entries}
 use Rattle.spv_fit.specs.Fit.{fitted}
-use Rattle.spv_group.specs.Group.{Held as Group, first_group}
+use Rattle.spv_group.specs.Group.{Held as Group, Undoing, first_group}
 use Rattle.spv_app.specs.declared.opening.OpeningRefusal.{OpeningRefusal}
 use Rattle.spv_app.specs.declared.opening.OpeningRefusal.TheVariants.{Module, Setup}
 use Rattle.spv_app.specs.Acceptance.{accepted_as}
@@ -38,6 +38,13 @@ of_module (Err refusal) = Err (Module refusal)
 -- the group at its start, where the setup fits the module; every accepted module can be run
 abbrev pub started : Settings → Accepted → Result Group OpeningRefusal
 started s a = after (of_setup (schedule_for a s)) (λ schedule. Ok (first_group (record { accepted = a; setup = s }) schedule))
+
+-- An opened group keeps at most 1,048,576 marks and entries of events. None was made so far.
+abbrev pub with_journal : Group → Undoing
+with_journal group = record { group = group; kept = 0; limit = 1048576 }
+
+abbrev pub journaled : Result Group OpeningRefusal → Result Undoing OpeningRefusal
+journaled due = after due (λ group. Ok (with_journal group))
 
 -- The setup's text is looked at first, then the module, and then whether the setup fits it.
 unfoldable pub opening : List ℕ → List ℕ → Result Group OpeningRefusal

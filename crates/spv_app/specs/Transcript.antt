@@ -1,7 +1,9 @@
 -- The replies to lines, to their end or to `quit`.
-use Rattle.std.specs.Prelude.{ℕ, ◌+◌, if◌then◌else◌, Bool, List, [], ◌∷◌, ◌++◌}
+use Rattle.std.specs.Prelude.{ℕ, ◌+◌, ◌≤◌, max, if◌then◌else◌, Bool, List, [], ◌∷◌, ◌++◌}
 use Rattle.std.specs.List.{list_any}
-use Rattle.spv_session.specs.View.{View}
+use Rattle.spv_group.specs.Group.{entries_in}
+use Rattle.spv_group.specs.History.{window}
+use Rattle.spv_session.specs.View.{View, Viewing}
 use Rattle.spv_session.specs.Reply.{reply, is_quit}
 use Rattle.spv_session.specs.Costs.{line_cost}
 
@@ -26,7 +28,27 @@ view_after view (line ∷ lines) = if is_quit line then view_of view line else v
 abbrev pub has_quit : List (List ℕ) → Bool
 has_quit lines = list_any is_quit lines
 
--- the most steps that the replies to the lines take, to their end or to the first `quit`
-abbrev pub transcript_cost : View → List (List ℕ) → ℕ
-transcript_cost view [] = 0
-transcript_cost view (line ∷ lines) = line_cost view line + (if is_quit line then 0 else transcript_cost (view_of view line) lines)
+-- ---- the steps of the replies
+
+-- the highest of the positions that the views have, to the end of the lines or to the first `quit`
+abbrev pub highest : View → List (List ℕ) → ℕ
+highest view [] = view.group.position
+highest view (line ∷ lines) = max view.group.position (if is_quit line then (view_of view line).group.position else highest (view_of view line) lines)
+
+-- The least position to which a motion back takes no step, at each of the views: what is kept at the first, or the window of the highest
+-- position.
+abbrev pub reach : Viewing → List (List ℕ) → ℕ
+reach s lines = max s.kept (window s.limit s.view.group.program (entries_in s.view.group) (highest s.view lines))
+
+-- the most steps that the replies to the lines take, to their end or to the first `quit`, where events are kept from a position on
+abbrev pub transcript_cost : (kept : ℕ) → View → List (List ℕ) → ℕ
+transcript_cost kept view [] = 0
+transcript_cost kept view (line ∷ lines) = line_cost kept view line + (if is_quit line then 0 else transcript_cost kept (view_of view line) lines)
+
+-- The steps that were counted are at most those of the replies to the lines, by any position to which events are kept.
+abbrev pub Spends : Viewing → List (List ℕ) → (before after : ℕ) → Type 0
+Spends s lines before after = (kept : ℕ) → reach s lines ≤ kept → after ≤ before + transcript_cost kept s.view lines
+
+-- after the replies to some lines a motion back takes no step to where it took none before
+abbrev pub Reaches : Viewing → Viewing → List (List ℕ) → Type 0
+Reaches s t lines = (later : List (List ℕ)) → reach t later ≤ reach s (lines ++ later)

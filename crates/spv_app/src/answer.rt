@@ -1,10 +1,9 @@
 //! The answers to one line, and to the lines that end in one piece of input.
-ghost use Rattle.std.specs.Prelude.{◌≡◌, ◌<◌, ◌≤◌, ◌+◌, ◌-◌, ◌^◌, List, ℕ, IfOk, IfErr, OnOk, MatchResult};
+ghost use Rattle.std.specs.Prelude.{◌≡◌, ◌<◌, ◌≤◌, ◌+◌, ◌-◌, ◌^◌, ◌∷◌, [], List, ℕ, Ok, IfOk, IfErr, OnOk, MatchResult};
 ghost use Rattle.std.specs.Io.KnownBytes.{Appends};
-ghost use Rattle.spv_session.specs.Costs.{line_cost};
 ghost use Rattle.spv_session.specs.Reply.{is_quit};
 ghost use Rattle.spv_app.specs.Lines.{complete_from, rest_from, ended_by, line_after};
-ghost use Rattle.spv_app.specs.Transcript.{text_of, view_of, transcript, transcript_cost, view_after, has_quit};
+ghost use Rattle.spv_app.specs.Transcript.{text_of, view_of, transcript, view_after, has_quit, Reaches, Spends};
 ghost use Rattle.spv_app.specs.Stops.{next_of, StopSays, StopCounts};
 
 use crate::status::Stop;
@@ -25,12 +24,13 @@ pub fn answer<K: Sink, L: Ledger>(
 ) -> Result<Next, Stop>
     requires { K.faults out.old < 2 ^ 64 - 1 }
     ensures next { IfOk result (λ next. next ≡ next_of (is_quit line.now)) }
-    ensures written { OnOk result (Appends (K.taken out.old) (K.taken out.new) (text_of session.old line.now)) }
-    ensures view { OnOk result (session.new ≡ view_of session.old line.now) }
-    ensures stop { IfErr result (λ stop. (put : List ℕ) × Appends (K.taken out.old) (K.taken out.new) put × StopSays stop put (text_of session.old line.now)) }
+    ensures written { OnOk result (Appends (K.taken out.old) (K.taken out.new) (text_of session.old.view line.now)) }
+    ensures view { OnOk result (session.new.view ≡ view_of session.old.view line.now) }
+    ensures stop { IfErr result (λ stop. (put : List ℕ) × Appends (K.taken out.old) (K.taken out.new) put × StopSays stop put (text_of session.old.view line.now)) }
     ensures count { MatchResult result (λ _. K.faults out.new ≡ K.faults out.old) (λ stop. StopCounts stop (K.faults out.old) (K.faults out.new)) }
     ensures counted { steps.old ≤ steps.new }
-    ensures cost { steps.new ≤ steps.old + line_cost session.old line.now }
+    ensures reach { result ≡ Ok Next.Go → Reaches session.old session.new (line.now ∷ []) }
+    ensures cost { Spends session.old (line.now ∷ []) steps.old steps.new }
 {
     let mut reply = Vec::new(alloc);
     let next = session.command(line, &mut reply, steps)?;
@@ -49,14 +49,15 @@ fn answer_byte<K: Sink, L: Ledger>(
 ) -> Result<Next, Stop>
     requires { K.faults out.old < 2 ^ 64 - 1 }
     ensures next { IfOk result (λ next. next ≡ next_of (has_quit (ended_by line.old.items byte))) }
-    ensures written { OnOk result (Appends (K.taken out.old) (K.taken out.new) (transcript session.old (ended_by line.old.items byte))) }
-    ensures view { OnOk result (session.new ≡ view_after session.old (ended_by line.old.items byte)) }
+    ensures written { OnOk result (Appends (K.taken out.old) (K.taken out.new) (transcript session.old.view (ended_by line.old.items byte))) }
+    ensures view { OnOk result (session.new.view ≡ view_after session.old.view (ended_by line.old.items byte)) }
     ensures rest { OnOk result (line.new.items ≡ line_after line.old.items byte) }
     ensures stop { IfErr result (λ stop. (put : List ℕ) × Appends (K.taken out.old) (K.taken out.new) put
-        × StopSays stop put (transcript session.old (ended_by line.old.items byte))) }
+        × StopSays stop put (transcript session.old.view (ended_by line.old.items byte))) }
     ensures count { MatchResult result (λ _. K.faults out.new ≡ K.faults out.old) (λ stop. StopCounts stop (K.faults out.old) (K.faults out.new)) }
     ensures counted { steps.old ≤ steps.new }
-    ensures cost { steps.new ≤ steps.old + transcript_cost session.old (ended_by line.old.items byte) }
+    ensures reach { result ≡ Ok Next.Go → Reaches session.old session.new (ended_by line.old.items byte) }
+    ensures cost { Spends session.old (ended_by line.old.items byte) steps.old steps.new }
 {
     if byte == LF {
         let next = answer(alloc, session, line, out, steps)?;
@@ -78,14 +79,15 @@ pub fn answer_piece<K: Sink, L: Ledger>(
 ) -> Result<Next, Stop>
     requires { K.faults out.old < 2 ^ 64 - 1 }
     ensures next { IfOk result (λ next. next ≡ next_of (has_quit (complete_from line.old.items piece.now))) }
-    ensures written { OnOk result (Appends (K.taken out.old) (K.taken out.new) (transcript session.old (complete_from line.old.items piece.now))) }
-    ensures view { OnOk result (session.new ≡ view_after session.old (complete_from line.old.items piece.now)) }
+    ensures written { OnOk result (Appends (K.taken out.old) (K.taken out.new) (transcript session.old.view (complete_from line.old.items piece.now))) }
+    ensures view { OnOk result (session.new.view ≡ view_after session.old.view (complete_from line.old.items piece.now)) }
     ensures rest { result ≡ Ok Next.Go → line.new.items ≡ rest_from line.old.items piece.now }
     ensures stop { IfErr result (λ stop. (put : List ℕ) × Appends (K.taken out.old) (K.taken out.new) put
-        × StopSays stop put (transcript session.old (complete_from line.old.items piece.now))) }
+        × StopSays stop put (transcript session.old.view (complete_from line.old.items piece.now))) }
     ensures count { MatchResult result (λ _. K.faults out.new ≡ K.faults out.old) (λ stop. StopCounts stop (K.faults out.old) (K.faults out.new)) }
     ensures counted { steps.old ≤ steps.new }
-    ensures cost { steps.new ≤ steps.old + transcript_cost session.old (complete_from line.old.items piece.now) }
+    ensures reach { result ≡ Ok Next.Go → Reaches session.old session.new (complete_from line.old.items piece.now) }
+    ensures cost { Spends session.old (complete_from line.old.items piece.now) steps.old steps.new }
 {
     for byte in piece {
         match answer_byte(alloc, session, line, *byte, out, steps)? {

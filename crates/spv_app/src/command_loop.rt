@@ -3,7 +3,7 @@ ghost use Rattle.std.specs.Prelude.{◌≡◌, ◌↔◌, ◌<◌, ◌≤◌, �
 ghost use Rattle.std.specs.Io.KnownBytes.{Appends, Consumes, Keeps, IsAtEnd};
 ghost use Rattle.spv_base.specs.Outside.{CountsFault};
 ghost use Rattle.spv_app.specs.Lines.{last_line};
-ghost use Rattle.spv_app.specs.Transcript.{transcript, transcript_cost};
+ghost use Rattle.spv_app.specs.Transcript.{transcript, Spends};
 ghost use Rattle.spv_app.specs.Command_loop.{Ran};
 ghost use Rattle.spv_app.specs.Limits.{piece_limit};
 ghost use Rattle.spv_app.specs.Stops.{StopSays, StopCounts};
@@ -43,12 +43,12 @@ fn answer_last<K: Sink, L: Ledger>(
     steps: &mut Steps<L>,
 ) -> Result<(), Stop>
     requires { K.faults out.old < 2 ^ 64 - 1 }
-    ensures written { OnOk result (Appends (K.taken out.old) (K.taken out.new) (transcript session.old (last_line line.now))) }
+    ensures written { OnOk result (Appends (K.taken out.old) (K.taken out.new) (transcript session.old.view (last_line line.now))) }
     ensures stop { IfErr result (λ stop. (put : List ℕ) × Appends (K.taken out.old) (K.taken out.new) put
-        × StopSays stop put (transcript session.old (last_line line.now))) }
+        × StopSays stop put (transcript session.old.view (last_line line.now))) }
     ensures count { MatchResult result (λ _. K.faults out.new ≡ K.faults out.old) (λ stop. StopCounts stop (K.faults out.old) (K.faults out.new)) }
     ensures counted { steps.old ≤ steps.new }
-    ensures cost { steps.new ≤ steps.old + transcript_cost session.old (last_line line.now) }
+    ensures cost { Spends session.old (last_line line.now) steps.old steps.new }
 {
     if line.is_empty() {
         return Ok(());

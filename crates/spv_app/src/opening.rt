@@ -5,7 +5,7 @@ ghost use Rattle.spv_setup.specs.Settings.{settings_of};
 ghost use Rattle.spv_valid.specs.Validity.{IsValid};
 ghost use Rattle.spv_state.specs.Program.{IsFitting};
 ghost use Rattle.spv_app.specs.Limits.{setup_limit};
-ghost use Rattle.spv_app.specs.Opening.{opening, accepted_in, invocations_of, schedule_for, started, of_setup, of_module};
+ghost use Rattle.spv_app.specs.Opening.{opening, accepted_in, invocations_of, journaled, schedule_for, started, of_setup, of_module};
 
 use crate::acceptance::accepted_as;
 use spv_base::{Fail, Refusal, SetupRefusal};
@@ -131,8 +131,8 @@ fn fit_setup(
 /// The group of a module and a setup, at the first position, where the setup fits the module.
 fn start(alloc: Global, accepted: Module, setup: Setup) -> Result<Group, Fail<OpeningRefusal>>
     requires { IsValid accepted }
-    ensures view { Answers (started setup accepted) result }
-    ensures start { IfOk result (λ group. group.position ≡ 0) }
+    ensures view { Answers (journaled (started setup accepted)) result }
+    ensures start { IfOk result (λ group. group.group.position ≡ 0) }
 {
     let schedule = fit_setup(alloc, &accepted, &setup)?;
     let program = Runnable::of(alloc, accepted, setup)?;
@@ -144,8 +144,8 @@ fn start(alloc: Global, accepted: Module, setup: Setup) -> Result<Group, Fail<Op
 #[tactic(auto, unfolding(crate::specs::Opening::opening))]
 pub fn open(alloc: Global, binary: Vec<u8>, setup: Vec<u8>) -> Result<Group, Fail<OpeningRefusal>>
     requires { length setup.items ≤ setup_limit }
-    ensures opening { Answers (opening binary.items setup.items) result }
-    ensures start { IfOk result (λ group. group.position ≡ 0) }
+    ensures opening { Answers (journaled (opening binary.items setup.items)) result }
+    ensures start { IfOk result (λ group. group.group.position ≡ 0) }
 {
     let setup = parse_setup(alloc, &setup)?;
     let accepted = read_module(alloc, &binary, &setup)?;

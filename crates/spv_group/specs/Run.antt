@@ -2,13 +2,12 @@
 -- where and why it ends.
 use Rattle.std.specs.Prelude.{ℕ, zero, suc, Bool, if◌then◌else◌, List, length, Option, Some, None, is_some, slice_get, option_map}
 use Rattle.spv_base.specs.declared.happenings.Happening.{Happening}
-use Rattle.spv_base.specs.declared.happenings.Kind.TheVariants.{Idle}
 use Rattle.spv_base.specs.declared.happenings.EndCause.{EndCause}
 use Rattle.spv_base.specs.declared.happenings.EndCause.TheVariants as end
 use Rattle.spv_state.specs.Program.{Program}
 use Rattle.spv_state.specs.State.{State}
 use Rattle.spv_state.specs.Start.{start_of}
-use Rattle.spv_machine.specs.Step.{Outcome, Idles, Moves, Faults, step_of, fault_in}
+use Rattle.spv_machine.specs.Step.{Outcome, Idles, Moves, Faults, idle, step_of, fault_in}
 use Rattle.spv_statuses.specs.Group as statuses
 use Rattle.spv_group.specs.Positions.{least_of}
 
@@ -31,13 +30,10 @@ run p entries (suc n) = event p (slice_get entries n) (run p entries n)
 
 -- ---- what happens
 
-abbrev pub idle_event : ℕ → Happening
-idle_event i = record { inv = i; kind = Idle; word = 0; root = 0; line = 0 }
-
 abbrev pub happening_in : Outcome → ℕ → Happening
-happening_in Idles i = idle_event i
+happening_in Idles i = idle i
 happening_in (Moves h t) i = h
-happening_in (Faults f) i = idle_event i
+happening_in (Faults f) i = idle i
 
 -- the event at a position, where the schedule has an entry there
 abbrev pub happening_at : Program → List ℕ → ℕ → Option Happening

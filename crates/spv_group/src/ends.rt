@@ -12,14 +12,14 @@ use std::alloc::Global;
 
 /// Whether all invocations are finished. In constant time.
 pub fn all_finished(world: &World) -> bool
-    ensures { result ≡ all_finished world.now }
+    ensures { result ≡ all_finished world.now.state }
 {
     world.whole().statuses().all_finished()
 }
 
 /// Whether no invocation can go on, though one waits at a barrier. In constant time.
 pub fn is_stuck(world: &World) -> bool
-    ensures { result ≡ is_stuck world.now }
+    ensures { result ≡ is_stuck world.now.state }
 {
     world.whole().statuses().is_stuck()
 }
@@ -31,9 +31,9 @@ pub fn cause_here(
     world: &World,
     next: Option<u32>,
 ) -> Result<Option<EndCause>, NoMemory>
-    requires sound { IsSound m.now world.now }
-    requires next { ForSome next (λ i. i < length world.now.statuses.list) }
-    ensures { IfOk result (λ cause. cause ≡ cause_in m.now world.now next) }
+    requires sound { IsSound m.now world.now.state }
+    requires next { ForSome next (λ i. i < length world.now.state.statuses.list) }
+    ensures { IfOk result (λ cause. cause ≡ cause_in m.now world.now.state next) }
 {
     if all_finished(world) {
         return Ok(Some(EndCause::Finished));

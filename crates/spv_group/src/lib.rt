@@ -5,7 +5,9 @@ mod ends;
 mod group;
 mod motion;
 mod run;
+mod windows;
 
 pub use ends::end_is_least;
 pub use group::Group;
 pub use motion::{Back, Forth};
+pub use windows::windows_are_least;

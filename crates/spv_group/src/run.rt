@@ -1,30 +1,31 @@
-//! A run at a position, always by running on from the start.
-ghost use Rattle.std.specs.Prelude.{◌≡◌, ◌≤◌, ◌+◌, ◌-◌, ◌<◌, ◌^◌, length, slice_get, IfOk, OnOk, IfSome, IsSome, max, min};
+//! A run at a position, and the events before it that its journal keeps.
+ghost use Rattle.std.specs.Prelude.{◌≡◌, ◌≤◌, ◌+◌, ◌-◌, ◌<◌, ◌^◌, ℕ, length, slice_get, Some, IfOk, OnOk, IsOk, IfSome, IsSome, MatchOption, max, min};
 ghost use Rattle.spv_state.specs.Sound.{IsSound};
 ghost use Rattle.spv_state.specs.Start.{start_of};
-ghost use Rattle.spv_group.specs.Motion.{IsRun, Makes, Goes};
-ghost use Rattle.spv_group.specs.Costs.{ForthCounts, run_cost};
-ghost use Rattle.spv_group.specs.Run.{end_of, idle_event};
+ghost use Rattle.spv_group.specs.Costs.{ForthCounts, ForthKeeps, run_cost};
+ghost use Rattle.spv_group.specs.History.{window};
+ghost use Rattle.spv_group.specs.Motion.{IsRun, Makes, Goes, kept_in};
+ghost use Rattle.spv_group.specs.Run.{end_of, happening_at, happening_before};
+ghost use Rattle.spv_machine.specs.Step as spec;
 
 use crate::ends::{all_finished, is_stuck};
 use crate::motion::Forth;
 use spv_base::{EndCause, Happening, Kind, NoMemory, Steps};
-use spv_machine::{Did, Runnable, StepErr, World, step};
+use spv_machine::{Did, Runnable, StepErr, World, step, unstep};
 use spv_setup::Schedule;
 use std::alloc::Global;
 use std::sync::ledger::Ledger;
 
-/// The state at a position, and the event before it.
+/// The world at a position.
 #[derive(Drop)]
 pub struct Run {
     pub world: World,
     pub position: u64,
-    pub last: Option<Happening>,
 }
 
 /// An event of an invocation that waits or is finished.
 fn idle(inv: u32) -> Happening
-    ensures { result ≡ idle_event inv }
+    ensures { result ≡ spec.idle inv }
 {
     Happening {
         inv,
@@ -55,10 +56,10 @@ fn event<L: Ledger>(
     inv: u32,
     steps: &mut Steps<L>,
 ) -> Result<Happening, StepErr>
-    requires inv { inv < length world.old.statuses.list }
-    requires sound { IsSound m.now world.old }
+    requires inv { inv < length world.old.state.statuses.list }
+    requires sound { IsSound m.now world.old.state }
     ensures makes { Makes m.now world.old inv result world.new }
-    ensures sound { IsSound m.now world.new }
+    ensures sound { IsSound m.now world.new.state }
     ensures count { steps.new ≡ steps.old + 1 }
 {
     match step(alloc, m, world, inv, steps) {
@@ -69,16 +70,41 @@ fn event<L: Ledger>(
 }
 
 impl Run {
-    /// The start of a run by a schedule of as many invocations.
-    pub fn start(alloc: Global, m: &Runnable, schedule: &Schedule) -> Result<Run, NoMemory>
-        requires { schedule.now.invocations ≡ length (start_of m.now).statuses.list }
-        ensures run { IfOk result (λ r. IsRun m.now schedule.now r.world r.position r.last) }
+    /// The start of a run by a schedule of as many invocations. Its journal keeps at most so many marks and entries.
+    pub fn start(
+        alloc: Global,
+        m: &Runnable,
+        schedule: &Schedule,
+        limit: usize,
+    ) -> Result<Run, NoMemory>
+        requires fits { schedule.now.invocations ≡ length (start_of m.now).statuses.list }
+        requires limit { 1 ≤ limit }
+        ensures run { IfOk result (λ r. IsRun m.now schedule.now limit r.world r.position) }
         ensures position { IfOk result (λ r. r.position ≡ 0) }
     {
         Ok(Run {
-            world: World::start(alloc, m)?,
+            world: World::start(alloc, m, limit)?,
             position: 0,
-            last: None,
+        })
+    }
+
+    /// The same position, from which on nothing is undone.
+    pub fn copy(
+        &self,
+        alloc: Global,
+        m: &Runnable,
+        schedule: &Schedule,
+        limit: usize,
+    ) -> Result<Run, NoMemory>
+        requires run { (old : ℕ) × IsRun m.now schedule.now old self.now.world self.now.position }
+        requires limit { 1 ≤ limit }
+        ensures run { IfOk result (λ r. IsRun m.now schedule.now limit r.world r.position) }
+        ensures position { IfOk result (λ r. r.position ≡ self.now.position) }
+        ensures kept { IfOk result (λ r. kept_in r.world r.position ≡ self.now.position) }
+    {
+        Ok(Run {
+            world: self.world.copy(alloc, limit)?,
+            position: self.position,
         })
     }
 
@@ -97,10 +123,12 @@ impl Run {
         schedule: &Schedule,
         steps: &mut Steps<L>,
     ) -> Result<Forth, NoMemory>
-        requires { IsRun m.now schedule.now self.old.world self.old.position self.old.last }
-        ensures run { IsRun m.now schedule.now self.new.world self.new.position self.new.last }
+        requires { IsRun m.now schedule.now self.old.world.limit self.old.world self.old.position }
+        ensures run { IsRun m.now schedule.now self.old.world.limit self.new.world self.new.position }
         ensures goes { Goes m.now schedule.now.list result self.old.position self.new.position }
         ensures cost { ForthCounts result steps.old steps.new }
+        ensures kept { ForthKeeps result (window self.old.world.limit m.now schedule.now.list self.new.position)
+            (kept_in self.old.world self.old.position) (kept_in self.new.world self.new.position) }
     {
         if all_finished(&self.world) {
             return Ok(Forth::AtEnd(EndCause::Finished));
@@ -114,12 +142,25 @@ impl Run {
         match event(alloc, m, &mut self.world, inv, steps) {
             Ok(happening) => {
                 self.position += 1;
-                self.last = Some(happening);
                 Ok(Forth::Went(happening))
             }
             Err(StepErr::Fault(fault)) => Ok(Forth::AtEnd(EndCause::Fault(fault))),
             Err(StepErr::NoMemory) => Err(NoMemory),
         }
+    }
+
+    /// Undoes the last event, where it is kept. It takes no step and no memory.
+    pub fn back(&mut self, m: &Runnable, schedule: &Schedule) -> Option<Happening>
+        requires { IsRun m.now schedule.now self.old.world.limit self.old.world self.old.position }
+        ensures run { IsRun m.now schedule.now self.old.world.limit self.new.world self.new.position }
+        ensures undone { MatchOption result ((length self.old.world.ring ≡ 0) × (self.new ≡ self.old))
+            (λ h. (0 < length self.old.world.ring) × (happening_before m.now schedule.now.list self.old.position ≡ Some h)
+            × (self.old.position ≡ self.new.position + 1)) }
+        ensures kept { kept_in self.new.world self.new.position ≡ kept_in self.old.world self.old.position }
+    {
+        let happening = unstep(&mut self.world)?;
+        self.position -= 1;
+        Some(happening)
     }
 
     /// Runs on to a position, or to the end where that comes first. It takes a step for each event, and one more at most where
@@ -132,11 +173,13 @@ impl Run {
         target: u64,
         steps: &mut Steps<L>,
     ) -> Result<(), NoMemory>
-        requires { IsRun m.now schedule.now self.old.world self.old.position self.old.last }
-        ensures run { IsRun m.now schedule.now self.new.world self.new.position self.new.last }
+        requires { IsRun m.now schedule.now self.old.world.limit self.old.world self.old.position }
+        ensures run { IsRun m.now schedule.now self.old.world.limit self.new.world self.new.position }
         ensures position { OnOk result (self.new.position ≡ max self.old.position (min target (end_of m.now schedule.now.list))) }
         ensures counted { steps.old + (self.new.position - self.old.position) ≤ steps.new }
         ensures cost { steps.new ≤ steps.old + run_cost (end_of m.now schedule.now.list) self.old.position target }
+        ensures kept { kept_in self.new.world self.new.position
+            ≤ max (kept_in self.old.world self.old.position) (window self.old.world.limit m.now schedule.now.list self.new.position) }
     {
         'up: while self.position < target {
             if let Forth::AtEnd(_) = self.forth(alloc, m, schedule, steps)? {
@@ -144,5 +187,27 @@ impl Run {
             }
         }
         Ok(())
+    }
+
+    /// What happens next, which no end keeps from happening; found on a copy, with one step.
+    pub fn next_happening<L: Ledger>(
+        &self,
+        alloc: Global,
+        m: &Runnable,
+        schedule: &Schedule,
+        steps: &mut Steps<L>,
+    ) -> Result<Happening, NoMemory>
+        requires run { IsRun m.now schedule.now self.now.world.limit self.now.world self.now.position }
+        requires before { self.now.position < end_of m.now schedule.now.list }
+        ensures event { IfOk result (λ h. happening_at m.now schedule.now.list self.now.position ≡ Some h) }
+        ensures counted { steps.old ≤ steps.new }
+        ensures cost { steps.new ≤ steps.old + 1 }
+        ensures exact { IsOk result → steps.new ≡ steps.old + 1 }
+    {
+        let mut copy = self.copy(alloc, m, schedule, 1)?;
+        match copy.forth(alloc, m, schedule, steps)? {
+            Forth::Went(happening) => Ok(happening),
+            Forth::AtEnd(_) => unreachable!(),
+        }
     }
 }

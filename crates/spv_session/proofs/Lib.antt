@@ -1,3 +1,4 @@
+pub mod Cost_lemmas
 pub mod Request_lemmas
 pub mod Reply_lemmas
 pub mod Register_lemmas

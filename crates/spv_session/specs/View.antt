@@ -2,7 +2,7 @@
 use Rattle.std.specs.Prelude.{ℕ, ◌+◌, ◌-◌, min, Option}
 use Rattle.spv_frame.specs.Frames.{Held as Frame}
 use Rattle.spv_state.specs.State.{top_of}
-use Rattle.spv_group.specs.Group.{Held as Group, group_at, state_in, end_in}
+use Rattle.spv_group.specs.Group.{Held as Group, Undoing, group_at, state_in, end_in}
 
 pub record View : Type 0 where
   pub group : Group
@@ -23,6 +23,23 @@ focus_on i v = record v { focus = i }
 -- the top frame of the focus; none where it is finished
 abbrev pub focus_frame : View → Option Frame
 focus_frame v = top_of (state_in v.group) v.focus
+
+-- ---- what no reply depends on
+
+-- A view, and beside it the least position to which its group goes back by undoing, and how many marks and entries of events the journal
+-- keeps at most.
+pub record Viewing : Type 0 where
+  pub view : View
+  pub kept : ℕ
+  pub limit : ℕ
+
+-- a group as it is viewed before the first command
+abbrev pub first_viewing : Undoing → Viewing
+first_viewing u = record { view = first_view u.group; kept = u.kept; limit = u.limit }
+
+-- the group with what it can undo
+abbrev pub undoing_in : Viewing → Undoing
+undoing_in s = record { group = s.view.group; kept = s.kept; limit = s.limit }
 
 -- ---- where motions lead
 

@@ -1,7 +1,7 @@
 //! Motions to a position of the run.
-ghost use Rattle.std.specs.Prelude.{◌≡◌, ◌==◌, ◌≤◌, ◌+◌, ◌-◌, ◌&&◌, ℕ, OnOk, max, min, not};
+ghost use Rattle.std.specs.Prelude.{◌≡◌, ◌==◌, ◌≤◌, ◌+◌, ◌-◌, ◌&&◌, ℕ, OnOk, max, min, nat_lt, not, if◌then◌else◌};
 ghost use Rattle.spv_group.specs.Costs.{run_cost};
-ghost use Rattle.spv_group.specs.Group.{end_in, group_at};
+ghost use Rattle.spv_group.specs.Group.{end_in, group_at, window_in};
 ghost use Rattle.spv_session.specs.Costs.{goto_cost};
 
 use spv_base::{NoMemory, Steps};
@@ -57,11 +57,13 @@ impl Aim {
 /// Goes on to a position, or to the end where that comes first. It takes a step for each event, and one more at most where the
 /// end comes first. After want of memory the group is at some position on the way.
 fn go_on<L: Ledger>(group: &mut Group, target: u64, steps: &mut Steps<L>) -> Result<(), NoMemory>
-    ensures target { OnOk result (group.new.position ≡ max group.old.position (min target (end_in group.old))) }
-    ensures kept { group.new ≡ group_at group.new.position group.old }
-    ensures within { group.new.position ≤ end_in group.old }
+    ensures target { OnOk result (group.new.group.position ≡ max group.old.group.position (min target (end_in group.old.group))) }
+    ensures same { group.new.group ≡ group_at group.new.group.position group.old.group }
+    ensures limit { group.new.limit ≡ group.old.limit }
+    ensures within { group.new.group.position ≤ end_in group.old.group }
+    ensures kept { group.new.kept ≤ max group.old.kept (window_in group.new) }
     ensures counted { steps.old ≤ steps.new }
-    ensures cost { steps.new ≤ steps.old + run_cost (end_in group.old) group.old.position target }
+    ensures cost { steps.new ≤ steps.old + run_cost (end_in group.old.group) group.old.group.position target }
 {
     'up: while group.position() < target {
         if let Forth::AtEnd(_) = group.forth(steps)? {
@@ -71,21 +73,54 @@ fn go_on<L: Ledger>(group: &mut Group, target: u64, steps: &mut Steps<L>) -> Res
     Ok(())
 }
 
-/// Goes to a position, or to the end where that comes first. One before the present is reached by running again from the start.
-/// After want of memory the group is at some position of its run.
+/// Goes back to a position from which on all events are kept, by undoing. Does nothing where it isn't before the present one.
+fn undo_to<L: Ledger>(group: &mut Group, target: u64, steps: &mut Steps<L>) -> Result<(), NoMemory>
+    requires { group.old.kept ≤ target }
+    ensures target { OnOk result (group.new.group.position ≡ min group.old.group.position target) }
+    ensures same { group.new.group ≡ group_at group.new.group.position group.old.group }
+    ensures limit { group.new.limit ≡ group.old.limit }
+    ensures within { group.new.group.position ≤ end_in group.old.group }
+    ensures kept { group.new.kept ≡ group.old.kept }
+    ensures cost { steps.new ≡ steps.old }
+{
+    'down: while target < group.position() {
+        group.back(steps)?;
+    }
+    Ok(())
+}
+
+/// Goes back to a position before the present one by undoing, or to the start where the events from there on aren't kept. Takes no step.
+fn go_back<L: Ledger>(group: &mut Group, target: u64, steps: &mut Steps<L>) -> Result<(), NoMemory>
+    ensures target { OnOk result (group.new.group.position ≡ (if nat_lt target group.old.kept then 0 else min group.old.group.position target)) }
+    ensures same { group.new.group ≡ group_at group.new.group.position group.old.group }
+    ensures limit { group.new.limit ≡ group.old.limit }
+    ensures within { group.new.group.position ≤ end_in group.old.group }
+    ensures kept { group.new.kept ≤ group.old.kept }
+    ensures cost { steps.new ≡ steps.old }
+    ensures reached { group.old.kept ≤ group.old.group.position }
+{
+    if target < group.kept() {
+        group.restart()
+    } else {
+        undo_to(group, target, steps)
+    }
+}
+
+/// Goes to a position, or to the end where that comes first. One before the present is reached by undoing, or by running again from
+/// the start where the events from there on aren't kept. After want of memory the group is at some position of its run.
 pub fn go_to<L: Ledger>(
     group: &mut Group,
     target: u64,
     steps: &mut Steps<L>,
 ) -> Result<(), NoMemory>
-    ensures target { OnOk result (group.new.position ≡ min target (end_in group.old)) }
-    ensures kept { group.new ≡ group_at group.new.position group.old }
-    ensures within { group.new.position ≤ end_in group.old }
+    ensures target { OnOk result (group.new.group.position ≡ min target (end_in group.old.group)) }
+    ensures same { group.new.group ≡ group_at group.new.group.position group.old.group }
+    ensures limit { group.new.limit ≡ group.old.limit }
+    ensures within { group.new.group.position ≤ end_in group.old.group }
+    ensures kept { group.new.kept ≤ max group.old.kept (window_in group.new) }
     ensures counted { steps.old ≤ steps.new }
-    ensures cost { steps.new ≤ steps.old + goto_cost group.old target }
+    ensures cost { steps.new ≤ steps.old + goto_cost group.old.kept group.old.group target }
 {
-    if target < group.position() {
-        group.restart()?;
-    }
+    go_back(group, target, steps)?;
     go_on(group, target, steps)
 }

@@ -1,11 +1,11 @@
 //! A group and the replies to lines of input.
-ghost use Rattle.std.specs.Prelude.{◌≡◌, ℕ, ◌==◌, ◌<◌, ◌≤◌, ◌+◌, ◌++◌, ◌&&◌, ◌⊎◌, List, All, IfOk, Ok, Some, OnOk, OnErr, vec_len, if◌then◌else◌};
+ghost use Rattle.std.specs.Prelude.{◌≡◌, ℕ, ◌==◌, ◌<◌, ◌≤◌, ◌+◌, ◌++◌, ◌&&◌, ◌⊎◌, List, All, IfOk, Ok, Some, OnOk, OnErr, max, vec_len, if◌then◌else◌};
 ghost use Rattle.spv_base.specs.Prefix.{IsPrefixOf};
-ghost use Rattle.spv_group.specs.Group.{end_in, group_at, invocations_in};
+ghost use Rattle.spv_group.specs.Group.{end_in, group_at, invocations_in, window_in};
 ghost use Rattle.spv_session.specs.Costs.{goto_cost, request_cost, line_cost};
 ghost use Rattle.spv_session.specs.Reply.{reply, reply_to, is_quit, is_quit_request, focus_reply, group_reply, invocation_reply, IsRefused, place_reply, refusal_by, registers_reply, stop_reply};
 ghost use Rattle.spv_session.specs.Texts.{refusal_line};
-ghost use Rattle.spv_session.specs.View.{first_view, focus_frame, focus_on, goto_target, view_at};
+ghost use Rattle.spv_session.specs.View.{first_viewing, focus_frame, focus_on, goto_target, undoing_in, view_at};
 ghost use Rattle.spv_session.specs.declared.request.Request.TheVariants as asked;
 ghost use Rattle.spv_session.specs.declared.session.Next.TheVariants as answers;
 
@@ -44,22 +44,22 @@ pub struct Session {
 impl Model for Session {
     ghost use Rattle.std.specs.Prelude.{◌≤◌, ◌<◌};
     ghost use Rattle.spv_group.specs.Group.{end_in, invocations_in};
-    ghost use Rattle.spv_session.specs.View.{View};
+    ghost use Rattle.spv_session.specs.View.{Viewing};
 
-    ghost Value = { View };
+    ghost Value = { Viewing };
 
-    ghost view = { λ s. record { group = s.group; focus = s.focus } };
+    ghost view = { λ s. record { view = record { group = s.group.group; focus = s.focus }; kept = s.group.kept; limit = s.group.limit } };
 
-    ghost invariant = { λ s. (s.group.position ≤ end_in s.group) × (s.focus < invocations_in s.group) };
+    ghost invariant = { λ s. (s.group.group.position ≤ end_in s.group.group) × (s.focus < invocations_in s.group.group) };
 }
 
 impl Session {
     /// A session over a group at its start, with the invocation 0 as its focus. The probes are dropped at once.
     pub fn open(alloc: Global, group: Group, kit: Vec<Box<dyn Probe>>) -> Result<Session, NoMemory>
-        requires position { group.position ≡ 0 }
+        requires position { group.group.position ≡ 0 }
         requires few { vec_len kit ≤ 16 }
         requires unused { All (λ p. tally p ≡ 0) kit.items }
-        ensures { IfOk result (λ s. s ≡ first_view group) }
+        ensures { IfOk result (λ s. s ≡ first_viewing group) }
     {
         drop(kit);
         let _invocations = group.invocations();
@@ -70,9 +70,10 @@ impl Session {
         })
     }
 
-    /// Answers a line: appends the reply. Only a motion takes steps: to a position before it one for each event from the start on,
-    /// to a later one as many as it goes forth, and one more where the end comes first. After want of memory a front of the reply
-    /// was appended, the group is at some position of its run, and the focus is the old one or the reply's.
+    /// Answers a line: appends the reply. Only a motion takes steps: to a position before it none where the events from there on are
+    /// kept, else one for each event from the start on; to a later one as many as it goes forth, and one more where the end comes
+    /// first. After want of memory a front of the reply was appended, the group is at some position of its run, and the focus is the
+    /// old one or the reply's.
     #[tactic(auto, unfolding(crate::specs::Reply::reply, crate::specs::Reply::is_quit, crate::specs::Reply::refusal_of, crate::specs::Costs::line_cost))]
     pub fn command<L: Ledger>(
         &mut self,
@@ -80,17 +81,19 @@ impl Session {
         out: &mut Vec<u8>,
         steps: &mut Steps<L>,
     ) -> Result<Next, NoMemory>
-        ensures text { OnOk result (out.new.items ≡ out.old.items ++ (reply self.old line.now).0) }
-        ensures view { OnOk result (self.new ≡ (reply self.old line.now).1) }
+        ensures text { OnOk result (out.new.items ≡ out.old.items ++ (reply self.old.view line.now).0) }
+        ensures view { OnOk result (self.new.view ≡ (reply self.old.view line.now).1) }
         ensures next { IfOk result (λ next. next ≡ (if is_quit line.now then answers.Quit else answers.Go)) }
-        ensures front { OnErr result ((text : List ℕ) × (out.new.items ≡ out.old.items ++ text) × IsPrefixOf text (reply self.old line.now).0) }
-        ensures group { self.new.group ≡ group_at self.new.group.position self.old.group }
-        ensures focus { (self.new.focus ≡ self.old.focus) ⊎ (self.new.focus ≡ (reply self.old line.now).1.focus) }
-        ensures within { self.new.group.position ≤ end_in self.old.group }
-        ensures refused { (code : ℕ) → IsRefused self.old line.now code
+        ensures front { OnErr result ((text : List ℕ) × (out.new.items ≡ out.old.items ++ text) × IsPrefixOf text (reply self.old.view line.now).0) }
+        ensures group { self.new.view.group ≡ group_at self.new.view.group.position self.old.view.group }
+        ensures limit { self.new.limit ≡ self.old.limit }
+        ensures kept { self.new.kept ≤ max self.old.kept (window_in (undoing_in self.new)) }
+        ensures focus { (self.new.view.focus ≡ self.old.view.focus) ⊎ (self.new.view.focus ≡ (reply self.old.view line.now).1.focus) }
+        ensures within { self.new.view.group.position ≤ end_in self.old.view.group }
+        ensures refused { (code : ℕ) → IsRefused self.old.view line.now code
             → (self.new ≡ self.old) × OnOk result (out.new.items ≡ out.old.items ++ refusal_line code) }
         ensures counted { steps.old ≤ steps.new }
-        ensures cost { steps.new ≤ steps.old + line_cost self.old line.now }
+        ensures cost { steps.new ≤ steps.old + line_cost self.old.kept self.old.view line.now }
     {
         let mut text = Vec::new(self.alloc);
         let request = match Request::read(self.alloc, line) {
@@ -110,15 +113,17 @@ impl Session {
         text: &mut Vec<u8>,
         steps: &mut Steps<L>,
     ) -> Result<Next, NoMemory>
-        ensures text { OnOk result (text.new.items ≡ text.old.items ++ (reply_to self.old request).0) }
-        ensures view { OnOk result (self.new ≡ (reply_to self.old request).1) }
+        ensures text { OnOk result (text.new.items ≡ text.old.items ++ (reply_to self.old.view request).0) }
+        ensures view { OnOk result (self.new.view ≡ (reply_to self.old.view request).1) }
         ensures next { IfOk result (λ next. next ≡ (if is_quit_request request then answers.Quit else answers.Go)) }
-        ensures group { self.new.group ≡ group_at self.new.group.position self.old.group }
-        ensures focus { OnErr result (self.new.focus ≡ self.old.focus) }
-        ensures within { self.new.group.position ≤ end_in self.old.group }
-        ensures refused { (code : ℕ) → refusal_by self.old request ≡ Some code → self.new ≡ self.old }
+        ensures group { self.new.view.group ≡ group_at self.new.view.group.position self.old.view.group }
+        ensures limit { self.new.limit ≡ self.old.limit }
+        ensures kept { self.new.kept ≤ max self.old.kept (window_in (undoing_in self.new)) }
+        ensures focus { OnErr result (self.new.view.focus ≡ self.old.view.focus) }
+        ensures within { self.new.view.group.position ≤ end_in self.old.view.group }
+        ensures refused { (code : ℕ) → refusal_by self.old.view request ≡ Some code → self.new ≡ self.old }
         ensures counted { steps.old ≤ steps.new }
-        ensures cost { steps.new ≤ steps.old + request_cost self.old request }
+        ensures cost { steps.new ≤ steps.old + request_cost self.old.kept self.old.view request }
     {
         let from = self.group.position();
         match request {
@@ -142,12 +147,14 @@ impl Session {
         text: &mut Vec<u8>,
         steps: &mut Steps<L>,
     ) -> Result<(), NoMemory>
-        ensures text { OnOk result (text.new.items ≡ text.old.items ++ stop_reply (aim.exact && self.new.group.position == aim.position) self.new) }
-        ensures view { OnOk result (self.new ≡ view_at (goto_target self.old aim.position) self.old) }
-        ensures kept { self.new ≡ view_at self.new.group.position self.old }
-        ensures within { self.new.group.position ≤ end_in self.old.group }
+        ensures text { OnOk result (text.new.items ≡ text.old.items ++ stop_reply (aim.exact && self.new.view.group.position == aim.position) self.new.view) }
+        ensures view { OnOk result (self.new.view ≡ view_at (goto_target self.old.view aim.position) self.old.view) }
+        ensures same { self.new.view ≡ view_at self.new.view.group.position self.old.view }
+        ensures limit { self.new.limit ≡ self.old.limit }
+        ensures kept { self.new.kept ≤ max self.old.kept (window_in (undoing_in self.new)) }
+        ensures within { self.new.view.group.position ≤ end_in self.old.view.group }
         ensures counted { steps.old ≤ steps.new }
-        ensures cost { steps.new ≤ steps.old + goto_cost self.old.group aim.position }
+        ensures cost { steps.new ≤ steps.old + goto_cost self.old.kept self.old.view.group aim.position }
     {
         go_to(&mut self.group, aim.position, steps)?;
         let done = aim.exact && self.group.position() == aim.position;
@@ -156,11 +163,13 @@ impl Session {
 
     /// Makes an invocation the focus, and appends where it stands; or a refusal, where there is no such invocation.
     fn look_at(&mut self, inv: u32, text: &mut Vec<u8>) -> Result<(), NoMemory>
-        ensures text { OnOk result (text.new.items ≡ text.old.items ++ (focus_reply self.old inv).0) }
-        ensures view { OnOk result (self.new ≡ (focus_reply self.old inv).1) }
-        ensures kept { OnErr result (self.new ≡ self.old) }
-        ensures group { self.new.group ≡ self.old.group }
-        ensures refused { (code : ℕ) → refusal_by self.old (Ok (asked.Focus inv)) ≡ Some code → self.new ≡ self.old }
+        ensures text { OnOk result (text.new.items ≡ text.old.items ++ (focus_reply self.old.view inv).0) }
+        ensures view { OnOk result (self.new.view ≡ (focus_reply self.old.view inv).1) }
+        ensures err { OnErr result (self.new ≡ self.old) }
+        ensures group { self.new.view.group ≡ self.old.view.group }
+        ensures kept { self.new.kept ≡ self.old.kept }
+        ensures limit { self.new.limit ≡ self.old.limit }
+        ensures refused { (code : ℕ) → refusal_by self.old.view (Ok (asked.Focus inv)) ≡ Some code → self.new ≡ self.old }
     {
         if inv >= self.group.invocations() {
             text.extend_from_slice(refusal_line(NO_SUCH_INVOCATION))?;
@@ -173,7 +182,7 @@ impl Session {
 
     /// Appends the registers of the focus.
     fn push_registers(&self, text: &mut Vec<u8>) -> Result<(), NoMemory>
-        ensures { OnOk result (text.new.items ≡ text.old.items ++ registers_reply self.now.group.program.accepted (focus_frame self.now)) }
+        ensures { OnOk result (text.new.items ≡ text.old.items ++ registers_reply self.now.view.group.program.accepted (focus_frame self.now.view)) }
     {
         top_frames_are_sound();
         match self.group.world().whole().top(self.focus) {
@@ -185,7 +194,7 @@ impl Session {
 
     /// Appends the line of each invocation, in the order of their numbers.
     fn push_group(&self, text: &mut Vec<u8>) -> Result<(), NoMemory>
-        ensures { OnOk result (text.new.items ≡ text.old.items ++ group_reply self.now.group) }
+        ensures { OnOk result (text.new.items ≡ text.old.items ++ group_reply self.now.view.group) }
     {
         for inv in 0..self.group.invocations() {
             self.push_invocation(text, inv)?;
@@ -195,8 +204,8 @@ impl Session {
 
     /// Appends how far an invocation is, and where it stands.
     fn push_invocation(&self, text: &mut Vec<u8>, inv: u32) -> Result<(), NoMemory>
-        requires { inv < invocations_in self.now.group }
-        ensures { OnOk result (text.new.items ≡ text.old.items ++ invocation_reply self.now.group inv) }
+        requires { inv < invocations_in self.now.view.group }
+        ensures { OnOk result (text.new.items ≡ text.old.items ++ invocation_reply self.now.view.group inv) }
     {
         let status = self.group.status(inv);
         let top = self.group.world().whole().top(inv);
@@ -205,8 +214,8 @@ impl Session {
 
     /// Appends the position, and where an invocation stands there.
     fn push_place(&self, text: &mut Vec<u8>, inv: u32) -> Result<(), NoMemory>
-        requires { inv < invocations_in self.now.group }
-        ensures { OnOk result (text.new.items ≡ text.old.items ++ place_reply (focus_on inv self.now)) }
+        requires { inv < invocations_in self.now.view.group }
+        ensures { OnOk result (text.new.items ≡ text.old.items ++ place_reply (focus_on inv self.now.view)) }
     {
         let top = self.group.world().whole().top(inv);
         push_position(self.alloc, text, self.group.position(), inv, top)
@@ -214,7 +223,7 @@ impl Session {
 
     /// Appends why a motion stopped where the group is, and where the focus stands.
     fn push_stop(&self, text: &mut Vec<u8>, done: bool) -> Result<(), NoMemory>
-        ensures { OnOk result (text.new.items ≡ text.old.items ++ stop_reply done self.now) }
+        ensures { OnOk result (text.new.items ≡ text.old.items ++ stop_reply done self.now.view) }
     {
         let cause = self.group.end_cause()?;
         push_stop(self.alloc, text, done, self.group.position() == 0, cause)?;

@@ -1,9 +1,9 @@
-use Rattle.std.proofs.Common.{◌≡◌, ◌∷◌, ◌++◌, drop, get_or, ◌+◌, false, ap, sym, ◌∙◌, refl, arith}
+use Rattle.std.proofs.Common.{◌≡◌, ℕ, Ok, List, ◌∷◌, ◌++◌, drop, get_or, ◌+◌, false, ap, sym, subst, ◌∙◌, refl, arith}
 use Rattle.std.proofs.lemmas.List.{drop_more}
 use Rattle.std.proofs.KnownBytes.{Appends-trans}
 use Rattle.spv_app.specs.Lines.{complete_from, rest_from, ended_by, line_after}
-use Rattle.spv_app.specs.Transcript.{transcript, transcript_cost, view_after, has_quit}
-use Rattle.spv_app.proofs.Transcripts.{cost_goes}
+use Rattle.spv_app.specs.Transcript.{transcript, view_after, has_quit}
+use Rattle.spv_app.proofs.Spending.{IsSpending, spending_more, spending_stops, spending_done}
 use Rattle.spv_app.proofs.Pieces.{hands_on, goes, due_more, view_more, quit_more, stop_first}
 use Rattle.spv_app.proofs.answer.answer_piece.Goals as goal
 
@@ -21,19 +21,18 @@ loop-byte-preserved g c =
     let all : complete_from line (drop c.loop-byte.byte-index c.args.piece.now) ≡ ended_by line b ++ later = ap (complete_from line) e in
     record {
       written = (
-        inv.written.0 ++ transcript c.loop-byte.session (ended_by line b),
+        inv.written.0 ++ transcript c.loop-byte.session.view (ended_by line b),
         Appends-trans _ _ _ _ _ inv.written.1 h.written,
-        rw (h.view, now) (due_more inv.written.0 _ c.loop-byte.session (ended_by line b) later go (ap (λ l. inv.written.0 ++ transcript c.loop-byte.session l) (sym all) ∙ inv.written.2)),
+        rw (h.view, now) (due_more inv.written.0 _ c.loop-byte.session.view (ended_by line b) later go (ap (λ l. inv.written.0 ++ transcript c.loop-byte.session.view l) (sym all) ∙ inv.written.2)),
       );
       quit = ap has_quit now ∙ sym (quit_more (ended_by line b) later go) ∙ ap has_quit (sym all) ∙ inv.quit;
-      view = rw (h.view, now) (sym (view_more c.loop-byte.session (ended_by line b) later go) ∙ ap (view_after c.loop-byte.session) (sym all) ∙ inv.view);
+      view = rw (h.view, now) (sym (view_more c.loop-byte.session.view (ended_by line b) later go) ∙ ap (view_after c.loop-byte.session.view) (sym all) ∙ inv.view);
       rest = ap (λ l. rest_from l bs) h.rest ∙ ap (rest_from line) (sym e) ∙ inv.rest;
       count = h.count ∙ inv.count;
       risen = omega (arith, inv.risen, h.counted);
-      cost =
-          let sum : transcript_cost c.loop-byte.session (complete_from line (drop c.loop-byte.byte-index c.args.piece.now)) ≡ transcript_cost c.loop-byte.session (ended_by line b) + transcript_cost c.answer_byte.new.session (complete_from c.answer_byte.new.line.items bs) =
-          ap (transcript_cost c.loop-byte.session) all ∙ cost_goes c.loop-byte.session (ended_by line b) later go ∙ rw (h.view, now) refl in
-          omega (arith, inv.cost, h.cost);
+      spending = subst (λ (ls : List (List ℕ)). IsSpending c.args.session.now c.answer_byte.new.session (complete_from c.args.line.now.items c.args.piece.now) ls c.args.steps.now c.answer_byte.new.steps) (sym now)
+          (spending_more c.args.session.now c.loop-byte.session c.answer_byte.new.session (complete_from c.args.line.now.items c.args.piece.now) (complete_from line (drop c.loop-byte.byte-index c.args.piece.now)) (ended_by line b) later
+          c.args.steps.now c.loop-byte.steps c.answer_byte.new.steps inv.spending all go h.view (h.reach (ap Ok c.in-Go.is)) h.cost);
     }
 
 pub returns-in_err-answer_byte-clause-stop : goal.returns-in_err-answer_byte-clause-stop
@@ -44,6 +43,15 @@ returns-in_err-answer_byte-clause-stop g c =
     let inv = c.loop-byte.invariant in
     let e : drop c.loop-byte.byte-index c.args.piece.now ≡ b ∷ bs = drop_more c.args.piece.now c.loop-byte.byte-index 0 c.loop-byte-test.true in
     hands_on _ _ _ c.from_residual.ensures.1
-    (stop_first _ _ _ _ inv.written.0 _ c.loop-byte.session (ended_by line b) (complete_from (line_after line b) bs) inv.written.1
-    (ap (λ l. inv.written.0 ++ transcript c.loop-byte.session (complete_from line l)) (sym e) ∙ inv.written.2)
+    (stop_first _ _ _ _ inv.written.0 _ c.loop-byte.session.view (ended_by line b) (complete_from (line_after line b) bs) inv.written.1
+    (ap (λ l. inv.written.0 ++ transcript c.loop-byte.session.view (complete_from line l)) (sym e) ∙ inv.written.2)
     c.in_err-answer_byte.ensures.stop)
+
+pub returns-in_err-answer_byte-clause-cost : goal.returns-in_err-answer_byte-clause-cost
+returns-in_err-answer_byte-clause-cost g c =
+    let b = get_or c.args.piece.now c.loop-byte.byte-index 0 in
+    let bs = drop (c.loop-byte.byte-index + 1) c.args.piece.now in
+    let line = c.loop-byte.line.items in
+    let e : drop c.loop-byte.byte-index c.args.piece.now ≡ b ∷ bs = drop_more c.args.piece.now c.loop-byte.byte-index 0 c.loop-byte-test.true in
+    spending_stops c.args.session.now c.loop-byte.session (complete_from c.args.line.now.items c.args.piece.now) (complete_from line (drop c.loop-byte.byte-index c.args.piece.now)) (ended_by line b) (complete_from (line_after line b) bs)
+    c.args.steps.now c.loop-byte.steps c.answer_byte.new.steps c.loop-byte.invariant.spending (ap (complete_from line) e) c.in_err-answer_byte.ensures.cost

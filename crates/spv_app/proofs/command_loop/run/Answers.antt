@@ -29,7 +29,7 @@ loop-count-preserved g c =
     let n = c.in-Ok.ensures.count_is in
     record {
       stands = subst (Stands _ _ _ _ _) (ap (λ k. c.loop-count.taken + k) n)
-          (stands_more _ _ _ _ _ _ _ _ _ _ c.loop-count.invariant.stands c.in-Ok.ensures.bytes h.written (goes _ _ c.in-Ok-Go.field-0-is h.next) h.view (h.rest (ap Ok c.in-Ok-Go.field-0-is)) h.counted h.cost);
+          (stands_more _ _ _ _ _ _ _ _ _ _ c.loop-count.invariant.stands c.in-Ok.ensures.bytes h.written (goes _ _ c.in-Ok-Go.field-0-is h.next) h.view (h.rest (ap Ok c.in-Ok-Go.field-0-is)) h.counted (h.reach (ap Ok c.in-Ok-Go.field-0-is)) h.cost);
       few = omega (arith, c.in-Ok.ensures.bound);
       reads = c.in-Ok.ensures.count ∙ c.loop-count.invariant.reads;
       writes = h.count ∙ c.loop-count.invariant.writes;
