@@ -74,11 +74,7 @@ pub(crate) fn part_entry(
 }
 
 /// The entry of a register that takes a value.
-pub(crate) fn value_entry(
-    alloc: Global,
-    held: &HeldValue,
-    row: &Row,
-) -> Result<Entry, NoMemory>
+pub(crate) fn value_entry(alloc: Global, held: &HeldValue, row: &Row) -> Result<Entry, NoMemory>
     requires { (w : Value) → held.now.value ≡ Some w → length (leaves w) ≡ length (leaves row.now) }
     ensures { IfOk result (λ e. KeepsValue held.now.number held.now.value (length (leaves row.now)) e) }
 {

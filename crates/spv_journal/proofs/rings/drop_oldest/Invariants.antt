@@ -8,7 +8,7 @@ invariant-loop l = record {
   some : 0 < length l.ring.items;
   whole : changes l.ring.items ≡ [];
   len : length l.ring.items ≤ length l.fn.ring.items;
-  capacity : l.ring.capacity ≡ l.fn.ring.capacity
+  capacity : l.ring.capacity ≡ l.fn.ring.capacity;
 }
 
 abbrev pub decreases-loop : goal.decreases-loop

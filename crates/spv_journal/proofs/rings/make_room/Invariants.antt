@@ -8,7 +8,7 @@ invariant-loop-ring l = record {
   events : fitting l.room (events l.ring.items) ≡ fitting l.fn.room (events l.fn.ring.items);
   whole : changes l.ring.items ≡ [];
   capacity : l.ring.capacity ≡ l.fn.ring.capacity;
-  room : l.room ≡ l.fn.room
+  room : l.room ≡ l.fn.room;
 }
 
 abbrev pub decreases-loop-ring : goal.decreases-loop-ring

@@ -8,7 +8,7 @@ invariant-loop-entry l = record {
   state : undo_all l.inv (changes l.ring.items) l.whole ≡ undo_all l.inv (changes l.fn.ring.items) l.fn.whole;
   can : CanUndoAll l.inv (changes l.ring.items) l.whole;
   events : events l.ring.items ≡ events l.fn.ring.items;
-  capacity : l.ring.capacity ≡ l.fn.ring.capacity
+  capacity : l.ring.capacity ≡ l.fn.ring.capacity;
 }
 
 abbrev pub decreases-loop-entry : goal.decreases-loop-entry
