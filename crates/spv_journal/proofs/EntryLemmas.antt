@@ -1,8 +1,7 @@
 -- Registers, frames and parts whose entries lead back.
-use Rattle.std.proofs.Common.{◌≡◌, ◌∙◌, ℕ, zero, suc, ◌-◌, ◌<◌, ◌≤◌, ◌==◌, List, [], ◌∷◌, Option, Some, None, IsSome, length, map, option_map, slice_get, refl, sym, ap, subst, arith, rules}
+use Rattle.std.proofs.Common.{◌≡◌, ◌∙◌, ℕ, ◌-◌, ◌<◌, List, [], Option, Some, None, length, option_map, refl, sym, ap, subst, rules}
 use Rattle.std.specs.Option.{IsSomeAnd, option_map_or}
-use Rattle.spv_base.specs.Entries.{change, reads, writes}
-use Rattle.spv_base.specs.State.{Roots}
+use Rattle.spv_base.specs.Entries.{writes}
 use Rattle.spv_base.specs.declared.values.Pointer.{Pointer}
 use Rattle.spv_base.specs.declared.values.Value.{Value, Ptr, out-Value, the_lemmas}
 use Rattle.spv_base.specs.declared.values.Value.TheOpen.{Value-F}
@@ -11,18 +10,16 @@ use Rattle.spv_types.specs.Shapes.{pointer_in}
 use Rattle.spv_frame.specs.Frames.{Held as Frame}
 use Rattle.spv_frame.specs.Numbers.{HasCells, HasPointer, HoldsPointer, HoldsValue, with_pointer, with_value}
 use Rattle.spv_frame.specs.Registers.{ids, number_of}
-use Rattle.spv_frame.specs.Stacks.{Stacked, on_top, top}
+use Rattle.spv_frame.specs.Stacks.{Stacked, top}
 use Rattle.spv_frame.proofs.NumberLemmas.{inside}
-use Rattle.spv_mem.specs.Memory.{Held as Memory, IsMemory, MayStore, load_of}
-use Rattle.spv_mem.specs.Singles.{NamesRow}
 use Rattle.spv_valid.specs.Acceptance.{Accepted}
 use Rattle.spv_state.specs.Slots.{IsHeld, IsHeldPointer}
 use Rattle.spv_state.specs.Sound.{IsSoundFrame}
-use Rattle.spv_state.specs.State.{State, on_frame, on_frames, put_store, top_of, with_level, with_register}
+use Rattle.spv_state.specs.State.{State, on_frame, on_frames, top_of, with_level, with_register}
 use Rattle.spv_state.proofs.Entries.{writes_nothing}
 use Rattle.spv_state.proofs.Lists.{change_same, change_still}
 use Rattle.spv_journal.specs.Entries.{KeepsPointer, KeepsValue}
-use Rattle.spv_journal.specs.Undo.{HasTop, Undoes, undo}
+use Rattle.spv_journal.specs.Undo.{HasTop, Undoes}
 use Rattle.spv_journal.specs.declared.entries.Entry.{Entry}
 use Rattle.spv_journal.specs.declared.entries.Entry.TheVariants.{Leaf, Part, NoValue, CellRegister, RowRegister, PointerRegister, FramePushed, FramePopped, PcMoved, EventAppended, StatusChanged, BarrierOpened}
 use Rattle.spv_journal.proofs.LawLemmas.{frame_back, has_top, pointer_back, value_back}

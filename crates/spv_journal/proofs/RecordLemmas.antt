@@ -1,8 +1,8 @@
 -- A change that is recorded.
-use Rattle.std.proofs.Common.{◌≡◌, ◌∙◌, ℕ, suc, ◌+◌, ◌≤◌, List, [], ◌∷◌, Option, Some, None, IsSome, length, option_map, refl, sym, ap, subst, arith}
+use Rattle.std.proofs.Common.{◌≡◌, ◌∙◌, ℕ, ◌≤◌, List, ◌∷◌, Option, Some, None, IsSome, option_map, refl, sym, ap, subst, arith}
 use Rattle.spv_state.specs.State.{State}
 use Rattle.spv_journal.specs.Events.{Event, Kept, opened, pushed}
-use Rattle.spv_journal.specs.Held.{Held, IsMaking, Records, changes_in, past_of}
+use Rattle.spv_journal.specs.Held.{Held, IsMaking, Records}
 use Rattle.spv_journal.specs.Undo.{CanUndo, CanUndoAll, CanUnwind, Undoes, past, undo, undo_all}
 use Rattle.spv_journal.specs.declared.entries.Entry.{Entry}
 

@@ -1,9 +1,9 @@
 -- A part of a variable that was stored, and the old one that is put back.
 use Rattle.std.proofs.Common.{◌≡◌, ◌∙◌, ℕ, zero, suc, ◌+◌, ◌≤◌, ◌==◌, Bool, true, false, cond, List, [], ◌∷◌, ◌++◌, Option, Some, None, IsSome, length, length-append, append_assoc, set-set, take, drop, arith, slice_get, slice_set, unwrap_or, refl, sym, ap, subst}
-use Rattle.std.specs.Option.{option_and_then, option_map, option_map_or}
+use Rattle.std.specs.Option.{option_and_then, option_map}
 use Rattle.std.proofs.Math.Logic.{∥∥₁_elim, ∥∥₁_map}
 use Rattle.std.proofs.Props.{props}
-use Rattle.spv_base.specs.Entries.{change, reads, writes}
+use Rattle.spv_base.specs.Entries.{reads, writes}
 use Rattle.spv_base.specs.Lane.{Lane}
 use Rattle.spv_base.specs.Parts.{part_at, with_part}
 use Rattle.spv_base.specs.State.{Roots}
@@ -23,7 +23,7 @@ use Rattle.spv_mem.specs.Singles.{NamesRow}
 use Rattle.spv_mem.specs.Targets.{is_counted}
 use Rattle.spv_mem.proofs.MemoryLemmas.{set_same}
 use Rattle.spv_state.specs.State.{State, put_store}
-use Rattle.spv_state.proofs.Lists.{change_here, change_still}
+use Rattle.spv_state.proofs.Lists.{change_here}
 
 -- ---- the list in which the variable stands
 

@@ -5,7 +5,7 @@ use Rattle.spv_base.specs.declared.values.Value.{Value}
 use Rattle.spv_types.specs.Rows.{leaves}
 use Rattle.spv_journal.specs.Events.{Kept, pushed}
 use Rattle.spv_journal.specs.declared.entries.Entry.{Entry}
-use Rattle.spv_journal.specs.declared.entries.Entry.TheVariants.{Leaf, Part, NoValue, CellRegister, RowRegister, PointerRegister, FramePushed, FramePopped, PcMoved, EventAppended, StatusChanged, BarrierOpened}
+use Rattle.spv_journal.specs.declared.entries.Entry.TheVariants.{NoValue, CellRegister, RowRegister, PointerRegister, FramePopped}
 use Rattle.spv_journal.specs.declared.entries.OldFrame.{OldFrame}
 
 -- the register with a number, of so many cells, had a value or none

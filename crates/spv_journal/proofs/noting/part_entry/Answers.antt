@@ -1,4 +1,4 @@
-use Rattle.std.proofs.Common.{◌≡◌, ◌∙◌, ℕ, List, Some, length, ap, subst, sym}
+use Rattle.std.proofs.Common.{◌≡◌, ◌∙◌, ℕ, List, length, ap, subst, sym}
 use Rattle.spv_base.specs.declared.values.Pointer.{Pointer}
 use Rattle.spv_mem.specs.Memory.{Held as Memory, IsMemory, stored}
 use Rattle.spv_mem.specs.Singles.{NamesRow}

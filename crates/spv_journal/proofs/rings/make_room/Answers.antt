@@ -1,4 +1,4 @@
-use Rattle.std.proofs.Common.{◌≡◌, ◌∙◌, ◌<◌, ◌≤◌, ap, arith, refl, sym}
+use Rattle.std.proofs.Common.{◌∙◌, ◌<◌, ◌≤◌, ap, arith, refl, sym}
 use Rattle.spv_journal.specs.Events.{fitting, size}
 use Rattle.spv_journal.specs.Rings.{events}
 use Rattle.spv_journal.proofs.RingLemmas.{all_fit, oldest_goes, whole_counted}

@@ -1,11 +1,10 @@
-use Rattle.std.proofs.Common.{◌≡◌, ◌∙◌, ◌≢◌, ◌<◌, ◌≤◌, [], ℕ, IsSome, Some, length, ap, arith, subst, sym, true}
-use Rattle.spv_journal.specs.declared.entries.Entry.TheVariants.{FramePushed, FramePopped, PcMoved, EventAppended, StatusChanged, BarrierOpened}
+use Rattle.std.proofs.Common.{◌∙◌, ◌<◌, IsSome, length, arith, subst, sym}
+use Rattle.spv_journal.specs.declared.entries.Entry.TheVariants.{EventAppended}
 use Rattle.spv_state.specs.State.{top_of}
 use Rattle.spv_journal.proofs.LawLemmas.{event_undone}
 use Rattle.spv_journal.proofs.RecordLemmas.{extended, same_held, still, still_unwinds}
 use Rattle.spv_journal.specs.Held.{Held}
 use Rattle.spv_journal.specs.Undo.{Undoes}
-use Rattle.spv_journal.specs.declared.entries.Entry.{Entry}
 use Rattle.spv_journal.proofs.recorded.Recorded.append.Goals as goal
 
 pub invariant_of-self-in-Ok : goal.invariant_of-self-in-Ok

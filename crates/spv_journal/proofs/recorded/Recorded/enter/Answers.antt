@@ -1,11 +1,10 @@
-use Rattle.std.proofs.Common.{◌≡◌, ◌∙◌, ◌≢◌, ◌<◌, ◌≤◌, [], ℕ, IsSome, Some, length, ap, arith, subst, sym, true}
-use Rattle.spv_journal.specs.declared.entries.Entry.TheVariants.{FramePushed, FramePopped, PcMoved, EventAppended, StatusChanged, BarrierOpened}
+use Rattle.std.proofs.Common.{◌<◌, length, arith, subst, sym}
+use Rattle.spv_journal.specs.declared.entries.Entry.TheVariants.{FramePushed}
 use Rattle.spv_mem.specs.Memory.{AreVariables}
 use Rattle.spv_journal.proofs.LawLemmas.{frame_undone}
 use Rattle.spv_journal.proofs.RecordLemmas.{extended}
 use Rattle.spv_journal.specs.Held.{Held}
 use Rattle.spv_journal.specs.Undo.{Undoes}
-use Rattle.spv_journal.specs.declared.entries.Entry.{Entry}
 use Rattle.spv_journal.proofs.recorded.Recorded.enter.Goals as goal
 
 pub enter-requires-clause-variables : goal.enter-requires-clause-variables

@@ -1,10 +1,9 @@
-use Rattle.std.proofs.Common.{◌≡◌, ◌∙◌, ◌≢◌, ◌<◌, ◌≤◌, [], ℕ, IsSome, Some, length, ap, arith, subst, sym, true}
-use Rattle.spv_journal.specs.declared.entries.Entry.TheVariants.{FramePushed, FramePopped, PcMoved, EventAppended, StatusChanged, BarrierOpened}
+use Rattle.std.proofs.Common.{◌∙◌, ◌<◌, length, arith, subst, sym}
+use Rattle.spv_journal.specs.declared.entries.Entry.TheVariants.{StatusChanged}
 use Rattle.spv_journal.proofs.LawLemmas.{status_undone}
 use Rattle.spv_journal.proofs.RecordLemmas.{extended, same_held, still, still_unwinds}
 use Rattle.spv_journal.specs.Held.{Held}
 use Rattle.spv_journal.specs.Undo.{Undoes}
-use Rattle.spv_journal.specs.declared.entries.Entry.{Entry}
 use Rattle.spv_journal.proofs.recorded.Recorded.set_status.Goals as goal
 
 pub invariant_of-self : goal.invariant_of-self

@@ -1,13 +1,12 @@
-use Rattle.std.proofs.Common.{◌≡◌, ◌∙◌, ◌<◌, IsSome, None, length, option_copied, ap, arith, subst, sym}
+use Rattle.std.proofs.Common.{◌≡◌, ◌∙◌, ◌<◌, None, length, ap, arith, subst, sym}
 use Rattle.std.specs.Option.{IsSomeAnd}
-use Rattle.spv_base.specs.declared.values.Value.{Ptr}
 use Rattle.spv_frame.specs.Registers.{ids, number_of}
 use Rattle.spv_types.specs.Rows.{leaves}
-use Rattle.spv_state.specs.Slots.{IsHeld, IsHeldPointer}
+use Rattle.spv_state.specs.Slots.{IsHeld}
 use Rattle.spv_state.specs.State.{on_frame, top_of, with_register}
 use Rattle.spv_journal.specs.Held.{Held}
 use Rattle.spv_journal.specs.Undo.{Undoes}
-use Rattle.spv_journal.proofs.EntryLemmas.{no_pointer_register, no_register, pointer_register_is, pointer_undone, register_is, value_undone}
+use Rattle.spv_journal.proofs.EntryLemmas.{no_register, register_is, value_undone}
 use Rattle.spv_journal.proofs.RecordLemmas.{extended}
 use Rattle.spv_journal.proofs.recorded.Recorded.set_value.Goals as goal
 

@@ -1,8 +1,6 @@
-use Rattle.std.proofs.Common.{◌≡◌, ◌∙◌, ◌≢◌, ◌<◌, ◌≤◌, [], ℕ, IsSome, Some, length, ap, arith, subst, sym, true}
+use Rattle.std.proofs.Common.{subst, sym}
 use Rattle.spv_mem.specs.Memory.{MayStore}
 use Rattle.spv_journal.specs.Held.{Held}
-use Rattle.spv_journal.specs.Undo.{Undoes}
-use Rattle.spv_journal.specs.declared.entries.Entry.{Entry}
 use Rattle.spv_journal.proofs.recorded.Recorded.store.Goals as goal
 
 pub part_entry-requires-clause-may : goal.part_entry-requires-clause-may
