@@ -147,18 +147,18 @@ pub spending_more : (start at next : Viewing) (all rest xs ys : List (List ℕ))
     → next.view ≡ view_after at.view xs → Reaches at next xs → Spends at xs now after → IsSpending start next all ys before after
 spending_more start at next all rest xs ys before now after is e go view reaches h = record {
   reaches = λ later. (
-    let one = reaches (ys ++ later) in
-    let two : reach at (xs ++ (ys ++ later)) ≤ reach start (all ++ later) =
-    subst (λ (l : List (List ℕ)). reach at l ≤ reach start (all ++ later)) (ap (λ l. l ++ later) e ∙ append_assoc xs ys later) (is.reaches later) in
-    omega arith);
+      let one = reaches (ys ++ later) in
+      let two : reach at (xs ++ (ys ++ later)) ≤ reach start (all ++ later) =
+      subst (λ (l : List (List ℕ)). reach at l ≤ reach start (all ++ later)) (ap (λ l. l ++ later) e ∙ append_assoc xs ys later) (is.reaches later) in
+      omega arith);
   spends = λ kept l. (
-    let there = reaches_rest start at all rest before now is in
-    let front : reach at xs ≤ reach at rest = subst (λ (r : List (List ℕ)). reach at xs ≤ reach at r) (sym e) (reach_front at xs ys) in
-    let sum : transcript_cost kept at.view rest ≡ transcript_cost kept at.view xs + transcript_cost kept next.view ys
-    = ap (transcript_cost kept at.view) e ∙ cost_goes kept at.view xs ys go ∙ ap (λ (v : View). transcript_cost kept at.view xs + transcript_cost kept v ys) (sym view) in
-    let one = h kept (omega arith) in
-    let all_of = is.spends kept l in
-    omega arith);
+      let there = reaches_rest start at all rest before now is in
+      let front : reach at xs ≤ reach at rest = subst (λ (r : List (List ℕ)). reach at xs ≤ reach at r) (sym e) (reach_front at xs ys) in
+      let sum : transcript_cost kept at.view rest ≡ transcript_cost kept at.view xs + transcript_cost kept next.view ys
+      = ap (transcript_cost kept at.view) e ∙ cost_goes kept at.view xs ys go ∙ ap (λ (v : View). transcript_cost kept at.view xs + transcript_cost kept v ys) (sym view) in
+      let one = h kept (omega arith) in
+      let all_of = is.spends kept l in
+      omega arith);
 }
 
 -- none is left

@@ -74,11 +74,7 @@ fn go_on<L: Ledger>(group: &mut Group, target: u64, steps: &mut Steps<L>) -> Res
 }
 
 /// Goes back to a position from which on all events are kept, by undoing. Does nothing where it isn't before the present one.
-fn undo_to<L: Ledger>(
-    group: &mut Group,
-    target: u64,
-    steps: &mut Steps<L>,
-) -> Result<(), NoMemory>
+fn undo_to<L: Ledger>(group: &mut Group, target: u64, steps: &mut Steps<L>) -> Result<(), NoMemory>
     requires { group.old.kept ≤ target }
     ensures target { OnOk result (group.new.group.position ≡ min group.old.group.position target) }
     ensures same { group.new.group ≡ group_at group.new.group.position group.old.group }
@@ -94,11 +90,7 @@ fn undo_to<L: Ledger>(
 }
 
 /// Goes back to a position before the present one by undoing, or to the start where the events from there on aren't kept. Takes no step.
-fn go_back<L: Ledger>(
-    group: &mut Group,
-    target: u64,
-    steps: &mut Steps<L>,
-) -> Result<(), NoMemory>
+fn go_back<L: Ledger>(group: &mut Group, target: u64, steps: &mut Steps<L>) -> Result<(), NoMemory>
     ensures target { OnOk result (group.new.group.position ≡ (if nat_lt target group.old.kept then 0 else min group.old.group.position target)) }
     ensures same { group.new.group ≡ group_at group.new.group.position group.old.group }
     ensures limit { group.new.limit ≡ group.old.limit }
