@@ -1,5 +1,5 @@
 -- Each change of a state, and the entry that undoes it.
-use Rattle.std.proofs.Common.{◌≡◌, ◌≢◌, ◌∙◌, ℕ, zero, suc, ◌-◌, ◌<◌, ◌≤◌, true, List, [], ◌∷◌, ◌++◌, Option, Some, None, IsSome, length, length-set, length-append, length-replicate, option_map, replicate, slice_get, slice_set, refl, sym, ap, subst, arith}
+use Rattle.std.proofs.Common.{◌≡◌, ◌≢◌, ◌∙◌, ℕ, zero, suc, ◌-◌, ◌<◌, ◌≤◌, true, List, [], ◌∷◌, ◌++◌, Option, Some, None, IsSome, length, length-set, length-append, option_map, replicate, slice_get, slice_set, take, refl, sym, ap, subst, arith}
 use Rattle.std.specs.List.{list_all}
 use Rattle.std.specs.Option.{IsSomeAnd, option_map_or}
 use Rattle.spv_base.specs.Entries.{change, reads, writes}
@@ -12,17 +12,20 @@ use Rattle.spv_frame.specs.Frames.{Held as Frame}
 use Rattle.spv_frame.specs.Numbers.{HasCells, HasPointer, HoldsPointer, HoldsValue, with_pointer, with_value}
 use Rattle.spv_frame.specs.Stacks.{Stacked, on_top, top}
 use Rattle.spv_frame.proofs.RegisterLemmas.{put_back}
-use Rattle.spv_mem.specs.Memory.{Held as Memory, Levels}
+use Rattle.spv_mem.specs.Memory.{AreVariables, Held as Memory, Levels}
 use Rattle.spv_statuses.specs.Group.{Held as Statuses, all_wait_at}
 use Rattle.spv_statuses.specs.Invocations.{IsWithin, is_passed, waits_at}
 use Rattle.spv_statuses.specs.declared.invocations.Status.{Status}
-use Rattle.spv_statuses.specs.declared.invocations.Status.TheVariants.{Arrived, Passed}
-use Rattle.spv_statuses.proofs.CountLemmas.{passed_all, set_back, waits_again}
+use Rattle.spv_statuses.specs.declared.invocations.Status.TheVariants.{Arrived, Finished, Passed, Ready}
 use Rattle.spv_state.specs.State.{State, append_event, close_barrier, drop_event, frames_of, on_frame, on_frames, open_barrier, pop_frame, push_frame, set_status, top_of, with_pc, with_top, without_last, without_locals, without_top}
 use Rattle.spv_state.proofs.ChangeLemmas.{without_is}
 use Rattle.spv_state.proofs.Lists.{change_here, length_change}
 use Rattle.spv_journal.specs.Undo.{HasRooms, HasTop, Undoes}
-use Rattle.spv_journal.specs.declared.entries.Entry.TheVariants.{BarrierOpened, EventAppended, FramePushed, PcMoved, StatusChanged}
+use Rattle.spv_journal.specs.declared.entries.Entry.TheVariants.{Leaf, Part, NoValue, CellRegister, RowRegister, PointerRegister, FramePushed, FramePopped, PcMoved, EventAppended, StatusChanged, BarrierOpened}
+use Rattle.spv_journal.specs.declared.entries.Entry.{Entry}
+use Rattle.spv_journal.specs.declared.entries.OldFrame.{OldFrame}
+use Rattle.spv_journal.specs.Entries.{popped}
+use Rattle.spv_state.specs.Rooms.{HasLocals, IsBounded}
 
 -- ---- the top frame, changed
 
@@ -108,6 +111,29 @@ pointer_back n o x f h = ap (λ es. record f { pointers = es }) (put_back _ x o 
 
 -- ---- statuses
 
+set_back : {A : Type 0} (xs : List A) (i : ℕ) (x y : A) → slice_get xs i ≡ Some x → slice_set (slice_set xs i y) i x ≡ xs
+set_back [] i x y h = refl
+set_back (z ∷ zs) zero x y h = let e : x ≡ z = cc in ap (λ w. w ∷ zs) e
+set_back (z ∷ zs) (suc i) x y h = ap (λ ws. z ∷ ws) (set_back zs i x y h)
+
+passed_all : (n : ℕ) → list_all is_passed (replicate n Passed) ≡ true
+passed_all zero = refl
+passed_all (suc n) = passed_all n
+
+long_replicate : {A : Type 0} (n : ℕ) (x : A) → length (replicate n x) ≡ n
+long_replicate zero x = refl
+long_replicate (suc n) x = ap suc (long_replicate n x)
+
+waits_same : (ss : List Status) (word : ℕ) → list_all (waits_at word) ss ≡ true → replicate (length ss) (Arrived word) ≡ ss
+waits_same [] word h = refl
+waits_same (Ready ∷ ss) word h = cc
+waits_same (Arrived at ∷ ss) word h = grind (arith, waits_same ss word, h)
+waits_same (Passed ∷ ss) word h = cc
+waits_same (Finished ∷ ss) word h = cc
+
+waits_again : (ss : List Status) (word : ℕ) → list_all (waits_at word) ss ≡ true → replicate (length (replicate (length ss) Passed)) (Arrived word) ≡ ss
+waits_again ss word h = ap (λ (n : ℕ). replicate n (Arrived word)) (long_replicate (length ss) Passed) ∙ waits_same ss word h
+
 pub status_undone : (i : ℕ) (status old : Status) (s : State) → i < length s.statuses.list → slice_get s.statuses.list i ≡ Some old → IsWithin s.statuses.words old → Undoes i (StatusChanged old) s (set_status i status s)
 status_undone i status old s inside was within = record {
   back = ap (λ (l : List Status). record s { statuses = record s.statuses { list = l } }) (set_back s.statuses.list i old status was);
@@ -137,3 +163,64 @@ frame_undone i f es s inside levels = record {
     let n = length_change i (λ (l : Levels). record l { list = l.list ++ es ∷ [] }) s.memory.locals in omega (arith, n, levels),
   );
 }
+
+-- ---- a frame that was taken away
+
+less_by_one : {A : Type 0} (xs : List A) (n : ℕ) → xs ≢ [] → length xs ≤ n → length (without_last xs) < n
+less_by_one {A} [] n some h = absurd (some refl)
+less_by_one {A} (x ∷ xs) n some h =
+    let e : length (x ∷ xs) - 1 ≡ length xs = omega arith in
+    let long : length (without_last (x ∷ xs)) ≤ length xs = subst (λ (k : ℕ). length (take k (x ∷ xs)) ≤ length xs) (sym e) (short (length xs) (x ∷ xs)) in
+    omega (arith, long, h)
+  where
+    short : (k : ℕ) (ys : List A) → length (take k ys) ≤ k
+    short zero ys = omega arith
+    short (suc k) [] = omega arith
+    short (suc k) (y ∷ ys) = let r : length (take k ys) ≤ k = short k ys in omega (arith, r)
+
+some_frames : (fs : List Frame) → IsSome (top fs) → fs ≢ []
+some_frames [] h e = absurd cc
+some_frames (f ∷ fs) h e = cc
+
+changed_was : {A : Type 0} (i : ℕ) (g : A → A) (xs : List A) (x y : A) → slice_get xs i ≡ Some x → slice_get (change i g xs) i ≡ Some y → y ≡ g x
+changed_was i g xs x y at is = let e : slice_get (change i g xs) i ≡ Some (g x) = get_changed i g xs x at in cc
+
+level_there : (ls : List Levels) (i : ℕ) → i < length ls → (l : Levels) × (slice_get ls i ≡ Some l)
+level_there [] i h = absurd (omega arith)
+level_there (l ∷ ls) zero h = (l, refl)
+level_there (l ∷ ls) (suc i) h = level_there ls i (omega arith)
+
+pub left_rooms : (i : ℕ) (s t : State) (k : Stacked) → t ≡ pop_frame i s → i < length s.stacks → i < length s.memory.locals → slice_get s.stacks i ≡ Some k → IsBounded k → IsSome (top_of s i) → HasLocals s i
+    → HasRooms t i
+left_rooms i s t k is inside levels at bounded some has = subst (λ (x : State). HasRooms x i) (sym is) (record {
+  stacks = let n = length_change i without_top s.stacks in omega (arith, n, inside);
+  room = λ y here.
+      let same : y ≡ without_top k = changed_was i without_top s.stacks k y at here in
+      let frames : k.frames ≢ [] = some_frames k.frames (subst (λ (o : Option Stacked). IsSome (top (option_map_or (λ (x : Stacked). x.frames) o []))) at some) in
+      subst (λ (x : Stacked). length x.frames < x.room) (sym same) (less_by_one k.frames k.room frames bounded.within);
+  levels = let n = length_change i without_locals s.memory.locals in omega (arith, n, levels);
+  level = λ y here.
+      let l = level_there s.memory.locals i levels in
+      let same : y ≡ without_locals l.0 = changed_was i without_locals s.memory.locals l.0 y l.1 here in
+      subst (λ (x : Levels). length x.list < x.room) (sym same) (less_by_one l.0.list l.0.room (has l.0 l.1).0 (has l.0 l.1).1);
+})
+
+pub frame_entry : (i : ℕ) (e : Entry) (left : OldFrame) (s t : State) → popped e ≡ Some left → s ≡ push_frame i left.frame left.locals t → HasRooms t i → ∥ AreVariables t.memory.types t.memory.targets left.locals ∥₁
+    → Undoes i e s t
+frame_entry i (FramePopped b) left s t is back rooms variables =
+    let same : b.value ≡ left = cc in
+    record {
+      back = ap (λ (o : OldFrame). push_frame i o.frame o.locals t) same ∙ sym back;
+      can = (rooms, subst (λ (o : OldFrame). ∥ AreVariables t.memory.types t.memory.targets o.locals ∥₁) (sym same) variables);
+    }
+frame_entry i (Leaf r l p w) left s t is back rooms variables = absurd cc
+frame_entry i (Part b) left s t is back rooms variables = absurd cc
+frame_entry i (NoValue n) left s t is back rooms variables = absurd cc
+frame_entry i (CellRegister n w) left s t is back rooms variables = absurd cc
+frame_entry i (RowRegister b) left s t is back rooms variables = absurd cc
+frame_entry i (PointerRegister n q) left s t is back rooms variables = absurd cc
+frame_entry i FramePushed left s t is back rooms variables = absurd cc
+frame_entry i (PcMoved pc) left s t is back rooms variables = absurd cc
+frame_entry i EventAppended left s t is back rooms variables = absurd cc
+frame_entry i (StatusChanged x) left s t is back rooms variables = absurd cc
+frame_entry i (BarrierOpened w) left s t is back rooms variables = absurd cc

@@ -52,3 +52,10 @@ still n old new same = subst (Records n old) (sym same) (record { past = refl; r
 
 pub still_unwinds : (s t : State) (j k : Kept) → k ≡ j → t ≡ s → CanUnwind (opened j.gathered j.ring) s → CanUnwind (opened k.gathered k.ring) t
 still_unwinds s t j k same back can = subst (CanUnwind (opened k.gathered k.ring)) (sym back) (subst (λ (x : Kept). CanUnwind (opened x.gathered x.ring) s) (sym same) can)
+
+pub making_of : (g : Option Event) → IsSome g → (i : ℕ) × IsMaking g i
+making_of None h = absurd cc
+making_of (Some v) h = (v.happening.inv, refl)
+
+pub same_held : (s t : State) (j k : Kept) (old : Held) → held_of s j ≡ old → k ≡ j → t ≡ s → held_of t k ≡ old
+same_held s t j k old is same back = ap (λ (x : Kept). held_of t x) same ∙ ap (λ (x : State). held_of x j) back ∙ is

@@ -1,5 +1,5 @@
 -- Marks and entries of a ring, and the events that they are.
-use Rattle.std.proofs.Common.{◌≡◌, ◌≢◌, ◌∙◌, ℕ, zero, suc, ◌+◌, ◌-◌, ◌<◌, ◌≤◌, Bool, true, false, nat_le, if◌then◌else◌, List, [], ◌∷◌, ◌++◌, Option, Some, None, length, length-append, take, slice_get, refl, sym, ap, subst, arith}
+use Rattle.std.proofs.Common.{◌≡◌, ◌≢◌, ◌∙◌, ℕ, zero, suc, ◌+◌, ◌-◌, ◌<◌, ◌≤◌, Bool, true, false, nat_le, if◌then◌else◌, List, [], ◌∷◌, ◌++◌, Option, Some, None, length, length-append, take, drop, slice_get, refl, sym, ap, subst, arith}
 use Rattle.spv_base.specs.declared.happenings.Happening.{Happening}
 use Rattle.spv_journal.specs.Events.{Event, fitting, size, size_of}
 use Rattle.spv_journal.specs.Rings.{but_oldest, changes, events}
@@ -11,11 +11,14 @@ use Rattle.spv_journal.specs.declared.rings.Item.TheVariants.{Mark, Change}
 
 pub counted : (is : List Item) → length is ≡ length (changes is) + size (events is)
 counted [] = refl
-counted (Mark h ∷ is) = ap suc (counted is)
-counted (Change e ∷ is) = ap suc (counted is)
+counted (Mark h ∷ is) = let c : length is ≡ length (changes is) + size (events is) = counted is in omega (arith, c)
+counted (Change e ∷ is) = let c : length is ≡ length (changes is) + size (events is) = counted is in omega (arith, c)
 
 pub whole_counted : (is : List Item) → changes is ≡ [] → length is ≡ size (events is)
-whole_counted is none = counted is ∙ ap (λ (es : List Entry). length es + size (events is)) none
+whole_counted is none =
+    let c : length is ≡ length (changes is) + size (events is) = counted is in
+    let n : length (changes is) ≡ 0 = ap length none in
+    omega (arith, c, n)
 
 -- ---- what fits
 
@@ -40,27 +43,33 @@ oldest_goes n (v ∷ []) h = by_room (nat_le (size_of v) n) refl
     by_room : (b : Bool) → nat_le (size_of v) n ≡ b → [] ≡ (if nat_le (size_of v) n then v ∷ [] else [])
     by_room true e = let l = le_of (size_of v) n e in absurd (omega (arith, h))
     by_room false e = rw e refl
-oldest_goes n (v ∷ u ∷ vs) h = by_room (nat_le (size_of v) n) refl
+oldest_goes n (v ∷ u ∷ vs) h = by_room (λ m more. oldest_goes m (u ∷ vs) more) (nat_le (size_of v) n) refl
   where
-    by_room : (b : Bool) → nat_le (size_of v) n ≡ b
+    by_room : ((m : ℕ) → m < size (u ∷ vs) → fitting m (but_oldest (u ∷ vs)) ≡ fitting m (u ∷ vs)) → (b : Bool) → nat_le (size_of v) n ≡ b
         → (if nat_le (size_of v) n then v ∷ fitting (n - size_of v) (but_oldest (u ∷ vs)) else []) ≡ (if nat_le (size_of v) n then v ∷ fitting (n - size_of v) (u ∷ vs) else [])
-    by_room true e =
+    by_room ih true e =
         let l = le_of (size_of v) n e in
         let more : n - size_of v < size (u ∷ vs) = omega (arith, h, l) in
-        ap (λ (us : List Event). if nat_le (size_of v) n then v ∷ us else []) (oldest_goes (n - size_of v) (u ∷ vs) more)
-    by_room false e = rw e refl
+        ap (λ (us : List Event). if nat_le (size_of v) n then v ∷ us else []) (ih (n - size_of v) more)
+    by_room ih false e = rw e refl
 
 -- ---- the last item
 
 pub last_split : {A : Type 0} (xs : List A) (x : A) → slice_get xs (length xs - 1) ≡ Some x → xs ≡ take (length xs - 1) xs ++ x ∷ []
 last_split [] x h = absurd cc
 last_split (y ∷ []) x h = let e : y ≡ x = cc in ap (λ z. z ∷ []) e
-last_split (y ∷ z ∷ xs) x h = ap (λ ys. y ∷ ys) (last_split (z ∷ xs) x h)
+last_split (y ∷ z ∷ xs) x h =
+    let e : length (y ∷ z ∷ xs) - 1 ≡ suc (length (z ∷ xs) - 1) = omega arith in
+    let g : slice_get (z ∷ xs) (length (z ∷ xs) - 1) ≡ Some x = ap (slice_get (y ∷ z ∷ xs)) (sym e) ∙ h in
+    ap (λ ys. y ∷ ys) (last_split (z ∷ xs) x g) ∙ ap (λ (n : ℕ). take n (y ∷ z ∷ xs) ++ x ∷ []) (sym e)
 
 pub last_none : {A : Type 0} (xs : List A) → slice_get xs (length xs - 1) ≡ None → xs ≡ []
 last_none [] h = refl
 last_none (y ∷ []) h = absurd cc
-last_none (y ∷ z ∷ xs) h = absurd (let e = last_none (z ∷ xs) h in cc)
+last_none (y ∷ z ∷ xs) h =
+    let e : length (y ∷ z ∷ xs) - 1 ≡ suc (length (z ∷ xs) - 1) = omega arith in
+    let g : slice_get (z ∷ xs) (length (z ∷ xs) - 1) ≡ None = ap (slice_get (y ∷ z ∷ xs)) (sym e) ∙ h in
+    absurd (let k = last_none (z ∷ xs) g in cc)
 
 -- a ring that begins with a mark, but for the last item, does so too, unless the mark was the last
 whole_but_last : (is : List Item) (x : Item) → changes (is ++ x ∷ []) ≡ [] → changes is ≡ []
@@ -110,17 +119,17 @@ no_length (v ∷ vs) h = absurd (omega (arith, h))
 
 change_last : (is : List Item) (e : Entry) → but_oldest (events (is ++ Change e ∷ [])) ≡ but_oldest (events is)
 change_last [] e = refl
-change_last (Mark g ∷ is) e = by_length (length (events is)) refl
+change_last (Mark g ∷ is) e = by_length (change_last is e) (length (events is)) refl
   where
-    by_length : (n : ℕ) → length (events is) ≡ n
+    by_length : but_oldest (events (is ++ Change e ∷ [])) ≡ but_oldest (events is) → (n : ℕ) → length (events is) ≡ n
         → but_oldest (record { happening = g; changes = changes (is ++ Change e ∷ []) } ∷ events (is ++ Change e ∷ [])) ≡ but_oldest (record { happening = g; changes = changes is } ∷ events is)
-    by_length zero n = rw (no_length (events is) n, no_length (events (is ++ Change e ∷ [])) (as_many_events is e ∙ n)) refl
-    by_length (suc m) n =
+    by_length ih zero n = rw (no_length (events is) n, no_length (events (is ++ Change e ∷ [])) (as_many_events is e ∙ n)) refl
+    by_length ih (suc m) n =
         let some : 0 < length (events is) = omega (arith, n) in
         let count = as_many_events is e in
         let more : 0 < length (events (is ++ Change e ∷ [])) = omega (arith, some, count) in
         cons_but_oldest (record { happening = g; changes = changes (is ++ Change e ∷ []) }) (events (is ++ Change e ∷ [])) more
-        ∙ ap (λ (vs : List Event). record { happening = g; changes = changes (is ++ Change e ∷ []) } ∷ vs) (change_last is e)
+        ∙ ap (λ (vs : List Event). record { happening = g; changes = changes (is ++ Change e ∷ []) } ∷ vs) ih
         ∙ ap (λ (es : List Entry). record { happening = g; changes = es } ∷ but_oldest (events is)) (change_changes is e some)
         ∙ sym (cons_but_oldest (record { happening = g; changes = changes is }) (events is) some)
 change_last (Change d ∷ is) e = change_last is e
@@ -147,3 +156,73 @@ pub change_popped : (is js : List Item) (e : Entry) → slice_get is (length is 
 change_popped is js e last rest =
     let split : is ≡ js ++ Change e ∷ [] = last_split is (Change e) last ∙ ap (λ (ks : List Item). ks ++ Change e ∷ []) (sym rest) in
     sym (change_last js e) ∙ ap (λ (ks : List Item). but_oldest (events ks)) (sym split)
+
+-- ---- the first item
+
+pub begins_with_change : (is : List Item) (e : Entry) → slice_get is 0 ≡ Some (Change e) → changes is ≡ e ∷ changes (drop 1 is)
+begins_with_change [] e h = cc
+begins_with_change (i ∷ is) e h = let same : i ≡ Change e = cc in ap (λ (x : Item). changes (x ∷ is)) same
+
+pub change_gone : (is : List Item) (e : Entry) → slice_get is 0 ≡ Some (Change e) → events (drop 1 is) ≡ events is
+change_gone [] e h = cc
+change_gone (i ∷ is) e h = let same : i ≡ Change e = cc in sym (ap (λ (x : Item). events (x ∷ is)) same)
+
+pub shorter_by_one : (is : List Item) → length (drop 1 is) ≤ length is
+shorter_by_one [] = omega arith
+shorter_by_one (i ∷ is) = omega arith
+
+pub begins_with_none : (is : List Item) → slice_get is 0 ≡ None → changes is ≡ []
+begins_with_none [] h = refl
+begins_with_none (i ∷ is) h = absurd cc
+
+pub begins_with_mark : (is : List Item) (h : Happening) → slice_get is 0 ≡ Some (Mark h) → changes is ≡ []
+begins_with_mark [] h k = refl
+begins_with_mark (i ∷ is) h k = let same : i ≡ Mark h = cc in ap (λ (x : Item). changes (x ∷ is)) same
+
+pub mark_gone : (is : List Item) (h : Happening) → slice_get is 0 ≡ Some (Mark h) → events is ≡ record { happening = h; changes = changes (drop 1 is) } ∷ events (drop 1 is)
+mark_gone [] h k = cc
+mark_gone (i ∷ is) h k = let same : i ≡ Mark h = cc in ap (λ (x : Item). events (x ∷ is)) same
+
+pub none_gone : (is : List Item) → slice_get is 0 ≡ None → events is ≡ []
+none_gone [] h = refl
+none_gone (i ∷ is) h = absurd cc
+
+pub not_a_change : (is : List Item) (e : Entry) → changes is ≡ [] → slice_get is 0 ≡ Some (Change e) → ⊥
+not_a_change is e none h = let c = begins_with_change is e h in cc
+
+-- ---- marks, counted
+
+events_after : (is : List Item) (k : ℕ) (h : Happening) → slice_get is k ≡ Some (Mark h) → length (events (take (suc k) is)) ≡ suc (length (events (take k is)))
+events_after [] k h g = cc
+events_after (i ∷ is) zero h g = let same : i ≡ Mark h = cc in ap (λ (x : Item). length (events (x ∷ []))) same
+events_after (Mark f ∷ is) (suc k) h g = ap suc (events_after is k h g)
+events_after (Change e ∷ is) (suc k) h g = events_after is k h g
+
+events_same : (is : List Item) (k : ℕ) (e : Entry) → slice_get is k ≡ Some (Change e) → length (events (take (suc k) is)) ≡ length (events (take k is))
+events_same [] k e g = cc
+events_same (i ∷ is) zero e g = let same : i ≡ Change e = cc in ap (λ (x : Item). length (events (x ∷ []))) same
+events_same (Mark f ∷ is) (suc k) e g = ap suc (events_same is k e g)
+events_same (Change d ∷ is) (suc k) e g = events_same is k e g
+
+pub events_next : (is : List Item) (k : ℕ) (h : Happening) → slice_get is k ≡ Some (Mark h) → length (events (take (k + 1) is)) ≡ length (events (take k is)) + 1
+events_next is k h g =
+    let e : k + 1 ≡ suc k = omega arith in
+    let a : length (events (take (suc k) is)) ≡ suc (length (events (take k is))) = events_after is k h g in
+    ap (λ (n : ℕ). length (events (take n is))) e ∙ a ∙ omega arith
+
+pub events_stay : (is : List Item) (k : ℕ) (d : Entry) → slice_get is k ≡ Some (Change d) → length (events (take (k + 1) is)) ≡ length (events (take k is)) + 0
+events_stay is k d g =
+    let e : k + 1 ≡ suc k = omega arith in
+    let a : length (events (take (suc k) is)) ≡ length (events (take k is)) = events_same is k d g in
+    ap (λ (n : ℕ). length (events (take n is))) e ∙ a ∙ omega arith
+
+-- a change that is the last leaves a ring that begins with a mark
+pub change_leaves : (is js : List Item) (e : Entry) → slice_get is (length is - 1) ≡ Some (Change e) → js ≡ take (length is - 1) is → changes is ≡ [] → 0 < length js
+change_leaves is [] e last rest whole =
+    let split : is ≡ Change e ∷ [] = last_split is (Change e) last ∙ ap (λ (ks : List Item). ks ++ Change e ∷ []) (sym rest) in
+    absurd (let c : changes (Change e ∷ []) ≡ [] = ap changes (sym split) ∙ whole in cc)
+change_leaves is (j ∷ js) e last rest whole = omega arith
+
+pub none_last : (is : List Item) → 0 < length is → slice_get is (length is - 1) ≡ None → ⊥
+none_last [] some h = absurd (omega arith)
+none_last (i ∷ is) some h = let e = last_none (i ∷ is) h in cc

@@ -22,6 +22,7 @@ use Rattle.spv_mem.specs.Memory.{Held as Memory, IsMemory, Levels, MayStore, id_
 use Rattle.spv_mem.specs.Singles.{NamesRow}
 use Rattle.spv_mem.specs.Targets.{is_counted}
 use Rattle.spv_mem.proofs.MemoryLemmas.{set_same}
+use Rattle.spv_state.specs.State.{State, put_store}
 use Rattle.spv_state.proofs.Lists.{change_here, change_still}
 
 -- ---- the list in which the variable stands
@@ -60,11 +61,11 @@ types_stay m i (Local depth id) es = (refl, refl)
 
 reads_put : (k : ℕ) (x y : Value) (es : Roots) → reads k es ≡ Some y → reads k (writes k x es) ≡ Some x
 reads_put k x y [] h = cc
-reads_put k x y (e ∷ es) h = by_key (e.0 == k) refl h
+reads_put k x y (e ∷ es) h = by_key (λ g. reads_put k x y es g) (e.0 == k) refl h
   where
-    by_key : (b : Bool) → (e.0 == k) ≡ b → cond b (Some e.1) (reads k es) ≡ Some y → reads k (cond b ((e.0, x) ∷ es) (e ∷ writes k x es)) ≡ Some x
-    by_key true same g = rw same refl
-    by_key false same g = rw same (reads_put k x y es g)
+    by_key : (reads k es ≡ Some y → reads k (writes k x es) ≡ Some x) → (b : Bool) → (e.0 == k) ≡ b → cond b (Some e.1) (reads k es) ≡ Some y → reads k (cond b ((e.0, x) ∷ es) (e ∷ writes k x es)) ≡ Some x
+    by_key ih true same g = rw same refl
+    by_key ih false same g = rw same (ih g)
 
 -- the part that a pointer names, with its variable
 record Part (m : Memory) (i : ℕ) (p : Pointer) (w : Value) : Type 0 where
@@ -192,3 +193,21 @@ names_after m i p u w n h names one =
     let same : names.value ≡ x.value = let e = names.is in cc in
     let row : IsRowAt x.value p.path n 1 = subst (λ (v : Value). IsRowAt v p.path n 1) same names.row in
     record { value = with_part x.value p.path u; is = value_after m i p u w x; row = row_after x.value p.path u w n x.part row one }
+
+-- ---- an entry of a store
+
+pub record PutBack (i : ℕ) (q : Pointer) (x : Value) (s t : State) : Type 0 where
+  pub back : put_store i (Some (q, x)) t ≡ s
+  pub there : IsSome (load_of t.memory i q)
+  pub may : ∥ MayStore t.memory i q x ∥₁
+
+pub put_back_part : (i : ℕ) (p q : Pointer) (u w x : Value) (s : State) → q ≡ p → x ≡ w → load_of s.memory i p ≡ Some w → ∥ IsMemory s.memory ∥₁ → ∥ MayStore s.memory i p u ∥₁
+    → PutBack i q x s (put_store i (Some (p, u)) s)
+put_back_part i p q u w x s place value h is may =
+    subst (λ (y : Pointer). PutBack i y x s (put_store i (Some (p, u)) s)) (sym place)
+    (subst (λ (y : Value). PutBack i p y s (put_store i (Some (p, u)) s)) (sym value)
+    (record {
+      back = ap (λ (m : Memory). record s { memory = m }) (store_back s.memory i p u w h);
+      there = there_after s.memory i p u w h;
+      may = may_after s.memory i p u w h is may;
+    }))

@@ -10,11 +10,11 @@ use Rattle.spv_state.specs.State.{State}
 -- the events that there is room for
 pub fitting_unwinds : (n : ℕ) (vs : List Event) (s : State) → CanUnwind vs s → CanUnwind (fitting n vs) s
 fitting_unwinds n [] s can = tt
-fitting_unwinds n (v ∷ vs) s can = by_room (nat_le (size_of v) n)
+fitting_unwinds n (v ∷ vs) s can = by_room (fitting_unwinds (n - size_of v) vs (before v s) can.1) (nat_le (size_of v) n)
   where
-    by_room : (b : Bool) → CanUnwind (if b then v ∷ fitting (n - size_of v) vs else []) s
-    by_room true = (can.0, fitting_unwinds (n - size_of v) vs (before v s) can.1)
-    by_room false = tt
+    by_room : CanUnwind (fitting (n - size_of v) vs) (before v s) → (b : Bool) → CanUnwind (if b then v ∷ fitting (n - size_of v) vs else []) s
+    by_room rest true = (can.0, rest)
+    by_room rest false = tt
 
 -- the events behind the newest
 pub older_unwind : (vs : List Event) (s : State) → CanUnwind vs s → CanUnwind (older vs) (option_map_or (λ v. before v s) (newest vs) s)

@@ -2,6 +2,7 @@
 ghost use Rattle.std.specs.Prelude.{◌≡◌, ◌<◌, ◌+◌, ℕ, IsSome, None, OnErr, OnOk, Some, length, option_map, slice_get, true};
 ghost use Rattle.std.specs.Option.{IsSomeAnd};
 ghost use Rattle.spv_base.specs.declared.values.Value.{Ptr, out-Value};
+ghost use Rattle.spv_frame.specs.Numbers.{HasPointer, with_pointer};
 ghost use Rattle.spv_frame.specs.Stacks.{Stacked};
 ghost use Rattle.spv_index.specs.Definitions.{result_type};
 ghost use Rattle.spv_journal.specs.Held.{IsMaking, Records};
@@ -36,6 +37,16 @@ fn pc_of(whole: &Whole, i: u32) -> u32
         Some(frame) => frame.pc(),
         None => unreachable!(),
     }
+}
+
+/// Puts a pointer in a register of the top frame of an invocation, by its number.
+fn put_pointer(whole: &mut Whole, i: u32, number: usize, pointer: Pointer)
+    requires inv { i < length whole.old.stacks }
+    requires register { IsSomeAnd (state.top_of whole.old i) (HasPointer number) }
+    ensures { whole.new ≡ state.on_frame i (with_pointer number (Some pointer)) whole.old }
+{
+    let mut taken = Some(pointer);
+    whole.exchange_pointer(i, number, &mut taken);
 }
 
 impl Recorded {
@@ -107,8 +118,7 @@ impl Recorded {
                 let number = held.number;
                 let entry = pointer_entry(self.alloc, &held)?;
                 keep(&mut self.journal, entry)?;
-                let mut taken = Some(pointer);
-                self.whole.exchange_pointer(i, number, &mut taken);
+                put_pointer(&mut self.whole, i, number, pointer);
                 Ok(())
             }
             None => Ok(()),
@@ -177,6 +187,7 @@ impl Recorded {
         ensures recorded { Records 1 self.old self.new }
         ensures err { OnErr result (self.new ≡ self.old) }
     {
+        let _stack = self.whole.stack(i);
         let (frame, locals) = self.whole.take_frame(i);
         match keep_frame(self.alloc, &mut self.journal, OldFrame { frame, locals }) {
             Ok(()) => Ok(()),

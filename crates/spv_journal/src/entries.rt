@@ -42,7 +42,10 @@ pub enum Entry {
     /// A register had no value.
     NoValue(usize),
     /// A register of one cell had a value.
-    CellRegister { number: usize, value: Single },
+    CellRegister {
+        number: usize,
+        value: Single,
+    },
     /// A register of another number of cells had a value.
     RowRegister(Box<OldValue>),
     /// A register had a pointer or none.

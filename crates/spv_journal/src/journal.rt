@@ -7,9 +7,9 @@ ghost use Rattle.spv_journal.specs.Undo.{CanUnwind, before};
 use crate::entries::Entry;
 use crate::rings::{Item, count_marks, put_event};
 use crate::undoing::{undo_changes, undo_gathered};
-use spv_state::Whole;
 use circular_buffer::HeapCircularBuffer;
 use spv_base::{Happening, NoMemory};
+use spv_state::Whole;
 use std::alloc::Global;
 use std::collections::VecDeque;
 use std::marker::Model;
@@ -110,6 +110,7 @@ impl Journal {
     }
 
     /// How many marks and entries are kept.
+    #[tactic(auto, using(crate::proofs::RingLemmas::whole_counted))]
     pub fn len(&self) -> usize
         ensures len { result ≡ size self.now.ring }
         ensures within { result ≤ self.now.limit }

@@ -74,11 +74,7 @@ pub(crate) fn part_entry(
 }
 
 /// The entry of a register that takes a value.
-pub(crate) fn value_entry(
-    alloc: Global,
-    held: &HeldValue,
-    row: &Row,
-) -> Result<Entry, NoMemory>
+pub(crate) fn value_entry(alloc: Global, held: &HeldValue, row: &Row) -> Result<Entry, NoMemory>
     requires { (w : Value) → held.now.value ≡ Some w → length (leaves w) ≡ length (leaves row.now) }
     ensures { IfOk result (λ e. KeepsValue held.now.number held.now.value (length (leaves row.now)) e) }
 {
@@ -100,7 +96,7 @@ pub(crate) fn value_entry(
 
 /// A pointer in a box.
 fn boxed(alloc: Global, pointer: Option<&Pointer>) -> Result<Option<Box<Pointer>>, NoMemory>
-    ensures { IfOk result (λ held. option_map (λ b. b.value) held ≡ option_copied pointer) }
+    ensures { IfOk result (λ held. option_map (λ b. b.value) held ≡ option_copied pointer.entry) }
 {
     match pointer {
         Some(pointer) => Ok(Some(Box::new(alloc, pointer.copy(alloc)?)?)),

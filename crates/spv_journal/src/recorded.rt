@@ -22,6 +22,7 @@ pub struct Recorded {
 impl Model for Recorded {
     ghost use Rattle.std.specs.Prelude.{◌≤◌};
     ghost use Rattle.std.specs.Coded.{codes};
+    ghost use Rattle.spv_base.specs.contracts.values.Value as value;
     ghost use Rattle.spv_journal.specs.contracts.entries.Entry as entry;
     ghost use Rattle.spv_journal.specs.Events.{opened, size};
     ghost use Rattle.spv_journal.specs.Held.{Held};
@@ -29,7 +30,7 @@ impl Model for Recorded {
 
     ghost Value = { Held };
 
-    ghost coded = { Prim.hlevel (codes, entry.the_row.coded) };
+    ghost coded = { Prim.hlevel (codes, value.the_row.coded, entry.the_row.coded) };
 
     ghost view = { λ r. record { state = r.whole; ring = r.journal.ring; gathered = r.journal.gathered; limit = r.journal.limit } };
 

@@ -1,17 +1,16 @@
 -- An effect that fits is the definition's, piece by piece, and leaves a sound state.
-use Rattle.std.proofs.Common.{◌≡◌, ◌∙◌, ℕ, ◌-◌, Bool, true, false, List, Option, Some, None, length, length-set, slice_set, refl, sym, ap, subst}
+use Rattle.std.proofs.Common.{◌≡◌, ◌∙◌, ℕ, ◌-◌, Bool, true, false, List, Option, Some, None, length, length-set, refl, sym, ap, subst}
 use Rattle.std.proofs.lemmas.List.{length-replicate}
 use Rattle.std.specs.Prelude.{if◌then◌else◌}
 use Rattle.std.specs.Option.{option_map}
 use Rattle.spv_base.specs.Entries.{reads}
-use Rattle.spv_base.specs.declared.happenings.Happening.{Happening}
 use Rattle.spv_base.specs.declared.instructions.Inst.{Inst}
 use Rattle.spv_base.specs.declared.values.Pointer.{Pointer}
 use Rattle.spv_base.specs.declared.values.Value.{Value}
 use Rattle.spv_valid.specs.Acceptance.{Accepted}
 use Rattle.spv_frame.specs.Frames.{Held as Frame}
 use Rattle.spv_frame.specs.Stacks.{on_top}
-use Rattle.spv_statuses.specs.Group.{Held as Statuses, all_wait_at}
+use Rattle.spv_statuses.specs.Group.{Held as Statuses}
 use Rattle.spv_statuses.specs.declared.invocations.Status.TheVariants.{Arrived, Passed, Finished}
 use Rattle.spv_actions.specs.Effects.{Control, Effect, Next, Jump, Enter, Leave, Wait}
 use Rattle.spv_actions.specs.Fits.{ControlFits, ControlRooted, Fits, LeaveFits, ResultRooted}
@@ -25,7 +24,7 @@ use Rattle.spv_state.specs.State.{State, depth_of, frames_of, on_frame, open_bar
 use Rattle.spv_state.proofs.Lists.{length_change}
 use Rattle.spv_state.proofs.RootLemmas.{ids_changed, rooted_stays}
 use Rattle.spv_machine.specs.Reached.{IsReached}
-use Rattle.spv_machine.specs.Step.{apply, arrival_with, arrived, by_control, go, go_on, happening_of, leave, opened, opens, put_result, resume, stored_at}
+use Rattle.spv_machine.specs.Step.{apply, arrived, go, go_on, leave, opened, opens, put_result, resume}
 use Rattle.spv_machine.proofs.KeepsBarriers.{arrive_sound}
 use Rattle.spv_machine.proofs.KeepsCalls.{entered_sound, finished_sound}
 use Rattle.spv_machine.proofs.KeepsControl.{next_kept}
@@ -90,22 +89,13 @@ module _ (p : Program) (known : Facts p.accepted) where
       gone_sound (put_result i d.id e.result first) i d e.control two fits.control
       (control_stays p.accepted first i d.id e.result e.control (subst (λ (fs : List Frame). ControlRooted p.accepted fs e.control) frames fits.passed))
 
--- ---- the event
+-- ---- the statuses
 
 statuses_stay : (i id : ℕ) (store : Option (Pointer × Value)) (o : Option Value) (s : State) → (put_result i id o (put_store i store s)).statuses ≡ s.statuses
 statuses_stay i id None None s = refl
 statuses_stay i id None (Some v) s = refl
 statuses_stay i id (Some e) None s = refl
 statuses_stay i id (Some e) (Some v) s = refl
-
-pub event_before : (i word id : ℕ) (store : Option (Pointer × Value)) (o : Option Value) (s : State) (told : Happening) (c : Control)
-    → by_control i word (put_result i id o (put_store i store s)) told c ≡ by_control i word s told c
-event_before i word id store o s told Next = refl
-event_before i word id store o s told (Jump block phis) = refl
-event_before i word id store o s told (Enter frame es) = refl
-event_before i word id store o s told (Leave v) = refl
-event_before i word id store o s told Wait =
-    ap (λ (x : Statuses). arrival_with i word (all_wait_at word (slice_set x.list i (Arrived word)))) (statuses_stay i id store o s)
 
 -- ---- an effect, done piece by piece
 
@@ -116,11 +106,6 @@ module _ (a : Accepted) (i : ℕ) (d : Inst) (e : CodeEffect) (v w x : Value) (s
 
   pub applied_is : go a i d.word (gone e.control x) s2 ≡ apply a i d (shown e v) s
   applied_is = ap (λ (c : Control). go a i d.word c s2) control ∙ ap (go a i d.word (gone e.control v)) before_control
-
-  pub event_is : (told : Happening) → told ≡ stored_at a i d.word (shown e v).store → by_control i d.word s2 told (gone e.control x) ≡ happening_of a s i d.word (shown e v)
-  event_is told is =
-      ap (by_control i d.word s2 told) control ∙ ap (λ (y : State). by_control i d.word y told (gone e.control v)) before_control
-      ∙ event_before i d.word d.id (option_map (λ (q : Pointer). (q, v)) e.store) (gained e.gain v) s told (gone e.control v) ∙ ap (λ (t : Happening). by_control i d.word s t (gone e.control v)) is
 
 -- ---- how many invocations there are
 

@@ -1,5 +1,5 @@
 -- Debug events that the top frame passes, one after the other.
-use Rattle.std.proofs.Common.{◌≡◌, ◌∙◌, ℕ, suc, ◌+◌, ◌-◌, ◌<◌, ◌≤◌, List, [], ◌∷◌, ◌++◌, append-nil, append_assoc, Option, Some, None, IsSome, length, map, slice_get, refl, sym, ap, subst, arith}
+use Rattle.std.proofs.Common.{◌≡◌, ◌∙◌, ℕ, suc, ◌+◌, ◌-◌, ◌<◌, ◌≤◌, List, [], ◌∷◌, ◌++◌, append-nil, append_assoc, Option, Some, None, IsSome, length, refl, sym, ap, subst, arith}
 use Rattle.std.proofs.lemmas.List.{length-map}
 use Rattle.std.specs.Option.{IsSomeAnd, option_map_or}
 use Rattle.spv_base.specs.declared.values.PassedEvent.{PassedEvent}
@@ -10,7 +10,6 @@ use Rattle.spv_journal.specs.Held.{Held as Recorded, Records}
 use Rattle.spv_state.specs.Events.{IsReadable, IsReadableAt, captured, captures_before, due, due_at, pass, passed}
 use Rattle.spv_state.specs.Sound.{IsSoundFrame}
 use Rattle.spv_state.specs.State.{State, append_event, depth_of, on_frame, on_frames, top_of, with_pc}
-use Rattle.spv_state.specs.declared.captures.Capture.{Capture}
 use Rattle.spv_state.proofs.EventLemmas.{readable}
 use Rattle.spv_state.proofs.Lists.{change_same, length_change}
 use Rattle.spv_machine.specs.Weights.{events_before}

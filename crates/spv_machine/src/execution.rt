@@ -16,8 +16,8 @@ ghost use Rattle.spv_state.specs.Sound.{IsSound};
 ghost use Rattle.spv_state.specs.State as state;
 
 use crate::applying::{apply, word_behind};
-use crate::happenings::{happening_of, plain};
 use crate::finishing::{finished, idle};
+use crate::happenings::{happening_of, plain};
 use crate::passing::come_to;
 use crate::world::World;
 use spv_actions::{Cause, Effect, effect_at};
@@ -210,12 +210,7 @@ fn pass_by(
 }
 
 /// The event of a Passed invocation: it moves past the barrier.
-fn pass(
-    alloc: Global,
-    m: &Runnable,
-    recorded: &mut Recorded,
-    inv: u32,
-) -> Result<Did, StepErr>
+fn pass(alloc: Global, m: &Runnable, recorded: &mut Recorded, inv: u32) -> Result<Did, StepErr>
     requires none { recorded.old.gathered ≡ None }
     requires inv { inv < length recorded.old.state.statuses.list }
     requires passed { slice_get recorded.old.state.statuses.list inv ≡ Some Status.Passed }

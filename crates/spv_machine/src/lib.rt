@@ -3,9 +3,9 @@
 
 pub mod applying;
 pub mod execution;
+mod finishing;
 pub mod happenings;
 mod passing;
-mod finishing;
 pub mod world;
 
 pub use execution::{Did, StepErr, fault_of, step, unstep};

@@ -84,13 +84,7 @@ fn held_pointer_in<'a>(
 impl Whole {
     /// What the register with an id of the top frame of an invocation holds, if it is one of a value there. A value of the id's type has
     /// as many cells as the register. In constant time.
-    pub fn held_value(
-        &self,
-        accepted: &Module,
-        i: u32,
-        id: u32,
-        row: &Row,
-    ) -> Option<HeldValue<'_>>
+    pub fn held_value(&self, accepted: &Module, i: u32, id: u32, row: &Row) -> Option<HeldValue<'_>>
         requires inv { i < length self.now.stacks }
         requires plans { self.now.plans ≡ plans_in accepted.now }
         requires frame { IsSomeAnd (state.top_of self.now i) (IsSoundFrame accepted.now) }

@@ -79,7 +79,12 @@ pub(crate) fn value_slot_of<'a>(
 }
 
 /// Where the register of a pointer with an id lies in the frames of a function, if they have it. In constant time.
-pub(crate) fn pointer_slot_of(accepted: &Module, plans: &Plans, function: u32, id: u32) -> Option<PointerSlot>
+pub(crate) fn pointer_slot_of(
+    accepted: &Module,
+    plans: &Plans,
+    function: u32,
+    id: u32,
+) -> Option<PointerSlot>
     requires plans { plans.now ≡ plans_in accepted.now }
     requires function { HasNumber accepted.now function }
     ensures { HasPointerSlot (plan_of accepted.now function).pointers id result }

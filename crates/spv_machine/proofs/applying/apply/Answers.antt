@@ -61,7 +61,7 @@ returns-clause-ok c =
     let given = given_behind e.control e.store e.gain v c.put_store.new.row c.put_result.new.row c.requires.taken.1 c.put_store.ensures.row c.put_result.ensures.row in
     on_ok_weaker c.go.result
     (λ gone. gone
-        ∙ applied_is c.args.m.now.accepted c.args.inv c.args.inst.now e v c.put_store.new.row c.put_result.new.row s c.put_store.new.recorded.state c.put_result.new.recorded.state c.in_ok-put_store.ensures.store c.in_ok-put_result.ensures.result held.1 given)
+    ∙ applied_is c.args.m.now.accepted c.args.inv c.args.inst.now e v c.put_store.new.row c.put_result.new.row s c.put_store.new.recorded.state c.put_result.new.recorded.state c.in_ok-put_store.ensures.store c.in_ok-put_result.ensures.result held.1 given)
     c.go.ensures.ok
 
 pub returns-clause-recorded : goal.returns-clause-recorded

@@ -1,7 +1,7 @@
 use Rattle.std.proofs.Common.{◌∙◌, ◌<◌, ap, subst, sym}
 use Rattle.std.proofs.lemmas.Result.{on_ok_weaker}
 use Rattle.spv_state.specs.State.{State}
-use Rattle.spv_machine.specs.Step.{arrival_with, opened, opens}
+use Rattle.spv_machine.specs.Step.{opened}
 use Rattle.spv_machine.proofs.ReachedLemmas.{Facts, facts, reached_word}
 use Rattle.spv_machine.proofs.applying.arrive.Goals as goal
 

@@ -35,8 +35,7 @@ loop-number-preserved c =
     let within : l.number < length l.phis = omega arith in
     let phi : PhiValue = get_or l.phis l.number c.index-phis-number.result in
     let here : slice_get l.phis l.number ≡ Some phi = slice_get-get_or l.phis l.number c.index-phis-number.result within in
-    let next : l.number + 1 ≡ suc l.number = omega arith in
-    (
+    let next : l.number + 1 ≡ suc l.number = omega arith in (
       rw next (phis_next p c.args.inv c.args.inst.now c.args.phis.now l.phis l.number l.recorded.state end l.invariant.0 known phi c.put_phi.new.phi c.put_phi.new.recorded.state here c.in_ok-put_phi.ensures.ok),
       records_on l.number 1 c.args.recorded.now l.recorded c.put_phi.new.recorded l.invariant.1 c.put_phi.ensures.recorded,
     )

@@ -7,7 +7,7 @@ use Rattle.spv_state.specs.State.{State, set_status, top_of}
 use Rattle.spv_state.proofs.Known.{IsKnown, known_as}
 use Rattle.spv_machine.specs.Does.{Does}
 use Rattle.spv_machine.specs.Step.{Moves, go_on, plain, step_of}
-use Rattle.spv_machine.specs.Weights.{events_before, weight_of}
+use Rattle.spv_machine.specs.Weights.{events_before}
 use Rattle.spv_machine.specs.World.{seen}
 use Rattle.spv_machine.proofs.KeepsControl.{past_kept}
 use Rattle.spv_machine.proofs.Outcomes.{HasTop, barrier_next, has_top, passed_step}

@@ -1,4 +1,4 @@
-use Rattle.std.proofs.Common.{◌≡◌, ◌∷◌, ◌+◌, length, arith, rules}
+use Rattle.std.proofs.Common.{◌≡◌, ◌∷◌, ◌+◌, length, rules}
 use Rattle.std.specs.Vec.Iter.{into_iter_items}
 use Rattle.spv_machine.proofs.PassedLemmas.{appends_begin, appends_none, appends_one, appends_records, appends_some}
 use Rattle.spv_machine.proofs.Recording.{making_on, records_more, records_on}

@@ -16,8 +16,7 @@ clear_numbered-requires c =
 
 pub invariant_of-self : goal.invariant_of-self
 invariant_of-self c =
-    let w = c.self.inside in
-    (
+    let w = c.self.inside in (
       c.self.invariant.0,
       put_bounded w.stacks.items c.args.i c.index_mut.result.now c.clear_numbered.new.self (inside c.self.view_is c.requires.inv) c.index_mut.ensures.value c.self.invariant.1
           (top_bounded (with_value c.args.number None) c.index_mut.result.now c.clear_numbered.new.self c.clear_numbered.ensures),

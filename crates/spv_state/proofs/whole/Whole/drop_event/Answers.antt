@@ -16,8 +16,7 @@ drop_event-event-requires c =
 
 pub invariant_of-self : goal.invariant_of-self
 invariant_of-self c =
-    let w = c.self.inside in
-    (
+    let w = c.self.inside in (
       c.self.invariant.0,
       put_bounded w.stacks.items c.args.i c.index_mut.result.now c.drop_event-event.new.self (inside c.self.view_is c.requires.inv) c.index_mut.ensures.value c.self.invariant.1
           (top_bounded (drop_event) c.index_mut.result.now c.drop_event-event.new.self (event_dropped c.index_mut.result.now c.drop_event-event.new.self c.drop_event-event.result c.drop_event-event.ensures)),

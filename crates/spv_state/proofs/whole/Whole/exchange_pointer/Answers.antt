@@ -16,8 +16,7 @@ exchange_numbered_pointer-requires c =
 
 pub invariant_of-self : goal.invariant_of-self
 invariant_of-self c =
-    let w = c.self.inside in
-    (
+    let w = c.self.inside in (
       c.self.invariant.0,
       put_bounded w.stacks.items c.args.i c.index_mut.result.now c.exchange_numbered_pointer.new.self (inside c.self.view_is c.requires.inv) c.index_mut.ensures.value c.self.invariant.1
           (top_bounded (with_pointer c.args.number c.args.pointer.now) c.index_mut.result.now c.exchange_numbered_pointer.new.self c.exchange_numbered_pointer.ensures.after),
