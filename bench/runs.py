@@ -318,6 +318,18 @@ def made(n):
     return sizes + setup + commands + listing + "status 0\n"
 
 
+def undone(n, back=100_000):
+    """A run by what is made for a number to its end, and so many steps back: its first and its last reply."""
+    end = make.INVOCATIONS * make.rounds(n)
+    position = end - back
+    # the entries before the position that are of invocation 0
+    before = (position + make.INVOCATIONS - 1) // make.INVOCATIONS
+    main = next(operands[1] for name, operands in make.instructions(n) if name == "Function")
+    first, last = "@%d i=0 finished" % end, "@%d i=0 %%%d word %d" % (position, main, make.places(n)[before])
+    lines = ["undone %d" % n, "lines %d" % (2 * (1 + back)), "stop: done, all finished", first, "stop: done", last, "status 0"]
+    return "".join(line + "\n" for line in lines)
+
+
 def main():
     out = arithmetic.written()
     # each byte as a line: only a line feed and a space are nothing
@@ -331,7 +343,7 @@ def main():
             text += "== %s: %s: %s\n%s-- commands\n%s" % (what, module, words, setup, commands)
             out += "%s: %s: %s\n%sstatus %d\n" % (what, module, words, written, status)
         write(file, text)
-    out += made(1) + made(64)
+    out += made(1) + made(64) + undone(64)
     write("lines", "".join(line + "\n" for line, _ in LINES))
     out += "lines\n" + "".join(due + "\n" for _, due in LINES)
     with open(os.path.join(FOLDER, "stdout"), "w") as file:

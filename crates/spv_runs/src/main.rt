@@ -7,7 +7,7 @@ mod calls;
 mod made;
 
 use crate::calls::{files_of, report};
-use crate::made::report_made;
+use crate::made::{report_made, report_undone};
 use spv_base::Fail;
 use spv_cmd::{parse, print};
 use std::io::Write;
@@ -113,6 +113,7 @@ fn main(rt: HostRuntime) -> io::Result<()> {
     }
     report_made(&rt, 1)?;
     report_made(&rt, 64)?;
+    report_undone(&rt, 64)?;
     println!(rt; "lines")?;
     let lines = fs::read_to_string(&rt, "lines")?;
     for line in lines.split_terminator('\n') {
