@@ -1,11 +1,10 @@
-use Rattle.std.proofs.Common.{refl, inr, ap, subst, ◌∙◌}
+use Rattle.std.proofs.Common.{refl, inr, ap, ◌∙◌}
 use Rattle.std.proofs.KnownBytes.{Keeps-refl}
 use Rattle.spv_app.specs.Debug.{Unopened, Refused, Opened}
-use Rattle.spv_app.specs.Command_loop.{Ran}
 use Rattle.spv_app.specs.File_status.{status_of_file}
-use Rattle.spv_app.specs.Opening.{opening}
-use Rattle.spv_session.specs.View.{Viewing, first_viewing}
-use Rattle.spv_app.proofs.Openings.{opened_is, refused_is}
+use Rattle.spv_app.specs.Opening.{opening, with_journal}
+use Rattle.spv_session.specs.View.{first_viewing}
+use Rattle.spv_app.proofs.Openings.{opened_is, refused_is, ran_as}
 use Rattle.spv_app.proofs.debug.debug.Goals as goal
 
 pub returns-in-Err-clause-debugged : goal.returns-in-Err-clause-debugged
@@ -26,4 +25,4 @@ pub returns-clause-debugged : goal.returns-clause-debugged
 returns-clause-debugged g c =
     let opened = opened_is (opening c.in-Ok.pair.0.items c.in-Ok.pair.1.items) c.in-Ok-open.group c.in-Ok-open.ensures.opening in
     Opened _ c.in-Ok.pair.0.items c.in-Ok.pair.1.items opened.0 (c.in-Ok.ensures.asked refl) c.in-Ok.ensures.pair opened.1
-    (subst (λ (v : Viewing). Ran v _ _ _) (c.in-Ok-open-2.ensures ∙ ap first_viewing opened.2) c.run.ensures.ran)
+    (ran_as (first_viewing (with_journal opened.0)) _ _ _ _ (c.in-Ok-open-2.ensures ∙ ap first_viewing opened.2) c.run.ensures.ran)
