@@ -318,7 +318,7 @@ def made(n):
     return sizes + setup + commands + listing + "status 0\n"
 
 
-def undone(n, back=100_000):
+def undone(n, back=1_000):
     """A run by what is made for a number to its end, and so many steps back: its first and its last reply."""
     end = make.INVOCATIONS * make.rounds(n)
     position = end - back
