@@ -318,7 +318,7 @@ def made(n):
     return sizes + setup + commands + listing + "status 0\n"
 
 
-def undone(n, back=1_000):
+def undone(n, back=100_000):
     """A run by what is made for a number to its end, and so many steps back: its first and its last reply."""
     end = make.INVOCATIONS * make.rounds(n)
     position = end - back
@@ -328,6 +328,13 @@ def undone(n, back=1_000):
     first, last = "@%d i=0 finished" % end, "@%d i=0 %%%d word %d" % (position, main, make.places(n)[before])
     lines = ["undone %d" % n, "lines %d" % (2 * (1 + back)), "stop: done, all finished", first, "stop: done", last, "status 0"]
     return "".join(line + "\n" for line in lines)
+
+
+def limited(events=4, weights=(3, 3, 3, 3), limit=10):
+    """A run of four events with a journal of ten marks and entries: an addition takes a mark, a register and a pc, and a return a mark, a
+    frame and a status. Then it is taken back whole."""
+    kept = next(k for k in range(events + 1) if sum(weights[k:]) <= limit)
+    return "limit %d\n@%d kept %d\n@0 kept 0\n" % (limit, events, kept)
 
 
 def main():
@@ -343,7 +350,7 @@ def main():
             text += "== %s: %s: %s\n%s-- commands\n%s" % (what, module, words, setup, commands)
             out += "%s: %s: %s\n%sstatus %d\n" % (what, module, words, written, status)
         write(file, text)
-    out += made(1) + made(64) + undone(64)
+    out += made(1) + made(64) + undone(64) + limited()
     write("lines", "".join(line + "\n" for line, _ in LINES))
     out += "lines\n" + "".join(due + "\n" for _, due in LINES)
     with open(os.path.join(FOLDER, "stdout"), "w") as file:

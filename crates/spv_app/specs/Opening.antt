@@ -39,12 +39,12 @@ of_module (Err refusal) = Err (Module refusal)
 abbrev pub started : Settings → Accepted → Result Group OpeningRefusal
 started s a = after (of_setup (schedule_for a s)) (λ schedule. Ok (first_group (record { accepted = a; setup = s }) schedule))
 
--- An opened group keeps at most 1,048,576 marks and entries of events. None was made so far.
-abbrev pub with_journal : Group → Undoing
-with_journal group = record { group = group; kept = 0; limit = 1048576 }
+-- An opened group keeps at most so many marks and entries of events. None was made so far.
+abbrev pub with_journal : ℕ → Group → Undoing
+with_journal limit group = record { group = group; kept = 0; limit = limit }
 
-abbrev pub journaled : Result Group OpeningRefusal → Result Undoing OpeningRefusal
-journaled due = after due (λ group. Ok (with_journal group))
+abbrev pub journaled : ℕ → Result Group OpeningRefusal → Result Undoing OpeningRefusal
+journaled limit due = after due (λ group. Ok (with_journal limit group))
 
 -- The setup's text is looked at first, then the module, and then whether the setup fits it.
 unfoldable pub opening : List ℕ → List ℕ → Result Group OpeningRefusal

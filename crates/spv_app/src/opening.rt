@@ -10,7 +10,7 @@ ghost use Rattle.spv_app.specs.Opening.{opening, accepted_in, invocations_of, jo
 use crate::acceptance::accepted_as;
 use spv_base::{Fail, Refusal, SetupRefusal};
 use spv_fit::fit;
-use spv_group::Group;
+use spv_group::{Group, LIMIT};
 use spv_setup::{Schedule, Setup};
 use spv_state::Runnable;
 use spv_valid::Module;
@@ -128,26 +128,48 @@ fn fit_setup(
     }
 }
 
-/// The group of a module and a setup, at the first position, where the setup fits the module.
-fn start(alloc: Global, accepted: Module, setup: Setup) -> Result<Group, Fail<OpeningRefusal>>
-    requires { IsValid accepted }
-    ensures view { Answers (journaled (started setup accepted)) result }
+/// The group of a module and a setup, at the first position, where the setup fits the module. It keeps at most so many marks and entries of
+/// events.
+fn start(
+    alloc: Global,
+    accepted: Module,
+    setup: Setup,
+    limit: usize,
+) -> Result<Group, Fail<OpeningRefusal>>
+    requires valid { IsValid accepted }
+    requires limit { 1 ≤ limit }
+    ensures view { Answers (journaled limit (started setup accepted)) result }
     ensures start { IfOk result (λ group. group.group.position ≡ 0) }
 {
     let schedule = fit_setup(alloc, &accepted, &setup)?;
     let program = Runnable::of(alloc, accepted, setup)?;
-    Ok(Group::open(alloc, program, schedule)?)
+    Ok(Group::open_limited(alloc, program, schedule, limit)?)
 }
 
 /// Opens a pair: the setup's text is looked at first, then the module, and then whether the setup fits it. The group stands at the first
-/// position.
-#[tactic(auto, unfolding(crate::specs::Opening::opening))]
+/// position, and keeps at most 1,048,576 marks and entries of events.
 pub fn open(alloc: Global, binary: Vec<u8>, setup: Vec<u8>) -> Result<Group, Fail<OpeningRefusal>>
     requires { length setup.items ≤ setup_limit }
-    ensures opening { Answers (journaled (opening binary.items setup.items)) result }
+    ensures opening { Answers (journaled 1048576 (opening binary.items setup.items)) result }
+    ensures start { IfOk result (λ group. group.group.position ≡ 0) }
+{
+    open_limited(alloc, binary, setup, LIMIT)
+}
+
+/// The same, with a group that keeps at most so many marks and entries of events.
+#[tactic(auto, unfolding(crate::specs::Opening::opening))]
+pub fn open_limited(
+    alloc: Global,
+    binary: Vec<u8>,
+    setup: Vec<u8>,
+    limit: usize,
+) -> Result<Group, Fail<OpeningRefusal>>
+    requires setup { length setup.items ≤ setup_limit }
+    requires limit { 1 ≤ limit }
+    ensures opening { Answers (journaled limit (opening binary.items setup.items)) result }
     ensures start { IfOk result (λ group. group.group.position ≡ 0) }
 {
     let setup = parse_setup(alloc, &setup)?;
     let accepted = read_module(alloc, &binary, &setup)?;
-    start(alloc, accepted, setup)
+    start(alloc, accepted, setup, limit)
 }

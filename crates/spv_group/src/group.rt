@@ -21,7 +21,7 @@ use std::marker::Model;
 use std::sync::ledger::Ledger;
 
 /// How many marks and entries of events a journal keeps, where no other number is asked for.
-const LIMIT: usize = 1048576;
+pub const LIMIT: usize = 1048576;
 
 /// A module, the schedule of its invocations, a position of the run that they give, and how far back it can undo.
 #[derive(Drop)]

@@ -8,6 +8,6 @@ mod run;
 mod windows;
 
 pub use ends::end_is_least;
-pub use group::Group;
+pub use group::{Group, LIMIT};
 pub use motion::{Back, Forth};
 pub use windows::windows_are_least;

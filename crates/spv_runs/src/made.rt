@@ -29,7 +29,7 @@ pub fn report_made<R: rt::Files + Print + AllocGlobal>(rt: &R, n: u32) -> io::Re
 }
 
 /// How many steps back are made.
-const STEPS_BACK: usize = 1_000;
+const STEPS_BACK: usize = 100_000;
 
 /// The commands that go to a position, and so many steps back.
 fn there_and_back(alloc: Global, position: u32, steps: usize) -> io::Result<Vec<u8>> {

@@ -13,7 +13,7 @@ returns-in-Err-clause-debugged g c = rw c.from.ensures (Unopened (status_of_file
 pub returns-in-Err-Refused-clause-debugged : goal.returns-in-Err-Refused-clause-debugged
 returns-in-Err-Refused-clause-debugged g c =
     let s = c.tell_refusal.ensures.says in
-    Refused _ c.in-Ok.pair.0.items c.in-Ok.pair.1.items c.in-Err-Refused.refusal s.0 (c.in-Ok.ensures.asked refl) c.in-Ok.ensures.pair (refused_is (opening c.in-Ok.pair.0.items c.in-Ok.pair.1.items) c.in-Err-Refused.refusal (rw c.in-Err-Refused.field-0-is at c.in-Err-Refused.ensures.opening)) refl s.1 s.2 refl
+    Refused _ c.in-Ok.pair.0.items c.in-Ok.pair.1.items c.in-Err-Refused.refusal s.0 (c.in-Ok.ensures.asked refl) c.in-Ok.ensures.pair (refused_is 1048576 (opening c.in-Ok.pair.0.items c.in-Ok.pair.1.items) c.in-Err-Refused.refusal (rw c.in-Err-Refused.field-0-is at c.in-Err-Refused.ensures.opening)) refl s.1 s.2 refl
 
 pub returns-in-Err-NoMemory-clause-debugged : goal.returns-in-Err-NoMemory-clause-debugged
 returns-in-Err-NoMemory-clause-debugged g c = Unopened _ (inr (inr (refl, inr (inr (c.in-Ok.ensures.asked refl))))) refl (Keeps-refl _) refl
@@ -23,6 +23,6 @@ returns-in-Err-open-clause-debugged g c = Unopened _ (inr (inr (refl, inr (inr (
 
 pub returns-clause-debugged : goal.returns-clause-debugged
 returns-clause-debugged g c =
-    let opened = opened_is (opening c.in-Ok.pair.0.items c.in-Ok.pair.1.items) c.in-Ok-open.group c.in-Ok-open.ensures.opening in
+    let opened = opened_is 1048576 (opening c.in-Ok.pair.0.items c.in-Ok.pair.1.items) c.in-Ok-open.group c.in-Ok-open.ensures.opening in
     Opened _ c.in-Ok.pair.0.items c.in-Ok.pair.1.items opened.0 (c.in-Ok.ensures.asked refl) c.in-Ok.ensures.pair opened.1
     (ran_as (first_viewing (with_journal opened.0)) _ _ _ _ (c.in-Ok-open-2.ensures ∙ ap first_viewing opened.2) c.run.ensures.ran)
