@@ -131,6 +131,6 @@ held_plain a f id None valid shaped typed h = tt
 held_plain a f id (Some (Value v)) valid shaped typed (n, number, read) =
     let type = typed n number in
     ∥∥₁_elim valid (hlevel (props, codes)) (λ (k : IsValid a). ∥∥₁_elim shaped (hlevel (props, codes)) (λ (s : AreShaped a f). data_plain a.types k.types type.0 v (s.values id type.0 v read type.1)))
-held_plain a f id (Some (Undefined v)) valid shaped typed h = absurd h
+held_plain a f id (Some (Undefined b)) valid shaped typed h = absurd h
 held_plain a f id (Some (Variable r)) valid shaped typed h = tt
 held_plain a f id (Some (Pointer p)) valid shaped typed h = tt

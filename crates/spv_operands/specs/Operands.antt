@@ -16,7 +16,7 @@ use Rattle.spv_operands.specs.declared.operands.Reference.TheVariants.{Lent, Mad
 -- the value, or the pointer, that an operand stands for
 abbrev pub shown : Operand → Whole
 shown (Value v) = v
-shown (Undefined v) = v
+shown (Undefined b) = b.value
 shown (Variable r) = pointer_to r
 shown (Pointer p) = Ptr p.now
 
@@ -37,13 +37,13 @@ data_of v = if is_some (pointer_of v) then None else Some v
 -- a lent value is no pointer
 abbrev pub IsPlain : Operand → Type 0
 IsPlain (Value v) = is_some (pointer_of v) ≡ false
-IsPlain (Undefined v) = is_some (pointer_of v) ≡ false
+IsPlain (Undefined b) = is_some (pointer_of b.value) ≡ false
 IsPlain (Variable r) = Unit {0}
 IsPlain (Pointer p) = Unit {0}
 
 -- what a register of a frame holds
 abbrev pub IsHeld : Held → ℕ → Operand → Type 0
 IsHeld f id (Value v) = (number : ℕ) × (number_of id (ids f.plan.values) ≡ Some number) × (reads id f.values ≡ Some (Some v))
-IsHeld f id (Undefined v) = ⊥
+IsHeld f id (Undefined b) = ⊥
 IsHeld f id (Variable r) = ⊥
 IsHeld f id (Pointer p) = reads id f.pointers ≡ Some (Some p.now)

@@ -13,8 +13,8 @@ use std::alloc::Global;
 pub enum Operand<'a> {
     /// A value, lent: that of a constant, or what a register holds.
     Value(Part<'a>),
-    /// The undefined value of an OpUndef outside functions.
-    Undefined(Variable),
+    /// The undefined value of an OpUndef outside functions. It is boxed, so that an operand is small.
+    Undefined(Box<Variable>),
     /// The pointer to a whole variable.
     Variable(Root),
     /// The pointer that a register holds, lent.

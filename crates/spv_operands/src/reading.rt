@@ -135,7 +135,7 @@ fn undefined<'a>(
     ensures plain { IfOk result (λ o. IfSome o IsPlain) }
 {
     let variable = Variable::blank(alloc, accepted.types(), ty, 0)?;
-    Ok(Some(Operand::Undefined(variable)))
+    Ok(Some(Operand::Undefined(Box::new(alloc, variable)?)))
 }
 
 /// What an id stands for that is neither a register that holds something nor a constant. It takes memory only for an undefined value.

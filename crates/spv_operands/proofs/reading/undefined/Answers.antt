@@ -6,4 +6,4 @@ use Rattle.spv_operands.proofs.ShapeLemmas.{blank_plain}
 use Rattle.spv_operands.proofs.reading.undefined.Goals as goal
 
 pub returns-clause-plain : goal.returns-clause-plain
-returns-clause-plain c = ap (λ (v : Value). is_some (pointer_of v)) c.in_ok-variable.ensures ∙ blank_plain c.types.result.now 0 c.args.ty
+returns-clause-plain c = ap (λ (v : Value). is_some (pointer_of v)) (c.in_ok-new.ensures.ok ∙ c.in_ok-variable.ensures) ∙ blank_plain c.types.result.now 0 c.args.ty
