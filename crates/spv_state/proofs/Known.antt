@@ -111,6 +111,8 @@ abbrev pub goes_on : Accepted → ℕ → Bool
 goes_on a word = is_some (option_and_then (λ n. n) (reads word a.flow.nexts))
 
 pub record IsKnown (a : Accepted) : Type 0 where
+  pub accepted : ∥ IsAccepted a ∥₁
+  pub valid : ∥ IsValid a ∥₁
   pub words : OnePlace a.insts
   pub types : (k ty : ℕ) (i : Inst) → slice_get a.insts k ≡ Some i → result_type a.insts i.id ≡ Some ty → ty ≡ i.ty
   pub labels : (s t : Stand) → IsOne (stands_of a.insts) s → IsOne (stands_of a.insts) t → s.class ≡ Label → s.inst.id ≡ t.inst.id → s.position.function ≡ t.position.function
@@ -122,6 +124,8 @@ next_there a s next = rw next.1 refl
 
 pub known : (a : Accepted) → ∥ IsAccepted a ∥₁ → ∥ IsValid a ∥₁ → IsKnown a
 known a accepted valid = record {
+  accepted = accepted;
+  valid = valid;
   words = λ j k x y g h same. ∥∥₁_elim accepted (hlevel (props, codes)) (λ (is : IsAccepted a). same_place 0 a.insts j k x y is.decoded.ascend g h same);
   types = λ k ty i at h. ∥∥₁_elim valid (hlevel (props, codes)) (λ (v : IsValid a). typed a.insts k i ty v.named.distinct at h);
   labels = λ s t one other class same. ∥∥₁_elim valid (hlevel (props, codes)) (λ (v : IsValid a). ap (λ (x : Stand). x.position.function) (same_labels a v s t one other class same));

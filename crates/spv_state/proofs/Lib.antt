@@ -13,6 +13,7 @@ pub mod PlanLemmas
 pub mod RootLemmas
 pub mod VariableStart
 pub mod OperandRoots
+pub mod EventRoots
 pub mod StartSound
 pub mod BegunLemmas
 pub mod ChangeLemmas

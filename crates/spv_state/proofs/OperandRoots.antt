@@ -1,9 +1,9 @@
 -- A pointer that an operand stands for names a variable that is there.
-use Rattle.std.proofs.Common.{◌≡◌, ◌⊎◌, ◌∙◌, inl, inr, ℕ, zero, suc, ◌≤◌, ◌==◌, ◌||◌, Bool, true, false, List, [], ◌∷◌, drop, length, map, Option, Some, None, slice_get, refl, sym, ap, subst, arith}
+use Rattle.std.proofs.Common.{◌≡◌, ◌⊎◌, ◌∙◌, inl, inr, ℕ, zero, suc, ◌==◌, ◌||◌, Bool, true, false, List, [], ◌∷◌, drop, length, map, Option, Some, None, slice_get, refl, sym, ap, subst, arith}
 use Rattle.std.proofs.lemmas.Bool.{both_ways, eq-eqb, eqb-true}
 use Rattle.std.specs.Prelude.{if◌then◌else◌}
 use Rattle.std.specs.List.{AllByRecursion, Contains, cons_option, filter, filter_map}
-use Rattle.std.specs.Option.{is_some, option_and_then, option_map, option_map_or}
+use Rattle.std.specs.Option.{is_some, option_and_then, option_map_or}
 use Rattle.spv_base.specs.Entries.{reads}
 use Rattle.spv_base.specs.declared.instructions.Inst.{Inst}
 use Rattle.spv_base.specs.declared.values.Pointer.{Pointer}
@@ -16,7 +16,6 @@ use Rattle.spv_types.specs.declared.queries.Pointed.{Pointed}
 use Rattle.spv_types.specs.Queries.{pointee}
 use Rattle.spv_types.specs.Rules.{is_class}
 use Rattle.spv_types.specs.Types.{Types, form_of}
-use Rattle.spv_consts.specs.Trees.{tree_of}
 use Rattle.spv_valid.specs.Acceptance.{Accepted, IsAccepted}
 use Rattle.spv_valid.specs.Meanings.{meaning_of}
 use Rattle.spv_valid.specs.Validity.{IsValid}
@@ -30,13 +29,13 @@ use Rattle.spv_initial.specs.declared.variables.Declared.{Declared}
 use Rattle.spv_mem.specs.Blanks.{blank_of}
 use Rattle.spv_operands.specs.Operands.{pointer_of}
 use Rattle.spv_operands.specs.Shapes.{AreShaped}
-use Rattle.spv_operands.specs.Values.{is_own, module_root, pointer_to, register_value, storage_class, value_by, value_of}
+use Rattle.spv_operands.specs.Values.{is_own, module_root, pointer_to, storage_class, value_by, value_of}
 use Rattle.spv_operands.proofs.ClassLemmas.{IsLocalVariable, IsModuleVariable, IsVariableAt, behind_variable, front_variable, local_meant, module_meant}
 use Rattle.spv_operands.proofs.OperandLemmas.{Defines, defines, register_read}
 use Rattle.spv_operands.proofs.ReadingLemmas.{constant_plain}
 use Rattle.spv_operands.proofs.ShapeLemmas.{blank_plain, data_plain, out_pointer}
 use Rattle.spv_operands.proofs.VariableLemmas.{IsTyped, variable_by, variable_typed}
-use Rattle.spv_state.specs.Roots.{IsRoot, IsRooted, ids_at, ids_with, is_shared, local_ids, own_ids, shared_ids}
+use Rattle.spv_state.specs.Roots.{IsRoot, IsRooted, ids_at, ids_with, is_shared, local_ids}
 use Rattle.spv_state.specs.Variables.{function_in, is_variable_of, variables_of}
 use Rattle.spv_state.proofs.RootLemmas.{contains_kept, contains_later, contains_mapped, ids_kept}
 
@@ -83,6 +82,15 @@ among_with a test id class m h =
     let kept = contains_kept (λ (d : Declared). test d.class) (variables a) m.declared m.there (ap test m.class_is ∙ h) in
     subst (Contains (ids_with test a)) m.id_is (contains_mapped (λ (d : Declared). d.id) (filter (λ (d : Declared). test d.class) (variables a)) m.declared kept)
 
+-- ---- frames
+
+-- at a depth a frame has the variables of the function of this one
+abbrev pub HasFrame : Accepted → List Frame → ℕ → Frame → Type 0
+HasFrame a fs depth f = ids_at a fs depth ≡ local_ids a f.plan.function
+
+pub frame_there : (a : Accepted) (fs : List Frame) (depth : ℕ) (f : Frame) → slice_get fs depth ≡ Some f → HasFrame a fs depth f
+frame_there a fs depth f here = ap (λ (o : Option Frame). option_map_or (λ (g : Frame). local_ids a g.plan.function) o []) here
+
 -- ---- variables outside functions
 
 -- a class that is neither Function nor one that each invocation has for itself is shared
@@ -121,7 +129,7 @@ module _ (a : Accepted) (is : IsAccepted a) (valid : IsValid a) (fs : List Frame
 
   -- ---- and those of functions
 
-  local_rooted : (f : Frame) (function : ℕ) → slice_get fs depth ≡ Some f → meaning_of a.insts id ≡ Some (Variable function) → f.plan.function ≡ function → IsRoot a fs depth (Local depth id)
+  local_rooted : (f : Frame) (function : ℕ) → HasFrame a fs depth f → meaning_of a.insts id ≡ Some (Variable function) → f.plan.function ≡ function → IsRoot a fs depth (Local depth id)
   local_rooted f function here meant same = (omega arith, ∣ subst (λ (ks : List ℕ). Contains ks id) (sym ids_are) there ∣₁)
     where
       m : IsVariableAt a id (drop (length (before_functions a.insts)) a.insts)
@@ -134,7 +142,7 @@ module _ (a : Accepted) (is : IsAccepted a) (valid : IsValid a) (fs : List Frame
       among = variable_among a is valid id m.inst v.pointed m.defines m.op (λ t. let one : pointee (form_of a.types m.inst.ty) ≡ Some v.pointed = ap pointee v.type in let other : pointee (form_of a.types m.inst.ty) ≡ Some t.pointed = ap pointee t.type in cc)
 
       ids_are : ids_at a fs depth ≡ local_ids a function
-      ids_are = ap (λ (o : Option Frame). option_map_or (λ (g : Frame). local_ids a g.plan.function) o []) here ∙ ap (local_ids a) same
+      ids_are = here ∙ ap (local_ids a) same
 
       each_local : (ds : List Declared) → AllByRecursion (λ (d : Declared). is_some (local_value a d) ≡ (d.class == 7)) ds
       each_local [] = tt
@@ -160,10 +168,11 @@ module _ (a : Accepted) (is : IsAccepted a) (valid : IsValid a) (fs : List Frame
 
   -- ---- operands
 
-  pub operand_root : (f : Frame) → slice_get fs depth ≡ Some f → IsRooted a fs depth f → AreShaped a f → (ty : ℕ) → result_type a.insts id ≡ Some ty → (v : Value) (q : Pointer) → value_of a f depth id ≡ Some v → pointer_of v ≡ Some q
-      → IsRoot a fs depth q.root
+  -- where a register of a value holds no pointer
+  pub value_root : (f : Frame) → HasFrame a fs depth f → IsRooted a fs depth f → (v : Value) → ((function : ℕ) → meaning_of a.insts id ≡ Some (Register function) → reads id f.values ≡ Some (Some v) → is_some (pointer_of v) ≡ false)
+      → (q : Pointer) → value_of a f depth id ≡ Some v → pointer_of v ≡ Some q → IsRoot a fs depth q.root
   unfolding value_of
-  operand_root f here rooted shaped ty type v q value pointer = by_some (meaning_of a.insts id) refl value
+  value_root f here rooted v holds q value pointer = by_some (meaning_of a.insts id) refl value
     where
       not_plain : is_some (pointer_of v) ≡ false → IsRoot a fs depth q.root
       not_plain plain = absurd (both_ways (is_some (pointer_of v)) plain (ap is_some pointer))
@@ -172,9 +181,9 @@ module _ (a : Accepted) (is : IsAccepted a) (valid : IsValid a) (fs : List Frame
       by_function function meant true e h = subst (IsRoot a fs depth) (root_own (Local depth id) v q (let same : pointer_to (Local depth id) ≡ v = cc in same) pointer) (local_rooted f function here meant (eqb-true f.plan.function function e))
       by_function function meant false e h = absurd (cc)
 
-      by_register : (reads id f.values ≡ Some (Some v)) ⊎ ((p : Pointer) × (v ≡ Ptr p) × (reads id f.pointers ≡ Some (Some p))) → IsRoot a fs depth q.root
-      by_register (inl there) = not_plain (data_plain a.types valid.types ty v (shaped.values id ty v there type))
-      by_register (inr (p, same, there)) = subst (λ (x : Pointer). IsRoot a fs depth x.root) (pointer_own p q (ap pointer_of (sym same) ∙ pointer)) (rooted id p there)
+      by_register : (function : ℕ) → meaning_of a.insts id ≡ Some (Register function) → (reads id f.values ≡ Some (Some v)) ⊎ ((p : Pointer) × (v ≡ Ptr p) × (reads id f.pointers ≡ Some (Some p))) → IsRoot a fs depth q.root
+      by_register function meant (inl there) = not_plain (holds function meant there)
+      by_register function meant (inr (p, same, there)) = subst (λ (x : Pointer). IsRoot a fs depth x.root) (pointer_own p q (ap pointer_of (sym same) ∙ pointer)) (rooted.registers id p there)
 
       by_meaning : (m : Meaning) → meaning_of a.insts id ≡ Some m → value_by a f depth id m ≡ Some v → IsRoot a fs depth q.root
       by_meaning TypeDefinition meant h = absurd (cc)
@@ -182,7 +191,7 @@ module _ (a : Accepted) (is : IsAccepted a) (valid : IsValid a) (fs : List Frame
       by_meaning (Undefined t) meant h = let same : blank_of a.types 0 t ≡ v = cc in not_plain (ap (λ (x : Value). is_some (pointer_of x)) (sym same) ∙ blank_plain a.types 0 t)
       by_meaning ModuleVariable meant h = let same : pointer_to (module_root a.insts id) ≡ v = cc in subst (IsRoot a fs depth) (root_own (module_root a.insts id) v q same pointer) (module_rooted meant)
       by_meaning (Variable function) meant h = by_function function meant (f.plan.function == function) refl h
-      by_meaning (Register function) meant h = by_register (register_read f id v h)
+      by_meaning (Register function) meant h = by_register function meant (register_read f id v h)
       by_meaning (Label function) meant h = absurd (cc)
       by_meaning Function meant h = absurd (cc)
       by_meaning Other meant h = absurd (cc)
@@ -190,3 +199,8 @@ module _ (a : Accepted) (is : IsAccepted a) (valid : IsValid a) (fs : List Frame
       by_some : (o : Option Meaning) → meaning_of a.insts id ≡ o → option_and_then (value_by a f depth id) o ≡ Some v → IsRoot a fs depth q.root
       by_some None e h = absurd (cc)
       by_some (Some m) e h = by_meaning m e h
+
+  pub operand_root : (f : Frame) → slice_get fs depth ≡ Some f → IsRooted a fs depth f → AreShaped a f → (ty : ℕ) → result_type a.insts id ≡ Some ty → (v : Value) (q : Pointer) → value_of a f depth id ≡ Some v → pointer_of v ≡ Some q
+      → IsRoot a fs depth q.root
+  operand_root f here rooted shaped ty type v q value pointer =
+      value_root f (frame_there a fs depth f here) rooted v (λ function meant read. data_plain a.types valid.types ty v (shaped.values id ty v read type)) q value pointer

@@ -3,6 +3,7 @@ use Rattle.std.proofs.Common.{◌≡◌, ◌∙◌, ℕ, zero, suc, ◌<◌, ◌
 use Rattle.std.proofs.Math.Logic.{∥∥₁_elim, ∥∥₁_map}
 use Rattle.std.proofs.Props.{props}
 use Rattle.std.proofs.lemmas.Bool.{eq-eqb}
+use Rattle.std.proofs.lemmas.List.Elements.{All-weaker}
 use Rattle.std.proofs.lemmas.Option.{slice_get_within}
 use Rattle.std.specs.Coded.{codes}
 use Rattle.std.specs.List.{AllByRecursion, AllZip, Contains, cons_option, filter, filter_map}
@@ -15,17 +16,16 @@ use Rattle.spv_base.specs.declared.values.Root.{Root}
 use Rattle.spv_base.specs.declared.values.Root.TheVariants.{Shared, Private, Local}
 use Rattle.spv_base.specs.declared.values.Value.{Value}
 use Rattle.spv_valid.specs.Acceptance.{Accepted}
-use Rattle.spv_mem.specs.Memory.{Levels, load_of, root_value}
+use Rattle.spv_mem.specs.Memory.{Levels, root_value}
 use Rattle.spv_initial.specs.Start.{root}
 use Rattle.spv_initial.specs.declared.variables.Declared.{Declared}
 use Rattle.spv_frame.specs.Frames.{Held as Frame}
 use Rattle.spv_frame.specs.Registers.{Planned}
 use Rattle.spv_frame.specs.Stacks.{Stacked}
-use Rattle.spv_statuses.specs.declared.invocations.Status.{Status}
 use Rattle.spv_state.specs.Program.{Program}
-use Rattle.spv_state.specs.Roots.{FindsVariable, IsRoot, IsRooted, ids_at, ids_in, local_ids, own_ids, shared_ids}
+use Rattle.spv_state.specs.Roots.{CapturesRoot, FindsVariable, IsRoot, IsRooted, ids_at, ids_in, local_ids, own_ids, shared_ids}
 use Rattle.spv_state.specs.Sound.{HasVariables, IsSound}
-use Rattle.spv_state.specs.State.{State, frames_of}
+use Rattle.spv_state.specs.State.{State, frames_of, with_pc}
 
 -- ---- ids in lists
 
@@ -61,17 +61,30 @@ ids_kept value test (d ∷ ds) (first, rest) = by_value (value d) first (ids_kep
 
 -- ---- frames
 
+pub root_prop : (a : Accepted) (fs : List Frame) (depth : ℕ) (r : Root) → IsProp (IsRoot a fs depth r)
+root_prop a fs depth (Shared id) = hlevel props
+root_prop a fs depth (Private id) = hlevel props
+root_prop a fs depth (Local at id) = hlevel props
+
 -- a root is there for other frames that have the same variables down to its depth
 pub root_stays : (a : Accepted) (fs gs : List Frame) (depth : ℕ) (r : Root) → ((n : ℕ) → n ≤ depth → ids_at a gs n ≡ ids_at a fs n) → IsRoot a fs depth r → IsRoot a gs depth r
 root_stays a fs gs depth (Shared id) same h = h
 root_stays a fs gs depth (Private id) same h = h
 root_stays a fs gs depth (Local at id) same h = (h.0, subst (λ (ks : List ℕ). ∥ Contains ks id ∥₁) (sym (same at h.0)) h.1)
 
--- and for a deeper frame
-pub root_deeper : (a : Accepted) (fs : List Frame) (depth deeper : ℕ) (r : Root) → depth ≤ deeper → IsRoot a fs depth r → IsRoot a fs deeper r
-root_deeper a fs depth deeper (Shared id) le h = h
-root_deeper a fs depth deeper (Private id) le h = h
-root_deeper a fs depth deeper (Local at id) le h = let low = h.0 in (omega arith, h.1)
+no_ids : (id : ℕ) → Contains [] id → ⊥
+no_ids id (k, lt, is) = omega (arith, lt)
+
+ids_more : (a : Accepted) (fs gs : List Frame) (n id : ℕ) → Contains (ids_at a fs n) id → Contains (ids_at a (fs ++ gs) n) id
+ids_more a [] gs n id there = absurd (no_ids id there)
+ids_more a (f ∷ fs) gs zero id there = there
+ids_more a (f ∷ fs) gs (suc n) id there = ids_more a fs gs n id there
+
+-- and where there are further frames above, for a deeper frame too
+root_more : (a : Accepted) (fs gs : List Frame) (depth deeper : ℕ) (r : Root) → depth ≤ deeper → IsRoot a fs depth r → IsRoot a (fs ++ gs) deeper r
+root_more a fs gs depth deeper (Shared id) le h = h
+root_more a fs gs depth deeper (Private id) le h = h
+root_more a fs gs depth deeper (Local at id) le h = let low = h.0 in (omega arith, ∥∥₁_map h.1 (ids_more a fs gs at id))
 
 -- ---- variables that are there
 
@@ -104,9 +117,6 @@ value_there : (o : Option Value) → is_some o ≡ true → (v : Value) × (o �
 value_there None h = absurd (cc)
 value_there (Some v) h = (v, refl)
 
-no_ids : (id : ℕ) → Contains [] id → ⊥
-no_ids id (k, lt, is) = omega (arith, lt)
-
 module _ (p : Program) (s : State) (sound : IsSound p s) (i depth : ℕ) (f : Frame) (here : slice_get (frames_of s i) depth ≡ Some f) where
   stack : (k : Stacked) × (slice_get s.stacks i ≡ Some k) × (frames_of s i ≡ k.frames)
   stack = by_stack (slice_get s.stacks i) refl here
@@ -119,7 +129,7 @@ module _ (p : Program) (s : State) (sound : IsSound p s) (i depth : ℕ) (f : Fr
   inside : i < length s.statuses.list
   inside = let k = stack in let within = slice_get_within s.stacks i k.0 k.1 in let same = sound.stacks in omega arith
 
-  -- its registers hold pointers to variables that are there
+  -- the pointers that are kept in it name variables that are there
   pub frame_rooted : IsRooted p.accepted (frames_of s i) depth f
   frame_rooted =
       let k = stack in
@@ -159,12 +169,24 @@ module _ (p : Program) (s : State) (sound : IsSound p s) (i depth : ℕ) (f : Fr
 
 -- ---- other frames
 
--- what the registers of a frame hold is there for other frames that have the same variables down to its depth
-pub rooted_stays : (a : Accepted) (fs gs : List Frame) (depth : ℕ) (f : Frame) → ((n : ℕ) → n ≤ depth → ids_at a gs n ≡ ids_at a fs n) → IsRooted a fs depth f → IsRooted a gs depth f
-rooted_stays a fs gs depth f same rooted id q at = root_stays a fs gs depth q.root same (rooted id q at)
+-- what is kept in a frame is there for other frames, where each root is
+rooted_among : (a : Accepted) (fs gs : List Frame) (depth deeper : ℕ) (f : Frame) → ((r : Root) → IsRoot a fs depth r → IsRoot a gs deeper r) → IsRooted a fs depth f → IsRooted a gs deeper f
+rooted_among a fs gs depth deeper f there rooted = record {
+  registers = λ id q at. there q.root (rooted.registers id q at);
+  events = All-weaker (CapturesRoot a fs depth) (CapturesRoot a gs deeper) (λ e own q is. there q.root (own q is)) f.events rooted.events;
+}
 
-pub rooted_deeper : (a : Accepted) (fs : List Frame) (depth deeper : ℕ) (f : Frame) → depth ≤ deeper → IsRooted a fs depth f → IsRooted a fs deeper f
-rooted_deeper a fs depth deeper f le rooted id q at = root_deeper a fs depth deeper q.root le (rooted id q at)
+-- so it is where they have the same variables down to its depth
+pub rooted_stays : (a : Accepted) (fs gs : List Frame) (depth : ℕ) (f : Frame) → ((n : ℕ) → n ≤ depth → ids_at a gs n ≡ ids_at a fs n) → IsRooted a fs depth f → IsRooted a gs depth f
+rooted_stays a fs gs depth f same rooted = rooted_among a fs gs depth depth f (λ r h. root_stays a fs gs depth r same h) rooted
+
+-- and where there are further frames above
+pub rooted_more : (a : Accepted) (fs gs : List Frame) (depth deeper : ℕ) (f : Frame) → depth ≤ deeper → IsRooted a fs depth f → IsRooted a (fs ++ gs) deeper f
+rooted_more a fs gs depth deeper f le rooted = rooted_among a fs (fs ++ gs) depth deeper f (λ r h. root_more a fs gs depth deeper r le h) rooted
+
+-- a frame that goes to another instruction keeps what it has
+pub rooted_moved : (a : Accepted) (fs : List Frame) (depth pc : ℕ) (f : Frame) → IsRooted a fs depth f → IsRooted a fs depth (with_pc pc f)
+rooted_moved a fs depth pc f rooted = record { registers = rooted.registers; events = rooted.events }
 
 -- a frame that changes and stays one of its function has its variables
 pub ids_changed : (a : Accepted) (g : Frame → Frame) (m n : ℕ) (fs : List Frame) → ((f : Frame) → (g f).plan ≡ f.plan) → ids_at a (change m g fs) n ≡ ids_at a fs n
@@ -174,12 +196,20 @@ ids_changed a g zero (suc n) (f ∷ fs) plan = refl
 ids_changed a g (suc m) zero (f ∷ fs) plan = refl
 ids_changed a g (suc m) (suc n) (f ∷ fs) plan = ids_changed a g m n fs plan
 
--- those below a frame more, and those that are left without the last ones
-pub ids_pushed : (a : Accepted) (f : Frame) (n : ℕ) (fs : List Frame) → n < length fs → ids_at a (fs ++ f ∷ []) n ≡ ids_at a fs n
-ids_pushed a f n [] lt = absurd (omega (arith, lt))
-ids_pushed a f zero (g ∷ fs) lt = refl
-ids_pushed a f (suc n) (g ∷ fs) lt = ids_pushed a f n fs (omega (arith, lt))
+-- with further frames above, too
+pub ids_below : (a : Accepted) (g : Frame → Frame) (m n : ℕ) (fs gs : List Frame) → ((f : Frame) → (g f).plan ≡ f.plan) → ids_at a (change m g fs ++ gs) n ≡ ids_at a (fs ++ gs) n
+ids_below a g m n [] gs plan = refl
+ids_below a g zero zero (f ∷ fs) gs plan = ap (λ (p : Planned). local_ids a p.function) (plan f)
+ids_below a g zero (suc n) (f ∷ fs) gs plan = refl
+ids_below a g (suc m) zero (f ∷ fs) gs plan = refl
+ids_below a g (suc m) (suc n) (f ∷ fs) gs plan = ids_below a g m n fs gs plan
 
+-- those of the last one of some frames
+pub ids_last : (a : Accepted) (fs : List Frame) (f : Frame) → ids_at a (fs ++ f ∷ []) (length fs) ≡ local_ids a f.plan.function
+ids_last a [] f = refl
+ids_last a (g ∷ fs) f = ids_last a fs f
+
+-- those that are left without the last ones
 pub ids_taken : (a : Accepted) (k n : ℕ) (fs : List Frame) → n < k → ids_at a (take k fs) n ≡ ids_at a fs n
 ids_taken a zero n fs lt = absurd (omega (arith, lt))
 ids_taken a (suc k) n [] lt = refl

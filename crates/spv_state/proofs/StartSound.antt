@@ -2,6 +2,7 @@
 use Rattle.std.proofs.Common.{◌≡◌, ◌∙◌, ℕ, zero, suc, ◌+◌, ◌==◌, Bool, true, false, cond, List, [], ◌∷◌, length, map, replicate, Option, Some, None, refl, sym, ap, subst, arith, slice_get}
 use Rattle.std.proofs.Math.Logic.{∥∥₁_elim, ∥∥₁_map}
 use Rattle.std.proofs.Props.{props}
+use Rattle.std.proofs.lemmas.List.Elements.{All-nil}
 use Rattle.std.specs.Coded.{codes}
 use Rattle.std.specs.Prelude.{find}
 use Rattle.std.specs.List.{Contains, range_with_len}
@@ -24,10 +25,11 @@ use Rattle.spv_statuses.specs.declared.invocations.Status.{Status}
 use Rattle.spv_statuses.specs.declared.invocations.Status.TheVariants.{Ready}
 use Rattle.spv_state.specs.Events.{passed}
 use Rattle.spv_state.specs.Program.{IsFitting, Program}
-use Rattle.spv_state.specs.Roots.{IsRooted}
+use Rattle.spv_state.specs.Roots.{CapturesRoot, IsRooted}
 use Rattle.spv_state.specs.Sound.{HasPlaces, IsSound, IsSoundFrame, IsSoundStack, StandsIn}
 use Rattle.spv_state.specs.Start.{frame_roots, start_of}
 use Rattle.spv_state.proofs.EntryLemmas.{entry_listed}
+use Rattle.spv_state.proofs.EventRoots.{above_rooted}
 use Rattle.spv_state.proofs.VariableStart.{own_begins, shared_begin}
 
 -- ---- lists
@@ -104,9 +106,12 @@ fresh_shaped a p = record {
   pointers = λ id ty q at of. absurd (let gone : Some q ≡ None = none_read id p.pointers (Some q) at in cc);
 }
 
--- it holds no pointers
+-- no pointers are kept in it
 pub fresh_rooted : (a : Accepted) (frames : List Frame) (depth : ℕ) (p : Planned) → IsRooted a frames depth (fresh p)
-fresh_rooted a frames depth p id q at = absurd (let gone : Some q ≡ None = none_read id p.pointers (Some q) at in cc)
+fresh_rooted a frames depth p = record {
+  registers = λ id q at. absurd (let gone : Some q ≡ None = none_read id p.pointers (Some q) at in cc);
+  events = All-nil (CapturesRoot a frames depth);
+}
 
 -- as a call or a run begins a function
 pub function_frame : HavePlans → (a : Accepted) (function : ℕ) → ∥ IsAccepted a ∥₁ → ∥ Contains (functions_in a) function ∥₁ → IsSoundFrame a (fresh (plan_of a function))
@@ -142,6 +147,10 @@ one_frame : (f g : Frame) (depth : ℕ) → slice_get (f ∷ []) depth ≡ Some 
 one_frame f g zero at = cc
 one_frame f g (suc depth) at = absurd (cc)
 
+one_rooted : (a : Accepted) (f g : Frame) (depth : ℕ) → IsRooted a (f ∷ []) 0 f → slice_get (f ∷ []) depth ≡ Some g → IsRooted a (f ∷ []) depth g
+one_rooted a f g zero rooted at = subst (IsRooted a (f ∷ []) 0) (let same : f ≡ g = cc in same) rooted
+one_rooted a f g (suc depth) rooted at = absurd (cc)
+
 sound_stack : HavePlans → (a : Accepted) → ∥ IsAccepted a ∥₁ → ∥ IsValid a ∥₁ → IsSoundStack a Ready (entry_stack a) (entry_levels a)
 unfolding plan_of
 sound_stack has a accepted valid = record {
@@ -153,7 +162,7 @@ sound_stack has a accepted valid = record {
   first = λ f at. ap (λ (g : Frame). g.plan.function) (one_frame (passed a 0 (fresh (plan_of a a.entry))) f 0 at);
   calls = λ depth f g at above. absurd (cc);
   waits = λ f at. tt;
-  rooted = λ depth f at. subst (IsRooted a (passed a 0 (fresh (plan_of a a.entry)) ∷ []) depth) (sym (one_frame (passed a 0 (fresh (plan_of a a.entry))) f depth at)) (fresh_rooted a (passed a 0 (fresh (plan_of a a.entry)) ∷ []) depth (plan_of a a.entry));
+  rooted = λ depth f at. one_rooted a (passed a 0 (fresh (plan_of a a.entry))) f depth (above_rooted a accepted valid [] (fresh (plan_of a a.entry)) (entry_frame has a accepted valid) (fresh_rooted a [] 0 (plan_of a a.entry))) at;
 }
 
 -- ---- the state

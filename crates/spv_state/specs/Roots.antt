@@ -1,10 +1,11 @@
 -- The variables that are there at each position of a run (SPIR-V 1.6 section 3.7), and pointers of frames that name one of them.
-use Rattle.std.specs.Prelude.{◌≡◌, ℕ, ◌==◌, ◌||◌, ◌≤◌, Bool, List, [], filter, map, Some, slice_get}
-use Rattle.std.specs.List.{Contains}
-use Rattle.std.specs.Option.{option_map_or}
+use Rattle.std.specs.Prelude.{◌≡◌, ℕ, ◌==◌, ◌||◌, ◌≤◌, Bool, List, [], filter, map, Option, Some, slice_get}
+use Rattle.std.specs.List.{All, Contains}
+use Rattle.std.specs.Option.{option_and_then, option_map_or}
 use Rattle.spv_base.specs.Entries.{reads}
 use Rattle.spv_base.specs.Parts.{part_at}
 use Rattle.spv_base.specs.State.{Roots}
+use Rattle.spv_base.specs.declared.values.PassedEvent.{PassedEvent}
 use Rattle.spv_base.specs.declared.values.Pointer.{Pointer}
 use Rattle.spv_base.specs.declared.values.Root.{Root}
 use Rattle.spv_base.specs.declared.values.Root.TheVariants.{Shared, Private, Local}
@@ -14,6 +15,7 @@ use Rattle.spv_initial.specs.Start.{variables}
 use Rattle.spv_initial.specs.declared.variables.Declared.{Declared}
 use Rattle.spv_mem.specs.Memory.{Held as Memory, load_of, root_value}
 use Rattle.spv_frame.specs.Frames.{Held as Frame}
+use Rattle.spv_operands.specs.Operands.{pointer_of}
 use Rattle.spv_operands.specs.Values.{is_own}
 use Rattle.spv_state.specs.Start.{frame_roots}
 
@@ -55,9 +57,19 @@ IsRoot a frames depth (Shared id) = ∥ Contains (shared_ids a) id ∥₁
 IsRoot a frames depth (Private id) = ∥ Contains (own_ids a) id ∥₁
 IsRoot a frames depth (Local at id) = (at ≤ depth) × ∥ Contains (ids_at a frames at) id ∥₁
 
--- each pointer that a register of a frame holds names such a variable, where the frame is kept at a depth
-abbrev pub IsRooted : Accepted → List Frame → ℕ → Frame → Type 0
-IsRooted a frames depth f = (id : ℕ) (q : Pointer) → reads id f.pointers ≡ Some (Some q) → IsRoot a frames depth q.root
+-- the pointer that a debug event has captured, where it has captured one
+abbrev pub captured_pointer : PassedEvent → Option Pointer
+captured_pointer e = option_and_then pointer_of e.value
+
+-- it names such a variable
+abbrev pub CapturesRoot : Accepted → List Frame → ℕ → PassedEvent → Type 0
+CapturesRoot a frames depth e = (q : Pointer) → captured_pointer e ≡ Some q → IsRoot a frames depth q.root
+
+-- Each pointer that is kept in a frame names such a variable, where the frame is at a depth: one that a register holds, and one that a debug
+-- event which the frame passed has captured.
+pub record IsRooted (a : Accepted) (frames : List Frame) (depth : ℕ) (f : Frame) : Type 0 where
+  pub registers : (id : ℕ) (q : Pointer) → reads id f.pointers ≡ Some (Some q) → IsRoot a frames depth q.root
+  pub events : All (CapturesRoot a frames depth) f.events
 
 -- a pointer's variable is there, and what is loaded through the pointer is the part of its value that the path names
 pub record FindsVariable (m : Memory) (i : ℕ) (q : Pointer) : Type 0 where

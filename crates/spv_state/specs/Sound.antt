@@ -1,5 +1,5 @@
 -- Sound states: what holds at every position of a run.
-use Rattle.std.specs.Prelude.{◌≡◌, ◌↔◌, ℕ, suc, true, List, [], length, map, Option, Some, None, slice_get, ⊤}
+use Rattle.std.specs.Prelude.{◌≡◌, ◌↔◌, ℕ, suc, true, [], length, map, Option, Some, slice_get, ⊤}
 use Rattle.std.specs.List.{AllZip, Contains}
 use Rattle.spv_base.specs.State.{Roots}
 use Rattle.spv_base.specs.declared.instructions.Inst.{Inst}
@@ -9,7 +9,7 @@ use Rattle.spv_index.specs.Definitions.{at}
 use Rattle.spv_index.specs.Operands.{id_operand}
 use Rattle.spv_index.specs.Positions.{Stand}
 use Rattle.spv_valid.specs.Acceptance.{Accepted}
-use Rattle.spv_mem.specs.Memory.{Held as Memory, Levels}
+use Rattle.spv_mem.specs.Memory.{Levels}
 use Rattle.spv_initial.specs.Start.{variables}
 use Rattle.spv_initial.specs.Variables.{targets_of}
 use Rattle.spv_frame.specs.Frames.{Held as Frame}
@@ -78,7 +78,7 @@ pub record IsSoundStack (a : Accepted) (t : Status) (k : Stacked) (l : Levels) :
   pub first : (f : Frame) → slice_get k.frames 0 ≡ Some f → f.plan.function ≡ a.entry
   pub calls : (depth : ℕ) (f g : Frame) → slice_get k.frames depth ≡ Some f → slice_get k.frames (suc depth) ≡ Some g → IsCallOf a f.pc g.plan.function
   pub waits : (f : Frame) → top k.frames ≡ Some f → StandsAs a t f
-  -- a pointer that a register holds names a variable that is there
+  -- a pointer that a register holds, or a debug event has captured, names a variable that is there
   pub rooted : (depth : ℕ) (f : Frame) → slice_get k.frames depth ≡ Some f → IsRooted a k.frames depth f
 
 -- ---- states

@@ -1,6 +1,8 @@
 //! Laws of runs.
 ghost use Rattle.std.specs.Prelude.{◌≡◌, ◌<◌, ℕ, Some, length, slice_get};
+ghost use Rattle.std.specs.List.{Contains};
 ghost use Rattle.spv_base.specs.Entries.{reads};
+ghost use Rattle.spv_base.specs.declared.values.PassedEvent.{PassedEvent};
 ghost use Rattle.spv_base.specs.declared.values.Pointer.{Pointer};
 ghost use Rattle.spv_base.specs.declared.values.Value.{Value};
 ghost use Rattle.spv_frame.specs.Frames.{Held as Frame};
@@ -11,7 +13,7 @@ ghost use Rattle.spv_operands.specs.Values.{value_of};
 ghost use Rattle.spv_valid.specs.Acceptance.{Accepted, IsAccepted};
 ghost use Rattle.spv_valid.specs.Validity.{IsValid};
 ghost use Rattle.spv_state.specs.Program.{Program};
-ghost use Rattle.spv_state.specs.Roots.{FindsVariable};
+ghost use Rattle.spv_state.specs.Roots.{FindsVariable, captured_pointer};
 ghost use Rattle.spv_state.specs.Sound.{IsSound, IsSoundFrame};
 ghost use Rattle.spv_state.specs.State.{State, depth_of, frames_of, top_of};
 ghost use Rattle.spv_state.specs.Start.{start_of};
@@ -31,11 +33,14 @@ pub fn top_frames_are_sound()
     ensures function { (a : Accepted) (f : Frame) → IsSoundFrame a f → IsOfFunction a f.plan }
 {}
 
-/// A law, with nothing to run: in a sound state a pointer finds its variable, where a register of a frame holds it, or an operand of the top
-/// frame stands for it. So where it names no part of memory, its path leads outside the variable's value.
+/// A law, with nothing to run: in a sound state a pointer finds its variable, where a register of a frame holds it, a debug event that a
+/// frame passed has captured it, or an operand of the top frame stands for it. So where it names no part of memory, its path leads outside
+/// the variable's value.
 pub fn pointers_find_their_variables()
     ensures registers { (p : Program) (s : State) (i depth id : ℕ) (f : Frame) (q : Pointer) → IsSound p s → slice_get (frames_of s i) depth ≡ Some f
         → reads id f.pointers ≡ Some (Some q) → FindsVariable s.memory i q }
+    ensures events { (p : Program) (s : State) (i depth : ℕ) (f : Frame) (e : PassedEvent) (q : Pointer) → IsSound p s → slice_get (frames_of s i) depth ≡ Some f
+        → Contains f.events e → captured_pointer e ≡ Some q → FindsVariable s.memory i q }
     ensures operands { (p : Program) (s : State) (i id ty : ℕ) (f : Frame) (v : Value) (q : Pointer) → IsAccepted p.accepted → IsSound p s → top_of s i ≡ Some f
         → value_of p.accepted f (depth_of s i) id ≡ Some v → result_type p.accepted.insts id ≡ Some ty → pointer_of v ≡ Some q → FindsVariable s.memory i q }
 {
