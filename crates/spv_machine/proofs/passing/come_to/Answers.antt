@@ -54,3 +54,9 @@ returns-clause-recorded c =
     let two = subst (λ (n : ℕ). Records n c.set_pc.new.self c.append_all.new.recorded) count c.append_all.ensures.recorded in
     records_more (1 + events_before a (pass a i come) i) (events_before a (pass a i come) i + 1) c.args.recorded.now c.append_all.new.recorded (omega arith)
     (records_on 1 (events_before a (pass a i come) i) c.args.recorded.now c.set_pc.new.self c.append_all.new.recorded c.set_pc.ensures.recorded two)
+
+pub returns-then-is_empty-clause-ok : goal.returns-then-is_empty-clause-ok
+returns-then-is_empty-clause-ok c = ?
+
+pub returns-then-is_empty-clause-recorded : goal.returns-then-is_empty-clause-recorded
+returns-then-is_empty-clause-recorded c = ?
