@@ -1,5 +1,5 @@
 -- What calls and returns with a value do.
-use Rattle.std.proofs.Common.{◌≡◌, ◌∙◌, ℕ, true, List, length, Option, Some, None, Result, Ok, Err, ok_or, map, refl, sym, ap, subst}
+use Rattle.std.proofs.Common.{◌≡◌, ◌∙◌, ◌++◌, ℕ, true, List, [], ◌∷◌, length, Option, Some, None, Result, Ok, Err, ok_or, map, refl, sym, ap, subst}
 use Rattle.spv_base.specs.Answers.{Answers}
 use Rattle.spv_base.specs.State.{Roots}
 use Rattle.spv_base.specs.declared.causes.Fail.{Fail}
@@ -16,7 +16,8 @@ use Rattle.spv_bodies.specs.Context.{type_at}
 use Rattle.spv_operands.specs.Operands.{pointer_of}
 use Rattle.spv_operands.proofs.ShapeLemmas.{data_plain}
 use Rattle.spv_results.specs.Operands.{IsOperand, known}
-use Rattle.spv_valid.specs.Acceptance.{Accepted}
+use Rattle.spv_valid.specs.Acceptance.{Accepted, IsAccepted}
+use Rattle.spv_valid.specs.Validity.{IsValid}
 use Rattle.spv_base.specs.declared.instructions.Inst.{Inst}
 use Rattle.spv_state.specs.Actions.{action_of}
 use Rattle.spv_state.specs.Events.{passed}
@@ -25,6 +26,7 @@ use Rattle.spv_state.specs.Start.{frame_roots}
 use Rattle.spv_state.specs.Roots.{IsRooted}
 use Rattle.spv_state.specs.State.{depth_of, frames_of}
 use Rattle.spv_state.specs.declared.actions.Action.TheVariants.{Call, ReturnValue}
+use Rattle.spv_state.proofs.EventRoots.{above_rooted}
 use Rattle.spv_state.proofs.StartSound.{passed_sound}
 use Rattle.spv_actions.specs.Calls.{arguments, callee, called, enters, parameters_of}
 use Rattle.spv_actions.specs.Effects as spec
@@ -75,9 +77,14 @@ module _ (x : Site) (is : action_of x.inst ≡ Call) (function : ℕ) (named : f
 pub begun_sound : (x : Site) (f g : Frame) → g ≡ begun x f → IsSoundFrame (accepted x) f → IsSoundFrame (accepted x) g
 begun_sound x f g made sound = subst (IsSoundFrame (accepted x)) (sym made) (passed_sound (accepted x) (length (frames_of x.state x.inv)) f sound)
 
-pub begun_rooted : (x : Site) (f g : Frame) → g ≡ begun x f → IsRooted (accepted x) (frames_of x.state x.inv) (depth_of x.state x.inv) f
-    → IsRooted (accepted x) (frames_of x.state x.inv) (depth_of x.state x.inv) g
-begun_rooted x f g made rooted = subst (IsRooted (accepted x) (frames_of x.state x.inv) (depth_of x.state x.inv)) (sym made) rooted
+-- and the pointers that are kept in it name variables that are there
+pub begun_rooted : (x : Site) (m : Accepted) (f g : Frame) → m ≡ accepted x → ∥ IsAccepted m ∥₁ → ∥ IsValid m ∥₁ → g ≡ begun x f → IsSoundFrame (accepted x) f
+    → IsRooted (accepted x) (frames_of x.state x.inv) (depth_of x.state x.inv) f → IsRooted (accepted x) (frames_of x.state x.inv ++ g ∷ []) (length (frames_of x.state x.inv)) g
+begun_rooted x m f g same accepts valid made sound rooted =
+    let a = accepted x in
+    let fs = frames_of x.state x.inv in
+    subst (λ (h : Frame). IsRooted a (fs ++ h ∷ []) (length fs) h) (sym made)
+    (above_rooted a (subst (λ (n : Accepted). ∥ IsAccepted n ∥₁) same accepts) (subst (λ (n : Accepted). ∥ IsValid n ∥₁) same valid) fs f sound rooted)
 
 pub begun_plan : (x : Site) (f g : Frame) (p : Planned) → g ≡ begun x f → f.plan ≡ p → g.plan ≡ p
 begun_plan x f g p made plan = ap (λ (h : Frame). h.plan) made ∙ plan

@@ -1,7 +1,6 @@
 -- The pointers that an instruction gives, or passes on to a function, name variables that are there.
 use Rattle.std.proofs.Common.{◌≡◌, ◌⊎◌, ◌∙◌, inl, inr, ℕ, ◌-◌, Bool, true, false, List, length, slice_get, ok_or, Option, Some, None, Result, Ok, Err, refl, sym, ap, subst}
 use Rattle.std.proofs.Math.Logic.{∥∥₁_elim}
-use Rattle.std.proofs.Props.{props}
 use Rattle.std.specs.List.{Contains}
 use Rattle.std.specs.Option.{option_and_then}
 use Rattle.std.specs.Prelude.{if◌then◌else◌}
@@ -10,7 +9,6 @@ use Rattle.spv_base.specs.Lane.{Lane}
 use Rattle.spv_base.specs.declared.instructions.Inst.{Inst}
 use Rattle.spv_base.specs.declared.values.Pointer.{Pointer as Reference}
 use Rattle.spv_base.specs.declared.values.Root.{Root}
-use Rattle.spv_base.specs.declared.values.Root.TheVariants.{Shared, Private, Local}
 use Rattle.spv_base.specs.declared.values.Value.{Value, Ptr, out-Value}
 use Rattle.spv_base.specs.declared.values.Value.TheOpen.{Value-F}
 use Rattle.spv_index.specs.Definitions.{result_type}
@@ -34,7 +32,7 @@ use Rattle.spv_state.specs.Roots.{IsRoot, IsRooted}
 use Rattle.spv_state.specs.State.{depth_of, frames_of, with_level, with_register}
 use Rattle.spv_state.proofs.Entries.{reads_written}
 use Rattle.spv_state.proofs.OperandRoots.{operand_root, pointer_own}
-use Rattle.spv_state.proofs.RootLemmas.{frame_rooted}
+use Rattle.spv_state.proofs.RootLemmas.{frame_rooted, root_prop}
 use Rattle.spv_actions.specs.Chains.{chained, with_indexes}
 use Rattle.spv_actions.specs.Effects.{◌>>=◌, pointer}
 use Rattle.spv_actions.specs.Fits.{ResultRooted}
@@ -48,11 +46,6 @@ use Rattle.spv_actions.proofs.EffectLemmas.{result_plain}
 use Rattle.spv_actions.proofs.SiteLemmas.{frame_sound}
 
 -- ---- operands
-
-root_prop : (a : Accepted) (fs : List Frame) (depth : ℕ) (r : Root) → IsProp (IsRoot a fs depth r)
-root_prop a fs depth (Shared id) = hlevel props
-root_prop a fs depth (Private id) = hlevel props
-root_prop a fs depth (Local at id) = hlevel props
 
 -- a variable that is there for the top frame
 abbrev pub IsOwnRoot : Site → Root → Type 0
@@ -125,10 +118,10 @@ pub register_rooted : (a : Accepted) (fs : List Frame) (depth : ℕ) (f : Frame)
 register_rooted a fs depth f id v own rooted = by_level (out-Value v) own
   where
     by_level : (level : Value-F Value) → ((q : Reference) → pointer_in level ≡ Some q → IsRoot a fs depth q.root) → IsRooted a fs depth (with_level id v level f)
-    by_level (Value-F.Scalar c) root = rooted
-    by_level (Value-F.List vs) root = rooted
-    by_level (Value-F.Ptr p) root = λ k q at. by_id k q (reads_written id k (Some p) (Some q) f.pointers at)
+    by_level (Value-F.Scalar c) root = record { registers = rooted.registers; events = rooted.events }
+    by_level (Value-F.List vs) root = record { registers = rooted.registers; events = rooted.events }
+    by_level (Value-F.Ptr p) root = record { registers = λ k q at. by_id k q (reads_written id k (Some p) (Some q) f.pointers at); events = rooted.events }
       where
         by_id : (k : ℕ) (q : Reference) → ((id ≡ k) × (Some p ≡ Some q)) ⊎ (reads k f.pointers ≡ Some (Some q)) → IsRoot a fs depth q.root
         by_id k q (inl here) = root q here.1
-        by_id k q (inr there) = rooted k q there
+        by_id k q (inr there) = rooted.registers k q there

@@ -1,6 +1,6 @@
 -- What an effect that was worked out has, so that it can be done without failing and leaves a sound state. No definition of a step speaks of
 -- it: these are the conditions of calls inside a step.
-use Rattle.std.specs.Prelude.{◌≡◌, ℕ, ◌-◌, List, length, Option, Some, None, IsSome, ⊤}
+use Rattle.std.specs.Prelude.{◌≡◌, ℕ, ◌-◌, ◌++◌, List, [], ◌∷◌, length, Option, Some, None, IsSome, ⊤}
 use Rattle.std.specs.List.{AllByRecursion}
 use Rattle.spv_base.specs.Entries.{reads}
 use Rattle.spv_base.specs.State.{Roots}
@@ -74,11 +74,11 @@ abbrev pub ResultRooted : Accepted → List Frame → Option Value → Type 0
 ResultRooted a frames None = ⊤
 ResultRooted a frames (Some v) = (q : Pointer) → pointer_in (out-Value v) ≡ Some q → IsRoot a frames (length frames - 1) q.root
 
--- and so does each pointer that a function is called with
+-- and so does each pointer that is kept in the frame of a function which is called, above them
 abbrev pub ControlRooted : Accepted → List Frame → Control → Type 0
 ControlRooted a frames Next = ⊤
 ControlRooted a frames (Jump block phis) = ⊤
-ControlRooted a frames (Enter frame es) = IsRooted a frames (length frames - 1) frame
+ControlRooted a frames (Enter frame es) = IsRooted a (frames ++ frame ∷ []) (length frames) frame
 ControlRooted a frames (Leave v) = ⊤
 ControlRooted a frames Wait = ⊤
 

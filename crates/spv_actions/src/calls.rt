@@ -127,6 +127,7 @@ pub fn call(site: &Site) -> Result<Effect, Fail<Cause>>
     ensures taken { (v : Value) → IfOk result (λ e. IsTaken site.now.state site.now.inv e v) }
 {
     call_is_kept(site);
+    let _insts = site.accepted().insts();
     let function = callee(site);
     let plan = site.plan(function);
     let fresh = frame_of(site, plan, function)?;

@@ -1,5 +1,5 @@
 -- An effect that fits is the definition's, piece by piece, and leaves a sound state.
-use Rattle.std.proofs.Common.{◌≡◌, ◌∙◌, ℕ, ◌-◌, Bool, true, false, List, Option, Some, None, length, length-set, refl, sym, ap, subst}
+use Rattle.std.proofs.Common.{◌≡◌, ◌∙◌, ℕ, ◌-◌, ◌++◌, Bool, true, false, List, [], ◌∷◌, Option, Some, None, length, length-set, refl, sym, ap, subst}
 use Rattle.std.proofs.lemmas.List.{length-replicate}
 use Rattle.std.specs.Prelude.{if◌then◌else◌}
 use Rattle.std.specs.Option.{option_map}
@@ -20,9 +20,9 @@ use Rattle.spv_actions.specs.declared.effects.Effect.{Effect as CodeEffect}
 use Rattle.spv_state.specs.Program.{Program}
 use Rattle.spv_state.specs.Roots.{IsRooted}
 use Rattle.spv_state.specs.Sound.{IsSound}
-use Rattle.spv_state.specs.State.{State, depth_of, frames_of, on_frame, open_barrier, pop_frame, put_store, top_of, with_register}
+use Rattle.spv_state.specs.State.{State, frames_of, on_frame, open_barrier, pop_frame, put_store, top_of, with_register}
 use Rattle.spv_state.proofs.Lists.{length_change}
-use Rattle.spv_state.proofs.RootLemmas.{ids_changed, rooted_stays}
+use Rattle.spv_state.proofs.RootLemmas.{ids_below, rooted_stays}
 use Rattle.spv_machine.specs.Reached.{IsReached}
 use Rattle.spv_machine.specs.Step.{apply, arrived, go, go_on, leave, opened, opens, put_result, resume}
 use Rattle.spv_machine.proofs.KeepsBarriers.{arrive_sound}
@@ -39,14 +39,17 @@ module _ (p : Program) (known : Facts p.accepted) (s : State) (i : ℕ) (d : Ins
   go_on_sound next =
       next_kept p known.known s i next.0 r.frame r.sound r.ready r.top (subst (λ (n : ℕ). reads n p.accepted.flow.nexts ≡ Some (Some next.0)) (word_is p s i d r) next.1)
 
--- what a function is called with is there behind the result too
-frame_passed : (a : Accepted) (s : State) (i id : ℕ) (v : Value) (f : Frame) → IsRooted a (frames_of s i) (depth_of s i) f → IsRooted a (frames_of (on_frame i (with_register id v) s) i) (depth_of (on_frame i (with_register id v) s) i) f
+-- what is kept in the frame of a function that is called is there behind the result too
+abbrev IsRootedAbove : Accepted → State → ℕ → Frame → Type 0
+IsRootedAbove a s i f = IsRooted a (frames_of s i ++ f ∷ []) (length (frames_of s i)) f
+
+frame_passed : (a : Accepted) (s : State) (i id : ℕ) (v : Value) (f : Frame) → IsRootedAbove a s i f → IsRootedAbove a (on_frame i (with_register id v) s) i f
 frame_passed a s i id v f passed =
     let fs = frames_of s i in
     let g : Frame → Frame = with_register id v in
-    let own : IsRooted a (on_top g fs) (length fs - 1) f = rooted_stays a fs (on_top g fs) (length fs - 1) f (λ n le. ids_changed a g (length fs - 1) n fs (λ h. (register_stays h id v).0)) passed in
-    subst (λ (gs : List Frame). IsRooted a gs (length gs - 1) f) (sym (frames_changed s i g))
-    (subst (λ (n : ℕ). IsRooted a (on_top g fs) (n - 1) f) (sym (length_change (length fs - 1) g fs)) own)
+    let own = rooted_stays a (fs ++ f ∷ []) (on_top g fs ++ f ∷ []) (length fs) f (λ n le. ids_below a g (length fs - 1) n fs (f ∷ []) (λ h. (register_stays h id v).0)) passed in
+    subst (λ (gs : List Frame). IsRooted a (gs ++ f ∷ []) (length gs) f) (sym (frames_changed s i g))
+    (subst (λ (n : ℕ). IsRooted a (on_top g fs ++ f ∷ []) n f) (sym (length_change (length fs - 1) g fs)) own)
 
 control_stays : (a : Accepted) (s : State) (i id : ℕ) (o : Option Value) (c : Control) → ControlRooted a (frames_of s i) c → ControlRooted a (frames_of (put_result i id o s) i) c
 control_stays a s i id None c passed = passed

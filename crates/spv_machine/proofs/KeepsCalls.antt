@@ -17,9 +17,9 @@ use Rattle.spv_actions.specs.Fits.{EnterFits}
 use Rattle.spv_state.specs.Program.{Program}
 use Rattle.spv_state.specs.Roots.{IsRooted}
 use Rattle.spv_state.specs.Sound.{HasVariables, IsCallOf, IsSound, IsSoundFrame, IsSoundStack}
-use Rattle.spv_state.specs.State.{State, depth_of, frames_of, pop_frame, push_frame, set_status, top_of, with_top, without_last, without_locals, without_top}
+use Rattle.spv_state.specs.State.{State, frames_of, pop_frame, push_frame, set_status, top_of, with_top, without_last, without_locals, without_top}
 use Rattle.spv_state.proofs.Lists.{change_none, changed_at, length_change, set_is_change}
-use Rattle.spv_state.proofs.RootLemmas.{ids_pushed, ids_taken, rooted_deeper, rooted_stays}
+use Rattle.spv_state.proofs.RootLemmas.{ids_taken, rooted_more, rooted_stays}
 use Rattle.spv_machine.proofs.Depths.{AreCalls, AreSoundFrames, frames_within}
 use Rattle.spv_machine.proofs.KeepsStacks.{AreSoundStacks, one_changed}
 
@@ -130,21 +130,15 @@ module _ (a : Accepted) (k : Stacked) (l : Levels) (s : IsSoundStack a Ready k l
       let other = s.levels in
       omega arith
 
-  -- what the registers hold is there, and what the function is called with
-  pushed_rooted : IsRooted a k.frames (length k.frames - 1) f → (depth : ℕ) (g : Frame) → slice_get (k.frames ++ f ∷ []) depth ≡ Some g → IsRooted a (k.frames ++ f ∷ []) depth g
+  -- what is kept in the frames is there, and in that of the function
+  pushed_rooted : IsRooted a (k.frames ++ f ∷ []) (length k.frames) f → (depth : ℕ) (g : Frame) → slice_get (k.frames ++ f ∷ []) depth ≡ Some g → IsRooted a (k.frames ++ f ∷ []) depth g
   pushed_rooted passed depth g at = by_place (last_or k.frames f depth g at)
     where
       by_place : (slice_get k.frames depth ≡ Some g) ⊎ ((depth ≡ length k.frames) × (g ≡ f)) → IsRooted a (k.frames ++ f ∷ []) depth g
-      by_place (inl old) =
-          let within = slice_get_within k.frames depth g old in
-          rooted_stays a k.frames (k.frames ++ f ∷ []) depth g (λ n le. ids_pushed a f n k.frames (omega arith)) (s.rooted depth g old)
-      by_place (inr last) =
-          let some = some_frames in
-          let own = rooted_stays a k.frames (k.frames ++ f ∷ []) (length k.frames - 1) f (λ n le. ids_pushed a f n k.frames (omega arith)) passed in
-          let low : length k.frames - 1 ≤ depth = let e = last.0 in omega arith in
-          subst (IsRooted a (k.frames ++ f ∷ []) depth) (sym last.1) (rooted_deeper a (k.frames ++ f ∷ []) (length k.frames - 1) depth f low own)
+      by_place (inl old) = rooted_more a k.frames (f ∷ []) depth depth g (omega arith) (s.rooted depth g old)
+      by_place (inr last) = subst (IsRooted a (k.frames ++ f ∷ []) depth) (sym last.1) (subst (λ (n : ℕ). IsRooted a (k.frames ++ f ∷ []) n f) (sym last.0) passed)
 
-  pub pushed_stack : HasVariables a f es → IsRooted a k.frames (length k.frames - 1) f → IsSoundStack a Ready (with_top f k) (record l { list = l.list ++ es ∷ [] })
+  pub pushed_stack : HasVariables a f es → IsRooted a (k.frames ++ f ∷ []) (length k.frames) f → IsSoundStack a Ready (with_top f k) (record l { list = l.list ++ es ∷ [] })
   pushed_stack variables passed = record {
     room = s.room;
     levels = s.levels;
@@ -218,7 +212,7 @@ popped_top s i k at = ap (λ (o : Option Stacked). top (option_map_or (λ (x : S
 
 module _ (p : Program) (s : State) (i : ℕ) (sound : IsSound p s) (ready : slice_get s.statuses.list i ≡ Some Ready) where
   -- a frame that is entered
-  pub entered_sound : (d : Inst) (own f : Frame) (es : Roots) → top_of s i ≡ Some own → d.word ≡ own.pc → EnterFits p.accepted d f es → IsRooted p.accepted (frames_of s i) (depth_of s i) f → IsSound p (push_frame i f es s)
+  pub entered_sound : (d : Inst) (own f : Frame) (es : Roots) → top_of s i ≡ Some own → d.word ≡ own.pc → EnterFits p.accepted d f es → IsRooted p.accepted (frames_of s i ++ f ∷ []) (length (frames_of s i)) f → IsSound p (push_frame i f es s)
   entered_sound d own f es is here fits passed = record {
     plans = sound.plans;
     types = sound.types;
@@ -240,7 +234,7 @@ module _ (p : Program) (s : State) (i : ℕ) (sound : IsSound p s) (ready : slic
         let top_is : top k.frames ≡ Some own = sym (ap (λ (o : Option Stacked). top (option_map_or (λ (x : Stacked). x.frames) o [])) stack) ∙ is in
         let call : IsCallOf a own.pc f.plan.function = subst (λ (n : ℕ). IsCallOf a n f.plan.function) here fits.call in
         subst (λ (u : Status). IsSoundStack a u (with_top f k) (record l { list = l.list ++ es ∷ [] })) (sym same) (pushed_stack a k l mine f own es top_is fits.sound call fits.locals
-        (subst (λ (fs : List Frame). IsRooted a fs (length fs - 1) f) (ap (λ (o : Option Stacked). option_map_or (λ (x : Stacked). x.frames) o []) stack) passed))
+        (subst (λ (fs : List Frame). IsRooted a (fs ++ f ∷ []) (length fs) f) (ap (λ (o : Option Stacked). option_map_or (λ (x : Stacked). x.frames) o []) stack) passed))
 
   -- a frame that is left, where one stays
   pub popped_sound : (f : Frame) → top_of (pop_frame i s) i ≡ Some f → IsSound p (pop_frame i s)

@@ -1,6 +1,6 @@
 -- Control that goes on leaves a sound state: to the next executable, or past a barrier.
-use Rattle.std.proofs.Common.{◌≡◌, ◌∙◌, ℕ, zero, suc, ◌<◌, List, [], ◌∷◌, length, Option, Some, None, length-set, slice_get, slice_set, refl, sym, ap, subst, true, false, arith}
-use Rattle.std.specs.Option.{is_some, option_and_then}
+use Rattle.std.proofs.Common.{◌≡◌, ◌∙◌, ℕ, zero, suc, ◌-◌, ◌<◌, List, [], ◌∷◌, length, Option, Some, None, length-set, slice_get, slice_set, refl, sym, ap, subst, true, false, arith}
+use Rattle.std.specs.Option.{is_some, option_and_then, option_map_or}
 use Rattle.spv_base.specs.Entries.{change, reads}
 use Rattle.spv_base.specs.declared.instructions.Inst.{Inst}
 use Rattle.spv_index.specs.Classes.{class_of, is_terminator, sets_of}
@@ -13,13 +13,17 @@ use Rattle.spv_statuses.specs.declared.invocations.Status.TheVariants.{Ready, Ar
 use Rattle.spv_valid.specs.Acceptance.{Accepted}
 use Rattle.spv_state.specs.Events.{pass, passed}
 use Rattle.spv_state.specs.Program.{Program}
+use Rattle.spv_state.specs.Roots.{IsRooted}
 use Rattle.spv_state.specs.Sound.{IsSound, IsSoundFrame, IsSoundStack, StandsAs, StandsIn}
 use Rattle.spv_state.specs.State.{State, depth_of, on_frame, on_frames, set_status, top_of, with_pc}
 use Rattle.spv_machine.specs.Step.{go_on, next_of, to_next}
 use Rattle.spv_actions.proofs.KeepsFrames.{moved_kept}
 use Rattle.spv_machine.proofs.KeepsStacks.{AreSoundStacks, one_changed, top_kept}
+use Rattle.spv_state.proofs.EventRoots.{passed_rooted}
 use Rattle.spv_state.proofs.Known.{IsKnown, goes_on}
 use Rattle.spv_state.proofs.Lists.{change_none, length_change, set_is_change}
+use Rattle.spv_state.proofs.OperandRoots.{frame_there}
+use Rattle.spv_state.proofs.RootLemmas.{rooted_moved}
 use Rattle.spv_state.proofs.StartSound.{passed_sound}
 use Rattle.spv_state.proofs.Standing.{Standing, at_standing, next_stands, standing, stands_there}
 use Rattle.spv_state.proofs.Stands.{class_is}
@@ -73,13 +77,21 @@ passed_stands a Passed depth f h = h
 passed_stands a Finished depth f h = tt
 
 -- the top frame passes debug events
-pub pass_kept : (p : Program) (s : State) (i : ℕ) → IsSound p s → IsSound p (pass p.accepted i s)
-pass_kept p s i sound =
+pub pass_kept : (p : Program) (s : State) (i : ℕ) → IsKnown p.accepted → IsSound p s → IsSound p (pass p.accepted i s)
+pass_kept p s i known sound =
     let a = p.accepted in
     let depth : ℕ = depth_of s i in
     let g : Frame → Frame = passed a depth in
     frame_kept p s i g sound (λ t k l status stack level kept.
-    top_kept a t t k l g (λ f. refl) kept (λ e. e, λ e. e) (λ f here sf. passed_sound a depth f sf) (λ f here rooted. rooted) (λ f here stands. passed_stands a t depth f stands))
+    top_kept a t t k l g (λ f. refl) kept (λ e. e, λ e. e) (λ f here sf. passed_sound a depth f sf) (λ f here rooted. passes k f stack here (kept.frames (length k.frames - 1) f here) rooted)
+    (λ f here stands. passed_stands a t depth f stands))
+  where
+    passes : (k : Stacked) (f : Frame) → slice_get s.stacks i ≡ Some k → top k.frames ≡ Some f → IsSoundFrame p.accepted f → IsRooted p.accepted k.frames (length k.frames - 1) f
+        → IsRooted p.accepted k.frames (length k.frames - 1) (passed p.accepted (depth_of s i) f)
+    passes k f stack here sound rooted =
+        let last : length k.frames - 1 ≡ depth_of s i = sym (ap (λ (o : Option Stacked). length (option_map_or (λ (x : Stacked). x.frames) o []) - 1) stack) in
+        subst (λ (n : ℕ). IsRooted p.accepted k.frames (length k.frames - 1) (passed p.accepted n f)) last
+        (passed_rooted p.accepted known.accepted known.valid k.frames (length k.frames - 1) f (frame_there p.accepted k.frames (length k.frames - 1) f here) sound rooted)
 
 -- ---- the top frame of an invocation
 
@@ -138,9 +150,10 @@ module _ (p : Program) (known : IsKnown p.accepted) where
   next_kept s i word f sound ready is next =
       let a = p.accepted in
       let g : Frame → Frame = λ x. with_pc (next_of a x.pc) x in
-      pass_kept p (to_next a i s) i (frame_kept p s i g sound (λ t k l status stack level kept.
+      pass_kept p (to_next a i s) i known (frame_kept p s i g sound (λ t k l status stack level kept.
       let same : Ready ≡ t = cc in
-      top_kept a t t k l g (λ x. refl) kept (λ e. e, λ e. e) (λ x here sx. moved_top s i word k x f is next stack here sx) (λ x here rooted. rooted)
+      top_kept a t t k l g (λ x. refl) kept (λ e. e, λ e. e) (λ x here sx. moved_top s i word k x f is next stack here sx)
+      (λ x here rooted. rooted_moved a k.frames (length k.frames - 1) (next_of a x.pc) x rooted)
       (λ x here stands. subst (λ (u : Status). StandsAs a u (g x)) same tt)))
 
   -- a Passed invocation goes on, and is Ready
@@ -149,6 +162,7 @@ module _ (p : Program) (known : IsKnown p.accepted) where
   past_kept s i word f sound passed is next =
       let a = p.accepted in
       let g : Frame → Frame = λ x. with_pc (next_of a x.pc) x in
-      pass_kept p (set_status i Ready (to_next a i s)) i (status_kept p s i Ready g sound (λ t k l status stack level kept.
+      pass_kept p (set_status i Ready (to_next a i s)) i known (status_kept p s i Ready g sound (λ t k l status stack level kept.
       let same : Passed ≡ t = cc in
-      top_kept a t Ready k l g (λ x. refl) kept (λ e. absurd (cc), λ e. absurd (cc)) (λ x here sx. moved_top s i word k x f is next stack here sx) (λ x here rooted. rooted) (λ x here stands. tt)))
+      top_kept a t Ready k l g (λ x. refl) kept (λ e. absurd (cc), λ e. absurd (cc)) (λ x here sx. moved_top s i word k x f is next stack here sx)
+      (λ x here rooted. rooted_moved a k.frames (length k.frames - 1) (next_of a x.pc) x rooted) (λ x here stands. tt)))

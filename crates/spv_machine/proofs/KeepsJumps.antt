@@ -36,6 +36,7 @@ use Rattle.spv_state.specs.Sound.{IsSound, IsSoundFrame, StandsAs, StandsIn}
 use Rattle.spv_state.specs.State.{State, with_pc, with_register, with_registers}
 use Rattle.spv_state.proofs.Blocks.{Entered, Listed, block_inside, listed, rooted}
 use Rattle.spv_state.proofs.Known.{IsKnown}
+use Rattle.spv_state.proofs.RootLemmas.{rooted_moved}
 use Rattle.spv_state.proofs.Standing.{stands_there}
 use Rattle.spv_state.proofs.Stands.{IsOne}
 use Rattle.spv_machine.specs.Reached.{IsReached}
@@ -153,7 +154,7 @@ pub jump_kept : (p : Program) (s : State) (i : ℕ) (d : Inst) (block : ℕ) (ph
 jump_kept p s i d block phis accepted known r here fits =
     let a = p.accepted in
     let g : Frame → Frame = λ f. with_pc (first_of a block) (with_registers phis f) in
-    pass_kept p (to_block a i block phis s) i (frame_kept p s i g r.sound (λ t k l status stack level kept.
+    pass_kept p (to_block a i block phis s) i known (frame_kept p s i g r.sound (λ t k l status stack level kept.
     let same : Ready ≡ t = let own = r.ready in cc in
     top_kept a t t k l g (λ f. (registers_stay f phis).0) kept (λ e. e, λ e. e) (λ f top_f sf.
     let own : r.frame ≡ f = let one = r.top in let other = top_at s i k f stack top_f in cc in
@@ -161,5 +162,5 @@ jump_kept p s i d block phis accepted known r here fits =
     let target : StandsIn a f.plan.function (first_of a block) = target_stands a f.plan.function block accepted known (fits.entered f.plan.function stands) in
     moved_kept a (with_registers phis f) (first_of a block) (subst (λ (q : Planned). StandsIn a q.function (first_of a block)) (sym (registers_stay f phis).0) target)
     (registers_kept a f phis fits.values sf))
-    (λ f top_f rooted. registers_rooted a k.frames (length k.frames - 1) f phis fits.values rooted)
+    (λ f top_f rooted. rooted_moved a k.frames (length k.frames - 1) (first_of a block) (with_registers phis f) (registers_rooted a k.frames (length k.frames - 1) f phis fits.values rooted))
     (λ f top_f stands. subst (λ (u : Status). StandsAs a u (g f)) same tt)))

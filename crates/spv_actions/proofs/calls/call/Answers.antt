@@ -44,5 +44,6 @@ returns-clause-fits c v =
           (begun_sound c.args.site.now c.in_ok-fresh.fresh c.in_ok-frame.frame c.in_ok-frame.ensures c.in_ok-fresh.ensures.sound)
           (begun_plan c.args.site.now c.in_ok-fresh.fresh c.in_ok-frame.frame _ c.in_ok-frame.ensures c.in_ok-fresh.ensures.plan) c.in_ok-locals.ensures.value c.in_ok-locals.ensures.are;
       rooted = tt;
-      passed = begun_rooted c.args.site.now c.in_ok-fresh.fresh c.in_ok-frame.frame c.in_ok-frame.ensures c.in_ok-fresh.ensures.rooted;
+      passed = begun_rooted c.args.site.now c.accepted.result.now c.in_ok-fresh.fresh c.in_ok-frame.frame c.accepted.ensures c.insts-insts.ensures.accepted c.insts-insts.ensures.valid c.in_ok-frame.ensures
+          c.in_ok-fresh.ensures.sound c.in_ok-fresh.ensures.rooted;
     })
