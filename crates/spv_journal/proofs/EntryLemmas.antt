@@ -1,8 +1,7 @@
 -- Registers, frames and parts whose entries lead back.
-use Rattle.std.proofs.Common.{◌≡◌, ◌∙◌, ℕ, zero, suc, ◌-◌, ◌<◌, ◌≤◌, ◌==◌, List, [], ◌∷◌, Option, Some, None, IsSome, length, map, option_map, slice_get, refl, sym, ap, subst, arith, rules}
+use Rattle.std.proofs.Common.{◌≡◌, ◌∙◌, ℕ, ◌-◌, ◌<◌, ◌==◌, Bool, true, false, cond, List, [], ◌∷◌, Option, Some, None, length, option_map, refl, sym, ap, subst, rules}
 use Rattle.std.specs.Option.{IsSomeAnd, option_map_or}
-use Rattle.spv_base.specs.Entries.{change, reads, writes}
-use Rattle.spv_base.specs.State.{Roots}
+use Rattle.spv_base.specs.Entries.{reads, writes}
 use Rattle.spv_base.specs.declared.values.Pointer.{Pointer}
 use Rattle.spv_base.specs.declared.values.Value.{Value, Ptr, out-Value, the_lemmas}
 use Rattle.spv_base.specs.declared.values.Value.TheOpen.{Value-F}
@@ -10,22 +9,21 @@ use Rattle.spv_types.specs.Rows.{leaves}
 use Rattle.spv_types.specs.Shapes.{pointer_in}
 use Rattle.spv_frame.specs.Frames.{Held as Frame}
 use Rattle.spv_frame.specs.Numbers.{HasCells, HasPointer, HoldsPointer, HoldsValue, with_pointer, with_value}
-use Rattle.spv_frame.specs.Registers.{ids, number_of}
-use Rattle.spv_frame.specs.Stacks.{Stacked, on_top, top}
+use Rattle.spv_frame.specs.Calls.{id_at}
+use Rattle.spv_frame.specs.Registers.{ids, marked, number_of}
+use Rattle.spv_frame.specs.Stacks.{Stacked, top}
 use Rattle.spv_frame.proofs.NumberLemmas.{inside}
-use Rattle.spv_mem.specs.Memory.{Held as Memory, IsMemory, MayStore, load_of}
-use Rattle.spv_mem.specs.Singles.{NamesRow}
 use Rattle.spv_valid.specs.Acceptance.{Accepted}
 use Rattle.spv_state.specs.Slots.{IsHeld, IsHeldPointer}
 use Rattle.spv_state.specs.Sound.{IsSoundFrame}
-use Rattle.spv_state.specs.State.{State, on_frame, on_frames, put_store, top_of, with_level, with_register}
+use Rattle.spv_state.specs.State.{State, on_frame, on_frames, top_of, with_level, with_register}
 use Rattle.spv_state.proofs.Entries.{writes_nothing}
 use Rattle.spv_state.proofs.Lists.{change_same, change_still}
-use Rattle.spv_journal.specs.Entries.{KeepsPointer, KeepsValue}
-use Rattle.spv_journal.specs.Undo.{HasTop, Undoes, undo}
+use Rattle.spv_journal.specs.Entries.{HasNone, HasValue, KeepsPointer, KeepsValue}
+use Rattle.spv_journal.specs.Undo.{HasTop, Undoes}
 use Rattle.spv_journal.specs.declared.entries.Entry.{Entry}
 use Rattle.spv_journal.specs.declared.entries.Entry.TheVariants.{Leaf, Part, NoValue, CellRegister, RowRegister, PointerRegister, FramePushed, FramePopped, PcMoved, EventAppended, StatusChanged, BarrierOpened}
-use Rattle.spv_journal.proofs.LawLemmas.{frame_back, has_top, pointer_back, value_back}
+use Rattle.spv_journal.proofs.LawLemmas.{frame_back, has_top, pointer_back, top_after, value_back}
 
 -- one level of a pointer
 out_pointer : (p : Pointer) → out-Value (Ptr p) ≡ Value-F.Ptr p
@@ -37,26 +35,26 @@ some_and (Some x) P Q f h = f x h
 
 -- ---- values
 
-pub value_undone : (i id n k : ℕ) (o : Option Value) (e : Entry) (v : Value) (s : State) → i < length s.stacks → IsSomeAnd (top_of s i) (λ f. IsHeld id k f n o) → KeepsValue n o k e
+pub value_undone : (i n k : ℕ) (o : Option Value) (e : Entry) (v : Value) (s : State) → i < length s.stacks → IsSomeAnd (top_of s i) (HasCells n k) → IsSomeAnd (top_of s i) (HoldsValue n o) → KeepsValue n o k e
     → Undoes i e s (on_frame i (with_value n (Some v)) s)
-value_undone i id n k o e v s low held keeps = each e keeps
+value_undone i n k o e v s low room held keeps = each e keeps
   where
     back : (m : ℕ) (x : Option Value) → m ≡ n → o ≡ x → on_frame i (with_value m x) (on_frame i (with_value n (Some v)) s) ≡ s
     back m x same was =
         ap (λ (y : ℕ). on_frame i (with_value y x) (on_frame i (with_value n (Some v)) s)) same
         ∙ frame_back i (with_value n x) (with_value n (Some v)) s
-        (some_and (top_of s i) (λ f. IsHeld id k f n o) (λ f. with_value n x (with_value n (Some v) f) ≡ f) (λ f h. value_back n x (Some v) f (subst (λ (y : Option Value). HoldsValue n y f) was h.holds)) held)
+        (some_and (top_of s i) (HoldsValue n o) (λ f. with_value n x (with_value n (Some v) f) ≡ f) (λ f h. value_back n x (Some v) f (subst (λ (y : Option Value). HoldsValue n y f) was h)) held)
 
     cells : (m j : ℕ) → m ≡ n → k ≡ j → HasTop (on_frame i (with_value n (Some v)) s) i (HasCells m j)
     cells m j same count =
         has_top i (with_value n (Some v)) s (HasCells m j) low
-        (some_and (top_of s i) (λ f. IsHeld id k f n o) (λ f. HasCells m j (with_value n (Some v) f))
-        (λ f h. subst (λ (y : ℕ). HasCells y j f) (sym same) (subst (λ (y : ℕ). HasCells n y f) count h.cells)) held)
+        (some_and (top_of s i) (HasCells n k) (λ f. HasCells m j (with_value n (Some v) f))
+        (λ f h. subst (λ (y : ℕ). HasCells y j f) (sym same) (subst (λ (y : ℕ). HasCells n y f) count h)) room)
 
     numbered : (m : ℕ) → m ≡ n → HasTop (on_frame i (with_value n (Some v)) s) i (λ f. m < length f.plan.values)
     numbered m same =
         has_top i (with_value n (Some v)) s (λ f. m < length f.plan.values) low
-        (some_and (top_of s i) (λ f. IsHeld id k f n o) (λ f. m < length f.plan.values) (λ f h. subst (λ (y : ℕ). y < length f.plan.values) (sym same) (inside f.plan.values n k h.cells)) held)
+        (some_and (top_of s i) (HasCells n k) (λ f. m < length f.plan.values) (λ f h. subst (λ (y : ℕ). y < length f.plan.values) (sym same) (inside f.plan.values n k h)) room)
 
     each : (x : Entry) → KeepsValue n o k x → Undoes i x s (on_frame i (with_value n (Some v)) s)
     each (NoValue m) h = record { back = back m None h.0 h.1; can = numbered m h.0 }
@@ -71,6 +69,81 @@ value_undone i id n k o e v s low held keeps = each e keeps
     each EventAppended h = absurd h
     each (StatusChanged t) h = absurd h
     each (BarrierOpened w) h = absurd h
+
+-- ---- a value that is exchanged
+
+-- what was handed back is what was held
+pub handed_value : (o : Option Frame) (n : ℕ) (r v : Value) (b : Bool) → IsSomeAnd o (HoldsValue n (marked r b)) → IsSomeAnd o (HoldsValue n (Some v)) → r ≡ v
+handed_value None n r v b h g = absurd h
+handed_value (Some f) n r v true h g = let e : Some (Some r) ≡ Some (Some v) = sym h ∙ g in cc
+handed_value (Some f) n r v false h g = absurd (let e : Some None ≡ Some (Some v) = sym h ∙ g in cc)
+
+reads_put : {A : Type 0} (k : ℕ) (x y : A) (es : List (ℕ × A)) → reads k es ≡ Some y → reads k (writes k x es) ≡ Some x
+reads_put {A} k x y [] h = cc
+reads_put {A} k x y (e ∷ es) h = by_key (λ g. reads_put k x y es g) (e.0 == k) refl h
+  where
+    by_key : (reads k es ≡ Some y → reads k (writes k x es) ≡ Some x) → (b : Bool) → (e.0 == k) ≡ b → cond b (Some e.1) (reads k es) ≡ Some y → reads k (cond b ((e.0, x) ∷ es) (e ∷ writes k x es)) ≡ Some x
+    by_key ih true same g = rw same refl
+    by_key ih false same g = rw same (ih g)
+
+-- the value that was put is held
+pub held_after : (i n : ℕ) (o : Option Value) (v : Value) (s : State) → IsSomeAnd (top_of s i) (HoldsValue n o) → IsSomeAnd (top_of (on_frame i (with_value n (Some v)) s) i) (HoldsValue n (Some v))
+held_after i n o v s h = subst (λ (x : Option Frame). IsSomeAnd x (HoldsValue n (Some v))) (sym (top_after i (with_value n (Some v)) s)) (each (top_of s i) h)
+  where
+    each : (x : Option Frame) → IsSomeAnd x (HoldsValue n o) → IsSomeAnd (option_map (with_value n (Some v)) x) (HoldsValue n (Some v))
+    each None h = h
+    each (Some f) h = reads_put (id_at (ids f.plan.values) n) (Some v) o f.values h
+
+-- the value that was held, in the row after the exchange
+record Taken (o : Option Frame) (n : ℕ) (r : Value) : Type 0 where
+  room : IsSomeAnd o (HasCells n (length (leaves r)))
+  holds : IsSomeAnd o (HoldsValue n (Some r))
+
+taken : (o : Option Frame) (n k : ℕ) (r : Value) → IsSomeAnd o (HasValue n k) → ((v : Value) → IsSomeAnd o (HoldsValue n (Some v)) → r ≡ v) → Taken o n r
+taken None n k r h g = absurd h
+taken (Some f) n k r h g =
+    let same : r ≡ h.value = g h.value h.holds in
+    record {
+      room = subst (λ (m : ℕ). HasCells n m f) (sym (ap (λ (v : Value). length (leaves v)) same ∙ h.long)) h.room;
+      holds = subst (λ (v : Value). HoldsValue n (Some v) f) (sym same) h.holds;
+    }
+
+-- a register of a value r took a value v: its entry leads back, and so does the exchange
+pub record Replaced (i n : ℕ) (v r : Value) (s t : State) : Type 0 where
+  pub undone : (e : Entry) → KeepsValue n (Some r) (length (leaves r)) e → Undoes i e s t
+  pub inside : i < length t.stacks
+  pub room : IsSomeAnd (top_of t i) (HasCells n (length (leaves r)))
+  pub back : on_frame i (with_value n (Some r)) t ≡ s
+  pub holds : IsSomeAnd (top_of t i) (HoldsValue n (Some v))
+
+pub replaced : (i n : ℕ) (v r : Value) (s t : State) → i < length s.stacks → IsSomeAnd (top_of s i) (HasValue n (length (leaves v))) → ((w : Value) → IsSomeAnd (top_of s i) (HoldsValue n (Some w)) → r ≡ w)
+    → t ≡ on_frame i (with_value n (Some v)) s → Replaced i n v r s t
+replaced i n v r s t low has handed after =
+    let x = taken (top_of s i) n (length (leaves v)) r has handed in
+    let top = has_top i (with_value n (Some v)) s (HasCells n (length (leaves r))) low x.room in
+    subst (Replaced i n v r s) (sym after) (record {
+      undone = λ e keeps. value_undone i n (length (leaves r)) (Some r) e v s low x.room x.holds keeps;
+      inside = top.0;
+      room = top.1;
+      back = frame_back i (with_value n (Some r)) (with_value n (Some v)) s
+          (some_and (top_of s i) (HoldsValue n (Some r)) (λ f. with_value n (Some r) (with_value n (Some v) f) ≡ f) (λ f h. value_back n (Some r) (Some v) f h) x.holds);
+      holds = held_after i n (Some r) v s x.holds;
+    })
+
+-- a register of no value took one
+pub given_undone : (i n : ℕ) (v : Value) (s t : State) → i < length s.stacks → IsSomeAnd (top_of s i) (HasNone n (length (leaves v))) → t ≡ on_frame i (with_value n (Some v)) s → Undoes i (NoValue n) s t
+given_undone i n v s t low has after = subst (Undoes i (NoValue n) s) (sym after)
+    (value_undone i n (length (leaves v)) None (NoValue n) v s low
+    (some_and (top_of s i) (HasNone n (length (leaves v))) (HasCells n (length (leaves v))) (λ f h. h.0) has)
+    (some_and (top_of s i) (HasNone n (length (leaves v))) (HoldsValue n None) (λ f h. h.1) has) (refl, refl))
+
+pub has_value : (o : Option Frame) (id k n : ℕ) (v : Value) → IsSomeAnd o (λ f. IsHeld id k f n (Some v)) → IsSomeAnd o (HasValue n k)
+has_value None id k n v h = h
+has_value (Some f) id k n v h = record { value = v; room = h.cells; holds = h.holds; long = h.long v refl }
+
+pub has_none : (o : Option Frame) (id k n : ℕ) → IsSomeAnd o (λ f. IsHeld id k f n None) → IsSomeAnd o (HasNone n k)
+has_none None id k n h = h
+has_none (Some f) id k n h = (h.cells, h.holds)
 
 -- ---- pointers
 

@@ -1,23 +1,23 @@
 -- Each change of a state, and the entry that undoes it.
-use Rattle.std.proofs.Common.{◌≡◌, ◌≢◌, ◌∙◌, ℕ, zero, suc, ◌-◌, ◌<◌, ◌≤◌, true, List, [], ◌∷◌, ◌++◌, Option, Some, None, IsSome, length, length-set, length-append, option_map, replicate, slice_get, slice_set, take, refl, sym, ap, subst, arith}
+use Rattle.std.proofs.Common.{◌≡◌, ◌≢◌, ◌∙◌, ℕ, zero, suc, ◌-◌, ◌<◌, ◌≤◌, true, List, [], ◌∷◌, ◌++◌, Option, Some, None, IsSome, length, length-set, option_map, replicate, slice_get, slice_set, take, refl, sym, ap, subst, arith}
 use Rattle.std.specs.List.{list_all}
 use Rattle.std.specs.Option.{IsSomeAnd, option_map_or}
-use Rattle.spv_base.specs.Entries.{change, reads, writes}
+use Rattle.spv_base.specs.Entries.{change}
 use Rattle.spv_base.specs.State.{Roots}
 use Rattle.spv_base.specs.declared.values.PassedEvent.{PassedEvent}
 use Rattle.spv_base.specs.declared.values.Pointer.{Pointer}
 use Rattle.spv_base.specs.declared.values.Value.{Value}
 use Rattle.spv_base.proofs.EntryLemmas.{change_back}
 use Rattle.spv_frame.specs.Frames.{Held as Frame}
-use Rattle.spv_frame.specs.Numbers.{HasCells, HasPointer, HoldsPointer, HoldsValue, with_pointer, with_value}
+use Rattle.spv_frame.specs.Numbers.{HoldsPointer, HoldsValue, with_pointer, with_value}
 use Rattle.spv_frame.specs.Stacks.{Stacked, on_top, top}
 use Rattle.spv_frame.proofs.RegisterLemmas.{put_back}
-use Rattle.spv_mem.specs.Memory.{AreVariables, Held as Memory, Levels}
-use Rattle.spv_statuses.specs.Group.{Held as Statuses, all_wait_at}
+use Rattle.spv_mem.specs.Memory.{AreVariables, Levels}
+use Rattle.spv_statuses.specs.Group.{all_wait_at}
 use Rattle.spv_statuses.specs.Invocations.{IsWithin, is_passed, waits_at}
 use Rattle.spv_statuses.specs.declared.invocations.Status.{Status}
 use Rattle.spv_statuses.specs.declared.invocations.Status.TheVariants.{Arrived, Finished, Passed, Ready}
-use Rattle.spv_state.specs.State.{State, append_event, close_barrier, drop_event, frames_of, on_frame, on_frames, open_barrier, pop_frame, push_frame, set_status, top_of, with_pc, with_top, without_last, without_locals, without_top}
+use Rattle.spv_state.specs.State.{State, append_event, drop_event, on_frame, on_frames, open_barrier, pop_frame, push_frame, set_status, top_of, with_pc, with_top, without_last, without_locals, without_top}
 use Rattle.spv_state.proofs.ChangeLemmas.{without_is}
 use Rattle.spv_state.proofs.Lists.{change_here, length_change}
 use Rattle.spv_journal.specs.Undo.{HasRooms, HasTop, Undoes}

@@ -1,8 +1,9 @@
 -- A change that is recorded.
-use Rattle.std.proofs.Common.{◌≡◌, ◌∙◌, ℕ, suc, ◌+◌, ◌≤◌, List, [], ◌∷◌, Option, Some, None, IsSome, length, option_map, refl, sym, ap, subst, arith}
+use Rattle.std.proofs.Common.{◌≡◌, ◌∙◌, ℕ, ◌≤◌, List, ◌∷◌, Option, Some, None, IsSome, option_map, refl, sym, ap, subst, arith}
 use Rattle.spv_state.specs.State.{State}
+use Rattle.spv_journal.specs.Entries.{Keeps}
 use Rattle.spv_journal.specs.Events.{Event, Kept, opened, pushed}
-use Rattle.spv_journal.specs.Held.{Held, IsMaking, Records, changes_in, past_of}
+use Rattle.spv_journal.specs.Held.{Held, IsMaking, Records}
 use Rattle.spv_journal.specs.Undo.{CanUndo, CanUndoAll, CanUnwind, Undoes, past, undo, undo_all}
 use Rattle.spv_journal.specs.declared.entries.Entry.{Entry}
 
@@ -45,6 +46,11 @@ extended n i e s t j k old is making added u can some =
             changes = omega (arith, some);
           };
         }
+
+-- the same of an entry that was added
+pub kept : (n i : ℕ) (P : Entry → Type 0) (s t : State) (j k : Kept) (old : Held) → held_of s j ≡ old → IsMaking old.gathered i → Keeps P j k → ((e : Entry) → P e → Undoes i e s t) → CanUnwind (opened j.gathered j.ring) s → 1 ≤ n
+    → Extended n old t k
+kept n i P s t j k old is making added u can some = extended n i added.entry s t j k old is making added.added (u added.entry added.holds) can some
 
 -- nothing changed
 pub still : (n : ℕ) (old new : Held) → new ≡ old → Records n old new

@@ -1,10 +1,9 @@
 -- A part of a variable that was stored, and the old one that is put back.
-use Rattle.std.proofs.Common.{◌≡◌, ◌∙◌, ℕ, zero, suc, ◌+◌, ◌≤◌, ◌==◌, Bool, true, false, cond, List, [], ◌∷◌, ◌++◌, Option, Some, None, IsSome, length, length-append, append_assoc, set-set, take, drop, arith, slice_get, slice_set, unwrap_or, refl, sym, ap, subst}
-use Rattle.std.specs.Option.{option_and_then, option_map, option_map_or}
+use Rattle.std.proofs.Common.{◌≡◌, ◌∙◌, ℕ, ◌==◌, Bool, true, false, cond, List, [], ◌∷◌, Option, Some, None, IsSome, set-set, slice_get, slice_set, unwrap_or, refl, sym, ap, subst}
+use Rattle.std.specs.Option.{option_and_then, option_map}
 use Rattle.std.proofs.Math.Logic.{∥∥₁_elim, ∥∥₁_map}
 use Rattle.std.proofs.Props.{props}
-use Rattle.spv_base.specs.Entries.{change, reads, writes}
-use Rattle.spv_base.specs.Lane.{Lane}
+use Rattle.spv_base.specs.Entries.{reads, writes}
 use Rattle.spv_base.specs.Parts.{part_at, with_part}
 use Rattle.spv_base.specs.State.{Roots}
 use Rattle.spv_base.specs.declared.values.Pointer.{Pointer}
@@ -13,17 +12,16 @@ use Rattle.spv_base.specs.declared.values.Root.TheVariants.{Shared, Private, Loc
 use Rattle.spv_base.specs.declared.values.Value.{Value}
 use Rattle.spv_base.proofs.EntryLemmas.{change_back, writes_back}
 use Rattle.spv_base.proofs.PartLemmas.{slice_get-set_same}
-use Rattle.spv_types.specs.Rows.{leaves, no_roots}
+use Rattle.spv_types.specs.Rows.{no_roots}
 use Rattle.spv_types.specs.Shapes.{HasShape, reached}
 use Rattle.spv_types.proofs.RowChanges.{put_back, put_is_there, put_twice}
 use Rattle.spv_types.proofs.RowShapes.{shapes_keep}
-use Rattle.spv_values.specs.Places.{IsRowAt}
 use Rattle.spv_mem.specs.Memory.{Held as Memory, IsMemory, Levels, MayStore, id_in, load_of, root_value, roots_in, stored, with_level, with_roots}
 use Rattle.spv_mem.specs.Singles.{NamesRow}
 use Rattle.spv_mem.specs.Targets.{is_counted}
 use Rattle.spv_mem.proofs.MemoryLemmas.{set_same}
 use Rattle.spv_state.specs.State.{State, put_store}
-use Rattle.spv_state.proofs.Lists.{change_here, change_still}
+use Rattle.spv_state.proofs.Lists.{change_here}
 
 -- ---- the list in which the variable stands
 
@@ -117,10 +115,10 @@ store_back m i p u w h =
     let one : stored i p w (stored i p u m) ≡ with_roots i p.root (writes id (with_part (with_part x.value p.path u) p.path w) (writes id (with_part x.value p.path u) x.roots)) (stored i p u m) = rw (a.list, a.variable) refl in
     one ∙ ap (λ (es : Roots). with_roots i p.root es (stored i p u m)) entries ∙ ap (with_roots i p.root x.roots) a.is ∙ roots_back m i p.root (writes id (with_part x.value p.path u) x.roots) x.roots x.list
 
-pub there_after : (m : Memory) (i : ℕ) (p : Pointer) (u w : Value) → load_of m i p ≡ Some w → IsSome (load_of (stored i p u m) i p)
-there_after m i p u w h =
+load_after : (m : Memory) (i : ℕ) (p : Pointer) (u w : Value) → load_of m i p ≡ Some w → load_of (stored i p u m) i p ≡ Some u
+load_after m i p u w h =
     let x = part_of m i p w h in
-    subst IsSome (sym (ap (λ (o : Option Value). option_and_then (λ v. part_at v p.path) o) (value_after m i p u w x) ∙ put_is_there p.path x.value w u x.part)) refl
+    ap (λ (o : Option Value). option_and_then (λ v. part_at v p.path) o) (value_after m i p u w x) ∙ put_is_there p.path x.value w u x.part
 
 pub may_after : (m : Memory) (i : ℕ) (p : Pointer) (u w : Value) → load_of m i p ≡ Some w → ∥ IsMemory m ∥₁ → ∥ MayStore m i p u ∥₁ → ∥ MayStore (stored i p u m) i p w ∥₁
 may_after m i p u w h is may = ∥∥₁_elim is (hlevel props) (λ (k : IsMemory m). ∥∥₁_map may (λ (a : MayStore m i p u). go k a))
@@ -143,71 +141,32 @@ may_after m i p u w h is may = ∥∥₁_elim is (hlevel props) (λ (k : IsMemor
         let kept = shapes_keep m.types no_roots k.sound p.path ty t x.value w u shape reach' x.part in
         subst (λ ts. (is_counted ts t ≡ true) × HasShape ts no_roots t w) (sym same_types) (put.0, kept.0)
 
--- the row of what was put lies where the row of the part lay
-front_long : {A : Type 0} (n : ℕ) (xs : List A) → n ≤ length xs → length (take n xs) ≡ n
-front_long zero xs h = refl
-front_long (suc n) [] h = absurd (omega arith)
-front_long (suc n) (x ∷ xs) h = ap suc (front_long n xs (omega arith))
+-- ---- a store that is made again with what was there
 
-drop_front : {A : Type 0} (xs ys : List A) (n : ℕ) → length xs ≡ n → drop n (xs ++ ys) ≡ ys
-drop_front [] ys zero h = refl
-drop_front [] ys (suc n) h = absurd (omega (arith, h))
-drop_front (x ∷ xs) ys zero h = absurd (omega (arith, h))
-drop_front (x ∷ xs) ys (suc n) h = drop_front xs ys n (omega (arith, h))
+pub record PutBack (i : ℕ) (p : Pointer) (u w : Value) (s t : State) : Type 0 where
+  pub back : put_store i (Some (p, w)) t ≡ s
+  pub load : load_of t.memory i p ≡ Some u
+  pub may : ∥ MayStore t.memory i p w ∥₁
 
-take_front : {A : Type 0} (xs ys : List A) (n : ℕ) → length xs ≡ n → take n (xs ++ ys) ≡ xs
-take_front [] ys zero h = refl
-take_front [] ys (suc n) h = absurd (omega (arith, h))
-take_front (x ∷ xs) ys zero h = absurd (omega (arith, h))
-take_front (x ∷ xs) ys (suc n) h = ap (λ zs. x ∷ zs) (take_front xs ys n (omega (arith, h)))
-
-row_after : (v : Value) (path : List ℕ) (u w : Value) (n : ℕ) → part_at v path ≡ Some w → IsRowAt v path n 1 → length (leaves u) ≡ 1 → IsRowAt (with_part v path u) path n 1
-row_after v path u w n at row one =
-    let within = row.within in
-    let front : length (take n (leaves v)) ≡ n = front_long n (leaves v) (omega (arith, within)) in
-    let all = row.written u in
-    let behind : List Lane = drop (n + 1) (leaves v) in
-    let first : drop n (leaves (with_part v path u)) ≡ leaves u ++ behind = ap (drop n) all ∙ drop_front (take n (leaves v)) (leaves u ++ behind) n front in
-    let long : length (leaves (with_part v path u)) ≡ n + (1 + length behind) =
-    ap length all ∙ length-append (take n (leaves v)) (leaves u ++ behind) ∙ ap (λ (k : ℕ). k + length (leaves u ++ behind)) front
-    ∙ ap (λ (k : ℕ). n + k) (length-append (leaves u) behind ∙ ap (λ (k : ℕ). k + length behind) one) in
-    record {
-      there = subst IsSome (sym (put_is_there path v w u at)) refl;
-      within = omega (arith, long);
-      row = λ x is.
-          let same : u ≡ x = let e = put_is_there path v w u at in cc in
-          ap (take 1) first ∙ take_front (leaves u) behind 1 one ∙ ap leaves same;
-      written = λ x.
-          let again : drop (n + 1) (leaves (with_part v path u)) ≡ behind =
-          ap (drop (n + 1)) (all ∙ sym (append_assoc (take n (leaves v)) (leaves u) behind)) ∙ drop_front (take n (leaves v) ++ leaves u) behind (n + 1) (length-append (take n (leaves v)) (leaves u) ∙ ap (λ (k : ℕ). k + length (leaves u)) front ∙ ap (λ (k : ℕ). n + k) one) in
-          let before : take n (leaves (with_part v path u)) ≡ take n (leaves v) = ap (take n) all ∙ take_front (take n (leaves v)) (leaves u ++ behind) n front in
-          ap leaves (put_twice path v w u x at) ∙ row.written x
-          ∙ ap (λ (ls : List Lane). ls ++ (leaves x ++ behind)) (sym before)
-          ∙ ap (λ (ls : List Lane). take n (leaves (with_part v path u)) ++ (leaves x ++ ls)) (sym again);
-    }
-
-pub names_after : (m : Memory) (i : ℕ) (p : Pointer) (u w : Value) (n : ℕ) → load_of m i p ≡ Some w → NamesRow m i p n 1 → length (leaves u) ≡ 1 → NamesRow (stored i p u m) i p n 1
-names_after m i p u w n h names one =
-    let x = part_of m i p w h in
-    let value : root_value m i p.root ≡ Some x.value = rw x.list x.variable in
-    let same : names.value ≡ x.value = let e = names.is in cc in
-    let row : IsRowAt x.value p.path n 1 = subst (λ (v : Value). IsRowAt v p.path n 1) same names.row in
-    record { value = with_part x.value p.path u; is = value_after m i p u w x; row = row_after x.value p.path u w n x.part row one }
+pub put_back_part : (i : ℕ) (p : Pointer) (u w : Value) (s t : State) → t ≡ put_store i (Some (p, u)) s → load_of s.memory i p ≡ Some w → ∥ IsMemory s.memory ∥₁ → ∥ MayStore s.memory i p u ∥₁
+    → PutBack i p u w s t
+put_back_part i p u w s t after h is may = subst (PutBack i p u w s) (sym after) (record {
+  back = ap (λ (m : Memory). record s { memory = m }) (store_back s.memory i p u w h);
+  load = load_after s.memory i p u w h;
+  may = may_after s.memory i p u w h is may;
+})
 
 -- ---- an entry of a store
 
-pub record PutBack (i : ℕ) (q : Pointer) (x : Value) (s t : State) : Type 0 where
-  pub back : put_store i (Some (q, x)) t ≡ s
-  pub there : IsSome (load_of t.memory i q)
-  pub may : ∥ MayStore t.memory i q x ∥₁
+pub undoes_at : (i : ℕ) (p q : Pointer) (w x : Value) (s : State) → q ≡ p → x ≡ w → put_store i (Some (q, x)) s ≡ put_store i (Some (p, w)) s
+undoes_at i p q w x s place value = ap (λ (y : Pointer). put_store i (Some (y, x)) s) place ∙ ap (λ (y : Value). put_store i (Some (p, y)) s) value
 
-pub put_back_part : (i : ℕ) (p q : Pointer) (u w x : Value) (s : State) → q ≡ p → x ≡ w → load_of s.memory i p ≡ Some w → ∥ IsMemory s.memory ∥₁ → ∥ MayStore s.memory i p u ∥₁
-    → PutBack i q x s (put_store i (Some (p, u)) s)
-put_back_part i p q u w x s place value h is may =
-    subst (λ (y : Pointer). PutBack i y x s (put_store i (Some (p, u)) s)) (sym place)
-    (subst (λ (y : Value). PutBack i p y s (put_store i (Some (p, u)) s)) (sym value)
-    (record {
-      back = ap (λ (m : Memory). record s { memory = m }) (store_back s.memory i p u w h);
-      there = there_after s.memory i p u w h;
-      may = may_after s.memory i p u w h is may;
-    }))
+pub there_at : (m : Memory) (i : ℕ) (p q : Pointer) → q ≡ p → IsSome (load_of m i p) → IsSome (load_of m i q)
+there_at m i p q place h = subst (λ (y : Pointer). IsSome (load_of m i y)) (sym place) h
+
+pub may_at : (m : Memory) (i : ℕ) (p q : Pointer) (w x : Value) → q ≡ p → x ≡ w → ∥ MayStore m i p w ∥₁ → ∥ MayStore m i q x ∥₁
+may_at m i p q w x place value h = subst (λ (y : Pointer). ∥ MayStore m i y x ∥₁) (sym place) (subst (λ (y : Value). ∥ MayStore m i p y ∥₁) (sym value) h)
+
+pub names_at : (m : Memory) (i : ℕ) (p q : Pointer) (start len n : ℕ) → q ≡ p → len ≡ 1 → n ≡ start → NamesRow m i p start len → NamesRow m i q n 1
+names_at m i p q start len n place one at h =
+    subst (λ (y : Pointer). NamesRow m i y n 1) (sym place) (subst (λ (k : ℕ). NamesRow m i p k 1) (sym at) (subst (λ (k : ℕ). NamesRow m i p start k) one h))

@@ -4,7 +4,7 @@ use Rattle.std.specs.Option.{MatchOption, option_map, option_map_or}
 use Rattle.spv_base.specs.declared.happenings.Happening.{Happening}
 use Rattle.spv_journal.specs.Events.{Event, fitting, newest, older, opened, size_of}
 use Rattle.spv_journal.specs.Held.{Held, past_of, unwound}
-use Rattle.spv_journal.specs.Undo.{CanUndoAll, CanUnwind, Moment, before, past}
+use Rattle.spv_journal.specs.Undo.{CanUnwind, before, past}
 use Rattle.spv_state.specs.State.{State}
 
 -- the events that there is room for

@@ -2,11 +2,24 @@
 use Rattle.std.specs.Prelude.{◌≡◌, ℕ, Option, Some, None, length, option_map}
 use Rattle.spv_base.specs.declared.values.Pointer.{Pointer}
 use Rattle.spv_base.specs.declared.values.Value.{Value}
+use Rattle.spv_frame.specs.Frames.{Held as Frame}
+use Rattle.spv_frame.specs.Numbers.{HasCells, HoldsValue}
 use Rattle.spv_types.specs.Rows.{leaves}
 use Rattle.spv_journal.specs.Events.{Kept, pushed}
 use Rattle.spv_journal.specs.declared.entries.Entry.{Entry}
-use Rattle.spv_journal.specs.declared.entries.Entry.TheVariants.{Leaf, Part, NoValue, CellRegister, RowRegister, PointerRegister, FramePushed, FramePopped, PcMoved, EventAppended, StatusChanged, BarrierOpened}
+use Rattle.spv_journal.specs.declared.entries.Entry.TheVariants.{NoValue, CellRegister, RowRegister, PointerRegister, FramePopped}
 use Rattle.spv_journal.specs.declared.entries.OldFrame.{OldFrame}
+
+-- the register with a number has so many cells, and holds a value of as many
+pub record HasValue (n cells : ℕ) (f : Frame) : Type 0 where
+  pub value : Value
+  pub room : HasCells n cells f
+  pub holds : HoldsValue n (Some value) f
+  pub long : length (leaves value) ≡ cells
+
+-- the same of one that holds none
+abbrev pub HasNone : ℕ → ℕ → Frame → Type 0
+HasNone n cells f = HasCells n cells f × HoldsValue n None f
 
 -- the register with a number, of so many cells, had a value or none
 abbrev pub KeepsValue : ℕ → Option Value → ℕ → Entry → Type 0
@@ -19,6 +32,12 @@ KeepsValue n o cells _ = ⊥
 abbrev pub KeepsPointer : ℕ → Option Pointer → Entry → Type 0
 KeepsPointer n o (PointerRegister k held) = (k ≡ n) × (option_map (λ b. b.value) held ≡ o)
 KeepsPointer n o _ = ⊥
+
+-- an entry was added of which something is so
+pub record Keeps (P : Entry → Type 0) (old new : Kept) : Type 0 where
+  pub entry : Entry
+  pub holds : P entry
+  pub added : new ≡ record old { gathered = option_map (pushed entry) old.gathered }
 
 -- the frame that was left
 abbrev pub popped : Entry → Option OldFrame

@@ -1,5 +1,5 @@
 -- What callers see of a state whose changes are recorded.
-use Rattle.std.specs.Prelude.{◌≡◌, ◌≤◌, ◌+◌, ℕ, List, [], ◌∷◌, length, Option, Some, None, option_map}
+use Rattle.std.specs.Prelude.{◌≡◌, ◌≤◌, ◌+◌, ℕ, List, length, Option, None, option_map}
 use Rattle.std.specs.Option.{IsSomeAnd, option_map_or}
 use Rattle.spv_base.specs.declared.happenings.Happening.{Happening}
 use Rattle.spv_state.specs.State.{State}

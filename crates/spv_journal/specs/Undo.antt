@@ -1,5 +1,5 @@
 -- What an entry undoes, and the states that events lead back to.
-use Rattle.std.specs.Prelude.{◌≡◌, ◌≢◌, ◌<◌, ℕ, true, List, [], ◌∷◌, Option, Some, None, IsSome, length, option_map, slice_get, ⊤}
+use Rattle.std.specs.Prelude.{◌≡◌, ◌≢◌, ◌<◌, ℕ, true, List, [], ◌∷◌, Some, None, IsSome, length, option_map, slice_get, ⊤}
 use Rattle.std.specs.List.{list_all}
 use Rattle.std.specs.Option.{IsSomeAnd}
 use Rattle.spv_base.specs.declared.happenings.Happening.{Happening}

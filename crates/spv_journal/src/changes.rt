@@ -1,10 +1,11 @@
 //! The primitive changes of a state, each recorded. Where memory runs out nothing changes.
 ghost use Rattle.std.specs.Prelude.{◌≡◌, ◌<◌, ◌+◌, ℕ, IsSome, None, OnErr, OnOk, Some, length, option_map, slice_get, true};
 ghost use Rattle.std.specs.Option.{IsSomeAnd};
-ghost use Rattle.spv_base.specs.declared.values.Value.{Ptr, out-Value};
-ghost use Rattle.spv_frame.specs.Numbers.{HasPointer, with_pointer};
+ghost use Rattle.spv_base.specs.declared.values.Value.{Ptr, Value, out-Value};
+ghost use Rattle.spv_frame.specs.Numbers.{HasCells, HasPointer, HoldsValue, with_pointer, with_value};
 ghost use Rattle.spv_frame.specs.Stacks.{Stacked};
 ghost use Rattle.spv_index.specs.Definitions.{result_type};
+ghost use Rattle.spv_journal.specs.Entries.{HasNone, HasValue};
 ghost use Rattle.spv_journal.specs.Held.{IsMaking, Records};
 ghost use Rattle.spv_mem.specs.Memory.{AreVariables, HasRoom, MayStore, load_of};
 ghost use Rattle.spv_plans.specs.Plans.{plans_in};
@@ -17,7 +18,7 @@ ghost use Rattle.spv_types.specs.Rows.{leaves, no_roots};
 ghost use Rattle.spv_types.specs.Shapes.{HasShape, pointer_in};
 
 use crate::entries::{Entry, OldFrame};
-use crate::noting::{keep, keep_frame, part_entry, pointer_entry, value_entry};
+use crate::noting::{keep_frame, keep_part, keep_value, pointer_entry};
 use crate::recorded::Recorded;
 use spv_base::{NoMemory, Pointer};
 use spv_frame::{DebugEvent, Frame};
@@ -27,18 +28,6 @@ use spv_statuses::Status;
 use spv_valid::Module;
 use spv_values::Row;
 
-/// Where the top frame of an invocation stands, which is there.
-fn pc_of(whole: &Whole, i: u32) -> u32
-    requires inside { i < length whole.now.stacks }
-    requires frames { IsSome (state.top_of whole.now i) }
-    ensures { option_map (λ f. f.pc) (state.top_of whole.now i) ≡ Some result }
-{
-    match whole.top(i) {
-        Some(frame) => frame.pc(),
-        None => unreachable!(),
-    }
-}
-
 /// Puts a pointer in a register of the top frame of an invocation, by its number.
 fn put_pointer(whole: &mut Whole, i: u32, number: usize, pointer: Pointer)
     requires inv { i < length whole.old.stacks }
@@ -47,6 +36,17 @@ fn put_pointer(whole: &mut Whole, i: u32, number: usize, pointer: Pointer)
 {
     let mut taken = Some(pointer);
     whole.exchange_pointer(i, number, &mut taken);
+}
+
+/// Puts a value in a register of the top frame of an invocation, by its number; the old one is in the row then, if there was one.
+fn put_value(whole: &mut Whole, i: u32, number: usize, row: &mut Row)
+    requires inv { i < length whole.old.stacks }
+    requires register { IsSomeAnd (state.top_of whole.old i) (HasCells number (length (leaves row.old))) }
+    ensures after { whole.new ≡ state.on_frame i (with_value number (Some row.old)) whole.old }
+    ensures handed { (v : Value) → IsSomeAnd (state.top_of whole.old i) (HoldsValue number (Some v)) → row.new ≡ v }
+{
+    let mut has = true;
+    whole.exchange_value(i, number, row, &mut has);
 }
 
 impl Recorded {
@@ -60,10 +60,15 @@ impl Recorded {
         ensures recorded { Records (1 + length (leaves row.old)) self.old self.new }
         ensures err { OnErr result ((self.new ≡ self.old) × (row.new ≡ row.old)) }
     {
-        let entry = part_entry(self.alloc, &self.whole, i, pointer, row)?;
-        keep(&mut self.journal, entry)?;
+        self.whole.memory().keeps_types();
         self.whole.store(i, pointer, row);
-        Ok(())
+        match keep_part(self.alloc, &mut self.journal, &self.whole, i, pointer, row) {
+            Ok(()) => Ok(()),
+            Err(error) => {
+                self.whole.store(i, pointer, row);
+                Err(error)
+            }
+        }
     }
 
     /// Puts a value in the register with an id of the top frame of an invocation, if the frame has it; the old one is in the row then.
@@ -87,14 +92,47 @@ impl Recorded {
         match self.whole.held_value(accepted, i, id, row) {
             Some(held) => {
                 let number = held.number;
-                let entry = value_entry(self.alloc, &held, row)?;
-                keep(&mut self.journal, entry)?;
-                let mut has = true;
-                self.whole.exchange_value(i, number, row, &mut has);
-                Ok(())
+                match held.value {
+                    Some(_value) => self.replace_value(i, number, row),
+                    None => self.give_value(i, number, row),
+                }
             }
             None => Ok(()),
         }
+    }
+
+    /// Puts a value in a register that has one, by its number; the old one is in the row then.
+    #[inline(always)]
+    fn replace_value(&mut self, i: u32, number: usize, row: &mut Row) -> Result<(), NoMemory>
+        requires making { IsMaking self.old.gathered i }
+        requires inv { i < length self.old.state.stacks }
+        requires held { IsSomeAnd (state.top_of self.old.state i) (HasValue number (length (leaves row.old))) }
+        ensures ok { OnOk result (self.new.state ≡ state.on_frame i (with_value number (Some row.old)) self.old.state) }
+        ensures recorded { Records 1 self.old self.new }
+        ensures err { OnErr result ((self.new ≡ self.old) × (row.new ≡ row.old)) }
+    {
+        put_value(&mut self.whole, i, number, row);
+        match keep_value(self.alloc, &mut self.journal, number, row) {
+            Ok(()) => Ok(()),
+            Err(error) => {
+                put_value(&mut self.whole, i, number, row);
+                Err(error)
+            }
+        }
+    }
+
+    /// Puts a value in a register that has none, by its number.
+    fn give_value(&mut self, i: u32, number: usize, row: &mut Row) -> Result<(), NoMemory>
+        requires making { IsMaking self.old.gathered i }
+        requires inv { i < length self.old.state.stacks }
+        requires empty { IsSomeAnd (state.top_of self.old.state i) (HasNone number (length (leaves row.old))) }
+        ensures ok { OnOk result (self.new.state ≡ state.on_frame i (with_value number (Some row.old)) self.old.state) }
+        ensures recorded { Records 1 self.old self.new }
+        ensures err { OnErr result ((self.new ≡ self.old) × (row.new ≡ row.old)) }
+    {
+        self.journal.add(Entry::NoValue(number))?;
+        put_value(&mut self.whole, i, number, row);
+        Ok(())
     }
 
     /// Puts a pointer in the register with an id of the top frame of an invocation, if the frame has it.
@@ -117,7 +155,7 @@ impl Recorded {
             Some(held) => {
                 let number = held.number;
                 let entry = pointer_entry(self.alloc, &held)?;
-                keep(&mut self.journal, entry)?;
+                self.journal.add(entry)?;
                 put_pointer(&mut self.whole, i, number, pointer);
                 Ok(())
             }
@@ -134,10 +172,14 @@ impl Recorded {
         ensures recorded { Records 1 self.old self.new }
         ensures err { OnErr result (self.new ≡ self.old) }
     {
-        let entry = Entry::PcMoved(pc_of(&self.whole, i));
-        keep(&mut self.journal, entry)?;
-        self.whole.set_pc(i, pc);
-        Ok(())
+        let old = self.whole.set_pc(i, pc);
+        match self.journal.move_pc(old) {
+            Ok(()) => Ok(()),
+            Err(error) => {
+                self.whole.set_pc(i, old);
+                Err(error)
+            }
+        }
     }
 
     /// Gives an invocation another status.
@@ -150,7 +192,7 @@ impl Recorded {
         ensures err { OnErr result (self.new ≡ self.old) }
     {
         let old = self.whole.set_status(i, status);
-        match keep(&mut self.journal, Entry::StatusChanged(old)) {
+        match self.journal.add(Entry::StatusChanged(old)) {
             Ok(()) => Ok(()),
             Err(error) => {
                 self.whole.set_status(i, old);
@@ -171,7 +213,7 @@ impl Recorded {
         ensures recorded { Records 1 self.old self.new }
         ensures err { OnErr result (self.new ≡ self.old) }
     {
-        keep(&mut self.journal, Entry::FramePushed)?;
+        self.journal.add(Entry::FramePushed)?;
         self.whole.enter(i, frame, locals);
         Ok(())
     }
@@ -207,7 +249,7 @@ impl Recorded {
         ensures recorded { Records 1 self.old self.new }
         ensures err { OnErr result (self.new ≡ self.old) }
     {
-        keep(&mut self.journal, Entry::BarrierOpened(word))?;
+        self.journal.add(Entry::BarrierOpened(word))?;
         self.whole.open_barrier(word);
         Ok(())
     }
@@ -222,7 +264,7 @@ impl Recorded {
         ensures err { OnErr result (self.new ≡ self.old) }
     {
         self.whole.append(i, event)?;
-        match keep(&mut self.journal, Entry::EventAppended) {
+        match self.journal.add(Entry::EventAppended) {
             Ok(()) => Ok(()),
             Err(error) => {
                 self.whole.drop_event(i);

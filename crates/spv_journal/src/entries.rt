@@ -33,7 +33,7 @@ pub enum Entry {
     /// A leaf of a variable had a value: which variable, and how many leaves lie before this one. The path leads to it.
     Leaf {
         root: Root,
-        leaf: usize,
+        leaf: u32,
         path: Ghost<Path>,
         value: Single,
     },

@@ -1,13 +1,15 @@
 //! The journal: the newest events that there is room for, each with what undoes it.
-ghost use Rattle.std.specs.Prelude.{◌≡◌, ◌≤◌, ◌∷◌, [], IfErr, IfOk, IsSome, None, OnErr, OnOk, length, option_map};
+ghost use Rattle.std.specs.Prelude.{◌≡◌, ◌<◌, ◌≤◌, ◌∷◌, [], IfErr, IfOk, IsSome, None, OnErr, OnOk, length, option_map};
 ghost use Rattle.std.specs.Option.{option_map_or};
+ghost use Rattle.std.specs.VecDeque.{deque_capacity, deque_len};
 ghost use Rattle.spv_journal.specs.Events.{begun, fitting, newest, older, opened, pushed, size};
+ghost use Rattle.spv_journal.specs.Rings.{made, moved};
 ghost use Rattle.spv_journal.specs.Undo.{CanUnwind, before};
+ghost use Rattle.spv_journal.specs.declared.entries.Entry.TheVariants.{PcMoved};
 
 use crate::entries::Entry;
-use crate::rings::{Item, count_marks, put_event};
-use crate::undoing::{undo_changes, undo_gathered};
-use circular_buffer::HeapCircularBuffer;
+use crate::rings::{Mark, Ring};
+use crate::undoing::undo_gathered;
 use spv_base::{Happening, NoMemory};
 use spv_state::Whole;
 use std::alloc::Global;
@@ -18,9 +20,9 @@ use std::marker::Model;
 /// being made, and how many marks and entries there is room for.
 #[derive(Drop)]
 pub struct Journal {
-    ring: HeapCircularBuffer<Item>,
-    /// What happens in the event that is being made, and its changes, the newest first.
-    making: Option<Happening>,
+    ring: Ring,
+    /// The mark of the event that is being made, and its changes but for one that lies in the mark, the newest first.
+    making: Option<Mark>,
     gathered: VecDeque<Entry>,
 }
 
@@ -28,16 +30,55 @@ impl Model for Journal {
     ghost use Rattle.std.specs.Prelude.{◌≡◌, ◌≤◌, [], None};
     ghost use Rattle.std.specs.Coded.{codes};
     ghost use Rattle.spv_journal.specs.Events.{Kept};
-    ghost use Rattle.spv_journal.specs.Rings.{changes, events, made};
+    ghost use Rattle.spv_journal.specs.Rings.{made};
     ghost use Rattle.spv_journal.specs.contracts.entries.Entry as entry;
 
     ghost Value = { Kept };
 
     ghost coded = { Prim.hlevel (codes, entry.the_row.coded) };
 
-    ghost view = { λ j. record { ring = events j.ring.items; gathered = made j.making j.gathered.items; limit = j.ring.capacity } };
+    ghost view = { λ j. record { ring = j.ring.events; gathered = made j.making j.gathered.items; limit = j.ring.limit } };
 
-    ghost invariant = { λ j. (changes j.ring.items ≡ []) × (1 ≤ j.ring.capacity) × (j.making ≡ None → j.gathered.items ≡ []) };
+    ghost invariant = { λ j. (1 ≤ j.ring.limit) × (j.making ≡ None → j.gathered.items ≡ []) };
+}
+
+/// The change that lies in the mark of an event that is made goes among the others: it won't be the newest.
+#[inline(always)]
+fn settle(making: &mut Option<Mark>, gathered: &mut VecDeque<Entry>) -> Result<(), NoMemory>
+    requires { IsSome making.old }
+    ensures same { made making.new gathered.new.items ≡ made making.old gathered.old.items }
+    ensures some { IsSome making.new }
+    ensures ok { OnOk result (moved making.new ≡ None) }
+{
+    if let Some(
+        Mark {
+            happening,
+            pc: Some(pc),
+        },
+    ) = *making
+    {
+        gathered.reserve(1)?;
+        gathered.push_front_reserved(Entry::PcMoved(pc));
+        *making = Some(Mark {
+            happening,
+            pc: None,
+        });
+    }
+    Ok(())
+}
+
+/// Makes room for a change more of an event that is made.
+#[inline(always)]
+fn make_room(making: &mut Option<Mark>, gathered: &mut VecDeque<Entry>) -> Result<(), NoMemory>
+    requires { IsSome making.old }
+    ensures same { made making.new gathered.new.items ≡ made making.old gathered.old.items }
+    ensures some { IsSome making.new }
+    ensures ok { OnOk result (moved making.new ≡ None) }
+    ensures room { OnOk result (deque_len gathered.new < deque_capacity gathered.new) }
+{
+    settle(making, gathered)?;
+    gathered.reserve(1)?;
+    Ok(())
 }
 
 impl Journal {
@@ -47,7 +88,7 @@ impl Journal {
         ensures { IfOk result (λ j. j ≡ record { ring = []; gathered = None; limit = limit }) }
     {
         Ok(Journal {
-            ring: HeapCircularBuffer::with_capacity(alloc, limit)?,
+            ring: Ring::new(alloc, limit)?,
             making: None,
             gathered: VecDeque::new(alloc),
         })
@@ -59,7 +100,10 @@ impl Journal {
         ensures ok { OnOk result (self.new ≡ record self.old { gathered = begun happening }) }
         ensures err { OnErr result (self.new ≡ self.old) }
     {
-        self.making = Some(happening);
+        self.making = Some(Mark {
+            happening,
+            pc: None,
+        });
         Ok(())
     }
 
@@ -70,10 +114,43 @@ impl Journal {
         ensures err { OnErr result (self.new ≡ self.old) }
         ensures handed_back { IfErr result (λ e. e ≡ entry) }
     {
-        match self.gathered.push_front(entry) {
-            Ok(()) => Ok(()),
-            Err(failed) => Err(failed.value),
+        match make_room(&mut self.making, &mut self.gathered) {
+            Ok(()) => {
+                self.gathered.push_front_reserved(entry);
+                Ok(())
+            }
+            Err(_error) => Err(entry),
         }
+    }
+
+    /// Adds an entry to the event that is being made. Where memory runs out nothing changes.
+    #[inline(always)]
+    pub(crate) fn add(&mut self, entry: Entry) -> Result<(), NoMemory>
+        requires { IsSome self.old.gathered }
+        ensures ok { OnOk result (self.new ≡ record self.old { gathered = option_map (pushed entry) self.old.gathered }) }
+        ensures err { OnErr result (self.new ≡ self.old) }
+    {
+        make_room(&mut self.making, &mut self.gathered)?;
+        self.gathered.push_front_reserved(entry);
+        Ok(())
+    }
+
+    /// Adds a move of the pc to the event that is being made, by the pc that was: it lies in the mark while it is the newest change.
+    /// Where memory runs out nothing changes.
+    #[inline(always)]
+    pub(crate) fn move_pc(&mut self, pc: u32) -> Result<(), NoMemory>
+        requires { IsSome self.old.gathered }
+        ensures ok { OnOk result (self.new ≡ record self.old { gathered = option_map (pushed (PcMoved pc)) self.old.gathered }) }
+        ensures err { OnErr result (self.new ≡ self.old) }
+    {
+        settle(&mut self.making, &mut self.gathered)?;
+        if let Some(mark) = self.making {
+            self.making = Some(Mark {
+                happening: mark.happening,
+                pc: Some(pc),
+            });
+        }
+        Ok(())
     }
 
     /// The event that is being made is whole: it is kept, and as many of the oldest go as have to. It takes no memory.
@@ -81,9 +158,9 @@ impl Journal {
         requires { IsSome self.old.gathered }
         ensures { self.new ≡ record self.old { ring = fitting self.old.limit (opened self.old.gathered self.old.ring); gathered = None } }
     {
-        if let Some(happening) = self.making {
+        if let Some(mark) = self.making {
             self.making = None;
-            put_event(&mut self.ring, happening, &mut self.gathered);
+            self.ring.put(mark, &mut self.gathered);
         }
     }
 
@@ -95,22 +172,18 @@ impl Journal {
         ensures journal { self.new ≡ record self.old { ring = older (opened self.old.gathered self.old.ring); gathered = None } }
         ensures happening { result ≡ option_map (λ v. v.happening) (newest (opened self.old.gathered self.old.ring)) }
     {
-        if let Some(happening) = self.making {
-            self.making = None;
-            undo_gathered(whole, happening.inv, &mut self.gathered);
-            return Some(happening);
-        }
-        match self.ring.pop_front() {
-            Some(Item::Mark(happening)) => {
-                undo_changes(whole, happening.inv, &mut self.ring);
-                Some(happening)
+        match self.making {
+            Some(mark) => {
+                self.making = None;
+                mark.undo(whole);
+                undo_gathered(whole, mark.happening.inv, &mut self.gathered);
+                Some(mark.happening)
             }
-            _ => None,
+            None => self.ring.undo(whole),
         }
     }
 
     /// How many marks and entries are kept.
-    #[tactic(auto, using(crate::proofs::RingLemmas::whole_counted))]
     pub fn len(&self) -> usize
         ensures len { result ≡ size self.now.ring }
         ensures within { result ≤ self.now.limit }
@@ -119,10 +192,10 @@ impl Journal {
         self.ring.len()
     }
 
-    /// How many events are kept. They are counted one by one.
+    /// How many events are kept.
     pub fn marks(&self) -> u64
         ensures { result ≡ length self.now.ring }
     {
-        count_marks(&self.ring)
+        self.ring.marks()
     }
 }

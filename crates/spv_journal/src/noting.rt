@@ -1,8 +1,6 @@
-//! Entries of changes that are about to be made.
+//! Entries of changes, by what was there before.
 ghost use Rattle.std.specs.Prelude.{◌≡◌, IfErr, IfOk, IsSome, OnErr, OnOk, Some, length, option_copied, option_map};
-ghost use Rattle.spv_base.specs.declared.values.Value.{Value};
-ghost use Rattle.spv_journal.specs.Entries.{KeepsFrame, KeepsPointer, KeepsValue, popped};
-ghost use Rattle.spv_journal.specs.Events.{pushed};
+ghost use Rattle.spv_journal.specs.Entries.{Keeps, KeepsFrame, KeepsPointer, KeepsValue, popped};
 ghost use Rattle.spv_journal.specs.Undo.{Undoes};
 ghost use Rattle.spv_mem.specs.Memory.{MayStore, load_of};
 ghost use Rattle.spv_state.specs.State as state;
@@ -12,36 +10,14 @@ use crate::entries::{Entry, OldFrame, OldPart, OldValue};
 use crate::journal::Journal;
 use spv_base::{NoMemory, Pointer};
 use spv_state::Whole;
-use spv_state::held::{HeldPointer, HeldValue};
+use spv_state::held::HeldPointer;
 use spv_values::trees::shadow;
-use spv_values::{Part, Row, Single};
+use spv_values::{Row, Single};
 use std::alloc::Global;
 
-/// Adds an entry to the event that is being made.
-pub(crate) fn keep(journal: &mut Journal, entry: Entry) -> Result<(), NoMemory>
-    requires { IsSome journal.old.gathered }
-    ensures ok { OnOk result (journal.new ≡ record journal.old { gathered = option_map (pushed entry) journal.old.gathered }) }
-    ensures err { OnErr result (journal.new ≡ journal.old) }
-{
-    match journal.push(entry) {
-        Ok(()) => Ok(()),
-        Err(_entry) => Err(NoMemory),
-    }
-}
-
-/// The part that a pointer names, which is there.
-fn part_at<'a>(whole: &'a Whole, i: u32, pointer: &Pointer) -> Part<'a>
-    requires { IsSome (load_of whole.now.memory i pointer.now) }
-    ensures { load_of whole.now.memory i pointer.now ≡ Some result }
-{
-    match whole.memory().load(i, pointer) {
-        Ok(part) => part,
-        Err(_error) => unreachable!(),
-    }
-}
-
-/// The entry of a store of a value where a pointer leads: the leaf that is there, or a copy of the part where it isn't one leaf.
-pub(crate) fn part_entry(
+/// The entry of a store where a pointer leads, after it was made, by the value that was there: that is a leaf, or a copy of it is kept
+/// where it isn't.
+fn part_entry(
     alloc: Global,
     whole: &Whole,
     i: u32,
@@ -50,48 +26,78 @@ pub(crate) fn part_entry(
 ) -> Result<Entry, NoMemory>
     requires there { IsSome (load_of whole.now.memory i pointer.now) }
     requires may { ∥ MayStore whole.now.memory i pointer.now row.now ∥₁ }
-    ensures { IfOk result (λ e. Undoes i e whole.now (state.put_store i (Some (pointer.now, row.now)) whole.now)) }
+    ensures { IfOk result (λ e. Undoes i e (state.put_store i (Some (pointer.now, row.now)) whole.now) whole.now) }
 {
-    let memory = whole.memory();
-    memory.keeps_types();
-    let part = part_at(whole, i, pointer);
     if row.len() == 1
-        && let Some(place) = memory.place(i, pointer)
+        && let Some(place) = whole.memory().place(i, pointer)
         && place.len == 1
+        && let Ok(leaf) = u32::try_from(place.start)
     {
         return Ok(Entry::Leaf {
             root: pointer.root,
-            leaf: place.start,
+            leaf,
             path: shadow(&pointer.path),
-            value: Single::of_part(&part),
+            value: Single::of_part(&row.as_part()),
         });
     }
     let old = OldPart {
         place: pointer.copy(alloc)?,
-        row: Row::of_part(alloc, &part)?,
+        row: Row::of_part(alloc, &row.as_part())?,
     };
     Ok(Entry::Part(Box::new(alloc, old)?))
 }
 
-/// The entry of a register that takes a value.
-pub(crate) fn value_entry(alloc: Global, held: &HeldValue, row: &Row) -> Result<Entry, NoMemory>
-    requires { (w : Value) → held.now.value ≡ Some w → length (leaves w) ≡ length (leaves row.now) }
-    ensures { IfOk result (λ e. KeepsValue held.now.number held.now.value (length (leaves row.now)) e) }
+/// Adds the entry of a store where a pointer leads, after it was made, by the value that was there.
+#[inline(always)]
+pub(crate) fn keep_part(
+    alloc: Global,
+    journal: &mut Journal,
+    whole: &Whole,
+    i: u32,
+    pointer: &Pointer,
+    row: &Row,
+) -> Result<(), NoMemory>
+    requires making { IsSome journal.old.gathered }
+    requires there { IsSome (load_of whole.now.memory i pointer.now) }
+    requires may { ∥ MayStore whole.now.memory i pointer.now row.now ∥₁ }
+    ensures ok { OnOk result (Keeps (λ e. Undoes i e (state.put_store i (Some (pointer.now, row.now)) whole.now) whole.now) journal.old journal.new) }
+    ensures err { OnErr result (journal.new ≡ journal.old) }
 {
-    let Some(part) = &held.value else {
-        return Ok(Entry::NoValue(held.number));
-    };
+    let entry = part_entry(alloc, whole, i, pointer, row)?;
+    journal.add(entry)
+}
+
+/// The entry of a register by the value that it had.
+fn value_entry(alloc: Global, number: usize, row: &Row) -> Result<Entry, NoMemory>
+    ensures { IfOk result (KeepsValue number (Some row.now) (length (leaves row.now))) }
+{
     if row.len() == 1 {
         return Ok(Entry::CellRegister {
-            number: held.number,
-            value: Single::of_part(part),
+            number,
+            value: Single::of_part(&row.as_part()),
         });
     }
     let old = OldValue {
-        number: held.number,
-        row: Row::of_part(alloc, part)?,
+        number,
+        row: Row::of_part(alloc, &row.as_part())?,
     };
     Ok(Entry::RowRegister(Box::new(alloc, old)?))
+}
+
+/// Adds the entry of a register by the value that it had.
+#[inline(always)]
+pub(crate) fn keep_value(
+    alloc: Global,
+    journal: &mut Journal,
+    number: usize,
+    row: &Row,
+) -> Result<(), NoMemory>
+    requires { IsSome journal.old.gathered }
+    ensures ok { OnOk result (Keeps (KeepsValue number (Some row.now) (length (leaves row.now))) journal.old journal.new) }
+    ensures err { OnErr result (journal.new ≡ journal.old) }
+{
+    let entry = value_entry(alloc, number, row)?;
+    journal.add(entry)
 }
 
 /// A pointer in a box.

@@ -1,11 +1,8 @@
 //! Changes that are undone. It takes no memory.
 ghost use Rattle.std.specs.Prelude.{◌≡◌, [], option_map};
-ghost use Rattle.spv_journal.specs.Rings.{changes, events};
 ghost use Rattle.spv_journal.specs.Undo.{CanUndo, CanUndoAll, undo, undo_all};
 
 use crate::entries::{Entry, OldFrame, OldPart, OldValue};
-use crate::rings::{Item, pop_change};
-use circular_buffer::HeapCircularBuffer;
 use spv_base::Pointer;
 use spv_state::Whole;
 use std::collections::VecDeque;
@@ -33,7 +30,7 @@ pub(crate) fn undo(whole: &mut Whole, inv: u32, entry: Entry)
             value,
         } => {
             let mut held = value;
-            whole.exchange_single(inv, root, leaf, &path, &mut held);
+            whole.exchange_single(inv, root, leaf as usize, &path, &mut held);
         }
         Entry::Part(part) => {
             let OldPart { place, mut row } = Box::into_inner(part);
@@ -77,19 +74,6 @@ pub(crate) fn undo_gathered(whole: &mut Whole, inv: u32, gathered: &mut VecDeque
     ensures gathered { gathered.new.items ≡ [] }
 {
     while let Some(entry) = gathered.pop_front() {
-        undo(whole, inv, entry);
-    }
-}
-
-/// Undoes the changes of an invocation that stand before the first mark of a ring.
-pub(crate) fn undo_changes(whole: &mut Whole, inv: u32, ring: &mut HeapCircularBuffer<Item>)
-    requires { CanUndoAll inv (changes ring.old.items) whole.old }
-    ensures whole { whole.new ≡ undo_all inv (changes ring.old.items) whole.old }
-    ensures events { events ring.new.items ≡ events ring.old.items }
-    ensures changes { changes ring.new.items ≡ [] }
-    ensures capacity { ring.new.capacity ≡ ring.old.capacity }
-{
-    while let Some(entry) = pop_change(ring) {
         undo(whole, inv, entry);
     }
 }

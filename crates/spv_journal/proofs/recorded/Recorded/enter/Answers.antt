@@ -1,11 +1,10 @@
-use Rattle.std.proofs.Common.{◌≡◌, ◌∙◌, ◌≢◌, ◌<◌, ◌≤◌, [], ℕ, IsSome, Some, length, ap, arith, subst, sym, true}
-use Rattle.spv_journal.specs.declared.entries.Entry.TheVariants.{FramePushed, FramePopped, PcMoved, EventAppended, StatusChanged, BarrierOpened}
+use Rattle.std.proofs.Common.{◌<◌, length, arith, subst, sym}
+use Rattle.spv_journal.specs.declared.entries.Entry.TheVariants.{FramePushed}
 use Rattle.spv_mem.specs.Memory.{AreVariables}
 use Rattle.spv_journal.proofs.LawLemmas.{frame_undone}
 use Rattle.spv_journal.proofs.RecordLemmas.{extended}
 use Rattle.spv_journal.specs.Held.{Held}
 use Rattle.spv_journal.specs.Undo.{Undoes}
-use Rattle.spv_journal.specs.declared.entries.Entry.{Entry}
 use Rattle.spv_journal.proofs.recorded.Recorded.enter.Goals as goal
 
 pub enter-requires-clause-variables : goal.enter-requires-clause-variables
@@ -18,7 +17,7 @@ invariant_of-self-2 c =
     let levels = (subst (λ (h : Held). c.args.i < length h.state.memory.locals) (sym c.self.view_is) c.requires.levels) in
     let u : Undoes c.args.i FramePushed s c.enter.new.self =
     subst (Undoes c.args.i FramePushed s) (sym c.enter.ensures) (frame_undone c.args.i c.args.frame c.args.locals s inside levels) in
-    let x = extended 1 c.args.i FramePushed c.self.inside.whole c.enter.new.self c.self.inside.journal c.keep.new.journal c.args.self.now c.self.view_is c.requires.making c.in_ok-keep.ensures.ok u c.self.invariant (omega arith) in
+    let x = extended 1 c.args.i FramePushed c.self.inside.whole c.enter.new.self c.self.inside.journal c.add.new.self c.args.self.now c.self.view_is c.requires.making c.in_ok-add.ensures.ok u c.self.invariant (omega arith) in
     x.unwinds
 
 pub returns-clause-recorded : goal.returns-clause-recorded
@@ -28,5 +27,5 @@ returns-clause-recorded c =
     let levels = (subst (λ (h : Held). c.args.i < length h.state.memory.locals) (sym c.self.view_is) c.requires.levels) in
     let u : Undoes c.args.i FramePushed s c.enter.new.self =
     subst (Undoes c.args.i FramePushed s) (sym c.enter.ensures) (frame_undone c.args.i c.args.frame c.args.locals s inside levels) in
-    let x = extended 1 c.args.i FramePushed c.self.inside.whole c.enter.new.self c.self.inside.journal c.keep.new.journal c.args.self.now c.self.view_is c.requires.making c.in_ok-keep.ensures.ok u c.self.invariant (omega arith) in
+    let x = extended 1 c.args.i FramePushed c.self.inside.whole c.enter.new.self c.self.inside.journal c.add.new.self c.args.self.now c.self.view_is c.requires.making c.in_ok-add.ensures.ok u c.self.invariant (omega arith) in
     x.records

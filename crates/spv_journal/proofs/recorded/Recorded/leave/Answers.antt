@@ -1,5 +1,4 @@
-use Rattle.std.proofs.Common.{◌≡◌, ◌∙◌, ◌≢◌, ◌<◌, ◌≤◌, [], ℕ, IsSome, Some, length, ap, arith, subst, sym, true}
-use Rattle.spv_journal.specs.declared.entries.Entry.TheVariants.{FramePushed, FramePopped, PcMoved, EventAppended, StatusChanged, BarrierOpened}
+use Rattle.std.proofs.Common.{◌<◌, IsSome, length, arith, subst, sym}
 use Rattle.spv_mem.specs.Memory.{AreVariables}
 use Rattle.spv_state.specs.Rooms.{HasLocals}
 use Rattle.spv_state.specs.State.{State, top_of}
@@ -7,8 +6,6 @@ use Rattle.spv_journal.specs.declared.entries.OldFrame.{OldFrame}
 use Rattle.spv_journal.proofs.LawLemmas.{frame_entry, left_rooms}
 use Rattle.spv_journal.proofs.RecordLemmas.{extended}
 use Rattle.spv_journal.specs.Held.{Held}
-use Rattle.spv_journal.specs.Undo.{Undoes}
-use Rattle.spv_journal.specs.declared.entries.Entry.{Entry}
 use Rattle.spv_journal.proofs.recorded.Recorded.leave.Goals as goal
 
 pub take_frame-frame-requires-clause-variables : goal.take_frame-frame-requires-clause-variables

@@ -1,11 +1,10 @@
-use Rattle.std.proofs.Common.{◌≡◌, ◌∙◌, ◌≢◌, ◌<◌, ◌≤◌, [], ℕ, IsSome, Some, length, ap, arith, subst, sym, true}
-use Rattle.spv_journal.specs.declared.entries.Entry.TheVariants.{FramePushed, FramePopped, PcMoved, EventAppended, StatusChanged, BarrierOpened}
+use Rattle.std.proofs.Common.{◌≡◌, ◌<◌, arith, subst, sym, true}
+use Rattle.spv_journal.specs.declared.entries.Entry.TheVariants.{BarrierOpened}
 use Rattle.spv_statuses.specs.Group.{all_wait_at}
 use Rattle.spv_journal.proofs.LawLemmas.{barrier_undone}
 use Rattle.spv_journal.proofs.RecordLemmas.{extended, making_of}
 use Rattle.spv_journal.specs.Held.{Held}
 use Rattle.spv_journal.specs.Undo.{Undoes}
-use Rattle.spv_journal.specs.declared.entries.Entry.{Entry}
 use Rattle.spv_journal.proofs.recorded.Recorded.open_barrier.Goals as goal
 
 pub invariant_of-self-2 : goal.invariant_of-self-2
@@ -16,7 +15,7 @@ invariant_of-self-2 c =
     let within = (subst (λ (h : Held). c.args.word < h.state.statuses.words) (sym c.self.view_is) c.requires.within) in
     let u : Undoes i.0 (BarrierOpened c.args.word) s c.open_barrier.new.self =
     subst (Undoes i.0 (BarrierOpened c.args.word) s) (sym c.open_barrier.ensures) (barrier_undone i.0 c.args.word s waiting within) in
-    let x = extended 1 i.0 (BarrierOpened c.args.word) c.self.inside.whole c.open_barrier.new.self c.self.inside.journal c.keep.new.journal c.args.self.now c.self.view_is i.1 c.in_ok-keep.ensures.ok u c.self.invariant (omega arith) in
+    let x = extended 1 i.0 (BarrierOpened c.args.word) c.self.inside.whole c.open_barrier.new.self c.self.inside.journal c.add.new.self c.args.self.now c.self.view_is i.1 c.in_ok-add.ensures.ok u c.self.invariant (omega arith) in
     x.unwinds
 
 pub returns-clause-recorded : goal.returns-clause-recorded
@@ -27,5 +26,5 @@ returns-clause-recorded c =
     let within = (subst (λ (h : Held). c.args.word < h.state.statuses.words) (sym c.self.view_is) c.requires.within) in
     let u : Undoes i.0 (BarrierOpened c.args.word) s c.open_barrier.new.self =
     subst (Undoes i.0 (BarrierOpened c.args.word) s) (sym c.open_barrier.ensures) (barrier_undone i.0 c.args.word s waiting within) in
-    let x = extended 1 i.0 (BarrierOpened c.args.word) c.self.inside.whole c.open_barrier.new.self c.self.inside.journal c.keep.new.journal c.args.self.now c.self.view_is i.1 c.in_ok-keep.ensures.ok u c.self.invariant (omega arith) in
+    let x = extended 1 i.0 (BarrierOpened c.args.word) c.self.inside.whole c.open_barrier.new.self c.self.inside.journal c.add.new.self c.args.self.now c.self.view_is i.1 c.in_ok-add.ensures.ok u c.self.invariant (omega arith) in
     x.records

@@ -1,13 +1,12 @@
-use Rattle.std.proofs.Common.{◌≡◌, ◌∙◌, ◌<◌, IsSome, None, length, option_copied, ap, arith, subst, sym}
+use Rattle.std.proofs.Common.{◌≡◌, ◌∙◌, ◌<◌, None, length, option_copied, ap, arith, subst, sym}
 use Rattle.std.specs.Option.{IsSomeAnd}
 use Rattle.spv_base.specs.declared.values.Value.{Ptr}
-use Rattle.spv_frame.specs.Registers.{ids, number_of}
-use Rattle.spv_types.specs.Rows.{leaves}
-use Rattle.spv_state.specs.Slots.{IsHeld, IsHeldPointer}
+use Rattle.spv_frame.specs.Registers.{number_of}
+use Rattle.spv_state.specs.Slots.{IsHeldPointer}
 use Rattle.spv_state.specs.State.{on_frame, top_of, with_register}
 use Rattle.spv_journal.specs.Held.{Held}
 use Rattle.spv_journal.specs.Undo.{Undoes}
-use Rattle.spv_journal.proofs.EntryLemmas.{no_pointer_register, no_register, pointer_register_is, pointer_undone, register_is, value_undone}
+use Rattle.spv_journal.proofs.EntryLemmas.{no_pointer_register, pointer_register_is, pointer_undone}
 use Rattle.spv_journal.proofs.RecordLemmas.{extended}
 use Rattle.spv_journal.proofs.recorded.Recorded.set_pointer.Goals as goal
 
@@ -21,11 +20,11 @@ invariant_of-self-in-Some c =
     let e = c.in_ok-entry-in-Some.entry in
     let u : Undoes c.args.i e s c.put_pointer.new.whole =
     subst (Undoes c.args.i e s) (sym c.put_pointer.ensures) (pointer_undone c.args.i c.args.id n o e c.args.pointer s low held c.in_ok-entry-in-Some.ensures) in
-    let x = extended 1 c.args.i e s c.put_pointer.new.whole c.self.inside.journal c.keep.new.journal c.args.self.now c.self.view_is c.requires.making c.in_ok-keep-in-Some.ensures.ok u c.self.invariant (omega arith) in
+    let x = extended 1 c.args.i e s c.put_pointer.new.whole c.self.inside.journal c.add.new.self c.args.self.now c.self.view_is c.requires.making c.in_ok-add-in-Some.ensures.ok u c.self.invariant (omega arith) in
     x.unwinds
 
-pub returns-in_ok-keep-in-Some-clause-ok : goal.returns-in_ok-keep-in-Some-clause-ok
-returns-in_ok-keep-in-Some-clause-ok c =
+pub returns-in_ok-add-in-Some-clause-ok : goal.returns-in_ok-add-in-Some-clause-ok
+returns-in_ok-add-in-Some-clause-ok c =
     let s = c.self.inside.whole in
     let n = c.in-Some.held.number in
     let o = option_copied c.in-Some.held.pointer in
@@ -33,8 +32,8 @@ returns-in_ok-keep-in-Some-clause-ok c =
     c.put_pointer.ensures ∙ pointer_register_is c.args.i c.args.id n o c.args.pointer s held
     ∙ ap (λ (h : Held). on_frame c.args.i (with_register c.args.id (Ptr c.args.pointer)) h.state) c.self.view_is
 
-pub returns-in_ok-keep-in-Some-clause-recorded : goal.returns-in_ok-keep-in-Some-clause-recorded
-returns-in_ok-keep-in-Some-clause-recorded c =
+pub returns-in_ok-add-in-Some-clause-recorded : goal.returns-in_ok-add-in-Some-clause-recorded
+returns-in_ok-add-in-Some-clause-recorded c =
     let s = c.self.inside.whole in
     let n = c.in-Some.held.number in
     let o = option_copied c.in-Some.held.pointer in
@@ -43,7 +42,7 @@ returns-in_ok-keep-in-Some-clause-recorded c =
     let e = c.in_ok-entry-in-Some.entry in
     let u : Undoes c.args.i e s c.put_pointer.new.whole =
     subst (Undoes c.args.i e s) (sym c.put_pointer.ensures) (pointer_undone c.args.i c.args.id n o e c.args.pointer s low held c.in_ok-entry-in-Some.ensures) in
-    let x = extended 1 c.args.i e s c.put_pointer.new.whole c.self.inside.journal c.keep.new.journal c.args.self.now c.self.view_is c.requires.making c.in_ok-keep-in-Some.ensures.ok u c.self.invariant (omega arith) in
+    let x = extended 1 c.args.i e s c.put_pointer.new.whole c.self.inside.journal c.add.new.self c.args.self.now c.self.view_is c.requires.making c.in_ok-add-in-Some.ensures.ok u c.self.invariant (omega arith) in
     x.records
 
 pub returns-in-None-clause-ok : goal.returns-in-None-clause-ok

@@ -1,7 +1,6 @@
 use Rattle.std.proofs.Common.{subst, sym}
-use Rattle.spv_journal.specs.Events.{Kept, newest, older, opened}
-use Rattle.spv_journal.specs.Undo.{CanUnwind, before}
-use Rattle.spv_state.specs.State.{State}
+use Rattle.spv_journal.specs.Events.{Kept, older, opened}
+use Rattle.spv_journal.specs.Undo.{CanUnwind}
 use Rattle.spv_journal.proofs.UndoLemmas.{older_unwind}
 use Rattle.spv_journal.proofs.recorded.Recorded.unwind.Goals as goal
 
