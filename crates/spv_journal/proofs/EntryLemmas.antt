@@ -10,7 +10,7 @@ use Rattle.spv_types.specs.Shapes.{pointer_in}
 use Rattle.spv_frame.specs.Frames.{Held as Frame}
 use Rattle.spv_frame.specs.Numbers.{HasCells, HasPointer, HoldsPointer, HoldsValue, with_pointer, with_value}
 use Rattle.spv_frame.specs.Calls.{id_at}
-use Rattle.spv_frame.specs.Registers.{ids, marked, number_of}
+use Rattle.spv_frame.specs.Registers.{ids, number_of}
 use Rattle.spv_frame.specs.Stacks.{Stacked, top}
 use Rattle.spv_frame.proofs.NumberLemmas.{inside}
 use Rattle.spv_valid.specs.Acceptance.{Accepted}
@@ -72,12 +72,6 @@ value_undone i n k o e v s low room held keeps = each e keeps
 
 -- ---- a value that is exchanged
 
--- what was handed back is what was held
-pub handed_value : (o : Option Frame) (n : ℕ) (r v : Value) (b : Bool) → IsSomeAnd o (HoldsValue n (marked r b)) → IsSomeAnd o (HoldsValue n (Some v)) → r ≡ v
-handed_value None n r v b h g = absurd h
-handed_value (Some f) n r v true h g = let e : Some (Some r) ≡ Some (Some v) = sym h ∙ g in cc
-handed_value (Some f) n r v false h g = absurd (let e : Some None ≡ Some (Some v) = sym h ∙ g in cc)
-
 reads_put : {A : Type 0} (k : ℕ) (x y : A) (es : List (ℕ × A)) → reads k es ≡ Some y → reads k (writes k x es) ≡ Some x
 reads_put {A} k x y [] h = cc
 reads_put {A} k x y (e ∷ es) h = by_key (λ g. reads_put k x y es g) (e.0 == k) refl h
@@ -136,14 +130,6 @@ given_undone i n v s t low has after = subst (Undoes i (NoValue n) s) (sym after
     (value_undone i n (length (leaves v)) None (NoValue n) v s low
     (some_and (top_of s i) (HasNone n (length (leaves v))) (HasCells n (length (leaves v))) (λ f h. h.0) has)
     (some_and (top_of s i) (HasNone n (length (leaves v))) (HoldsValue n None) (λ f h. h.1) has) (refl, refl))
-
-pub has_value : (o : Option Frame) (id k n : ℕ) (v : Value) → IsSomeAnd o (λ f. IsHeld id k f n (Some v)) → IsSomeAnd o (HasValue n k)
-has_value None id k n v h = h
-has_value (Some f) id k n v h = record { value = v; room = h.cells; holds = h.holds; long = h.long v refl }
-
-pub has_none : (o : Option Frame) (id k n : ℕ) → IsSomeAnd o (λ f. IsHeld id k f n None) → IsSomeAnd o (HasNone n k)
-has_none None id k n h = h
-has_none (Some f) id k n h = (h.cells, h.holds)
 
 -- ---- pointers
 

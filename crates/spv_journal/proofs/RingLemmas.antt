@@ -1,7 +1,7 @@
 -- Marks and entries of a ring, and the events that they are.
 use Rattle.std.proofs.Common.{◌≡◌, ◌∙◌, ℕ, zero, suc, ◌+◌, ◌-◌, ◌<◌, ◌≤◌, Bool, true, false, nat_le, if◌then◌else◌, List, [], ◌∷◌, ◌++◌, Option, Some, None, length, map, take, drop, slice_get, refl, sym, ap, arith}
 use Rattle.spv_journal.specs.Events.{Event, fitting, size, size_of}
-use Rattle.spv_journal.specs.Rings.{but_oldest, changes, event_of, events, in_mark, items_of, IsRing, mark_size}
+use Rattle.spv_journal.specs.Rings.{but_oldest, changes, event_of, events, in_mark, IsRing, mark_size}
 use Rattle.spv_journal.specs.declared.entries.Entry.{Entry}
 use Rattle.spv_journal.specs.declared.rings.Item.{Item}
 use Rattle.spv_journal.specs.declared.rings.Item.TheVariants.{Mark, Change}
@@ -64,10 +64,6 @@ pub no_more_marks : (vs : List Event) → length vs ≤ size vs
 no_more_marks [] = omega arith
 no_more_marks (v ∷ vs) = let n : length vs ≤ size vs = no_more_marks vs in omega (arith, n)
 
-pub some_size : (vs : List Event) → 0 < size vs → 0 < length vs
-some_size [] h = absurd (omega (arith, h))
-some_size (v ∷ vs) h = omega arith
-
 -- ---- what fits
 
 le_true : (m n : ℕ) → m ≤ n → nat_le m n ≡ true
@@ -82,13 +78,6 @@ all_fit n (v ∷ vs) h =
     let first : size_of v ≤ n = omega arith in
     let rest : size vs ≤ n - size_of v = omega arith in
     rw (le_true (size_of v) n first) (ap (λ (us : List Event). v ∷ us) (all_fit (n - size_of v) vs rest))
-
-pub none_fits : (n need : ℕ) (v : Event) (vs : List Event) → size_of v ≡ need → n < need → [] ≡ fitting n (v ∷ vs)
-none_fits n need v vs is h = by_room (nat_le (size_of v) n) refl
-  where
-    by_room : (b : Bool) → nat_le (size_of v) n ≡ b → [] ≡ (if nat_le (size_of v) n then v ∷ fitting (n - size_of v) vs else [])
-    by_room true e = let l = le_of (size_of v) n e in absurd (omega (arith, h, is, l))
-    by_room false e = rw e refl
 
 pub one_fits : (n need : ℕ) (v : Event) (vs : List Event) → size_of v ≡ need → need ≤ n → v ∷ fitting (n - need) vs ≡ fitting n (v ∷ vs)
 one_fits n need v vs is h =
@@ -286,15 +275,6 @@ ring_put is js capacity held marks need m es ring put count room =
       fits = omega (arith, held', sizes, one, count, room);
     }
 
--- the last of what is put
-map_last : (es : List Entry) (e : Entry) → map Change (es ++ e ∷ []) ≡ map Change es ++ Change e ∷ []
-map_last [] e = refl
-map_last (d ∷ es) e = ap (λ (is : List Item). Change d ∷ is) (map_last es e)
-
-pub last_change : (o : Option mark.Mark) (es ds : List Entry) (e : Entry) → es ≡ ds ++ e ∷ [] → items_of o es ≡ items_of o ds ++ Change e ∷ []
-last_change None es ds e is = ap (map Change) is ∙ map_last ds e
-last_change (Some m) es ds e is = ap (λ (is : List Item). Mark m ∷ is) (ap (map Change) is ∙ map_last ds e)
-
 -- ---- the first item
 
 pub begins_with_change : (is : List Item) (e : Entry) → slice_get is 0 ≡ Some (Change e) → changes is ≡ e ∷ changes (drop 1 is)
@@ -319,36 +299,6 @@ begins_with_none (i ∷ is) h = absurd cc
 pub begins_with_mark : (is : List Item) (h : mark.Mark) → slice_get is 0 ≡ Some (Mark h) → changes is ≡ []
 begins_with_mark [] h k = refl
 begins_with_mark (i ∷ is) h k = let same : i ≡ Mark h = cc in ap (λ (x : Item). changes (x ∷ is)) same
-
-pub mark_gone : (is : List Item) (h : mark.Mark) → slice_get is 0 ≡ Some (Mark h) → events is ≡ event_of h (changes (drop 1 is)) ∷ events (drop 1 is)
-mark_gone [] h k = cc
-mark_gone (i ∷ is) h k = let same : i ≡ Mark h = cc in ap (λ (x : Item). events (x ∷ is)) same
-
-pub none_gone : (is : List Item) → slice_get is 0 ≡ None → events is ≡ []
-none_gone [] h = refl
-none_gone (i ∷ is) h = absurd cc
-
-pub not_a_change : (is : List Item) (e : Entry) → changes is ≡ [] → slice_get is 0 ≡ Some (Change e) → ⊥
-not_a_change is e none h = let c = begins_with_change is e h in cc
-
-pub ring_undone : (is js : List Item) (capacity held marks n : ℕ) (m : mark.Mark) → IsRing is capacity held marks → slice_get is 0 ≡ Some (Mark m) → changes js ≡ []
-    → events js ≡ events (drop 1 is) → n ≡ mark_size m.pc + length (changes (drop 1 is)) → IsRing js capacity (held - n) (marks - 1)
-ring_undone is js capacity held marks n m ring first none same count =
-    let all = mark_gone is m first in
-    let one = event_size m (changes (drop 1 is)) in
-    let sizes : size (events is) ≡ size_of (event_of m (changes (drop 1 is))) + size (events (drop 1 is)) = ap size all in
-    let many : length (events is) ≡ suc (length (events (drop 1 is))) = ap length all in
-    let sizes' : size (events js) ≡ size (events (drop 1 is)) = ap size same in
-    let many' : length (events js) ≡ length (events (drop 1 is)) = ap length same in
-    let held' = ring.entries in
-    let marks' = ring.many in
-    let room = ring.fits in
-    record {
-      whole = none;
-      entries = omega (arith, held', sizes, sizes', one, count);
-      many = omega (arith, marks', many, many');
-      fits = omega (arith, room, sizes, sizes');
-    }
 
 -- a change that is the last leaves its event
 pub change_leaves : (is js : List Item) (e : Entry) → slice_get is (length is - 1) ≡ Some (Change e) → js ≡ take (length is - 1) is → 0 < length (events is) → 0 < length (events js)

@@ -42,7 +42,8 @@ impl Model for Journal {
     ghost invariant = { λ j. (1 ≤ j.ring.limit) × (j.making ≡ None → j.gathered.items ≡ []) };
 }
 
-/// The change that lies in the mark of an event that is made goes among the others: it won't be the newest.
+/// Puts the change that lies in the mark of an event that is made, if there is one, among the others: a newer one comes. Where memory
+/// runs out nothing changes.
 #[inline(always)]
 fn settle(making: &mut Option<Mark>, gathered: &mut VecDeque<Entry>) -> Result<(), NoMemory>
     requires { IsSome making.old }
@@ -50,24 +51,17 @@ fn settle(making: &mut Option<Mark>, gathered: &mut VecDeque<Entry>) -> Result<(
     ensures some { IsSome making.new }
     ensures ok { OnOk result (moved making.new ≡ None) }
 {
-    if let Some(
-        Mark {
-            happening,
-            pc: Some(pc),
-        },
-    ) = *making
+    if let Some(mark) = *making
+        && let Some(pc) = mark.pc
     {
         gathered.reserve(1)?;
         gathered.push_front_reserved(Entry::PcMoved(pc));
-        *making = Some(Mark {
-            happening,
-            pc: None,
-        });
+        *making = Some(Mark::of(mark.happening));
     }
     Ok(())
 }
 
-/// Makes room for a change more of an event that is made.
+/// Makes room for a change more of an event that is made. Where memory runs out nothing changes.
 #[inline(always)]
 fn make_room(making: &mut Option<Mark>, gathered: &mut VecDeque<Entry>) -> Result<(), NoMemory>
     requires { IsSome making.old }
@@ -100,10 +94,7 @@ impl Journal {
         ensures ok { OnOk result (self.new ≡ record self.old { gathered = begun happening }) }
         ensures err { OnErr result (self.new ≡ self.old) }
     {
-        self.making = Some(Mark {
-            happening,
-            pc: None,
-        });
+        self.making = Some(Mark::of(happening));
         Ok(())
     }
 
@@ -145,10 +136,7 @@ impl Journal {
     {
         settle(&mut self.making, &mut self.gathered)?;
         if let Some(mark) = self.making {
-            self.making = Some(Mark {
-                happening: mark.happening,
-                pc: Some(pc),
-            });
+            self.making = Some(mark.moved(pc));
         }
         Ok(())
     }

@@ -1,5 +1,5 @@
 //! The ring of a journal: marks and entries one behind the other, the newest first.
-ghost use Rattle.std.specs.Prelude.{◌≡◌, ◌<◌, ◌≤◌, ◌+◌, ◌++◌, ◌∷◌, [], IfOk, false, length, map, option_map, true};
+ghost use Rattle.std.specs.Prelude.{◌≡◌, ◌<◌, ◌≤◌, ◌+◌, ◌++◌, ◌∷◌, [], IfOk, None, Some, false, length, map, option_map, true};
 ghost use Rattle.std.specs.Option.{MatchOption, option_map_or};
 ghost use Rattle.spv_journal.specs.Events.{fitting, newest, older, size};
 ghost use Rattle.spv_journal.specs.Rings.{but_oldest, changes, event_of, events, in_mark, items_of, mark_size};
@@ -15,8 +15,8 @@ use std::alloc::Global;
 use std::collections::VecDeque;
 use std::marker::Model;
 
-/// The mark of an event. Where the newest change of the event is a move of the pc, the pc that was lies here: most events end with
-/// such a move, so each of them takes an item fewer.
+/// The mark of an event. Where the newest change of the event is a move of the pc, the pc that was lies here: most events end by such a
+/// move, so each of them takes an item fewer.
 #[derive(Clone, Copy)]
 pub(crate) struct Mark {
     pub happening: Happening,
@@ -24,6 +24,28 @@ pub(crate) struct Mark {
 }
 
 impl Mark {
+    /// The mark of an event that has no changes.
+    #[inline(always)]
+    pub(crate) fn of(happening: Happening) -> Mark
+        ensures { result ≡ record { happening = happening; pc = None } }
+    {
+        Mark {
+            happening,
+            pc: None,
+        }
+    }
+
+    /// The same event, whose newest change is a move of the pc from another.
+    #[inline(always)]
+    pub(crate) fn moved(self, pc: u32) -> Mark
+        ensures { result ≡ record self { pc = Some pc } }
+    {
+        Mark {
+            happening: self.happening,
+            pc: Some(pc),
+        }
+    }
+
     /// How many marks and entries it stands for.
     #[inline(always)]
     fn size(&self) -> usize
