@@ -1,6 +1,7 @@
 -- Debug events that the top frame passes, one after the other.
-use Rattle.std.proofs.Common.{◌≡◌, ◌∙◌, ℕ, suc, ◌+◌, ◌-◌, ◌<◌, ◌≤◌, List, [], ◌∷◌, ◌++◌, append-nil, append_assoc, map, Option, Some, None, IsSome, length, refl, sym, ap, subst, arith}
-use Rattle.std.proofs.lemmas.List.{length-map}
+use Rattle.std.proofs.Common.{◌≡◌, ◌∙◌, ℕ, suc, nat_eq, ◌+◌, ◌-◌, ◌<◌, ◌≤◌, Bool, true, List, [], ◌∷◌, ◌++◌, append-nil, append_assoc, map, Option, Some, None, IsSome, length, refl, sym, ap, subst, arith}
+use Rattle.std.proofs.lemmas.Bool.Decides.{nat_tests}
+use Rattle.std.proofs.lemmas.List.{length-map, nil_from_length}
 use Rattle.std.specs.Option.{IsSomeAnd, option_map_or}
 use Rattle.spv_base.specs.declared.values.PassedEvent.{PassedEvent}
 use Rattle.spv_valid.specs.Acceptance.{Accepted}
@@ -107,6 +108,9 @@ due_counted a s i some =
     ∙ sym (ap (λ (o : Option Frame). option_map_or (λ (f : Frame). length (captures_before a f.pc)) o 0) now)
 
 -- ---- where there are none
+
+pub none_there : {A : Type 0} (b : Bool) (xs : List A) → b ≡ nat_eq (length xs) 0 → b ≡ true → xs ≡ []
+none_there b xs e h = nil_from_length xs (grind (arith, nat_tests))
 
 pub none_due : (a : Accepted) (s : State) (i pc : ℕ) → IsSome (top_of s i) → captures_before a pc ≡ [] → due_at a (on_frame i (with_pc pc) s) i ≡ []
 none_due a s i pc some none =
