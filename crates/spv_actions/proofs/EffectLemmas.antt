@@ -140,7 +140,7 @@ planned gain = record { store = None; gain = gain; control = Next }
 pub computed_due : (x : Site) (c : Computation) (gain : Gain) (v : Value) → action_of x.inst ≡ Compute → computation_of x.inst ≡ Some c → Computes x c v (Ok gain) → due x ≡ Ok (shown (planned gain) v)
 computed_due x c Nothing v is has h = absurd h.1
 computed_due x c Row v is has h = compute_due x c (Some v) is has h.0
-computed_due x c (Pointer q) v is has h = compute_due x c (Some (Ptr q)) is has h.0
+computed_due x c (Pointer b) v is has h = compute_due x c (Some (Ptr b.value)) is has h.0
 computed_due x c (Handed l) v is has h = absurd h.1
 
 pub computed_fault : (x : Site) (c : Computation) (v : Value) (r : Result Effect (Fail Cause)) (e : Fail Cause) → action_of x.inst ≡ Compute → computation_of x.inst ≡ Some c → Computes x c v (Err e) → r ≡ Err e → IsDue (due x) v r
@@ -169,11 +169,11 @@ result_fits a d v sound h = by_level (out-Value v) (result_plain a d v sound h)
 pub gain_fits : (x : Site) (gain : Gain) (v : Value) → AreSound (accepted x).types → IsGain x gain v → ResultFits (accepted x) x.inst (gained gain v)
 gain_fits x Nothing v sound h = absurd h
 gain_fits x Row v sound h = result_fits (accepted x) x.inst v sound h
-gain_fits x (Pointer q) v sound h = rw (out_pointer q) h.0
+gain_fits x (Pointer b) v sound h = rw (out_pointer b.value) h.0
 gain_fits x (Handed c) v sound h = absurd h
 
 pub gain_taken : (x : Site) (gain : Gain) (v : Value) → AreSound (accepted x).types → IsGain x gain v → IsTaken x.state x.inv (planned gain) v
 gain_taken x Nothing v sound h = absurd h
 gain_taken x Row v sound h = (result_plain (accepted x) x.inst v sound h, tt)
-gain_taken x (Pointer q) v sound h = (tt, tt)
+gain_taken x (Pointer b) v sound h = (tt, tt)
 gain_taken x (Handed c) v sound h = absurd h

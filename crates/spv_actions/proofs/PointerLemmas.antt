@@ -1,8 +1,9 @@
 -- Pointers and other values, by the types of their operands.
-use Rattle.std.proofs.Common.{◌≡◌, ◌∙◌, ◌⊎◌, inl, inr, ℕ, Bool, true, false, cond, Option, Some, None, refl, sym, ap, subst, arith}
+use Rattle.std.proofs.Common.{◌≡◌, ◌∙◌, ◌⊎◌, inl, inr, ℕ, Bool, true, false, cond, [], Option, Some, None, ok_or, refl, sym, ap, subst, arith}
 use Rattle.std.proofs.lemmas.Bool.{both_ways}
-use Rattle.std.specs.Option.{IsSomeAnd, is_some, option_map}
+use Rattle.std.specs.Option.{IsSomeAnd, is_some, option_and_then, option_map}
 use Rattle.std.specs.Prelude.{if◌then◌else◌}
+use Rattle.spv_base.specs.Parts.{part_at}
 use Rattle.spv_base.specs.declared.instructions.Inst.{Inst}
 use Rattle.spv_base.specs.declared.values.Pointer.{Pointer as Reference}
 use Rattle.spv_base.specs.declared.values.Root.{Root}
@@ -18,13 +19,16 @@ use Rattle.spv_types.specs.Types.{Types, form_of}
 use Rattle.spv_types.proofs.ShapeLemmas.{shapes_are_by_forms}
 use Rattle.spv_bodies.specs.Context.{type_at}
 use Rattle.spv_bodies.specs.Matching.{KeepsCopyLogical}
+use Rattle.spv_mem.specs.Memory.{root_value}
 use Rattle.spv_valid.specs.Acceptance.{Accepted}
 use Rattle.spv_operands.specs.Operands.{data_of, pointer_of}
 use Rattle.spv_operands.specs.Shapes.{target_in}
-use Rattle.spv_operands.proofs.ShapeLemmas.{data_plain}
+use Rattle.spv_operands.specs.Values.{pointer_to}
+use Rattle.spv_operands.proofs.ShapeLemmas.{data_plain, out_pointer}
 use Rattle.spv_results.specs.Operands.{IsOperand, known}
 use Rattle.spv_actions.specs.Kept.{KeepsCopy}
-use Rattle.spv_actions.specs.Sites.{IsShaped}
+use Rattle.spv_actions.specs.Sites.{IsShaped, Site, part_of}
+use Rattle.spv_actions.specs.declared.causes.Cause.TheVariants.{OutOfBounds}
 use Rattle.spv_actions.proofs.KeepsFrames.{pointer_by}
 
 -- ---- values
@@ -44,6 +48,16 @@ lent_plain v u h = by_pointer (is_some (pointer_of v)) h
     by_pointer : (b : Bool) → (if b then None else Some v) ≡ Some u → (b ≡ false) × (v ≡ u)
     by_pointer true e = absurd (cc)
     by_pointer false e = (refl, cc)
+
+-- ---- pointers to variables
+
+-- the part that the pointer to a whole variable names is its value
+pub whole_part : (x : Site) (r : Root) → part_of x (pointer_to r) ≡ ok_or (root_value x.state.memory x.inv r) OutOfBounds
+whole_part x r = rw (out_pointer (record { root = r; path = [] })) (by_value (root_value x.state.memory x.inv r))
+  where
+    by_value : (o : Option Value) → ok_or (option_and_then (λ (v : Value). part_at v []) o) OutOfBounds ≡ ok_or o OutOfBounds
+    by_value None = refl
+    by_value (Some v) = refl
 
 -- ---- pointer types
 

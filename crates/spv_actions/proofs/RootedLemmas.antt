@@ -90,7 +90,7 @@ pointer_rooted a fs r h q is = subst (λ (p : Reference). IsRoot a fs (length fs
 pub gain_rooted : (x : Site) (gain : Gain) (v : Value) → AreSound (accepted x).types → IsGain x gain v → ResultRooted (accepted x) (frames_of x.state x.inv) (gained gain v)
 gain_rooted x Nothing v sound h = absurd h
 gain_rooted x Row v sound h = result_rooted (accepted x) (frames_of x.state x.inv) x.inst v sound h
-gain_rooted x (Pointer q) v sound h = pointer_rooted (accepted x) (frames_of x.state x.inv) q h.1
+gain_rooted x (Pointer b) v sound h = pointer_rooted (accepted x) (frames_of x.state x.inv) b.value h.1
 gain_rooted x (Handed c) v sound h = absurd h
 
 -- ---- access chains

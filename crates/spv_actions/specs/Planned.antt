@@ -23,7 +23,7 @@ use Rattle.spv_actions.specs.declared.effects.PhiValue.{PhiValue}
 abbrev pub gained : Gain → Value → Option Value
 gained Nothing v = None
 gained Row v = Some v
-gained (Pointer q) v = Some (Ptr q)
+gained (Pointer b) v = Some (Ptr b.value)
 gained (Handed c) v = Some (Scalar c)
 
 abbrev pub phi_value : PhiValue → ℕ × Value
@@ -32,7 +32,7 @@ phi_value p = (p.id, p.row)
 abbrev pub gone : Control → Value → spec.Control
 gone Next v = spec.Next
 gone (Jump block phis) v = spec.Jump block (map phi_value phis.items)
-gone (Enter frame locals) v = spec.Enter frame locals
+gone (Enter b) v = spec.Enter b.value.frame b.value.locals
 gone Leave v = spec.Leave None
 gone Give v = spec.Leave (Some v)
 gone Wait v = spec.Wait
@@ -55,7 +55,7 @@ abbrev pub IsGained : State → ℕ → Option Reference → Gain → Value → 
 IsGained s i store Nothing v = ⊤
 IsGained s i None Row v = pointer_in (out-Value v) ≡ None
 IsGained s i (Some q) Row v = ⊥
-IsGained s i store (Pointer q) v = ⊤
+IsGained s i store (Pointer b) v = ⊤
 IsGained s i None (Handed c) v = ⊥
 IsGained s i (Some q) (Handed c) v = load_of s.memory i q ≡ Some (Scalar c)
 
@@ -63,7 +63,7 @@ IsGained s i (Some q) (Handed c) v = load_of s.memory i q ≡ Some (Scalar c)
 abbrev pub IsGiven : Control → Option Reference → Gain → Type 0
 IsGiven Next store gain = ⊤
 IsGiven (Jump block phis) store gain = ⊤
-IsGiven (Enter frame locals) store gain = ⊤
+IsGiven (Enter b) store gain = ⊤
 IsGiven Leave store gain = ⊤
 IsGiven Give store gain = (store ≡ None) × (gain ≡ Nothing)
 IsGiven Wait store gain = ⊤

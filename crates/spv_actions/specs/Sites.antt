@@ -103,7 +103,8 @@ Finds due (Err NoMemory) = ⊤
 abbrev pub IsGain : Site → Gain → Value → Type 0
 IsGain x Nothing v = ⊥
 IsGain x Row v = IsResult (accepted x) x.inst v
-IsGain x (Pointer q) v = HasShape (accepted x).types (target_in (accepted x)) x.inst.ty (Ptr q) × IsRoot (accepted x) (frames_of x.state x.inv) (depth_of x.state x.inv) q.root
+IsGain x (Pointer b) v =
+    HasShape (accepted x).types (target_in (accepted x)) x.inst.ty (Ptr b.value) × IsRoot (accepted x) (frames_of x.state x.inv) (depth_of x.state x.inv) b.value.root
 IsGain x (Handed c) v = ⊥
 
 -- what the computation gives, or an operand has no value; or memory ran out

@@ -7,12 +7,13 @@ ghost use Rattle.spv_actions.specs.Effects.{pointer};
 ghost use Rattle.spv_actions.specs.Planned.{IsDue, IsTaken, PlannedFits};
 ghost use Rattle.spv_actions.specs.Sites as spec;
 ghost use Rattle.spv_operands.specs.Operands.{IsPlain, shown};
+ghost use Rattle.spv_operands.specs.Values.{pointer_to};
 
 use crate::causes::Cause;
 use crate::effects::{Control, Effect, Gain};
 use crate::kept::{copy_memory_is_kept, load_is_kept, store_is_kept};
 use crate::sites::{Site, owned};
-use spv_base::{Fail, NoMemory, Pointer};
+use spv_base::{Fail, NoMemory, Pointer, Root};
 use spv_effects::resize;
 use spv_mem::Memory;
 use spv_operands::Operand;
@@ -26,11 +27,25 @@ pub(crate) fn variables_are_shaped(memory: &Memory)
     memory.keeps_types();
 }
 
-/// The part of memory that an operand names. F3 where there is none.
+/// The value of a whole variable. F3 where there is none.
+#[tactic(auto, using(crate::proofs::PointerLemmas::whole_part))]
+fn whole<'a>(site: &Site<'a>, root: Root) -> Result<Part<'a>, Fail<Cause>>
+    ensures { Answers (spec.part_of site.now (pointer_to root)) result }
+{
+    match site.memory().whole(site.inv(), root) {
+        Some(part) => Ok(part),
+        None => Err(Fail::Refused(Cause::OutOfBounds)),
+    }
+}
+
+/// The part of memory that an operand names. F3 where there is none. No pointer is made where it is a whole variable.
 fn part<'a>(site: &Site<'a>, at: &Operand) -> Result<Part<'a>, Fail<Cause>>
     requires { IsPlain at.now }
     ensures { Answers (spec.part_of site.now (shown at.now)) result }
 {
+    if let Operand::Variable(root) = at {
+        return whole(site, *root);
+    }
     let Some(reference) = at.pointer(site.alloc()) else {
         return Err(Fail::Refused(Cause::OutOfBounds));
     };

@@ -21,7 +21,7 @@ ghost use Rattle.spv_actions.specs.Sites as spec;
 
 use crate::accesses::copied;
 use crate::causes::Cause;
-use crate::effects::{Control, Effect, Gain};
+use crate::effects::{Control, Effect, Entered, Gain};
 use crate::kept_calls::{call_is_kept, return_value_is_kept};
 use crate::sites::{Site, owned};
 use spv_base::{Fail, NoMemory};
@@ -132,10 +132,11 @@ pub fn call(site: &Site) -> Result<Effect, Fail<Cause>>
     let fresh = frame_of(site, plan, function)?;
     let frame = site.begun(fresh)?;
     let locals = locals_of(site, function)?;
+    let entered = Box::new(site.alloc(), Entered { frame, locals })?;
     Ok(Effect {
         store: None,
         gain: Gain::Nothing,
-        control: Control::Enter { frame, locals },
+        control: Control::Enter(entered),
     })
 }
 

@@ -63,9 +63,10 @@ pub fn chain(site: &Site) -> Result<Effect, Fail<Cause>>
     let base = site.operand(0)?;
     let indexes = indexes(site)?;
     let pointer = chained(site, &base, indexes.as_slice())?;
+    let boxed = Box::new(site.alloc(), pointer)?;
     Ok(Effect {
         store: None,
-        gain: Gain::Pointer(pointer),
+        gain: Gain::Pointer(boxed),
         control: Control::Next,
     })
 }

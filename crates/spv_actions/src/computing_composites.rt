@@ -185,7 +185,10 @@ fn copy_object(site: &Site, row: &mut Row) -> Result<Gain, Fail<Cause>>
         return copy_value(site, &part, row);
     }
     match operand.pointer(site.alloc()) {
-        Some(reference) => Ok(Gain::Pointer(owned(site.alloc(), reference)?)),
+        Some(reference) => {
+            let pointer = owned(site.alloc(), reference)?;
+            Ok(Gain::Pointer(Box::new(site.alloc(), pointer)?))
+        }
         None => unreachable!(),
     }
 }

@@ -30,6 +30,13 @@ pub struct PhiValue {
     pub row: Row,
 }
 
+/// A frame that a call makes, with its variables.
+#[derive(Drop)]
+pub struct Entered {
+    pub frame: Frame,
+    pub locals: Locals,
+}
+
 /// Where control goes.
 #[derive(Drop)]
 pub enum Control {
@@ -37,8 +44,8 @@ pub enum Control {
     Next,
     /// To a block of the function, whose phis all take their values at once.
     Jump { block: u32, phis: Vec<PhiValue> },
-    /// Into a function: a frame with its variables, above the one that calls.
-    Enter { frame: Frame, locals: Locals },
+    /// Into a function: a frame with its variables, above the one that calls. It is boxed, so that an effect is small.
+    Enter(Box<Entered>),
     /// Out of the function, which gives nothing.
     Leave,
     /// Out of the function, which gives the value in the row at hand.
@@ -53,7 +60,8 @@ pub enum Gain {
     Nothing,
     /// The value in the row at hand.
     Row,
-    Pointer(Pointer),
+    /// A pointer, boxed as a new frame is.
+    Pointer(Box<Pointer>),
     /// The scalar that the store hands back.
     Handed(Cell),
 }

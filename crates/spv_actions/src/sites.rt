@@ -191,6 +191,7 @@ impl<'a> Site<'a> {
     }
 
     /// What the operand with a number stands for, if it stands for something, counted from 0 behind the result.
+    #[inline(always)]
     fn found(&self, n: usize) -> Result<Option<Operand<'a>>, NoMemory>
         ensures value { IfOk result (λ o. option_map shown o ≡ spec.values self.now n) }
         ensures plain { IfOk result (λ o. IfSome o IsPlain) }
@@ -208,6 +209,7 @@ impl<'a> Site<'a> {
     }
 
     /// What the operand with a number stands for. F4 where it has no value.
+    #[inline(always)]
     pub fn operand(&self, n: usize) -> Result<Operand<'a>, Fail<Cause>>
         ensures value { Finds (spec.values self.now n) (result_map_both shown (λ e. e) result) }
         ensures plain { IfOk result IsPlain }
@@ -223,6 +225,7 @@ impl<'a> Site<'a> {
     }
 
     /// The value of the operand with a number, whose type is no pointer type. F4 where it has none.
+    #[inline(always)]
     pub fn value(&self, n: usize) -> Result<Datum<'a>, Fail<Cause>>
         requires { is_data_at self.now.program.accepted self.now.inst n ≡ true }
         ensures value { Finds (spec.values self.now n) result }

@@ -1,8 +1,11 @@
-use Rattle.std.proofs.Common.{◌≡◌, ℕ, Err, rules, subst, sym}
+use Rattle.std.proofs.Common.{◌≡◌, ◌∙◌, ℕ, Err, Ok, ap, rules, subst, sym}
 use Rattle.std.specs.List.{Contains}
 use Rattle.spv_plans.specs.Plans.{functions_in}
 use Rattle.spv_state.proofs.EventLemmas.{readable}
 use Rattle.spv_state.specs.declared.actions.Action.TheVariants.{Call}
+use Rattle.spv_actions.specs.Effects.{Enter, goes}
+use Rattle.spv_actions.specs.Fits.{Fits}
+use Rattle.spv_actions.specs.declared.effects.Entered.{Entered}
 use Rattle.spv_actions.proofs.EffectLemmas.{acting}
 use Rattle.spv_actions.proofs.EnterLemmas.{begun_plan, begun_rooted, begun_sound, call_faults, call_gives, enter_fits}
 use Rattle.spv_actions.proofs.calls.call.Goals as goal
@@ -28,14 +31,18 @@ pub returns-clause-due : goal.returns-clause-due
 returns-clause-due c v =
     call_gives c.args.site.now c.requires c.callee-function.result c.callee-function.ensures c.in_ok-fresh.fresh c.in_ok-frame.frame c.in_ok-locals.locals c.in_ok-fresh.ensures.due c.in_ok-frame.ensures
     c.in_ok-locals.ensures.value
+    ∙ ap (λ (e : Entered). Ok (goes (Enter e.frame e.locals))) (sym c.in_ok-entered.ensures.ok)
 
 pub returns-clause-fits : goal.returns-clause-fits
-returns-clause-fits c v = record {
-  store = tt;
-  result = tt;
-  control = enter_fits c.args.site.now.program.accepted c.args.site.now.inst c.callee-function.result c.in_ok-frame.frame c.in_ok-locals.locals c.callee-function.ensures c.call_is_kept.ensures.call
-      (begun_sound c.args.site.now c.in_ok-fresh.fresh c.in_ok-frame.frame c.in_ok-frame.ensures c.in_ok-fresh.ensures.sound)
-      (begun_plan c.args.site.now c.in_ok-fresh.fresh c.in_ok-frame.frame _ c.in_ok-frame.ensures c.in_ok-fresh.ensures.plan) c.in_ok-locals.ensures.value c.in_ok-locals.ensures.are;
-  rooted = tt;
-  passed = begun_rooted c.args.site.now c.in_ok-fresh.fresh c.in_ok-frame.frame c.in_ok-frame.ensures c.in_ok-fresh.ensures.rooted;
-}
+returns-clause-fits c v =
+    let x = c.args.site.now in
+    subst (λ (e : Entered). Fits x.program x.state x.inv x.inst (goes (Enter e.frame e.locals))) (sym c.in_ok-entered.ensures.ok)
+    (record {
+      store = tt;
+      result = tt;
+      control = enter_fits c.args.site.now.program.accepted c.args.site.now.inst c.callee-function.result c.in_ok-frame.frame c.in_ok-locals.locals c.callee-function.ensures c.call_is_kept.ensures.call
+          (begun_sound c.args.site.now c.in_ok-fresh.fresh c.in_ok-frame.frame c.in_ok-frame.ensures c.in_ok-fresh.ensures.sound)
+          (begun_plan c.args.site.now c.in_ok-fresh.fresh c.in_ok-frame.frame _ c.in_ok-frame.ensures c.in_ok-fresh.ensures.plan) c.in_ok-locals.ensures.value c.in_ok-locals.ensures.are;
+      rooted = tt;
+      passed = begun_rooted c.args.site.now c.in_ok-fresh.fresh c.in_ok-frame.frame c.in_ok-frame.ensures c.in_ok-fresh.ensures.rooted;
+    })

@@ -1,10 +1,14 @@
 use Rattle.std.proofs.Common.{◌≡◌, ◌∙◌, Err, Ok, ap, rules, subst, sym}
+use Rattle.spv_base.specs.declared.values.Pointer.{Pointer as Reference}
+use Rattle.spv_base.specs.declared.values.Value.{Ptr}
 use Rattle.spv_types.specs.Laws.{AreSound}
 use Rattle.spv_valid.specs.Acceptance.{Accepted}
 use Rattle.spv_valid.specs.Validity.{IsValid}
 use Rattle.spv_operands.specs.Operands.{shown}
 use Rattle.spv_results.proofs.SoundTypes.{sound_types}
 use Rattle.spv_actions.specs.Chains.{chained, indexes}
+use Rattle.spv_actions.specs.Effects.{gives}
+use Rattle.spv_actions.specs.Fits.{Fits}
 use Rattle.spv_actions.specs.Sites.{due, values}
 use Rattle.spv_actions.proofs.AccessLemmas.{no_value_due, outside_due}
 use Rattle.spv_actions.proofs.ChainLemmas.{chain_data, chain_fails, chain_fits, chain_gives, chain_missing, chain_without}
@@ -39,6 +43,7 @@ pub returns-clause-due : goal.returns-clause-due
 returns-clause-due c = λ v.
     let cells : c.as_slice.result.now ≡ c.in_ok-indexes.indexes.items = search rules in
     chain_gives c.args.site.now (shown c.in_ok-base.base) c.as_slice.result.now c.in_ok-pointer.pointer c.requires c.in_ok-base.ensures.value (c.in_ok-indexes.ensures ∙ ap Ok (sym cells)) c.in_ok-pointer.ensures
+    ∙ ap (λ (q : Reference). Ok (gives (Ptr q))) (sym c.in_ok-boxed.ensures.ok)
 
 pub returns-clause-fits : goal.returns-clause-fits
 returns-clause-fits c = λ v.
@@ -51,4 +56,6 @@ returns-clause-fits c = λ v.
     let type = chain_typed (known c.args.site.now.program.accepted) c.args.site.now.inst c.chain_is_kept.ensures.rule in
     let rooted = chain_rooted c.args.site.now.program.accepted (frames_of c.args.site.now.state c.args.site.now.inv) base c.as_slice.result.now c.in_ok-pointer.pointer
     (λ q is. site_root c.args.site.now 0 type.0 base q c.accepted.result.now c.accepted.ensures c.insts-insts.ensures.accepted c.insts-insts.ensures.valid c.is_reached.ensures c.in_ok-base.ensures.value type.1 is) c.in_ok-pointer.ensures in
-    record { store = tt; result = fits; control = c.chain_is_kept.ensures.next; rooted = rooted; passed = tt }
+    let x = c.args.site.now in
+    subst (λ (q : Reference). Fits x.program x.state x.inv x.inst (gives (Ptr q))) (sym c.in_ok-boxed.ensures.ok)
+    (record { store = tt; result = fits; control = c.chain_is_kept.ensures.next; rooted = rooted; passed = tt })

@@ -15,8 +15,8 @@ copy_value-requires-clause-shape c =
 pub returns : goal.returns
 returns c =
     let v = shown c.in_ok-operand.operand in
-    let q = c.in_ok-owned-in-Some-pointer.field-0 in
-    let is : pointer_of v ≡ Some q = sym (c.pointer.ensures c.in_ok-operand.ensures.plain) ∙ ap (option_map referred) c.in-Some-pointer.is ∙ ap Some (sym c.in_ok-owned-in-Some-pointer.ensures) in (
+    let q = c.in_ok-new-in-Some-pointer.field-0.value in
+    let is : pointer_of v ≡ Some q = sym (c.pointer.ensures c.in_ok-operand.ensures.plain) ∙ ap (option_map referred) c.in-Some-pointer.is ∙ ap Some (sym (c.in_ok-new-in-Some-pointer.ensures.ok ∙ c.in_ok-pointer-in-Some-pointer.ensures)) in (
       c.in_ok-operand.ensures.value ∙ ap Some (pointer_is v q is),
       (
         pointer_shape c.args.site.now.program.accepted (subst (λ (a : Accepted). AreSound a.types) c.accepted.ensures (sound_types c.accepted.result.now c.insts-insts.ensures.valid)) c.args.site.now.inst 0 v c.in_ok-operand.ensures.shape c.args.site.now.inst.ty q c.requires.rule is,
