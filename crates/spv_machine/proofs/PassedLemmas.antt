@@ -1,6 +1,7 @@
 -- Debug events that the top frame passes, one after the other.
-use Rattle.std.proofs.Common.{◌≡◌, ◌∙◌, ℕ, suc, ◌+◌, ◌-◌, ◌<◌, ◌≤◌, List, [], ◌∷◌, ◌++◌, append-nil, append_assoc, Option, Some, None, IsSome, length, refl, sym, ap, subst, arith}
-use Rattle.std.proofs.lemmas.List.{length-map}
+use Rattle.std.proofs.Common.{◌≡◌, ◌∙◌, ℕ, suc, nat_eq, ◌+◌, ◌-◌, ◌<◌, ◌≤◌, Bool, true, List, [], ◌∷◌, ◌++◌, append-nil, append_assoc, map, Option, Some, None, IsSome, length, refl, sym, ap, subst, arith}
+use Rattle.std.proofs.lemmas.Bool.Decides.{nat_tests}
+use Rattle.std.proofs.lemmas.List.{length-map, nil_from_length}
 use Rattle.std.specs.Option.{IsSomeAnd, option_map_or}
 use Rattle.spv_base.specs.declared.values.PassedEvent.{PassedEvent}
 use Rattle.spv_valid.specs.Acceptance.{Accepted}
@@ -10,7 +11,7 @@ use Rattle.spv_journal.specs.Held.{Held as Recorded, Records}
 use Rattle.spv_state.specs.Events.{IsReadable, IsReadableAt, captured, captures_before, due, due_at, pass, passed}
 use Rattle.spv_state.specs.Sound.{IsSoundFrame}
 use Rattle.spv_state.specs.State.{State, append_event, depth_of, on_frame, on_frames, top_of, with_pc}
-use Rattle.spv_state.proofs.EventLemmas.{readable}
+use Rattle.spv_state.proofs.EventLemmas.{passed_is, readable}
 use Rattle.spv_state.proofs.Lists.{change_same, length_change}
 use Rattle.spv_machine.specs.Weights.{events_before}
 use Rattle.spv_machine.proofs.Phis.{on_frame_still, on_frame_twice}
@@ -105,6 +106,23 @@ due_counted a s i some =
     let now : top_of (pass a i s) i ≡ Some (passed a (depth_of s i) there.0) = frame_changed s i (passed a (depth_of s i)) there.0 there.1 in
     due_count a s i (top_of s i) ∙ ap (λ (o : Option Frame). option_map_or (λ (f : Frame). length (captures_before a f.pc)) o 0) there.1
     ∙ sym (ap (λ (o : Option Frame). option_map_or (λ (f : Frame). length (captures_before a f.pc)) o 0) now)
+
+-- ---- where there are none
+
+pub none_there : {A : Type 0} (b : Bool) (xs : List A) → b ≡ nat_eq (length xs) 0 → b ≡ true → xs ≡ []
+none_there b xs e h = nil_from_length xs (grind (arith, nat_tests))
+
+pub none_due : (a : Accepted) (s : State) (i pc : ℕ) → IsSome (top_of s i) → captures_before a pc ≡ [] → due_at a (on_frame i (with_pc pc) s) i ≡ []
+none_due a s i pc some none =
+    let there = some_top (top_of s i) some in
+    let come = on_frame i (with_pc pc) s in
+    let now : top_of come i ≡ Some (with_pc pc there.0) = frame_changed s i (with_pc pc) there.0 there.1 in
+    ap (λ (o : Option Frame). option_map_or (due a (depth_of come i)) o []) now ∙ ap (map (captured a (with_pc pc there.0) (depth_of come i))) none
+
+pub none_passed : (a : Accepted) (s : State) (i : ℕ) → due_at a s i ≡ [] → s ≡ pass a i s
+none_passed a s i none =
+    sym (on_frame_still i s) ∙ on_frame_same i (λ f. f) (with_events []) s (λ f. ap (λ (xs : List PassedEvent). record f { events = xs }) (sym (append-nil f.events)))
+    ∙ passed_is a s i [] (sym none)
 
 -- ---- a frame that came to an instruction can be read
 

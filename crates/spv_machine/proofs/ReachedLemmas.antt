@@ -61,7 +61,7 @@ pub held_behind : (s : State) (i : ℕ) (store : Option Pointer) (gain : Gain) (
 held_behind s i store Nothing v w taken same handed = (tt, refl)
 held_behind s i None Row v w taken same handed = (subst (λ (x : Value). pointer_in (out-Value x) ≡ None) (sym (same refl)) taken, ap (λ (x : Value). Some x) (same refl))
 held_behind s i (Some q) Row v w taken same handed = absurd taken
-held_behind s i store (PointerTo q) v w taken same handed = (tt, refl)
+held_behind s i store (PointerTo b) v w taken same handed = (tt, refl)
 held_behind s i None (Handed c) v w taken same handed = absurd taken
 held_behind s i (Some q) (Handed c) v w taken same handed =
     let there = handed q refl in
@@ -72,7 +72,7 @@ held_behind s i (Some q) (Handed c) v w taken same handed =
 pub given_behind : (control : CodeControl) (store : Option Pointer) (gain : Gain) (v w x : Value) → IsGiven control store gain → (store ≡ None → w ≡ v) → (gain ≡ Nothing → x ≡ w) → gone control x ≡ gone control v
 given_behind CodeNext store gain v w x given one other = refl
 given_behind (CodeJump block phis) store gain v w x given one other = refl
-given_behind (CodeEnter frame locals) store gain v w x given one other = refl
+given_behind (CodeEnter b) store gain v w x given one other = refl
 given_behind CodeLeave store gain v w x given one other = refl
 given_behind CodeGive store gain v w x given one other = ap (λ (y : Value). Leave (Some y)) (other given.1 ∙ one given.0)
 given_behind CodeWait store gain v w x given one other = refl

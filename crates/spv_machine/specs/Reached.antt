@@ -38,5 +38,5 @@ IsStepBy p s i d v (Err NoMemory) = ⊤
 abbrev pub IsHeld : Gain → Value → Type 0
 IsHeld Nothing v = ⊤
 IsHeld Row v = pointer_in (out-Value v) ≡ None
-IsHeld (Pointer q) v = ⊤
+IsHeld (Pointer b) v = ⊤
 IsHeld (Handed c) v = v ≡ Scalar c

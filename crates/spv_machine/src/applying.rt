@@ -18,12 +18,10 @@ ghost use Rattle.spv_state.specs.Sound.{IsBarrier};
 ghost use Rattle.spv_state.specs.State as state;
 
 use crate::passing::come_to;
-use spv_actions::effects::PhiValue;
+use spv_actions::effects::{Entered, PhiValue};
 use spv_actions::{Control, Effect, Gain};
 use spv_base::{Inst, NoMemory, Pointer};
-use spv_frame::Frame;
 use spv_journal::Recorded;
-use spv_mem::Locals;
 use spv_state::{Runnable, Whole};
 use spv_statuses::Status;
 use spv_valid::Module;
@@ -51,6 +49,7 @@ fn put_store(
 }
 
 /// Gives the register of an instruction what it takes.
+#[inline(always)]
 fn put_result(
     m: &Runnable,
     recorded: &mut Recorded,
@@ -72,7 +71,10 @@ fn put_result(
     match gain {
         Gain::Nothing => Ok(()),
         Gain::Row => recorded.set_value(accepted, inv, inst.id, row),
-        Gain::Pointer(pointer) => recorded.set_pointer(accepted, inv, inst.id, pointer),
+        Gain::Pointer(boxed) => {
+            let pointer = Box::into_inner(boxed);
+            recorded.set_pointer(accepted, inv, inst.id, pointer)
+        }
         Gain::Handed(_cell) => recorded.set_value(accepted, inv, inst.id, row),
     }
 }
@@ -184,18 +186,17 @@ fn enter(
     recorded: &mut Recorded,
     inv: u32,
     inst: &Inst,
-    frame: Frame,
-    locals: Locals,
+    entered: Entered,
 ) -> Result<(), NoMemory>
     requires making { IsMaking recorded.old.gathered inv }
     requires reached { IsReached m.now recorded.old.state inv inst.now }
-    requires fits { EnterFits m.now.accepted inst.now frame locals }
-    ensures ok { OnOk result (recorded.new.state ≡ state.push_frame inv frame locals recorded.old.state) }
+    requires fits { EnterFits m.now.accepted inst.now entered.frame entered.locals }
+    ensures ok { OnOk result (recorded.new.state ≡ state.push_frame inv entered.frame entered.locals recorded.old.state) }
     ensures recorded { Records 1 recorded.old recorded.new }
 {
     let accepted = m.accepted();
     let _insts = accepted.insts();
-    recorded.enter(inv, frame, locals)
+    recorded.enter(inv, entered.frame, entered.locals)
 }
 
 /// The instruction at which the top frame of an invocation stands, where it has one.
@@ -307,7 +308,7 @@ fn go(
     match control {
         Control::Next => go_on(alloc, m, recorded, inv, inst),
         Control::Jump { block, phis } => jump(alloc, m, recorded, inv, inst, block, phis),
-        Control::Enter { frame, locals } => enter(m, recorded, inv, inst, frame, locals),
+        Control::Enter(entered) => enter(m, recorded, inv, inst, Box::into_inner(entered)),
         Control::Leave => leave(alloc, m, recorded, inv, inst, Gain::Nothing, row),
         Control::Give => leave(alloc, m, recorded, inv, inst, Gain::Row, row),
         Control::Wait => arrive(m, recorded, inv, inst),

@@ -92,7 +92,7 @@ pub(crate) fn happening_of(
     match &effect.control {
         Control::Next => stored(accepted, inv, word, effect),
         Control::Wait => arrival(inv, word, whole.statuses().all_wait_with(inv, word)),
-        Control::Jump { .. } | Control::Enter { .. } | Control::Leave | Control::Give => {
+        Control::Jump { .. } | Control::Enter(_) | Control::Leave | Control::Give => {
             plain(inv, word)
         }
     }

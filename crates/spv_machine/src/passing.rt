@@ -28,7 +28,8 @@ fn append_all(recorded: &mut Recorded, inv: u32, events: Vec<DebugEvent>) -> Res
     Ok(())
 }
 
-/// The top frame of an invocation comes to an instruction, past the debug instructions before it.
+/// The top frame of an invocation comes to an instruction, past the debug instructions before it. Where there are none its pc is all that
+/// changes.
 pub(crate) fn come_to(
     alloc: Global,
     m: &Runnable,
@@ -44,6 +45,9 @@ pub(crate) fn come_to(
     ensures recorded { Records (events_before m.now.accepted (pass m.now.accepted inv (state.on_frame inv (state.with_pc pc) recorded.old.state)) inv + 1) recorded.old recorded.new }
 {
     recorded.set_pc(inv, pc)?;
+    if m.captures(pc).is_empty() {
+        return Ok(());
+    }
     let events = captured_at(alloc, m, recorded.whole(), inv)?;
     append_all(recorded, inv, events)
 }

@@ -1,12 +1,12 @@
-use Rattle.std.proofs.Common.{◌≡◌, ◌∙◌, ◌+◌, ◌<◌, ℕ, List, IsSome, ap, arith, length, subst, sym}
+use Rattle.std.proofs.Common.{◌≡◌, ◌∙◌, ◌+◌, ◌<◌, ℕ, List, [], IsSome, ap, arith, length, subst, sym}
 use Rattle.std.proofs.lemmas.Result.{on_ok_weaker}
 use Rattle.spv_base.specs.declared.values.PassedEvent.{PassedEvent}
 use Rattle.spv_journal.specs.Held.{Records}
-use Rattle.spv_state.specs.Events.{IsReadableAt, due_at, pass}
+use Rattle.spv_state.specs.Events.{IsReadableAt, captures_before, due_at, pass}
 use Rattle.spv_state.specs.State.{State, on_frame, top_of, with_pc}
 use Rattle.spv_state.proofs.EventLemmas.{passed_is}
 use Rattle.spv_machine.specs.Weights.{events_before}
-use Rattle.spv_machine.proofs.PassedLemmas.{come_readable, due_counted, frame_stays, sound_some, stacks_stay, with_events}
+use Rattle.spv_machine.proofs.PassedLemmas.{come_readable, due_counted, frame_stays, none_due, none_passed, none_there, sound_some, stacks_stay, with_events}
 use Rattle.spv_machine.proofs.Recording.{records_more, records_on}
 use Rattle.spv_machine.proofs.passing.come_to.Goals as goal
 
@@ -54,3 +54,18 @@ returns-clause-recorded c =
     let two = subst (λ (n : ℕ). Records n c.set_pc.new.self c.append_all.new.recorded) count c.append_all.ensures.recorded in
     records_more (1 + events_before a (pass a i come) i) (events_before a (pass a i come) i + 1) c.args.recorded.now c.append_all.new.recorded (omega arith)
     (records_on 1 (events_before a (pass a i come) i) c.args.recorded.now c.set_pc.new.self c.append_all.new.recorded c.set_pc.ensures.recorded two)
+
+pub returns-then-is_empty-clause-ok : goal.returns-then-is_empty-clause-ok
+returns-then-is_empty-clause-ok c =
+    let a = c.args.m.now.accepted in
+    let i = c.args.inv in
+    let s = c.args.recorded.now.state in
+    let none : captures_before a c.args.pc ≡ [] = sym c.captures-2.ensures ∙ none_there c.is_empty.result c.captures-2.result.now c.is_empty.ensures c.if-is_empty.true in
+    c.in_ok-set_pc.ensures.ok ∙ none_passed a (on_frame i (with_pc c.args.pc) s) i (none_due a s i c.args.pc (sound_some a (top_of s i) c.requires.frame) none)
+
+pub returns-then-is_empty-clause-recorded : goal.returns-then-is_empty-clause-recorded
+returns-then-is_empty-clause-recorded c =
+    let a = c.args.m.now.accepted in
+    let i = c.args.inv in
+    let come = on_frame i (with_pc c.args.pc) c.args.recorded.now.state in
+    records_more 1 (events_before a (pass a i come) i + 1) c.args.recorded.now c.set_pc.new.self (omega arith) c.set_pc.ensures.recorded
