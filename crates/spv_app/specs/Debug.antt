@@ -87,10 +87,10 @@ pub data Debugged (names : Names) (before after : Outside) (unread : Type 0) : S
       → IsPair before.files.told names binary setup → opening binary setup ≡ Err refusal
       → unread → Appends before.streams.held after.streams.held put → SaysLine (status_of_refusal refusal) (refusal_line refusal) status put
       → after.streams.steps ≡ before.streams.steps → Debugged names before after unread status
-  -- the pair is opened: the command loop runs from the first view of its group
+  -- the pair is opened: the command loop runs from the first view of its group, which keeps at most 1,048,576 marks and entries of events
   Opened : (status : Status) (binary setup : List ℕ) (group : Group) → AsksForBoth names before.files after.files
       → IsPair before.files.told names binary setup → opening binary setup ≡ Ok group
-      → Ran (first_viewing (with_journal group)) before.streams after.streams status → Debugged names before after unread status
+      → Ran (first_viewing (with_journal 1048576 group)) before.streams after.streams status → Debugged names before after unread status
 
 -- ---- what is due where nothing fails
 

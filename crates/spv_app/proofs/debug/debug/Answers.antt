@@ -25,4 +25,4 @@ pub returns-clause-debugged : goal.returns-clause-debugged
 returns-clause-debugged g c =
     let opened = opened_is 1048576 (opening c.in-Ok.pair.0.items c.in-Ok.pair.1.items) c.in-Ok-open.group c.in-Ok-open.ensures.opening in
     Opened _ c.in-Ok.pair.0.items c.in-Ok.pair.1.items opened.0 (c.in-Ok.ensures.asked refl) c.in-Ok.ensures.pair opened.1
-    (ran_as (first_viewing (with_journal opened.0)) _ _ _ _ (c.in-Ok-open-2.ensures ∙ ap first_viewing opened.2) c.run.ensures.ran)
+    (ran_as (first_viewing (with_journal 1048576 opened.0)) _ _ _ _ (c.in-Ok-open-2.ensures ∙ ap first_viewing opened.2) c.run.ensures.ran)
