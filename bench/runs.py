@@ -330,13 +330,6 @@ def undone(n, back=100_000):
     return "".join(line + "\n" for line in lines)
 
 
-def limited(events=4, weights=(3, 3, 3, 3), limit=10):
-    """A run of four events with a journal of ten marks and entries: an addition takes a mark, a register and a pc, and a return a mark, a
-    frame and a status. Then it is taken back whole."""
-    kept = next(k for k in range(events + 1) if sum(weights[k:]) <= limit)
-    return "limit %d\n@%d kept %d\n@0 kept 0\n" % (limit, events, kept)
-
-
 def main():
     out = arithmetic.written()
     # each byte as a line: only a line feed and a space are nothing
@@ -350,7 +343,7 @@ def main():
             text += "== %s: %s: %s\n%s-- commands\n%s" % (what, module, words, setup, commands)
             out += "%s: %s: %s\n%sstatus %d\n" % (what, module, words, written, status)
         write(file, text)
-    out += made(1) + made(64) + undone(64) + limited()
+    out += made(1) + made(64) + undone(64)
     write("lines", "".join(line + "\n" for line, _ in LINES))
     out += "lines\n" + "".join(due + "\n" for _, due in LINES)
     with open(os.path.join(FOLDER, "stdout"), "w") as file:

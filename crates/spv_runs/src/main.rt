@@ -4,11 +4,9 @@
 #![tactic(auto)]
 
 mod calls;
-mod limited;
 mod made;
 
 use crate::calls::{files_of, report};
-use crate::limited::report_limited;
 use crate::made::{report_made, report_undone};
 use spv_base::Fail;
 use spv_cmd::{parse, print};
@@ -116,7 +114,6 @@ fn main(rt: HostRuntime) -> io::Result<()> {
     report_made(&rt, 1)?;
     report_made(&rt, 64)?;
     report_undone(&rt, 64)?;
-    report_limited(&rt, "first.spv")?;
     println!(rt; "lines")?;
     let lines = fs::read_to_string(&rt, "lines")?;
     for line in lines.split_terminator('\n') {
