@@ -152,15 +152,15 @@ def entries():
         print("| %s | %.2f s | %.2f s |" % (name, whole - nothing, whole))
 
 
-def back(position=1_000_000, by=100_000, times=10):
-    """Going back within what the journal keeps: `by` events are fewer than it has room for."""
+def back(position=1_000_000, by=100_000, times=30):
+    """Going back within what the journal keeps: `by` events are fewer than it has room for. Forward is told once the journal is full."""
     print("| run | million events a second forward | back | memory before the run | memory with a full journal |\n|---|---|---|---|---|")
     for name, count, data in (("1 KiB of a mixture", 1, mixed(1 << 10)), ("64 invocations with barriers", 64, with_barriers(64))):
         calls = called(data, count)
         to = "goto %d\n" % position
-        start, there = calls.least("goto 64\n"), calls.least(to)
+        there, far = calls.least(to), calls.least("goto %d\n" % (4 * position))
         again = calls.least(to + times * ("back %d\nfwd %d\n" % (by, by)))
-        each = (there - start) / (position - 64)
+        each = (far - there) / (3 * position)
         behind = (again - there) / (times * by) - each
         rate = "%.1f" % (1e-6 / behind) if behind > 0 else "too fast to be told"
         print("| %s | %.1f | %s | %.1f MiB | %.1f MiB |" % (name, 1e-6 / each, rate, calls.memory("goto 64\n"), calls.memory(to)))
