@@ -1,23 +1,25 @@
--- Marks and entries of a ring, and the events that they are.
-use Rattle.std.proofs.Common.{◌≡◌, ◌∙◌, ℕ, zero, suc, ◌+◌, ◌-◌, ◌<◌, ◌≤◌, Bool, true, false, nat_le, if◌then◌else◌, List, [], ◌∷◌, ◌++◌, Option, Some, None, length, map, take, drop, slice_get, refl, sym, ap, arith}
+-- Marks and changes of two rings, and the events that they are.
+use Rattle.std.proofs.Common.{◌≡◌, ◌∙◌, ℕ, zero, suc, ◌+◌, ◌-◌, ◌<◌, ◌≤◌, Bool, true, false, nat_le, if◌then◌else◌, List, [], ◌∷◌, ◌++◌, Option, Some, None, length, take, drop, slice_get, refl, sym, ap, subst, arith}
+use Rattle.std.proofs.Math.Seq.{drop-append_seam, take-append_seam}
+use Rattle.std.proofs.lemmas.List.{drop-take, length-append, length-drop, length-take-le, take-take}
 use Rattle.spv_journal.specs.Events.{Event, fitting, size, size_of}
-use Rattle.spv_journal.specs.Rings.{but_oldest, changes, event_of, events, in_mark, IsRing, mark_size}
+use Rattle.spv_journal.specs.Rings.{beside, but_oldest, event_of, events, in_mark, IsRing, mark_size}
+use Rattle.spv_journal.specs.Undo.{CanUndoAll, undo, undo_all}
 use Rattle.spv_journal.specs.declared.entries.Entry.{Entry}
-use Rattle.spv_journal.specs.declared.rings.Item.{Item}
-use Rattle.spv_journal.specs.declared.rings.Item.TheVariants.{Mark, Change}
+use Rattle.spv_journal.specs.declared.rings.KeptMark.{KeptMark}
 use Rattle.spv_journal.specs.declared.rings.Mark as mark
+use Rattle.spv_state.specs.State.{State}
 
 -- ---- sizes
 
--- what an item counts
-abbrev pub item_size : Item → ℕ
-item_size (Mark m) = mark_size m.pc
-item_size (Change e) = 1
+-- what a kept mark stands for, with its changes
+abbrev pub kept_size : KeptMark → ℕ
+kept_size k = mark_size k.mark.pc + k.beside
 
--- what all count
-abbrev pub total : List Item → ℕ
+-- what all stand for
+abbrev pub total : List KeptMark → ℕ
 total [] = 0
-total (i ∷ is) = item_size i + total is
+total (k ∷ ks) = kept_size k + total ks
 
 pub event_size : (m : mark.Mark) (es : List Entry) → size_of (event_of m es) ≡ mark_size m.pc + length es
 event_size m es = each m.pc
@@ -26,43 +28,38 @@ event_size m es = each m.pc
     each None = omega arith
     each (Some pc) = omega arith
 
-counted : (is : List Item) → total is ≡ length (changes is) + size (events is)
-counted [] = refl
-counted (Mark m ∷ is) =
-    let c : total is ≡ length (changes is) + size (events is) = counted is in
-    let s : size_of (event_of m (changes is)) ≡ mark_size m.pc + length (changes is) = event_size m (changes is) in
-    omega (arith, c, s)
-counted (Change e ∷ is) = let c : total is ≡ length (changes is) + size (events is) = counted is in omega (arith, c)
-
-whole_counted : (is : List Item) → changes is ≡ [] → total is ≡ size (events is)
-whole_counted is none =
-    let c : total is ≡ length (changes is) + size (events is) = counted is in
-    let n : length (changes is) ≡ 0 = ap length none in
-    omega (arith, c, n)
-
-total_append : (is : List Item) (x : Item) → total (is ++ x ∷ []) ≡ total is + item_size x
-total_append [] x = omega arith
-total_append (i ∷ is) x = let t : total (is ++ x ∷ []) ≡ total is + item_size x = total_append is x in omega (arith, t)
-
 pub mark_some : (o : Option ℕ) → 1 ≤ mark_size o
 mark_some None = omega arith
 mark_some (Some pc) = omega arith
 
-some_item : (x : Item) → 1 ≤ item_size x
-some_item (Mark m) = mark_some m.pc
-some_item (Change e) = omega arith
+pub counted : (ks : List KeptMark) (es : List Entry) → beside ks ≤ length es → size (events ks es) ≡ total ks
+counted [] es h = refl
+counted (k ∷ ks) es h =
+    let first : length (take k.beside es) ≡ k.beside = length-take-le k.beside es (omega (arith, h)) in
+    let left : length (drop k.beside es) ≡ length es - k.beside = length-drop k.beside es in
+    let rest : size (events ks (drop k.beside es)) ≡ total ks = counted ks (drop k.beside es) (omega (arith, h, left)) in
+    let one : size_of (event_of k.mark (take k.beside es)) ≡ mark_size k.mark.pc + length (take k.beside es) = event_size k.mark (take k.beside es) in
+    omega (arith, first, rest, one)
 
-no_more_items : (is : List Item) → length is ≤ total is
-no_more_items [] = omega arith
-no_more_items (i ∷ is) = let n : length is ≤ total is = no_more_items is in let o = some_item i in omega (arith, n, o)
+pub ring_counted : (ks : List KeptMark) (es : List Entry) (limit held : ℕ) → IsRing ks es limit held → size (events ks es) ≡ total ks
+ring_counted ks es limit held ring = let whole = ring.whole in counted ks es (omega (arith, whole))
 
--- a ring that begins with a mark has no more items than it counts
-pub items_within : (is : List Item) → changes is ≡ [] → length is ≤ size (events is)
-items_within is none = let n = no_more_items is in let t = whole_counted is none in omega (arith, n, t)
+-- marks and the changes beside them are no more than what they stand for
+pub room_for_both : (ks : List KeptMark) → length ks + beside ks ≤ total ks
+room_for_both [] = omega arith
+room_for_both (k ∷ ks) = let rest = room_for_both ks in let some = mark_some k.mark.pc in omega (arith, rest, some)
 
-pub no_more_marks : (vs : List Event) → length vs ≤ size vs
-no_more_marks [] = omega arith
-no_more_marks (v ∷ vs) = let n : length vs ≤ size vs = no_more_marks vs in omega (arith, n)
+pub as_many : (ks : List KeptMark) (es : List Entry) → length (events ks es) ≡ length ks
+as_many [] es = refl
+as_many (k ∷ ks) es = ap suc (as_many ks (drop k.beside es))
+
+beside_append : (ks : List KeptMark) (k : KeptMark) → beside (ks ++ k ∷ []) ≡ beside ks + k.beside
+beside_append [] k = omega arith
+beside_append (j ∷ ks) k = let rest = beside_append ks k in omega (arith, rest)
+
+total_append : (ks : List KeptMark) (k : KeptMark) → total (ks ++ k ∷ []) ≡ total ks + kept_size k
+total_append [] k = omega arith
+total_append (j ∷ ks) k = let rest = total_append ks k in omega (arith, rest)
 
 -- ---- what fits
 
@@ -120,193 +117,165 @@ last_none (y ∷ z ∷ xs) h =
     let g : slice_get (z ∷ xs) (length (z ∷ xs) - 1) ≡ None = ap (slice_get (y ∷ z ∷ xs)) (sym e) ∙ h in
     absurd (let k = last_none (z ∷ xs) g in cc)
 
--- a ring that begins with a mark, but for the last item, does so too, unless the mark was the last
-whole_but_last : (is : List Item) (x : Item) → changes (is ++ x ∷ []) ≡ [] → changes is ≡ []
-whole_but_last [] x h = refl
-whole_but_last (Mark h ∷ is) x none = refl
-whole_but_last (Change e ∷ is) x none = cc
+-- ---- the oldest event goes
 
 cons_but_oldest : (v : Event) (vs : List Event) → 0 < length vs → but_oldest (v ∷ vs) ≡ v ∷ but_oldest vs
 cons_but_oldest v [] h = absurd (omega arith)
 cons_but_oldest v (u ∷ vs) h = refl
 
--- ---- a mark is the last
+some_behind : (ks : List KeptMark) (k : KeptMark) → 0 < length (ks ++ k ∷ [])
+some_behind [] k = omega arith
+some_behind (j ∷ ks) k = omega arith
 
-some_events : (is : List Item) (h : mark.Mark) → 0 < length (events (is ++ Mark h ∷ []))
-some_events [] h = omega arith
-some_events (Mark g ∷ is) h = omega arith
-some_events (Change e ∷ is) h = some_events is h
+oldest_gone : (ks : List KeptMark) (k : KeptMark) (es : List Entry) → beside ks ≤ length es → but_oldest (events (ks ++ k ∷ []) es) ≡ events ks (take (beside ks) es)
+oldest_gone [] k es h = refl
+oldest_gone (j ∷ ks) k es h =
+    let ds = drop j.beside es in
+    let left : length ds ≡ length es - j.beside = length-drop j.beside es in
+    let many = as_many (ks ++ k ∷ []) ds in
+    let more = some_behind ks k in
+    let some : 0 < length (events (ks ++ k ∷ []) ds) = omega (arith, many, more) in
+    cons_but_oldest (event_of j.mark (take j.beside es)) (events (ks ++ k ∷ []) ds) some
+    ∙ ap (λ (vs : List Event). event_of j.mark (take j.beside es) ∷ vs) (oldest_gone ks k ds (omega (arith, h, left)))
+    ∙ ap (λ (cs : List Entry). event_of j.mark cs ∷ events ks (take (beside ks) ds)) (sym (take-take j.beside (j.beside + beside ks) es (omega arith)))
+    ∙ ap (λ (cs : List Entry). event_of j.mark (take j.beside (take (j.beside + beside ks) es)) ∷ events ks cs) (sym (drop-take j.beside (beside ks) es))
 
-mark_changes : (is : List Item) (h : mark.Mark) → changes (is ++ Mark h ∷ []) ≡ changes is
-mark_changes [] h = refl
-mark_changes (Mark g ∷ is) h = refl
-mark_changes (Change e ∷ is) h = ap (λ (es : List Entry). e ∷ es) (mark_changes is h)
+-- the last mark is there, and so are its changes
+pub record Oldest (ks js : List KeptMark) (es : List Entry) (held : ℕ) (k : KeptMark) : Type 0 where
+  pub split : ks ≡ js ++ k ∷ []
+  pub there : k.beside ≤ length es
+  pub counts : kept_size k ≤ held
 
-mark_last : (is : List Item) (h : mark.Mark) → but_oldest (events (is ++ Mark h ∷ [])) ≡ events is
-mark_last [] h = refl
-mark_last (Mark g ∷ is) h =
-    cons_but_oldest (event_of g (changes (is ++ Mark h ∷ []))) (events (is ++ Mark h ∷ [])) (some_events is h)
-    ∙ ap (λ (vs : List Event). event_of g (changes (is ++ Mark h ∷ [])) ∷ vs) (mark_last is h)
-    ∙ ap (λ (es : List Entry). event_of g es ∷ events is) (mark_changes is h)
-mark_last (Change e ∷ is) h = mark_last is h
+pub oldest : (ks js : List KeptMark) (es : List Entry) (limit held : ℕ) (k : KeptMark) → IsRing ks es limit held → slice_get ks (length ks - 1) ≡ Some k → js ≡ take (length ks - 1) ks → Oldest ks js es held k
+oldest ks js es limit held k ring last rest =
+    let split : ks ≡ js ++ k ∷ [] = last_split ks k last ∙ ap (λ (ls : List KeptMark). ls ++ k ∷ []) (sym rest) in
+    let changes : beside ks ≡ beside js + k.beside = ap beside split ∙ beside_append js k in
+    let all : total ks ≡ total js + kept_size k = ap total split ∙ total_append js k in
+    let size = ring_counted ks es limit held ring in
+    let whole = ring.whole in
+    let entries = ring.entries in
+    record { split = split; there = omega (arith, whole, changes); counts = omega (arith, entries, size, all) }
 
--- ---- a change is the last
+-- what is left where the last mark goes, and its changes with it
+pub record Dropped (ks js : List KeptMark) (es ds : List Entry) (limit held : ℕ) : Type 0 where
+  pub ring : IsRing js ds limit held
+  pub left : events js ds ≡ but_oldest (events ks es)
+  pub less : size (events js ds) < size (events ks es)
 
-as_many_events : (is : List Item) (e : Entry) → length (events (is ++ Change e ∷ [])) ≡ length (events is)
-as_many_events [] e = refl
-as_many_events (Mark g ∷ is) e = ap suc (as_many_events is e)
-as_many_events (Change d ∷ is) e = as_many_events is e
+pub dropped : (ks js : List KeptMark) (es ds : List Entry) (limit held : ℕ) (k : KeptMark) → IsRing ks es limit held → slice_get ks (length ks - 1) ≡ Some k → js ≡ take (length ks - 1) ks → ds ≡ take (length es - k.beside) es
+    → Dropped ks js es ds limit (held - kept_size k)
+dropped ks js es ds limit held k ring last rest left =
+    let o = oldest ks js es limit held k ring last rest in
+    let changes : beside ks ≡ beside js + k.beside = ap beside o.split ∙ beside_append js k in
+    let all : total ks ≡ total js + kept_size k = ap total o.split ∙ total_append js k in
+    let whole = ring.whole in
+    let within : beside js ≤ length es = omega (arith, whole, changes) in
+    let fewer : ds ≡ take (beside js) es = left ∙ ap (λ (n : ℕ). take n es) (omega (arith, whole, changes)) in
+    let long : length ds ≡ beside js = ap length fewer ∙ length-take-le (beside js) es within in
+    let old : size (events ks es) ≡ total ks = counted ks es (omega (arith, whole)) in
+    let new : size (events js ds) ≡ total js = counted js ds (omega (arith, long)) in
+    let some = mark_some k.mark.pc in
+    let entries = ring.entries in
+    let fits = ring.fits in
+    record {
+      ring = record { whole = long; entries = omega (arith, entries, old, new, all); fits = omega (arith, fits, old, new, all) };
+      left = ap (events js) fewer ∙ sym (oldest_gone js k es within) ∙ ap (λ (ls : List KeptMark). but_oldest (events ls es)) (sym o.split);
+      less = omega (arith, old, new, all, some);
+    }
 
-change_changes : (is : List Item) (e : Entry) → 0 < length (events is) → changes (is ++ Change e ∷ []) ≡ changes is
-change_changes [] e h = absurd (omega arith)
-change_changes (Mark g ∷ is) e h = refl
-change_changes (Change d ∷ is) e h = ap (λ (es : List Entry). d ∷ es) (change_changes is e h)
-
-no_length : (vs : List Event) → length vs ≡ 0 → vs ≡ []
-no_length [] h = refl
-no_length (v ∷ vs) h = absurd (omega (arith, h))
-
-change_last : (is : List Item) (e : Entry) → but_oldest (events (is ++ Change e ∷ [])) ≡ but_oldest (events is)
-change_last [] e = refl
-change_last (Mark g ∷ is) e = by_length (change_last is e) (length (events is)) refl
-  where
-    by_length : but_oldest (events (is ++ Change e ∷ [])) ≡ but_oldest (events is) → (n : ℕ) → length (events is) ≡ n
-        → but_oldest (event_of g (changes (is ++ Change e ∷ [])) ∷ events (is ++ Change e ∷ [])) ≡ but_oldest (event_of g (changes is) ∷ events is)
-    by_length ih zero n = rw (no_length (events is) n, no_length (events (is ++ Change e ∷ [])) (as_many_events is e ∙ n)) refl
-    by_length ih (suc m) n =
-        let some : 0 < length (events is) = omega (arith, n) in
-        let count = as_many_events is e in
-        let more : 0 < length (events (is ++ Change e ∷ [])) = omega (arith, some, count) in
-        cons_but_oldest (event_of g (changes (is ++ Change e ∷ []))) (events (is ++ Change e ∷ [])) more
-        ∙ ap (λ (vs : List Event). event_of g (changes (is ++ Change e ∷ [])) ∷ vs) ih
-        ∙ ap (λ (es : List Entry). event_of g es ∷ but_oldest (events is)) (change_changes is e some)
-        ∙ sym (cons_but_oldest (event_of g (changes is)) (events is) some)
-change_last (Change d ∷ is) e = change_last is e
-
--- ---- the last item goes
-
-pub record Popped (is js : List Item) (x : Item) : Type 0 where
-  pub whole : changes js ≡ []
-  pub count : size (events is) ≡ item_size x + size (events js)
-  pub less : size (events js) < size (events is)
-
-pub popped : (is js : List Item) (x : Item) → slice_get is (length is - 1) ≡ Some x → js ≡ take (length is - 1) is → changes is ≡ [] → Popped is js x
-popped is js x last rest whole =
-    let split : is ≡ js ++ x ∷ [] = last_split is x last ∙ ap (λ (ks : List Item). ks ++ x ∷ []) (sym rest) in
-    let none : changes js ≡ [] = whole_but_last js x (ap changes (sym split) ∙ whole) in
-    let all : total is ≡ total js + item_size x = ap total split ∙ total_append js x in
-    let old = whole_counted is whole in
-    let new = whole_counted js none in
-    let some = some_item x in
-    record { whole = none; count = omega (arith, all, old, new); less = omega (arith, all, old, new, some) }
-
-pub mark_popped : (is js : List Item) (h : mark.Mark) → slice_get is (length is - 1) ≡ Some (Mark h) → js ≡ take (length is - 1) is → events js ≡ but_oldest (events is)
-mark_popped is js h last rest =
-    let split : is ≡ js ++ Mark h ∷ [] = last_split is (Mark h) last ∙ ap (λ (ks : List Item). ks ++ Mark h ∷ []) (sym rest) in
-    sym (mark_last js h) ∙ ap (λ (ks : List Item). but_oldest (events ks)) (sym split)
-
-pub change_popped : (is js : List Item) (e : Entry) → slice_get is (length is - 1) ≡ Some (Change e) → js ≡ take (length is - 1) is → but_oldest (events js) ≡ but_oldest (events is)
-change_popped is js e last rest =
-    let split : is ≡ js ++ Change e ∷ [] = last_split is (Change e) last ∙ ap (λ (ks : List Item). ks ++ Change e ∷ []) (sym rest) in
-    sym (change_last js e) ∙ ap (λ (ks : List Item). but_oldest (events ks)) (sym split)
-
-marks_fewer : (is : List Item) (h : mark.Mark) → length (events (is ++ Mark h ∷ [])) ≡ suc (length (events is))
-marks_fewer [] h = refl
-marks_fewer (Mark g ∷ is) h = ap suc (marks_fewer is h)
-marks_fewer (Change e ∷ is) h = marks_fewer is h
-
-pub mark_taken : (is js : List Item) (capacity held marks : ℕ) (h : mark.Mark) → IsRing is capacity held marks → slice_get is (length is - 1) ≡ Some (Mark h) → js ≡ take (length is - 1) is
-    → IsRing js capacity (held - mark_size h.pc) (marks - 1)
-mark_taken is js capacity held marks h ring last rest =
-    let split : is ≡ js ++ Mark h ∷ [] = last_split is (Mark h) last ∙ ap (λ (ks : List Item). ks ++ Mark h ∷ []) (sym rest) in
-    let p = popped is js (Mark h) last rest ring.whole in
-    let many : length (events is) ≡ suc (length (events js)) = ap (λ (ks : List Item). length (events ks)) split ∙ marks_fewer js h in
-    let held' = ring.entries in
-    let marks' = ring.many in
-    let room = ring.fits in
-    let count = p.count in
-    record { whole = p.whole; entries = omega (arith, held', count); many = omega (arith, marks', many); fits = omega (arith, room, count) }
-
-pub change_taken : (is js : List Item) (capacity held marks : ℕ) (e : Entry) → IsRing is capacity held marks → slice_get is (length is - 1) ≡ Some (Change e) → js ≡ take (length is - 1) is
-    → IsRing js capacity (held - 1) marks
-change_taken is js capacity held marks e ring last rest =
-    let split : is ≡ js ++ Change e ∷ [] = last_split is (Change e) last ∙ ap (λ (ks : List Item). ks ++ Change e ∷ []) (sym rest) in
-    let p = popped is js (Change e) last rest ring.whole in
-    let many : length (events is) ≡ length (events js) = ap (λ (ks : List Item). length (events ks)) split ∙ as_many_events js e in
-    let held' = ring.entries in
-    let marks' = ring.many in
-    let room = ring.fits in
-    let count = p.count in
-    record { whole = p.whole; entries = omega (arith, held', count); many = omega (arith, marks', many); fits = omega (arith, room, count) }
+pub none_kept : (ks : List KeptMark) (es : List Entry) → 0 < length (events ks es) → slice_get ks (length ks - 1) ≡ None → ⊥
+none_kept ks es some last = let none = last_none ks last in let many = as_many ks es in let n : length ks ≡ 0 = ap length none in absurd (omega (arith, some, many, n))
 
 -- ---- an event is put
 
-put_changes : (es : List Entry) (is : List Item) → changes (map Change es ++ is) ≡ es ++ changes is
-put_changes [] is = refl
-put_changes (e ∷ es) is = ap (λ (ds : List Entry). e ∷ ds) (put_changes es is)
+pub event_put : (ks js : List KeptMark) (es ds gs : List Entry) (k : KeptMark) → k.beside ≡ length gs → js ≡ k ∷ ks → ds ≡ gs ++ es → events js ds ≡ event_of k.mark gs ∷ events ks es
+event_put ks js es ds gs k count put added =
+    ap (λ (ls : List KeptMark). events ls ds) put
+    ∙ ap (λ (cs : List Entry). event_of k.mark (take k.beside cs) ∷ events ks (drop k.beside cs)) added
+    ∙ ap (λ (n : ℕ). event_of k.mark (take n (gs ++ es)) ∷ events ks (drop n (gs ++ es))) count
+    ∙ ap (λ (cs : List Entry). event_of k.mark cs ∷ events ks (drop (length gs) (gs ++ es))) (take-append_seam gs es)
+    ∙ ap (λ (cs : List Entry). event_of k.mark gs ∷ events ks cs) (drop-append_seam gs es)
 
-put_events : (es : List Entry) (is : List Item) → events (map Change es ++ is) ≡ events is
-put_events [] is = refl
-put_events (e ∷ es) is = put_events es is
-
-none_behind : (es : List Entry) → es ++ [] ≡ es
-none_behind [] = refl
-none_behind (e ∷ es) = ap (λ (ds : List Entry). e ∷ ds) (none_behind es)
-
-pub event_put : (is js : List Item) (m : mark.Mark) (es : List Entry) → changes is ≡ [] → js ≡ Mark m ∷ (map Change es ++ is) → events js ≡ event_of m es ∷ events is
-event_put is js m es whole put =
-    ap events put
-    ∙ ap (λ (ds : List Entry). event_of m ds ∷ events (map Change es ++ is)) (put_changes es is ∙ ap (λ (ds : List Entry). es ++ ds) whole ∙ none_behind es)
-    ∙ ap (λ (vs : List Event). event_of m es ∷ vs) (put_events es is)
-
-pub ring_put : (is js : List Item) (capacity held marks need : ℕ) (m : mark.Mark) (es : List Entry) → IsRing is capacity held marks → js ≡ Mark m ∷ (map Change es ++ is)
-    → need ≡ length es + mark_size m.pc → held + need ≤ capacity → IsRing js capacity (held + need) (marks + 1)
-ring_put is js capacity held marks need m es ring put count room =
-    let all = event_put is js m es ring.whole put in
-    let one = event_size m es in
-    let sizes : size (events js) ≡ size_of (event_of m es) + size (events is) = ap size all in
-    let many : length (events js) ≡ suc (length (events is)) = ap length all in
-    let held' = ring.entries in
-    let marks' = ring.many in
+pub ring_put : (ks js : List KeptMark) (es ds gs : List Entry) (limit held need : ℕ) (k : KeptMark) → IsRing ks es limit held → k.beside ≡ length gs → js ≡ k ∷ ks → ds ≡ gs ++ es
+    → need ≡ kept_size k → held + need ≤ limit → IsRing js ds limit (held + need)
+ring_put ks js es ds gs limit held need k ring count put added is room =
+    let whole = ring.whole in
+    let long : length ds ≡ length gs + length es = ap length added ∙ length-append gs es in
+    let changes : beside js ≡ k.beside + beside ks = ap beside put in
+    let sizes : size (events js ds) ≡ size_of (event_of k.mark gs) + size (events ks es) = ap size (event_put ks js es ds gs k count put added) in
+    let one = event_size k.mark gs in
+    let entries = ring.entries in
     record {
-      whole = ap changes put;
-      entries = omega (arith, held', sizes, one, count);
-      many = omega (arith, marks', many);
-      fits = omega (arith, held', sizes, one, count, room);
+      whole = omega (arith, whole, long, changes, count);
+      entries = omega (arith, entries, sizes, one, is, count);
+      fits = omega (arith, entries, sizes, one, is, count, room);
     }
 
--- ---- the first item
+-- there is room for the mark and the changes of an event
+pub has_room : (ks : List KeptMark) (es : List Entry) (limit held need : ℕ) (k : KeptMark) → IsRing ks es limit held → need ≡ kept_size k → held + need ≤ limit → (length ks < limit) × (length es + k.beside ≤ limit)
+has_room ks es limit held need k ring is room =
+    let both = room_for_both ks in
+    let size = ring_counted ks es limit held ring in
+    let whole = ring.whole in
+    let entries = ring.entries in
+    let some = mark_some k.mark.pc in
+    (omega (arith, both, size, whole, entries, some, is, room), omega (arith, both, size, whole, entries, is, room))
 
-pub begins_with_change : (is : List Item) (e : Entry) → slice_get is 0 ≡ Some (Change e) → changes is ≡ e ∷ changes (drop 1 is)
-begins_with_change [] e h = cc
-begins_with_change (i ∷ is) e h = let same : i ≡ Change e = cc in ap (λ (x : Item). changes (x ∷ is)) same
+-- ---- the newest event goes
 
-pub change_gone : (is : List Item) (e : Entry) → slice_get is 0 ≡ Some (Change e) → events (drop 1 is) ≡ events is
-change_gone [] e h = cc
-change_gone (i ∷ is) e h = let same : i ≡ Change e = cc in sym (ap (λ (x : Item). events (x ∷ is)) same)
+pub first_split : (ks : List KeptMark) (k : KeptMark) → slice_get ks 0 ≡ Some k → ks ≡ k ∷ drop 1 ks
+first_split [] k h = absurd cc
+first_split (j ∷ ks) k h = let same : j ≡ k = cc in ap (λ (x : KeptMark). x ∷ ks) same
 
-pub one_gone : (is : List Item) (e : Entry) → slice_get is 0 ≡ Some (Change e) → length is + length (changes (drop 1 is)) ≡ length (drop 1 is) + length (changes is)
-one_gone [] e h = cc
-one_gone (i ∷ is) e h =
-    let same : i ≡ Change e = cc in
-    let n : length (changes (i ∷ is)) ≡ suc (length (changes is)) = ap (λ (x : Item). length (changes (x ∷ is))) same in
-    omega (arith, n)
+pub first_none : (ks : List KeptMark) → slice_get ks 0 ≡ None → ks ≡ []
+first_none [] h = refl
+first_none (k ∷ ks) h = absurd cc
 
-pub begins_with_none : (is : List Item) → slice_get is 0 ≡ None → changes is ≡ []
-begins_with_none [] h = refl
-begins_with_none (i ∷ is) h = absurd cc
+-- what is left where the first mark goes, and its changes with it
+pub record Newest (ks : List KeptMark) (es : List Entry) (limit held : ℕ) (k : KeptMark) : Type 0 where
+  pub there : k.beside ≤ length es
+  pub counts : kept_size k ≤ held
+  pub all : events ks es ≡ event_of k.mark (take k.beside es) ∷ events (drop 1 ks) (drop k.beside es)
+  pub ring : IsRing (drop 1 ks) (drop k.beside es) limit (held - kept_size k)
 
-pub begins_with_mark : (is : List Item) (h : mark.Mark) → slice_get is 0 ≡ Some (Mark h) → changes is ≡ []
-begins_with_mark [] h k = refl
-begins_with_mark (i ∷ is) h k = let same : i ≡ Mark h = cc in ap (λ (x : Item). changes (x ∷ is)) same
+pub newest_gone : (ks : List KeptMark) (es : List Entry) (limit held : ℕ) (k : KeptMark) → IsRing ks es limit held → slice_get ks 0 ≡ Some k → Newest ks es limit held k
+newest_gone ks es limit held k ring first =
+    let js = drop 1 ks in
+    let split = first_split ks k first in
+    let changes : beside ks ≡ k.beside + beside js = ap beside split in
+    let all : total ks ≡ kept_size k + total js = ap total split in
+    let whole = ring.whole in
+    let there : k.beside ≤ length es = omega (arith, whole, changes) in
+    let left : length (drop k.beside es) ≡ length es - k.beside = length-drop k.beside es in
+    let old = ring_counted ks es limit held ring in
+    let new : size (events js (drop k.beside es)) ≡ total js = counted js (drop k.beside es) (omega (arith, left, whole, changes)) in
+    let entries = ring.entries in
+    let fits = ring.fits in
+    record {
+      there = there;
+      counts = omega (arith, entries, old, all);
+      all = ap (λ (ls : List KeptMark). events ls es) split;
+      ring = record { whole = omega (arith, left, whole, changes); entries = omega (arith, entries, old, new, all); fits = omega (arith, fits, old, new, all) };
+    }
 
--- a change that is the last leaves its event
-pub change_leaves : (is js : List Item) (e : Entry) → slice_get is (length is - 1) ≡ Some (Change e) → js ≡ take (length is - 1) is → 0 < length (events is) → 0 < length (events js)
-change_leaves is js e last rest some =
-    let split : is ≡ js ++ Change e ∷ [] = last_split is (Change e) last ∙ ap (λ (ks : List Item). ks ++ Change e ∷ []) (sym rest) in
-    let many : length (events is) ≡ length (events js) = ap (λ (ks : List Item). length (events ks)) split ∙ as_many_events js e in
-    omega (arith, many, some)
+-- ---- changes are undone one by one
 
-pub none_last : (is : List Item) → 0 < length (events is) → slice_get is (length is - 1) ≡ None → ⊥
-none_last [] some h = absurd (omega arith)
-none_last (i ∷ is) some h = let e = last_none (i ∷ is) h in cc
+pub record Undone (i n : ℕ) (es ds : List Entry) (s t : State) : Type 0 where
+  pub there : n ≤ length ds
+  pub can : CanUndoAll i (take n ds) t
+  pub state : undo_all i (take n ds) t ≡ undo_all i (take (suc n) es) s
+  pub left : drop n ds ≡ drop (suc n) es
+
+pub one_undone : (i n : ℕ) (es ds : List Entry) (e : Entry) (s t : State) → suc n ≤ length es → CanUndoAll i (take (suc n) es) s → slice_get es 0 ≡ Some e → ds ≡ drop 1 es → t ≡ undo i e s
+    → Undone i n es ds s t
+one_undone i n [] ds e s t there can first rest done = absurd (omega (arith, there))
+one_undone i n (d ∷ es) ds e s t there can first rest done =
+    let same : d ≡ e = cc in
+    let next : t ≡ undo i d s = done ∙ ap (λ (x : Entry). undo i x s) (sym same) in
+    let long : length ds ≡ length es = ap length rest in
+    record {
+      there = omega (arith, there, long);
+      can = subst (λ (cs : List Entry). CanUndoAll i (take n cs) t) (sym rest) (subst (CanUndoAll i (take n es)) (sym next) can.1);
+      state = ap (λ (cs : List Entry). undo_all i (take n cs) t) rest ∙ ap (undo_all i (take n es)) next;
+      left = ap (drop n) rest;
+    }

@@ -1,11 +1,10 @@
--- The events of a ring, in which each stands as its mark and then its changes, the newest first. Where the newest change of an event is a
--- move of the pc, it lies in the mark.
-use Rattle.std.specs.Prelude.{◌≡◌, ◌≤◌, ℕ, List, [], ◌∷◌, length, map, Option, None, Some, option_and_then}
+-- The events of a journal's rings, of which one has their marks and the other their changes. Where the newest change of an event is a move
+-- of the pc, it lies in the mark.
+use Rattle.std.specs.Prelude.{◌≡◌, ◌≤◌, ◌+◌, ℕ, List, [], ◌∷◌, drop, length, take, Option, None, Some, option_and_then}
 use Rattle.spv_journal.specs.Events.{Event, size}
 use Rattle.spv_journal.specs.declared.entries.Entry.{Entry}
 use Rattle.spv_journal.specs.declared.entries.Entry.TheVariants.{PcMoved}
-use Rattle.spv_journal.specs.declared.rings.Item.{Item}
-use Rattle.spv_journal.specs.declared.rings.Item.TheVariants.{Mark, Change}
+use Rattle.spv_journal.specs.declared.rings.KeptMark.{KeptMark}
 use Rattle.spv_journal.specs.declared.rings.Mark as mark
 
 -- ---- one event
@@ -32,38 +31,31 @@ made (Some m) es = Some (event_of m es)
 abbrev pub moved : Option mark.Mark → Option ℕ
 moved o = option_and_then (λ (m : mark.Mark). m.pc) o
 
--- ---- the items of a ring
+-- ---- two rings
 
--- the changes up to the first mark
-abbrev pub changes : List Item → List Entry
-changes [] = []
-changes (Mark m ∷ is) = []
-changes (Change e ∷ is) = e ∷ changes is
+-- The events of marks, the newest first, and of changes: those of an event stand together, as many as its mark says, before those of
+-- the older ones.
+abbrev pub events : List KeptMark → List Entry → List Event
+events [] es = []
+events (k ∷ ks) es = event_of k.mark (take k.beside es) ∷ events ks (drop k.beside es)
 
--- the events from the first mark on
-abbrev pub events : List Item → List Event
-events [] = []
-events (Mark m ∷ is) = event_of m (changes is) ∷ events is
-events (Change e ∷ is) = events is
+-- how many changes stand beside marks
+abbrev pub beside : List KeptMark → ℕ
+beside [] = 0
+beside (k ∷ ks) = k.beside + beside ks
 
--- the items of an event that don't stand in a ring yet: its mark, if that is among them, before its changes
-abbrev pub items_of : Option mark.Mark → List Entry → List Item
-items_of None es = map Change es
-items_of (Some m) es = Mark m ∷ map Change es
+-- ---- what callers see of them
 
--- ---- what callers see of a ring
-
--- its events, the newest first, and how many marks and entries there is room for
+-- the events, the newest first, and how many marks and entries there is room for
 pub record Ringed : Type 0 where
   pub events : List Event
   pub limit : ℕ
 
--- A ring with room for so many items begins with a mark, counts what it keeps, and has room for it.
-pub record IsRing (is : List Item) (capacity held marks : ℕ) : Type 0 where
-  pub whole : changes is ≡ []
-  pub entries : held ≡ size (events is)
-  pub many : marks ≡ length (events is)
-  pub fits : size (events is) ≤ capacity
+-- Marks and changes with room for so many have all changes that the marks say and no more, and what they keep is counted and within.
+pub record IsRing (ks : List KeptMark) (es : List Entry) (limit held : ℕ) : Type 0 where
+  pub whole : length es ≡ beside ks
+  pub entries : held ≡ size (events ks es)
+  pub fits : size (events ks es) ≤ limit
 
 -- the events but for the oldest
 abbrev pub but_oldest : List Event → List Event

@@ -71,7 +71,9 @@ fn make_room(making: &mut Option<Mark>, gathered: &mut VecDeque<Entry>) -> Resul
     ensures room { OnOk result (deque_len gathered.new < deque_capacity gathered.new) }
 {
     settle(making, gathered)?;
-    gathered.reserve(1)?;
+    if gathered.len() == gathered.capacity() {
+        gathered.reserve(1)?;
+    }
     Ok(())
 }
 

@@ -1,10 +1,9 @@
-//! The ring of a journal: marks and entries one behind the other, the newest first.
-ghost use Rattle.std.specs.Prelude.{◌≡◌, ◌<◌, ◌≤◌, ◌+◌, ◌++◌, ◌∷◌, [], IfOk, None, Some, false, length, map, option_map, true};
-ghost use Rattle.std.specs.Option.{MatchOption, option_map_or};
+//! The rings of a journal: the marks of its events, and beside them their changes, the newest first.
+ghost use Rattle.std.specs.Prelude.{◌≡◌, ◌<◌, ◌≤◌, ◌+◌, ◌-◌, ◌++◌, ◌∷◌, [], IfOk, None, Some, drop, length, option_map, take};
+ghost use Rattle.std.specs.Option.{option_map_or};
 ghost use Rattle.spv_journal.specs.Events.{fitting, newest, older, size};
-ghost use Rattle.spv_journal.specs.Rings.{but_oldest, changes, event_of, events, in_mark, items_of, mark_size};
+ghost use Rattle.spv_journal.specs.Rings.{but_oldest, event_of, in_mark, mark_size};
 ghost use Rattle.spv_journal.specs.Undo.{CanUndoAll, CanUnwind, before, undo_all};
-ghost use Rattle.spv_journal.specs.declared.rings.Item.TheVariants as item;
 
 use crate::entries::Entry;
 use crate::undoing::undo;
@@ -69,86 +68,68 @@ impl Mark {
     }
 }
 
-/// The mark of an event, or one of its changes; the newest change stands behind the mark.
-#[derive(Drop)]
-pub(crate) enum Item {
-    Mark(Mark),
-    Change(Entry),
+/// A mark that is kept, and how many changes of its event are kept beside it.
+#[derive(Clone, Copy)]
+pub(crate) struct KeptMark {
+    pub mark: Mark,
+    pub beside: usize,
 }
 
-/// Takes the first item away, if it is a change.
-#[inline(always)]
-#[tactic(auto, using(crate::proofs::RingLemmas::begins_with_change, crate::proofs::RingLemmas::change_gone, crate::proofs::RingLemmas::begins_with_none, crate::proofs::RingLemmas::begins_with_mark, crate::proofs::RingLemmas::one_gone))]
-fn pop_change(items: &mut HeapCircularBuffer<Item>) -> Option<Entry>
-    ensures change { MatchOption result ((changes items.old.items ≡ []) × (items.new.items ≡ items.old.items)) (λ e. changes items.old.items ≡ e ∷ changes items.new.items) }
-    ensures events { events items.new.items ≡ events items.old.items }
-    ensures len { length items.old.items + length (changes items.new.items) ≡ length items.new.items + length (changes items.old.items) }
-    ensures capacity { items.new.capacity ≡ items.old.capacity }
+/// Undoes the first changes of an invocation, so many, and takes them away.
+fn undo_first(
+    whole: &mut Whole,
+    inv: u32,
+    entries: &mut HeapCircularBuffer<Entry>,
+    count: usize,
+)
+    requires there { count ≤ length entries.old.items }
+    requires can { CanUndoAll inv (take count entries.old.items) whole.old }
+    ensures whole { whole.new ≡ undo_all inv (take count entries.old.items) whole.old }
+    ensures entries { entries.new.items ≡ drop count entries.old.items }
+    ensures capacity { entries.new.capacity ≡ entries.old.capacity }
 {
-    let Some(Item::Change(_first)) = items.front() else {
-        return None;
-    };
-    match items.pop_front() {
-        Some(Item::Change(entry)) => Some(entry),
-        _ => unreachable!(),
+    for _number in 0..count {
+        match entries.pop_front() {
+            Some(entry) => undo(whole, inv, entry),
+            None => unreachable!(),
+        }
     }
 }
 
-/// Undoes the changes of an invocation that stand before the first mark, and says how many they were.
-#[inline(always)]
-fn undo_changes(whole: &mut Whole, inv: u32, items: &mut HeapCircularBuffer<Item>) -> usize
-    requires { CanUndoAll inv (changes items.old.items) whole.old }
-    ensures whole { whole.new ≡ undo_all inv (changes items.old.items) whole.old }
-    ensures count { result ≡ length (changes items.old.items) }
-    ensures events { events items.new.items ≡ events items.old.items }
-    ensures changes { changes items.new.items ≡ [] }
-    ensures capacity { items.new.capacity ≡ items.old.capacity }
+/// Drops the last changes, so many.
+fn drop_last(entries: &mut HeapCircularBuffer<Entry>, count: usize)
+    requires { count ≤ length entries.old.items }
+    ensures entries { entries.new.items ≡ take (length entries.old.items - count) entries.old.items }
+    ensures capacity { entries.new.capacity ≡ entries.old.capacity }
 {
-    let before = items.len();
-    while let Some(entry) = pop_change(items) {
-        undo(whole, inv, entry);
-    }
-    before - items.len()
-}
-
-/// The last of the items of an event that don't stand in a ring yet.
-#[inline(always)]
-fn next_item(mark: &mut Option<Mark>, gathered: &mut VecDeque<Entry>) -> Option<Item>
-    ensures { MatchOption result ((items_of mark.old gathered.old.items ≡ []) × (items_of mark.new gathered.new.items ≡ []) × (gathered.new.items ≡ []))
-        (λ i. items_of mark.old gathered.old.items ≡ items_of mark.new gathered.new.items ++ i ∷ []) }
-{
-    match gathered.pop_back() {
-        Some(entry) => Some(Item::Change(entry)),
-        None => match mark.take() {
-            Some(mark) => Some(Item::Mark(mark)),
-            None => None,
-        },
+    for _number in 0..count {
+        let _entry = entries.pop_back();
     }
 }
 
-/// Puts the items of an event before all, where there is room for them.
-fn put_items(items: &mut HeapCircularBuffer<Item>, mark: Mark, gathered: &mut VecDeque<Entry>)
-    requires { length items.old.items + length gathered.old.items < items.old.capacity }
-    ensures items { items.new.items ≡ item.Mark mark ∷ (map item.Change gathered.old.items ++ items.old.items) }
-    ensures capacity { items.new.capacity ≡ items.old.capacity }
+/// Puts the changes of an event before all, where there is room for them.
+fn put_all(entries: &mut HeapCircularBuffer<Entry>, gathered: &mut VecDeque<Entry>)
+    requires { length entries.old.items + length gathered.old.items ≤ entries.old.capacity }
+    ensures entries { entries.new.items ≡ gathered.old.items ++ entries.old.items }
+    ensures capacity { entries.new.capacity ≡ entries.old.capacity }
     ensures gathered { gathered.new.items ≡ [] }
 {
-    let mut last = Some(mark);
-    while let Some(item) = next_item(&mut last, gathered) {
-        items.push_front(item);
+    while let Some(entry) = gathered.pop_back() {
+        entries.push_front(entry);
     }
 }
 
-/// Marks and entries, in which each event stands as its mark and then its changes, with counts of them. Contracts see the events, the
-/// newest first, and how many marks and entries there is room for. What lies in a mark is counted as an entry.
+/// The marks of events, and their changes in another ring, so that an event is dropped by its mark. Contracts see the events, the newest
+/// first, and how many marks and entries there is room for. What lies in a mark is counted as an entry.
 #[derive(Drop)]
 pub(crate) struct Ring {
-    items: HeapCircularBuffer<Item>,
+    marks: HeapCircularBuffer<KeptMark>,
+    entries: HeapCircularBuffer<Entry>,
     held: usize,
-    marks: u64,
 }
 
 impl Model for Ring {
+    ghost use Rattle.std.specs.Prelude.{◌≡◌};
     ghost use Rattle.std.specs.Coded.{codes};
     ghost use Rattle.spv_journal.specs.Rings.{IsRing, Ringed, events};
     ghost use Rattle.spv_journal.specs.contracts.entries.Entry as entry;
@@ -157,9 +138,9 @@ impl Model for Ring {
 
     ghost coded = { Prim.hlevel (codes, entry.the_row.coded) };
 
-    ghost view = { λ r. record { events = events r.items.items; limit = r.items.capacity } };
+    ghost view = { λ r. record { events = events r.marks.items r.entries.items; limit = r.entries.capacity } };
 
-    ghost invariant = { λ r. IsRing r.items.items r.items.capacity r.held r.marks };
+    ghost invariant = { λ r. (r.marks.capacity ≡ r.entries.capacity) × IsRing r.marks.items r.entries.items r.entries.capacity r.held };
 }
 
 impl Ring {
@@ -168,9 +149,9 @@ impl Ring {
         ensures { IfOk result (λ r. r ≡ record { events = []; limit = limit }) }
     {
         Ok(Ring {
-            items: HeapCircularBuffer::with_capacity(alloc, limit)?,
+            marks: HeapCircularBuffer::with_capacity(alloc, limit)?,
+            entries: HeapCircularBuffer::with_capacity(alloc, limit)?,
             held: 0,
-            marks: 0,
         })
     }
 
@@ -187,7 +168,7 @@ impl Ring {
     pub(crate) fn marks(&self) -> u64
         ensures { result ≡ length self.now.events }
     {
-        self.marks
+        self.marks.len() as u64
     }
 
     /// Takes all events away.
@@ -195,33 +176,9 @@ impl Ring {
         ensures events { self.new.events ≡ [] }
         ensures limit { self.new.limit ≡ self.old.limit }
     {
-        self.items.clear();
+        self.marks.clear();
+        self.entries.clear();
         self.held = 0;
-        self.marks = 0;
-    }
-
-    /// Takes the last item away, and says whether it was a change.
-    fn pop_last(&mut self) -> bool
-        requires { 0 < length self.old.events }
-        ensures change { result ≡ true → but_oldest self.new.events ≡ but_oldest self.old.events }
-        ensures left { result ≡ true → 0 < length self.new.events }
-        ensures mark { result ≡ false → self.new.events ≡ but_oldest self.old.events }
-        ensures size { size self.new.events < size self.old.events }
-        ensures limit { self.new.limit ≡ self.old.limit }
-    {
-        match self.items.pop_back() {
-            Some(Item::Change(entry)) => {
-                drop(entry);
-                self.held -= 1;
-                true
-            }
-            Some(Item::Mark(mark)) => {
-                self.held -= mark.size();
-                self.marks -= 1;
-                false
-            }
-            None => unreachable!(),
-        }
     }
 
     /// Takes the oldest event away, which is there.
@@ -231,7 +188,13 @@ impl Ring {
         ensures size { size self.new.events < size self.old.events }
         ensures limit { self.new.limit ≡ self.old.limit }
     {
-        while self.pop_last() {}
+        match self.marks.pop_back() {
+            Some(kept) => {
+                self.held -= kept.mark.size() + kept.beside;
+                drop_last(&mut self.entries, kept.beside);
+            }
+            None => unreachable!(),
+        }
     }
 
     /// Takes the oldest events away, as many as have to go for no more than so many marks and entries to be left.
@@ -251,16 +214,17 @@ impl Ring {
         ensures limit { self.new.limit ≡ self.old.limit }
         ensures gathered { gathered.new.items ≡ [] }
     {
-        let limit = self.items.capacity();
-        let need = gathered.len() + mark.size();
+        let limit = self.entries.capacity();
+        let beside = gathered.len();
+        let need = beside + mark.size();
         if need > limit {
             self.clear();
             gathered.clear();
         } else {
             self.make_room(limit - need);
             self.held += need;
-            self.marks += 1;
-            put_items(&mut self.items, mark, gathered);
+            self.marks.push_front(KeptMark { mark, beside });
+            put_all(&mut self.entries, gathered);
         }
     }
 
@@ -272,15 +236,10 @@ impl Ring {
         ensures limit { self.new.limit ≡ self.old.limit }
         ensures happening { result ≡ option_map (λ v. v.happening) (newest self.old.events) }
     {
-        match self.items.pop_front() {
-            Some(Item::Mark(mark)) => {
-                mark.undo(whole);
-                let changes = undo_changes(whole, mark.happening.inv, &mut self.items);
-                self.held -= mark.size() + changes;
-                self.marks -= 1;
-                Some(mark.happening)
-            }
-            _ => None,
-        }
+        let KeptMark { mark, beside } = self.marks.pop_front()?;
+        self.held -= mark.size() + beside;
+        mark.undo(whole);
+        undo_first(whole, mark.happening.inv, &mut self.entries, beside);
+        Some(mark.happening)
     }
 }

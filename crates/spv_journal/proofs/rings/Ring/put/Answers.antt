@@ -1,77 +1,91 @@
-use Rattle.std.proofs.Common.{◌≡◌, ◌∙◌, ◌+◌, ◌-◌, ◌≤◌, ℕ, List, ◌∷◌, ap, arith, length, subst, sym}
+use Rattle.std.proofs.Common.{◌≡◌, ◌∙◌, ◌+◌, ◌-◌, ◌<◌, ◌≤◌, ℕ, List, ◌∷◌, ap, arith, length, subst, sym, take}
+use Rattle.std.proofs.lemmas.List.{take_all}
+use Rattle.circular_buffer.specs.Buffer.{Buffer}
 use Rattle.spv_journal.specs.Events.{Event, fitting, size, size_of}
 use Rattle.spv_journal.specs.Rings.{IsRing, Ringed, event_of, events, mark_size}
-use Rattle.spv_journal.proofs.RingLemmas.{event_put, event_size, items_within, mark_some, no_more_marks, one_fits, ring_put}
+use Rattle.spv_journal.specs.declared.rings.KeptMark.{KeptMark}
+use Rattle.spv_journal.proofs.RingLemmas.{event_put, event_size, has_room, kept_size, one_fits, ring_put}
 use Rattle.spv_journal.proofs.rings.Ring.put.Goals as goal
 
-pub overflow_add-self-else-need-limit : goal.overflow_add-self-else-need-limit
-overflow_add-self-else-need-limit c =
-    let r = c.self-else-need-limit in
-    let limit : r.inside.items.capacity ≡ c.make_room.new.self.limit = ap (λ (x : Ringed). x.limit) r.view_is in
+pub put_all-requires : goal.put_all-requires
+put_all-requires c =
+    let r = c.self-else-need-limit.inside in
+    let k : KeptMark = record { mark = c.args.mark; beside = c.len-beside.result } in
+    let need = c.len-beside.result + c.size.result in
+    let sizes : size (events r.marks.items r.entries.items) ≡ size c.make_room.new.self.events = ap (λ (x : Ringed). size x.events) c.self-else-need-limit.view_is in
+    let limit : r.entries.capacity ≡ c.make_room.new.self.limit = ap (λ (x : Ringed). x.limit) c.self-else-need-limit.view_is in
+    let was : c.self.inside.entries.capacity ≡ c.args.self.now.limit = ap (λ (x : Ringed). x.limit) c.self.view_is in
     let same = c.make_room.ensures.limit in
-    let was : c.self.inside.items.capacity ≡ c.args.self.now.limit = ap (λ (x : Ringed). x.limit) c.self.view_is in
     let capacity = c.capacity-limit.ensures.capacity in
-    let many = r.invariant.many in
-    let few = no_more_marks (events r.inside.items.items) in
-    let fits = r.invariant.fits in
-    let small = c.capacity-limit.ensures.within.1 in
-    omega (arith, limit, same, was, capacity, many, few, fits, small)
-
-pub put_items-requires : goal.put_items-requires
-put_items-requires c =
-    let r = c.self-else-need-limit in
-    let limit : r.inside.items.capacity ≡ c.make_room.new.self.limit = ap (λ (x : Ringed). x.limit) r.view_is in
-    let same = c.make_room.ensures.limit in
-    let was : c.self.inside.items.capacity ≡ c.args.self.now.limit = ap (λ (x : Ringed). x.limit) c.self.view_is in
-    let capacity = c.capacity-limit.ensures.capacity in
-    let sizes : size (events r.inside.items.items) ≡ size c.make_room.new.self.events = ap (λ (x : Ringed). size x.events) r.view_is in
     let room = c.make_room.ensures.size in
     let less = c.if-need-limit.false in
-    let long = c.len.ensures in
-    let items = c.args.gathered.now.ok.0 in
+    let held = c.self-else-need-limit.invariant.1.entries in
     let mark = c.size.ensures in
-    let count = items_within r.inside.items.items r.invariant.whole in
-    let some = mark_some c.args.mark.pc in
-    omega (arith, limit, same, was, capacity, sizes, room, less, long, items, mark, count, some)
+    let is : need ≡ kept_size k = omega (arith, mark) in
+    let fits : r.held + need ≤ r.entries.capacity = omega (arith, sizes, limit, was, same, capacity, room, less, held) in
+    let both = has_room r.marks.items r.entries.items r.entries.capacity r.held need k c.self-else-need-limit.invariant.1 is fits in
+    let long = c.len-beside.ensures in
+    let entries = both.1 in
+    omega (arith, long, entries)
 
 pub invariant_of-self : goal.invariant_of-self
 invariant_of-self c =
-    let r = c.self-else-need-limit in
-    let limit : r.inside.items.capacity ≡ c.make_room.new.self.limit = ap (λ (x : Ringed). x.limit) r.view_is in
+    let r = c.self-else-need-limit.inside in
+    let k : KeptMark = record { mark = c.args.mark; beside = c.len-beside.result } in
+    let need = c.len-beside.result + c.size.result in
+    let sizes : size (events r.marks.items r.entries.items) ≡ size c.make_room.new.self.events = ap (λ (x : Ringed). size x.events) c.self-else-need-limit.view_is in
+    let limit : r.entries.capacity ≡ c.make_room.new.self.limit = ap (λ (x : Ringed). x.limit) c.self-else-need-limit.view_is in
+    let was : c.self.inside.entries.capacity ≡ c.args.self.now.limit = ap (λ (x : Ringed). x.limit) c.self.view_is in
     let same = c.make_room.ensures.limit in
-    let was : c.self.inside.items.capacity ≡ c.args.self.now.limit = ap (λ (x : Ringed). x.limit) c.self.view_is in
     let capacity = c.capacity-limit.ensures.capacity in
-    let sizes : size (events r.inside.items.items) ≡ size c.make_room.new.self.events = ap (λ (x : Ringed). size x.events) r.view_is in
     let room = c.make_room.ensures.size in
     let less = c.if-need-limit.false in
-    let long = c.len.ensures in
-    let items = c.args.gathered.now.ok.0 in
+    let held = c.self-else-need-limit.invariant.1.entries in
     let mark = c.size.ensures in
-    let entries = r.invariant.entries in
-    let need : c.len.result + c.size.result ≡ length c.args.gathered.now.items + mark_size c.args.mark.pc = omega (arith, long, items, mark) in
-    let fits : r.inside.held + (c.len.result + c.size.result) ≤ r.inside.items.capacity = omega (arith, limit, same, was, capacity, sizes, room, less, entries) in
-    subst (λ (n : ℕ). IsRing c.put_items.new.items.items n (r.inside.held + (c.len.result + c.size.result)) (r.inside.marks + 1)) (sym c.put_items.ensures.capacity)
-    (ring_put r.inside.items.items c.put_items.new.items.items r.inside.items.capacity r.inside.held r.inside.marks (c.len.result + c.size.result) c.args.mark c.args.gathered.now.items r.invariant
-    c.put_items.ensures.items need fits)
+    let is : need ≡ kept_size k = omega (arith, mark) in
+    let fits : r.held + need ≤ r.entries.capacity = omega (arith, sizes, limit, was, same, capacity, room, less, held) in
+    let both = has_room r.marks.items r.entries.items r.entries.capacity r.held need k c.self-else-need-limit.invariant.1 is fits in
+    let alike = c.self-else-need-limit.invariant.0 in
+    let marks = both.0 in
+    let counted = c.len-beside.ensures in
+    let deque = c.args.gathered.now.ok.0 in
+    let count : k.beside ≡ length c.args.gathered.now.items = omega (arith, counted, deque) in
+    let put : c.push_front.new.self.items ≡ k ∷ r.marks.items =
+        ap (λ (b : Buffer KeptMark). b.items) c.push_front.ensures.items ∙ take_all r.marks.capacity (k ∷ r.marks.items) (omega (arith, marks, alike)) in
+    let ring = ring_put r.marks.items c.push_front.new.self.items r.entries.items c.put_all.new.entries.items c.args.gathered.now.items r.entries.capacity r.held need k c.self-else-need-limit.invariant.1
+        count put c.put_all.ensures.entries is fits in (
+      ap (λ (b : Buffer KeptMark). b.capacity) c.push_front.ensures.items ∙ alike ∙ sym c.put_all.ensures.capacity,
+      subst (λ (n : ℕ). IsRing c.push_front.new.self.items c.put_all.new.entries.items n (r.held + need)) (sym c.put_all.ensures.capacity) ring,
+    )
 
 pub returns-else-need-limit-clause-events : goal.returns-else-need-limit-clause-events
 returns-else-need-limit-clause-events c =
-    let r = c.self-else-need-limit in
-    let limit : r.inside.items.capacity ≡ c.make_room.new.self.limit = ap (λ (x : Ringed). x.limit) r.view_is in
-    let same = c.make_room.ensures.limit in
-    let was : c.self.inside.items.capacity ≡ c.args.self.now.limit = ap (λ (x : Ringed). x.limit) c.self.view_is in
-    let capacity = c.capacity-limit.ensures.capacity in
+    let r = c.self-else-need-limit.inside in
+    let k : KeptMark = record { mark = c.args.mark; beside = c.len-beside.result } in
+    let need = c.len-beside.result + c.size.result in
     let v = event_of c.args.mark c.args.gathered.now.items in
-    let long = c.len.ensures in
-    let items = c.args.gathered.now.ok.0 in
+    let sizes : size (events r.marks.items r.entries.items) ≡ size c.make_room.new.self.events = ap (λ (x : Ringed). size x.events) c.self-else-need-limit.view_is in
+    let limit : r.entries.capacity ≡ c.make_room.new.self.limit = ap (λ (x : Ringed). x.limit) c.self-else-need-limit.view_is in
+    let was : c.self.inside.entries.capacity ≡ c.args.self.now.limit = ap (λ (x : Ringed). x.limit) c.self.view_is in
+    let same = c.make_room.ensures.limit in
+    let capacity = c.capacity-limit.ensures.capacity in
+    let room = c.make_room.ensures.size in
+    let less = c.if-need-limit.false in
+    let held = c.self-else-need-limit.invariant.1.entries in
     let mark = c.size.ensures in
     let one = event_size c.args.mark c.args.gathered.now.items in
-    let less = c.if-need-limit.false in
-    let need : size_of v ≡ c.len.result + c.size.result = omega (arith, one, long, items, mark) in
-    let fits : c.len.result + c.size.result ≤ c.args.self.now.limit = omega (arith, less, was, capacity) in
-    let room : c.capacity-limit.result ≡ c.args.self.now.limit = capacity ∙ was in
-    event_put r.inside.items.items c.put_items.new.items.items c.args.mark c.args.gathered.now.items r.invariant.whole c.put_items.ensures.items
-    ∙ ap (λ (x : Ringed). v ∷ x.events) r.view_is
+    let is : need ≡ kept_size k = omega (arith, mark) in
+    let fits : r.held + need ≤ r.entries.capacity = omega (arith, sizes, limit, was, same, capacity, room, less, held) in
+    let both = has_room r.marks.items r.entries.items r.entries.capacity r.held need k c.self-else-need-limit.invariant.1 is fits in
+    let alike = c.self-else-need-limit.invariant.0 in
+    let marks = both.0 in
+    let counted = c.len-beside.ensures in
+    let deque = c.args.gathered.now.ok.0 in
+    let count : k.beside ≡ length c.args.gathered.now.items = omega (arith, counted, deque) in
+    let put : c.push_front.new.self.items ≡ k ∷ r.marks.items =
+        ap (λ (b : Buffer KeptMark). b.items) c.push_front.ensures.items ∙ take_all r.marks.capacity (k ∷ r.marks.items) (omega (arith, marks, alike)) in
+    event_put r.marks.items c.push_front.new.self.items r.entries.items c.put_all.new.entries.items c.args.gathered.now.items k count put c.put_all.ensures.entries
+    ∙ ap (λ (x : Ringed). v ∷ x.events) c.self-else-need-limit.view_is
     ∙ ap (λ (vs : List Event). v ∷ vs) c.make_room.ensures.events
-    ∙ ap (λ (n : ℕ). v ∷ fitting (n - (c.len.result + c.size.result)) c.args.self.now.events) room
-    ∙ one_fits c.args.self.now.limit (c.len.result + c.size.result) v c.args.self.now.events need fits
+    ∙ ap (λ (n : ℕ). v ∷ fitting (n - need) c.args.self.now.events) (capacity ∙ was)
+    ∙ one_fits c.args.self.now.limit need v c.args.self.now.events (omega (arith, one, count, mark)) (omega (arith, less, capacity, was))
