@@ -10,16 +10,16 @@ use Rattle.spv_types.specs.Shapes.{pointer_in}
 use Rattle.spv_frame.specs.Frames.{Held as Frame}
 use Rattle.spv_frame.specs.Numbers.{HasCells, HasPointer, HoldsPointer, HoldsValue, with_pointer, with_value}
 use Rattle.spv_frame.specs.Calls.{id_at}
-use Rattle.spv_frame.specs.Registers.{ids, number_of}
+use Rattle.spv_frame.specs.Registers.{ids, marked, number_of}
 use Rattle.spv_frame.specs.Stacks.{Stacked, top}
 use Rattle.spv_frame.proofs.NumberLemmas.{inside}
 use Rattle.spv_valid.specs.Acceptance.{Accepted}
-use Rattle.spv_state.specs.Slots.{IsHeld, IsHeldPointer}
+use Rattle.spv_state.specs.Slots.{IsExchanged, IsHeldPointer}
 use Rattle.spv_state.specs.Sound.{IsSoundFrame}
 use Rattle.spv_state.specs.State.{State, on_frame, on_frames, top_of, with_level, with_register}
 use Rattle.spv_state.proofs.Entries.{writes_nothing}
 use Rattle.spv_state.proofs.Lists.{change_same, change_still}
-use Rattle.spv_journal.specs.Entries.{HasNone, HasValue, KeepsPointer, KeepsValue}
+use Rattle.spv_journal.specs.Entries.{KeepsPointer, KeepsValue}
 use Rattle.spv_journal.specs.Undo.{HasTop, Undoes}
 use Rattle.spv_journal.specs.declared.entries.Entry.{Entry}
 use Rattle.spv_journal.specs.declared.entries.Entry.TheVariants.{Leaf, Part, NoValue, CellRegister, RowRegister, PointerRegister, FramePushed, FramePopped, PcMoved, EventAppended, StatusChanged, BarrierOpened}
@@ -88,48 +88,36 @@ held_after i n o v s h = subst (λ (x : Option Frame). IsSomeAnd x (HoldsValue n
     each None h = h
     each (Some f) h = reads_put (id_at (ids f.plan.values) n) (Some v) o f.values h
 
--- the value that was held, in the row after the exchange
-record Taken (o : Option Frame) (n : ℕ) (r : Value) : Type 0 where
-  room : IsSomeAnd o (HasCells n (length (leaves r)))
-  holds : IsSomeAnd o (HoldsValue n (Some r))
+pub same_row : (w v : Value) (has : Bool) → marked w has ≡ Some v → w ≡ v
+same_row w v true h = cc
+same_row w v false h = absurd cc
 
-taken : (o : Option Frame) (n k : ℕ) (r : Value) → IsSomeAnd o (HasValue n k) → ((v : Value) → IsSomeAnd o (HoldsValue n (Some v)) → r ≡ v) → Taken o n r
-taken None n k r h g = absurd h
-taken (Some f) n k r h g =
-    let same : r ≡ h.value = g h.value h.holds in
-    record {
-      room = subst (λ (m : ℕ). HasCells n m f) (sym (ap (λ (v : Value). length (leaves v)) same ∙ h.long)) h.room;
-      holds = subst (λ (v : Value). HoldsValue n (Some v) f) (sym same) h.holds;
-    }
+-- and comes back where another value is put
+pub row_back : (o : Option Frame) (n : ℕ) (v w : Value) (has : Bool) → IsSomeAnd o (HoldsValue n (Some v)) → IsSomeAnd o (HoldsValue n (marked w has)) → w ≡ v
+row_back None n v w has h g = absurd h
+row_back (Some f) n v w has h g = let same : Some (marked w has) ≡ Some (Some v) = sym g ∙ h in same_row w v has (let e : marked w has ≡ Some v = cc in e)
 
--- a register of a value r took a value v: its entry leads back, and so does the exchange
-pub record Replaced (i n : ℕ) (v r : Value) (s t : State) : Type 0 where
-  pub undone : (e : Entry) → KeepsValue n (Some r) (length (leaves r)) e → Undoes i e s t
+-- a register that held what a row and a mark say took a value v: its entry leads back, and so does the exchange
+pub record Exchanged (i n : ℕ) (v r : Value) (has : Bool) (s t : State) : Type 0 where
+  pub undone : (e : Entry) → KeepsValue n (marked r has) (length (leaves r)) e → Undoes i e s t
   pub inside : i < length t.stacks
   pub room : IsSomeAnd (top_of t i) (HasCells n (length (leaves r)))
-  pub back : on_frame i (with_value n (Some r)) t ≡ s
+  pub back : on_frame i (with_value n (marked r has)) t ≡ s
   pub holds : IsSomeAnd (top_of t i) (HoldsValue n (Some v))
 
-pub replaced : (i n : ℕ) (v r : Value) (s t : State) → i < length s.stacks → IsSomeAnd (top_of s i) (HasValue n (length (leaves v))) → ((w : Value) → IsSomeAnd (top_of s i) (HoldsValue n (Some w)) → r ≡ w)
-    → t ≡ on_frame i (with_value n (Some v)) s → Replaced i n v r s t
-replaced i n v r s t low has handed after =
-    let x = taken (top_of s i) n (length (leaves v)) r has handed in
-    let top = has_top i (with_value n (Some v)) s (HasCells n (length (leaves r))) low x.room in
-    subst (Replaced i n v r s) (sym after) (record {
-      undone = λ e keeps. value_undone i n (length (leaves r)) (Some r) e v s low x.room x.holds keeps;
+pub exchanged : (i id n : ℕ) (v r : Value) (has : Bool) (s t : State) → i < length s.stacks → IsSomeAnd (top_of s i) (IsExchanged id n v r has) → t ≡ on_frame i (with_value n (Some v)) s → Exchanged i n v r has s t
+exchanged i id n v r has s t low was after =
+    let room = some_and (top_of s i) (IsExchanged id n v r has) (HasCells n (length (leaves r))) (λ f h. subst (λ (k : ℕ). HasCells n k f) (sym h.long) h.cells) was in
+    let held = some_and (top_of s i) (IsExchanged id n v r has) (HoldsValue n (marked r has)) (λ f h. h.holds) was in
+    let top = has_top i (with_value n (Some v)) s (HasCells n (length (leaves r))) low room in
+    subst (Exchanged i n v r has s) (sym after) (record {
+      undone = λ e keeps. value_undone i n (length (leaves r)) (marked r has) e v s low room held keeps;
       inside = top.0;
       room = top.1;
-      back = frame_back i (with_value n (Some r)) (with_value n (Some v)) s
-          (some_and (top_of s i) (HoldsValue n (Some r)) (λ f. with_value n (Some r) (with_value n (Some v) f) ≡ f) (λ f h. value_back n (Some r) (Some v) f h) x.holds);
-      holds = held_after i n (Some r) v s x.holds;
+      back = frame_back i (with_value n (marked r has)) (with_value n (Some v)) s
+          (some_and (top_of s i) (HoldsValue n (marked r has)) (λ f. with_value n (marked r has) (with_value n (Some v) f) ≡ f) (λ f h. value_back n (marked r has) (Some v) f h) held);
+      holds = held_after i n (marked r has) v s held;
     })
-
--- a register of no value took one
-pub given_undone : (i n : ℕ) (v : Value) (s t : State) → i < length s.stacks → IsSomeAnd (top_of s i) (HasNone n (length (leaves v))) → t ≡ on_frame i (with_value n (Some v)) s → Undoes i (NoValue n) s t
-given_undone i n v s t low has after = subst (Undoes i (NoValue n) s) (sym after)
-    (value_undone i n (length (leaves v)) None (NoValue n) v s low
-    (some_and (top_of s i) (HasNone n (length (leaves v))) (HasCells n (length (leaves v))) (λ f h. h.0) has)
-    (some_and (top_of s i) (HasNone n (length (leaves v))) (HoldsValue n None) (λ f h. h.1) has) (refl, refl))
 
 -- ---- pointers
 
@@ -178,12 +166,12 @@ level_is id v (Value-F.Scalar c) f plain = refl
 level_is id v (Value-F.List vs) f plain = refl
 level_is id v (Value-F.Ptr q) f plain = absurd cc
 
-pub register_is : (i id n k : ℕ) (o : Option Value) (v : Value) (s : State) → pointer_in (out-Value v) ≡ None → IsSomeAnd (top_of s i) (λ f. IsHeld id k f n o)
+pub register_is : (i id n : ℕ) (v r : Value) (has : Bool) (s : State) → pointer_in (out-Value v) ≡ None → IsSomeAnd (top_of s i) (IsExchanged id n v r has)
     → on_frame i (with_value n (Some v)) s ≡ on_frame i (with_register id v) s
-register_is i id n k o v s plain held =
+register_is i id n v r has s plain was =
     same_frames i (with_value n (Some v)) (with_register id v) s
-    (some_and (top_of s i) (λ f. IsHeld id k f n o) (λ f. with_value n (Some v) f ≡ with_register id v f)
-    (λ f h. ap (λ (x : ℕ). record f { values = writes x (Some v) f.values }) h.named ∙ sym (level_is id v (out-Value v) f plain)) held)
+    (some_and (top_of s i) (IsExchanged id n v r has) (λ f. with_value n (Some v) f ≡ with_register id v f)
+    (λ f h. ap (λ (x : ℕ). record f { values = writes x (Some v) f.values }) h.named ∙ sym (level_is id v (out-Value v) f plain)) was)
 
 pub pointer_register_is : (i id n : ℕ) (o : Option Pointer) (q : Pointer) (s : State) → IsSomeAnd (top_of s i) (λ f. IsHeldPointer id f n o)
     → on_frame i (with_pointer n (Some q)) s ≡ on_frame i (with_register id (Ptr q)) s

@@ -2,24 +2,11 @@
 use Rattle.std.specs.Prelude.{◌≡◌, ℕ, Option, Some, None, length, option_map}
 use Rattle.spv_base.specs.declared.values.Pointer.{Pointer}
 use Rattle.spv_base.specs.declared.values.Value.{Value}
-use Rattle.spv_frame.specs.Frames.{Held as Frame}
-use Rattle.spv_frame.specs.Numbers.{HasCells, HoldsValue}
 use Rattle.spv_types.specs.Rows.{leaves}
 use Rattle.spv_journal.specs.Events.{Kept, pushed}
 use Rattle.spv_journal.specs.declared.entries.Entry.{Entry}
 use Rattle.spv_journal.specs.declared.entries.Entry.TheVariants.{NoValue, CellRegister, RowRegister, PointerRegister, FramePopped}
 use Rattle.spv_journal.specs.declared.entries.OldFrame.{OldFrame}
-
--- the register with a number has so many cells, and holds a value of as many
-pub record HasValue (n cells : ℕ) (f : Frame) : Type 0 where
-  pub value : Value
-  pub room : HasCells n cells f
-  pub holds : HoldsValue n (Some value) f
-  pub long : length (leaves value) ≡ cells
-
--- the same of one that holds none
-abbrev pub HasNone : ℕ → ℕ → Frame → Type 0
-HasNone n cells f = HasCells n cells f × HoldsValue n None f
 
 -- the register with a number, of so many cells, had a value or none
 abbrev pub KeepsValue : ℕ → Option Value → ℕ → Entry → Type 0

@@ -1,11 +1,10 @@
 //! The primitive changes of a state, each recorded. Where memory runs out nothing changes.
 ghost use Rattle.std.specs.Prelude.{◌≡◌, ◌<◌, ◌+◌, ℕ, IsSome, None, OnErr, OnOk, Some, length, option_map, slice_get, true};
 ghost use Rattle.std.specs.Option.{IsSomeAnd};
-ghost use Rattle.spv_base.specs.declared.values.Value.{Ptr, Value, out-Value};
-ghost use Rattle.spv_frame.specs.Numbers.{HasCells, HasPointer, HoldsValue, with_pointer, with_value};
+ghost use Rattle.spv_base.specs.declared.values.Value.{Ptr, out-Value};
+ghost use Rattle.spv_frame.specs.Numbers.{HasPointer, with_pointer};
 ghost use Rattle.spv_frame.specs.Stacks.{Stacked};
 ghost use Rattle.spv_index.specs.Definitions.{result_type};
-ghost use Rattle.spv_journal.specs.Entries.{HasNone, HasValue};
 ghost use Rattle.spv_journal.specs.Held.{IsMaking, Records};
 ghost use Rattle.spv_mem.specs.Memory.{AreVariables, HasRoom, MayStore, load_of};
 ghost use Rattle.spv_plans.specs.Plans.{plans_in};
@@ -18,7 +17,7 @@ ghost use Rattle.spv_types.specs.Rows.{leaves, no_roots};
 ghost use Rattle.spv_types.specs.Shapes.{HasShape, pointer_in};
 
 use crate::entries::{Entry, OldFrame};
-use crate::noting::{keep_frame, keep_part, keep_value, pointer_entry};
+use crate::noting::{keep_frame, keep_held, keep_part, pointer_entry};
 use crate::recorded::Recorded;
 use spv_base::{NoMemory, Pointer};
 use spv_frame::{DebugEvent, Frame};
@@ -36,17 +35,6 @@ fn put_pointer(whole: &mut Whole, i: u32, number: usize, pointer: Pointer)
 {
     let mut taken = Some(pointer);
     whole.exchange_pointer(i, number, &mut taken);
-}
-
-/// Puts a value in a register of the top frame of an invocation, by its number; the old one is in the row then, if there was one.
-fn put_value(whole: &mut Whole, i: u32, number: usize, row: &mut Row)
-    requires inv { i < length whole.old.stacks }
-    requires register { IsSomeAnd (state.top_of whole.old i) (HasCells number (length (leaves row.old))) }
-    ensures after { whole.new ≡ state.on_frame i (with_value number (Some row.old)) whole.old }
-    ensures handed { (v : Value) → IsSomeAnd (state.top_of whole.old i) (HoldsValue number (Some v)) → row.new ≡ v }
-{
-    let mut has = true;
-    whole.exchange_value(i, number, row, &mut has);
 }
 
 impl Recorded {
@@ -89,50 +77,17 @@ impl Recorded {
         ensures recorded { Records 1 self.old self.new }
         ensures err { OnErr result ((self.new ≡ self.old) × (row.new ≡ row.old)) }
     {
-        match self.whole.held_value(accepted, i, id, row) {
-            Some(held) => {
-                let number = held.number;
-                match held.value {
-                    Some(_value) => self.replace_value(i, number, row),
-                    None => self.give_value(i, number, row),
+        let mut has = true;
+        match self.whole.exchange_register(accepted, i, id, row, &mut has) {
+            Some(number) => match keep_held(self.alloc, &mut self.journal, number, row, has) {
+                Ok(()) => Ok(()),
+                Err(error) => {
+                    self.whole.exchange_value(i, number, row, &mut has);
+                    Err(error)
                 }
-            }
+            },
             None => Ok(()),
         }
-    }
-
-    /// Puts a value in a register that has one, by its number; the old one is in the row then.
-    #[inline(always)]
-    fn replace_value(&mut self, i: u32, number: usize, row: &mut Row) -> Result<(), NoMemory>
-        requires making { IsMaking self.old.gathered i }
-        requires inv { i < length self.old.state.stacks }
-        requires held { IsSomeAnd (state.top_of self.old.state i) (HasValue number (length (leaves row.old))) }
-        ensures ok { OnOk result (self.new.state ≡ state.on_frame i (with_value number (Some row.old)) self.old.state) }
-        ensures recorded { Records 1 self.old self.new }
-        ensures err { OnErr result ((self.new ≡ self.old) × (row.new ≡ row.old)) }
-    {
-        put_value(&mut self.whole, i, number, row);
-        match keep_value(self.alloc, &mut self.journal, number, row) {
-            Ok(()) => Ok(()),
-            Err(error) => {
-                put_value(&mut self.whole, i, number, row);
-                Err(error)
-            }
-        }
-    }
-
-    /// Puts a value in a register that has none, by its number.
-    fn give_value(&mut self, i: u32, number: usize, row: &mut Row) -> Result<(), NoMemory>
-        requires making { IsMaking self.old.gathered i }
-        requires inv { i < length self.old.state.stacks }
-        requires empty { IsSomeAnd (state.top_of self.old.state i) (HasNone number (length (leaves row.old))) }
-        ensures ok { OnOk result (self.new.state ≡ state.on_frame i (with_value number (Some row.old)) self.old.state) }
-        ensures recorded { Records 1 self.old self.new }
-        ensures err { OnErr result ((self.new ≡ self.old) × (row.new ≡ row.old)) }
-    {
-        self.journal.add(Entry::NoValue(number))?;
-        put_value(&mut self.whole, i, number, row);
-        Ok(())
     }
 
     /// Puts a pointer in the register with an id of the top frame of an invocation, if the frame has it.

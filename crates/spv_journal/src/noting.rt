@@ -1,5 +1,6 @@
 //! Entries of changes, by what was there before.
 ghost use Rattle.std.specs.Prelude.{◌≡◌, IfErr, IfOk, IsSome, OnErr, OnOk, Some, length, option_copied, option_map};
+ghost use Rattle.spv_frame.specs.Registers.{marked};
 ghost use Rattle.spv_journal.specs.Entries.{Keeps, KeepsFrame, KeepsPointer, KeepsValue, popped};
 ghost use Rattle.spv_journal.specs.Undo.{Undoes};
 ghost use Rattle.spv_mem.specs.Memory.{MayStore, load_of};
@@ -86,7 +87,7 @@ fn value_entry(alloc: Global, number: usize, row: &Row) -> Result<Entry, NoMemor
 
 /// Adds the entry of a register by the value that it had.
 #[inline(always)]
-pub(crate) fn keep_value(
+fn keep_value(
     alloc: Global,
     journal: &mut Journal,
     number: usize,
@@ -98,6 +99,26 @@ pub(crate) fn keep_value(
 {
     let entry = value_entry(alloc, number, row)?;
     journal.add(entry)
+}
+
+/// Adds the entry of a register by the value that it had, if a mark says that it had one.
+#[inline(always)]
+pub(crate) fn keep_held(
+    alloc: Global,
+    journal: &mut Journal,
+    number: usize,
+    row: &Row,
+    has: bool,
+) -> Result<(), NoMemory>
+    requires { IsSome journal.old.gathered }
+    ensures ok { OnOk result (Keeps (KeepsValue number (marked row.now has) (length (leaves row.now))) journal.old journal.new) }
+    ensures err { OnErr result (journal.new ≡ journal.old) }
+{
+    if has {
+        keep_value(alloc, journal, number, row)
+    } else {
+        journal.add(Entry::NoValue(number))
+    }
 }
 
 /// A pointer in a box.

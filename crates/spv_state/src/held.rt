@@ -1,62 +1,24 @@
-//! What the registers of the top frame of an invocation hold, by their ids.
-ghost use Rattle.std.specs.Prelude.{◌≡◌, ◌<◌, ℕ, None, Some, length, option_copied};
+//! What the registers of pointers of the top frame of an invocation hold, by their ids.
+ghost use Rattle.std.specs.Prelude.{◌≡◌, ◌<◌, None, length, option_copied};
 ghost use Rattle.std.specs.Option.{IsSomeAnd, MatchOption};
-ghost use Rattle.spv_frame.specs.Registers.{ids, number_of};
-ghost use Rattle.spv_index.specs.Definitions.{result_type};
+ghost use Rattle.spv_frame.specs.Registers.{number_of};
 ghost use Rattle.spv_plans.specs.Plans.{plans_in};
-ghost use Rattle.spv_state.specs.Slots.{IsHeld, IsHeldPointer};
+ghost use Rattle.spv_state.specs.Slots.{IsHeldPointer};
 ghost use Rattle.spv_state.specs.Sound.{IsSoundFrame};
 ghost use Rattle.spv_state.specs.State as state;
-ghost use Rattle.spv_types.specs.Rows.{leaves, no_roots};
-ghost use Rattle.spv_types.specs.Shapes.{HasShape};
 
-use crate::registers::{pointer_slot_of, value_slot_of};
+use crate::registers::pointer_slot_of;
 use crate::whole::Whole;
 use spv_base::Pointer;
 use spv_frame::{Frame, Plans};
-use spv_plans::laws::{plans_are_of_functions, registers_have_types};
-use spv_types::rows::rows_fill_types;
+use spv_plans::laws::plans_are_of_functions;
 use spv_valid::Module;
-use spv_values::{Part, Row};
-
-/// A register of a value: its number in the plan of its frame, and its value, if it has one.
-#[derive(Drop)]
-pub struct HeldValue<'a> {
-    pub number: usize,
-    pub value: Option<Part<'a>>,
-}
 
 /// A register of a pointer: its number in the plan of its frame, and its pointer, if it has one.
 #[derive(Drop)]
 pub struct HeldPointer<'a> {
     pub number: usize,
     pub pointer: Option<&'a Pointer>,
-}
-
-/// What the register with an id of a frame holds, if it is one of a value there.
-fn held_in<'a>(
-    accepted: &Module,
-    plans: &Plans,
-    frame: &'a Frame,
-    id: u32,
-    row: &Row,
-) -> Option<HeldValue<'a>>
-    requires plans { plans.now ≡ plans_in accepted.now }
-    requires frame { IsSoundFrame accepted.now frame.now }
-    requires value { (ty : ℕ) → result_type accepted.now.insts id ≡ Some ty → HasShape accepted.now.types no_roots ty row.now }
-    ensures { MatchOption result (number_of id (ids frame.now.plan.values) ≡ None) (λ h. IsHeld id (length (leaves row.now)) frame.now h.number h.value) }
-{
-    plans_are_of_functions();
-    registers_have_types();
-    rows_fill_types();
-    let _insts = accepted.insts();
-    match value_slot_of(accepted, plans, frame.function(), id) {
-        Some(slot) => Some(HeldValue {
-            number: slot.number,
-            value: frame.value(slot),
-        }),
-        None => None,
-    }
 }
 
 /// What the register with an id of a frame holds, if it is one of a pointer there.
@@ -82,21 +44,6 @@ fn held_pointer_in<'a>(
 }
 
 impl Whole {
-    /// What the register with an id of the top frame of an invocation holds, if it is one of a value there. A value of the id's type has
-    /// as many cells as the register. In constant time.
-    pub fn held_value(&self, accepted: &Module, i: u32, id: u32, row: &Row) -> Option<HeldValue<'_>>
-        requires inv { i < length self.now.stacks }
-        requires plans { self.now.plans ≡ plans_in accepted.now }
-        requires frame { IsSomeAnd (state.top_of self.now i) (IsSoundFrame accepted.now) }
-        requires value { (ty : ℕ) → result_type accepted.now.insts id ≡ Some ty → HasShape accepted.now.types no_roots ty row.now }
-        ensures { IsSomeAnd (state.top_of self.now i) (λ f. MatchOption result (number_of id (ids f.plan.values) ≡ None) (λ h. IsHeld id (length (leaves row.now)) f h.number h.value)) }
-    {
-        match self.top(i) {
-            Some(frame) => held_in(accepted, self.plans(), frame, id, row),
-            None => unreachable!(),
-        }
-    }
-
     /// What the register with an id of the top frame of an invocation holds, if it is one of a pointer there. In constant time.
     pub fn held_pointer(&self, accepted: &Module, i: u32, id: u32) -> Option<HeldPointer<'_>>
         requires inv { i < length self.now.stacks }

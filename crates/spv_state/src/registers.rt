@@ -1,19 +1,19 @@
-//! The registers of the top frame of an invocation, set in place. It takes no memory and can't fail.
-ghost use Rattle.std.specs.Prelude.{◌≡◌, ◌<◌, ℕ, IsSome, None, Some, length, option_copied, slice_get};
-ghost use Rattle.std.specs.Option.{IsSomeAnd};
-ghost use Rattle.spv_base.specs.declared.values.Value.{Ptr, out-Value};
+//! The registers of the top frame of an invocation by their ids, exchanged in place. It takes no memory and can't fail.
+ghost use Rattle.std.specs.Prelude.{◌≡◌, ◌<◌, ℕ, IfNone, IsSome, None, Some, length, option_copied, slice_get};
+ghost use Rattle.std.specs.Option.{IsSomeAnd, MatchOption};
+ghost use Rattle.spv_frame.specs.Numbers.{with_value};
+ghost use Rattle.spv_frame.specs.Registers.{ids, marked, number_of};
 ghost use Rattle.spv_frame.specs.Stacks.{top};
 ghost use Rattle.spv_index.specs.Definitions.{result_type};
-ghost use Rattle.spv_state.specs.Slots.{HasPointerSlot, HasSlot};
+ghost use Rattle.spv_state.specs.Slots.{HasPointerSlot, HasSlot, IsExchanged};
 ghost use Rattle.spv_state.specs.Sound.{IsSoundFrame};
 ghost use Rattle.spv_state.specs.State as state;
 ghost use Rattle.spv_plans.specs.Plans.{id_at, plan_of, plans_in};
 ghost use Rattle.spv_plans.specs.Registered.{HasApart, HasNumber};
 ghost use Rattle.spv_types.specs.Rows.{no_roots};
-ghost use Rattle.spv_types.specs.Shapes.{HasShape, pointer_in};
+ghost use Rattle.spv_types.specs.Shapes.{HasShape};
 
 use crate::whole::Whole;
-use spv_base::Pointer;
 use spv_frame::{Place, Plan, Plans, PointerSlot, Slot, Stack};
 use spv_plans::laws::{
     plans_are_of_functions, registers_are_apart, registers_have_types, registers_stand_once,
@@ -102,50 +102,35 @@ pub(crate) fn pointer_slot_of(
     }
 }
 
-/// Exchanges the value of the register with an id of the top frame, which is one of a function, if the frame has this register.
-fn exchange_value(
+/// Exchanges the value of the register with an id of the top frame, which is one of a function, and its mark, if the frame has this
+/// register, and gives its number in the plan.
+fn exchange_in(
     accepted: &Module,
     plans: &Plans,
     stack: &mut Stack,
     function: u32,
     id: u32,
     row: &mut Row,
-)
+    has: &mut bool,
+) -> Option<usize>
     requires plans { plans.now ≡ plans_in accepted.now }
     requires function { IsSomeAnd (top stack.old.frames) (λ f. f.plan.function ≡ function) }
     requires frame { IsSomeAnd (top stack.old.frames) (IsSoundFrame accepted.now) }
-    requires plain { pointer_in (out-Value row.old) ≡ None }
     requires value { (ty : ℕ) → result_type accepted.now.insts id ≡ Some ty → HasShape accepted.now.types no_roots ty row.old }
-    ensures { stack.new ≡ state.on_frames (state.with_register id row.old) stack.old }
+    ensures after { MatchOption result (stack.new ≡ stack.old) (λ n. stack.new ≡ state.on_frames (with_value n (marked row.old has.old)) stack.old) }
+    ensures kept { IfNone result ((row.new ≡ row.old) × (has.new ≡ has.old)) }
+    ensures register { IsSomeAnd (top stack.old.frames) (λ f. MatchOption result (number_of id (ids f.plan.values) ≡ None) (λ n. IsExchanged id n row.old row.new has.new f)) }
 {
     plans_are_of_functions();
     registers_have_types();
     rows_fill_types();
     let _insts = accepted.insts();
-    if let Some(slot) = value_slot_of(accepted, plans, function, id) {
-        let mut has = true;
-        stack.exchange(slot, row, &mut has);
-    }
-}
-
-/// Exchanges the pointer of the register with an id of the top frame, which is one of a function, if the frame has this register.
-fn exchange_pointer(
-    accepted: &Module,
-    plans: &Plans,
-    stack: &mut Stack,
-    function: u32,
-    id: u32,
-    pointer: Pointer,
-)
-    requires plans { plans.now ≡ plans_in accepted.now }
-    requires function { IsSomeAnd (top stack.old.frames) (λ f. f.plan.function ≡ function) }
-    requires frame { IsSomeAnd (top stack.old.frames) (IsSoundFrame accepted.now) }
-    ensures { stack.new ≡ state.on_frames (state.with_register id (Ptr pointer)) stack.old }
-{
-    plans_are_of_functions();
-    if let Some(slot) = pointer_slot_of(accepted, plans, function, id) {
-        let mut held = Some(pointer);
-        stack.exchange_pointer(slot, &mut held);
+    match value_slot_of(accepted, plans, function, id) {
+        Some(slot) => {
+            stack.exchange(slot, row, has);
+            Some(slot.number)
+        }
+        None => None,
     }
 }
 
@@ -162,29 +147,27 @@ impl Whole {
         }
     }
 
-    /// Puts a value in the register with an id of the top frame of an invocation, if the frame has it; the old one is in the row then.
-    pub fn set_value(&mut self, accepted: &Module, i: u32, id: u32, row: &mut Row)
+    /// Exchanges the value of the register with an id of the top frame of an invocation and its mark, if the frame has this register, and
+    /// gives its number in the plan. A value of the id's type has as many cells as the register, so what comes back can be put back by the
+    /// number. In constant time.
+    pub fn exchange_register(
+        &mut self,
+        accepted: &Module,
+        i: u32,
+        id: u32,
+        row: &mut Row,
+        has: &mut bool,
+    ) -> Option<usize>
         requires inv { i < length self.old.stacks }
         requires plans { self.old.plans ≡ plans_in accepted.now }
         requires frame { IsSomeAnd (state.top_of self.old i) (IsSoundFrame accepted.now) }
-        requires plain { pointer_in (out-Value row.old) ≡ None }
         requires value { (ty : ℕ) → result_type accepted.now.insts id ≡ Some ty → HasShape accepted.now.types no_roots ty row.old }
-        ensures { self.new ≡ state.on_frame i (state.with_register id row.old) self.old }
+        ensures after { MatchOption result (self.new ≡ self.old) (λ n. self.new ≡ state.on_frame i (with_value n (marked row.old has.old)) self.old) }
+        ensures kept { IfNone result ((row.new ≡ row.old) × (has.new ≡ has.old)) }
+        ensures register { IsSomeAnd (state.top_of self.old i) (λ f. MatchOption result (number_of id (ids f.plan.values) ≡ None) (λ n. IsExchanged id n row.old row.new has.new f)) }
     {
         let function = self.function(i);
         let stack = &mut self.stacks[i as usize];
-        exchange_value(accepted, &self.plans, stack, function, id, row);
-    }
-
-    /// Puts a pointer in the register with an id of the top frame of an invocation, if the frame has it.
-    pub fn set_pointer(&mut self, accepted: &Module, i: u32, id: u32, pointer: Pointer)
-        requires inv { i < length self.old.stacks }
-        requires plans { self.old.plans ≡ plans_in accepted.now }
-        requires frame { IsSomeAnd (state.top_of self.old i) (IsSoundFrame accepted.now) }
-        ensures { self.new ≡ state.on_frame i (state.with_register id (Ptr pointer)) self.old }
-    {
-        let function = self.function(i);
-        let stack = &mut self.stacks[i as usize];
-        exchange_pointer(accepted, &self.plans, stack, function, id, pointer);
+        exchange_in(accepted, &self.plans, stack, function, id, row, has)
     }
 }

@@ -65,7 +65,8 @@ impl Whole {
         requires there { IsSome (load_of self.old.memory i (record { root = root; path = path.now.value })) }
         requires names { ∥ NamesRow self.old.memory i (record { root = root; path = path.now.value }) leaf 1 ∥₁ }
         requires may { ∥ MayStore self.old.memory i (record { root = root; path = path.now.value }) value.old ∥₁ }
-        ensures { self.new ≡ state.put_store i (Some (record { root = root; path = path.now.value }, value.old)) self.old }
+        ensures after { self.new ≡ state.put_store i (Some (record { root = root; path = path.now.value }, value.old)) self.old }
+        ensures handed { load_of self.old.memory i (record { root = root; path = path.now.value }) ≡ Some value.new }
     {
         let _stored = self.memory.exchange_single(i, root, leaf, path, value);
     }
