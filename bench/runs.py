@@ -330,6 +330,16 @@ def undone(n, back=100_000):
     return "".join(line + "\n" for line in lines)
 
 
+def limited(limit=10, events=4):
+    """What a group keeps whose journal has room for so many marks and entries, where events of the first module are made: an addition takes
+    three (its mark, its register and its pc), the last two of the function fewer; and where as many were taken back."""
+    sizes = (3, 3, 3, 2)
+    kept = events
+    while kept and sum(sizes[kept - 1 : events]) <= limit:
+        kept -= 1
+    return "limit %d\n@%d kept %d\n@0 kept 0\n" % (limit, events, kept)
+
+
 def main():
     out = arithmetic.written()
     # each byte as a line: only a line feed and a space are nothing
@@ -343,7 +353,7 @@ def main():
             text += "== %s: %s: %s\n%s-- commands\n%s" % (what, module, words, setup, commands)
             out += "%s: %s: %s\n%sstatus %d\n" % (what, module, words, written, status)
         write(file, text)
-    out += made(1) + made(64) + undone(64)
+    out += made(1) + made(64) + undone(64) + limited()
     write("lines", "".join(line + "\n" for line, _ in LINES))
     out += "lines\n" + "".join(due + "\n" for _, due in LINES)
     with open(os.path.join(FOLDER, "stdout"), "w") as file:

@@ -1,12 +1,14 @@
 //! Calls the program as a user would, and says what it writes and how it ends: blocks of instructions of each group that computes,
-//! and calls that stand in files with their words, setups and commands, and inputs that are made from a number. What is due is worked out
+//! and calls that stand in files with their words, setups and commands, and inputs that are made from a number; and a group whose journal keeps little. What is due is worked out
 //! by `bench/runs.py`.
 #![tactic(auto)]
 
 mod calls;
+mod limited;
 mod made;
 
 use crate::calls::{files_of, report};
+use crate::limited::report_limited;
 use crate::made::{report_made, report_undone};
 use spv_base::Fail;
 use spv_cmd::{parse, print};
@@ -114,6 +116,7 @@ fn main(rt: HostRuntime) -> io::Result<()> {
     report_made(&rt, 1)?;
     report_made(&rt, 64)?;
     report_undone(&rt, 64)?;
+    report_limited(&rt, "first.spv")?;
     println!(rt; "lines")?;
     let lines = fs::read_to_string(&rt, "lines")?;
     for line in lines.split_terminator('\n') {
