@@ -1,9 +1,12 @@
 -- A part of a variable that was stored, and the old one that is put back.
-use Rattle.std.proofs.Common.{◌≡◌, ◌∙◌, ℕ, ◌==◌, Bool, true, false, cond, List, [], ◌∷◌, Option, Some, None, IsSome, set-set, slice_get, slice_set, unwrap_or, refl, sym, ap, subst}
+use Rattle.std.proofs.Common.{◌≡◌, ◌∙◌, ℕ, ◌+◌, ◌≤◌, ◌==◌, Bool, true, false, cond, List, [], ◌∷◌, ◌++◌, Option, Some, None, IsSome, set-set, length, length-append, take, drop, slice_get, slice_set, unwrap_or, refl, sym, ap, subst, arith}
 use Rattle.std.specs.Option.{option_and_then, option_map}
 use Rattle.std.proofs.Math.Logic.{∥∥₁_elim, ∥∥₁_map}
 use Rattle.std.proofs.Props.{props}
+use Rattle.std.proofs.Math.Seq.{drop-append-add, drop-append_seam, take-append_seam}
+use Rattle.std.proofs.lemmas.List.{length-take-le}
 use Rattle.spv_base.specs.Entries.{reads, writes}
+use Rattle.spv_base.specs.Lane.{Lane}
 use Rattle.spv_base.specs.Parts.{part_at, with_part}
 use Rattle.spv_base.specs.State.{Roots}
 use Rattle.spv_base.specs.declared.values.Pointer.{Pointer}
@@ -12,10 +15,11 @@ use Rattle.spv_base.specs.declared.values.Root.TheVariants.{Shared, Private, Loc
 use Rattle.spv_base.specs.declared.values.Value.{Value}
 use Rattle.spv_base.proofs.EntryLemmas.{change_back, writes_back}
 use Rattle.spv_base.proofs.PartLemmas.{slice_get-set_same}
-use Rattle.spv_types.specs.Rows.{no_roots}
+use Rattle.spv_types.specs.Rows.{leaves, no_roots}
 use Rattle.spv_types.specs.Shapes.{HasShape, reached}
 use Rattle.spv_types.proofs.RowChanges.{put_back, put_is_there, put_twice}
 use Rattle.spv_types.proofs.RowShapes.{shapes_keep}
+use Rattle.spv_values.specs.Places.{IsRowAt}
 use Rattle.spv_mem.specs.Memory.{Held as Memory, IsMemory, Levels, MayStore, id_in, load_of, root_value, roots_in, stored, with_level, with_roots}
 use Rattle.spv_mem.specs.Singles.{NamesRow}
 use Rattle.spv_mem.specs.Targets.{is_counted}
@@ -156,6 +160,81 @@ put_back_part i p u w s t after h is may = subst (PutBack i p u w s) (sym after)
   may = may_after s.memory i p u w h is may;
 })
 
+-- ---- where the part lies
+
+-- a part lies where the one before it lay, if it has as many leaves
+row_stays : (v : Value) (path : List ℕ) (n k : ℕ) (u : Value) → IsRowAt v path n k → length (leaves u) ≡ k → IsRowAt (with_part v path u) path n k
+row_stays v path n k u h long = by_part (part_at v path) refl h.there
+  where
+    front : length (take n (leaves v)) ≡ n
+    front = let w = h.within in length-take-le n (leaves v) (omega arith)
+
+    rest : List Lane
+    rest = leaves u ++ drop (n + k) (leaves v)
+
+    before : take n (leaves (with_part v path u)) ≡ take n (leaves v)
+    before = ap (take n) (h.written u) ∙ subst (λ (m : ℕ). take m (take n (leaves v) ++ rest) ≡ take n (leaves v)) front (take-append_seam (take n (leaves v)) rest)
+
+    behind : (m : ℕ) → drop (n + m) (leaves (with_part v path u)) ≡ drop m rest
+    behind m = ap (drop (n + m)) (h.written u) ∙ subst (λ (x : ℕ). drop (x + m) (take n (leaves v) ++ rest) ≡ drop m rest) front (drop-append-add (take n (leaves v)) rest m)
+
+    after_it : drop (n + k) (leaves (with_part v path u)) ≡ drop (n + k) (leaves v)
+    after_it = behind k ∙ subst (λ (x : ℕ). drop x rest ≡ drop (n + k) (leaves v)) long (drop-append_seam (leaves u) (drop (n + k) (leaves v)))
+
+    at_it : drop n (leaves (with_part v path u)) ≡ rest
+    at_it = subst (λ (x : ℕ). drop x (leaves (with_part v path u)) ≡ rest) (let e : n + 0 ≡ n = omega arith in e) (behind 0)
+
+    many : n + k ≤ length (leaves (with_part v path u))
+    many =
+        let all = ap length (h.written u) ∙ length-append (take n (leaves v)) rest in
+        let part = length-append (leaves u) (drop (n + k) (leaves v)) in
+        omega (arith, all, part, front, long)
+
+    by_part : (o : Option Value) → part_at v path ≡ o → IsSome o → IsRowAt (with_part v path u) path n k
+    by_part None e some = absurd cc
+    by_part (Some w) e some =
+        let there : part_at (with_part v path u) path ≡ Some u = put_is_there path v w u e in
+        record {
+          there = subst IsSome (sym there) refl;
+          within = many;
+          row = λ x at.
+              let same : u ≡ x = let one = sym there ∙ at in cc in
+              ap (take k) at_it ∙ subst (λ (m : ℕ). take m rest ≡ leaves u) long (take-append_seam (leaves u) (drop (n + k) (leaves v))) ∙ ap leaves same;
+          written = λ x.
+              ap leaves (put_twice path v w u x e) ∙ h.written x ∙ ap (λ (ls : List Lane). ls ++ (leaves x ++ drop (n + k) (leaves v))) (sym before)
+              ∙ ap (λ (ls : List Lane). take n (leaves (with_part v path u)) ++ (leaves x ++ ls)) (sym after_it);
+        }
+
+pub names_after : (m : Memory) (i : ℕ) (p : Pointer) (u w : Value) (n k : ℕ) → load_of m i p ≡ Some w → length (leaves u) ≡ k → NamesRow m i p n k → NamesRow (stored i p u m) i p n k
+names_after m i p u w n k h long names =
+    let x = part_of m i p w h in
+    let value : root_value m i p.root ≡ Some x.value = rw x.list x.variable in
+    let same : names.value ≡ x.value = let one = sym names.is ∙ value in cc in
+    record {
+      value = with_part x.value p.path u;
+      is = value_after m i p u w x;
+      row = row_stays x.value p.path n k u (subst (λ (v : Value). IsRowAt v p.path n k) same names.row) long;
+    }
+
+-- ---- a leaf that is exchanged again with what was there
+
+pub record LeafBack (i : ℕ) (p : Pointer) (n : ℕ) (u w : Value) (s t : State) : Type 0 where
+  pub back : put_store i (Some (p, w)) t ≡ s
+  pub load : load_of t.memory i p ≡ Some u
+  pub names : ∥ NamesRow t.memory i p n 1 ∥₁
+  pub may : ∥ MayStore t.memory i p w ∥₁
+
+pub put_back_leaf : (i : ℕ) (p : Pointer) (n : ℕ) (u w : Value) (s t : State) → t ≡ put_store i (Some (p, u)) s → load_of s.memory i p ≡ Some w → length (leaves u) ≡ 1 → ∥ NamesRow s.memory i p n 1 ∥₁ → ∥ IsMemory s.memory ∥₁
+    → ∥ MayStore s.memory i p u ∥₁ → LeafBack i p n u w s t
+put_back_leaf i p n u w s t after h one names is may =
+    let b = put_back_part i p u w s t after h is may in
+    record {
+      back = b.back;
+      load = b.load;
+      names = subst (λ (x : State). ∥ NamesRow x.memory i p n 1 ∥₁) (sym after) (∥∥₁_map names (λ (a : NamesRow s.memory i p n 1). names_after s.memory i p u w n 1 h one a));
+      may = b.may;
+    }
+
 -- ---- an entry of a store
 
 pub undoes_at : (i : ℕ) (p q : Pointer) (w x : Value) (s : State) → q ≡ p → x ≡ w → put_store i (Some (q, x)) s ≡ put_store i (Some (p, w)) s
@@ -167,6 +246,17 @@ there_at m i p q place h = subst (λ (y : Pointer). IsSome (load_of m i y)) (sym
 pub may_at : (m : Memory) (i : ℕ) (p q : Pointer) (w x : Value) → q ≡ p → x ≡ w → ∥ MayStore m i p w ∥₁ → ∥ MayStore m i q x ∥₁
 may_at m i p q w x place value h = subst (λ (y : Pointer). ∥ MayStore m i y x ∥₁) (sym place) (subst (λ (y : Value). ∥ MayStore m i p y ∥₁) (sym value) h)
 
-pub names_at : (m : Memory) (i : ℕ) (p q : Pointer) (start len n : ℕ) → q ≡ p → len ≡ 1 → n ≡ start → NamesRow m i p start len → NamesRow m i q n 1
-names_at m i p q start len n place one at h =
-    subst (λ (y : Pointer). NamesRow m i y n 1) (sym place) (subst (λ (k : ℕ). NamesRow m i p k 1) (sym at) (subst (λ (k : ℕ). NamesRow m i p start k) one h))
+-- what the entry of a leaf asks, and where it leads back
+pub record LeafUndone (i : ℕ) (q : Pointer) (n : ℕ) (x : Value) (s t : State) : Type 0 where
+  pub back : put_store i (Some (q, x)) t ≡ s
+  pub there : IsSome (load_of t.memory i q)
+  pub names : ∥ NamesRow t.memory i q n 1 ∥₁
+  pub may : ∥ MayStore t.memory i q x ∥₁
+
+pub leaf_undone : (i : ℕ) (p q : Pointer) (n : ℕ) (u w x : Value) (s t : State) → LeafBack i p n u w s t → q ≡ p → x ≡ w → LeafUndone i q n x s t
+leaf_undone i p q n u w x s t b place value = record {
+  back = undoes_at i p q w x t place value ∙ b.back;
+  there = there_at t.memory i p q place (subst IsSome (sym b.load) refl);
+  names = subst (λ (y : Pointer). ∥ NamesRow t.memory i y n 1 ∥₁) (sym place) b.names;
+  may = may_at t.memory i p q w x place value b.may;
+}

@@ -1,5 +1,5 @@
 //! The primitive changes of a state, each recorded. Where memory runs out nothing changes.
-ghost use Rattle.std.specs.Prelude.{◌≡◌, ◌<◌, ◌+◌, ℕ, IsSome, None, OnErr, OnOk, Some, length, option_map, slice_get, true};
+ghost use Rattle.std.specs.Prelude.{◌≡◌, ◌<◌, ◌+◌, ℕ, IfSome, IsSome, None, OnErr, OnOk, Some, length, option_map, slice_get, true};
 ghost use Rattle.std.specs.Option.{IsSomeAnd};
 ghost use Rattle.spv_base.specs.declared.values.Value.{Ptr, out-Value};
 ghost use Rattle.spv_frame.specs.Numbers.{HasPointer, with_pointer};
@@ -7,6 +7,7 @@ ghost use Rattle.spv_frame.specs.Stacks.{Stacked};
 ghost use Rattle.spv_index.specs.Definitions.{result_type};
 ghost use Rattle.spv_journal.specs.Held.{IsMaking, Records};
 ghost use Rattle.spv_mem.specs.Memory.{AreVariables, HasRoom, MayStore, load_of};
+ghost use Rattle.spv_mem.specs.Singles.{NamesRow};
 ghost use Rattle.spv_plans.specs.Plans.{plans_in};
 ghost use Rattle.spv_state.specs.Rooms.{HasLocals};
 ghost use Rattle.spv_state.specs.Sound.{IsSoundFrame};
@@ -19,13 +20,14 @@ ghost use Rattle.spv_types.specs.Shapes.{HasShape, pointer_in};
 use crate::entries::{Entry, OldFrame};
 use crate::noting::{keep_frame, keep_held, keep_part, pointer_entry};
 use crate::recorded::Recorded;
-use spv_base::{NoMemory, Pointer};
+use spv_base::{Ghost, NoMemory, Pointer};
 use spv_frame::{DebugEvent, Frame};
 use spv_mem::Locals;
 use spv_state::Whole;
 use spv_statuses::Status;
 use spv_valid::Module;
-use spv_values::Row;
+use spv_values::trees::shadow;
+use spv_values::{Row, Single};
 
 /// Puts a pointer in a register of the top frame of an invocation, by its number.
 fn put_pointer(whole: &mut Whole, i: u32, number: usize, pointer: Pointer)
@@ -37,9 +39,96 @@ fn put_pointer(whole: &mut Whole, i: u32, number: usize, pointer: Pointer)
     whole.exchange_pointer(i, number, &mut taken);
 }
 
+/// How many leaves lie before the one that a pointer of an invocation names, if a row of one cell is stored there and an entry can hold the
+/// number.
+fn named_leaf(whole: &Whole, i: u32, pointer: &Pointer, row: &Row) -> Option<u32>
+    ensures one { IfSome result (λ n. length (leaves row.now) ≡ 1) }
+    ensures names { IfSome result (λ n. NamesRow whole.now.memory i pointer.now n 1) }
+{
+    if row.len() == 1
+        && let Some(place) = whole.memory().place(i, pointer)
+        && place.len == 1
+        && let Ok(leaf) = u32::try_from(place.start)
+    {
+        return Some(leaf);
+    }
+    None
+}
+
+/// Exchanges a row of one cell with the leaf that a pointer of an invocation names, which lies behind so many others.
+#[inline(always)]
+fn exchange_leaf(whole: &mut Whole, i: u32, pointer: &Pointer, leaf: u32, row: &mut Row)
+    requires one { length (leaves row.old) ≡ 1 }
+    requires there { IsSome (load_of whole.old.memory i pointer.now) }
+    requires names { ∥ NamesRow whole.old.memory i pointer.now leaf 1 ∥₁ }
+    requires may { ∥ MayStore whole.old.memory i pointer.now row.old ∥₁ }
+    ensures after { whole.new ≡ state.put_store i (Some (pointer.now, row.old)) whole.old }
+    ensures handed { load_of whole.old.memory i pointer.now ≡ Some row.new }
+    ensures one { length (leaves row.new) ≡ 1 }
+{
+    let path = shadow(&pointer.path);
+    let mut single = Single::of_part(&row.as_part());
+    whole.exchange_single(i, pointer.root, leaf as usize, &path, &mut single);
+    let _cell = single.cell();
+    let all = Ghost::of();
+    row.exchange_single(&all, 0, &mut single);
+}
+
 impl Recorded {
     /// Puts a value where a pointer of an invocation leads; the old one is in the row then.
     pub fn store(&mut self, i: u32, pointer: &Pointer, row: &mut Row) -> Result<(), NoMemory>
+        requires making { IsMaking self.old.gathered i }
+        requires there { IsSome (load_of self.old.state.memory i pointer.now) }
+        requires may { ∥ MayStore self.old.state.memory i pointer.now row.old ∥₁ }
+        ensures ok { OnOk result (self.new.state ≡ state.put_store i (Some (pointer.now, row.old)) self.old.state) }
+        ensures handed { OnOk result (load_of self.old.state.memory i pointer.now ≡ Some row.new) }
+        ensures recorded { Records (1 + length (leaves row.old)) self.old self.new }
+        ensures err { OnErr result ((self.new ≡ self.old) × (row.new ≡ row.old)) }
+    {
+        match named_leaf(&self.whole, i, pointer, row) {
+            Some(leaf) => self.store_leaf(i, pointer, leaf, row),
+            None => self.store_part(i, pointer, row),
+        }
+    }
+
+    /// Puts a value of one cell where a pointer of an invocation leads to a leaf, which lies behind so many others; the old one is in the
+    /// row then. The number saves a second look-up.
+    fn store_leaf(
+        &mut self,
+        i: u32,
+        pointer: &Pointer,
+        leaf: u32,
+        row: &mut Row,
+    ) -> Result<(), NoMemory>
+        requires making { IsMaking self.old.gathered i }
+        requires there { IsSome (load_of self.old.state.memory i pointer.now) }
+        requires may { ∥ MayStore self.old.state.memory i pointer.now row.old ∥₁ }
+        requires one { length (leaves row.old) ≡ 1 }
+        requires names { ∥ NamesRow self.old.state.memory i pointer.now leaf 1 ∥₁ }
+        ensures ok { OnOk result (self.new.state ≡ state.put_store i (Some (pointer.now, row.old)) self.old.state) }
+        ensures handed { OnOk result (load_of self.old.state.memory i pointer.now ≡ Some row.new) }
+        ensures recorded { Records (1 + length (leaves row.old)) self.old self.new }
+        ensures err { OnErr result ((self.new ≡ self.old) × (row.new ≡ row.old)) }
+    {
+        self.whole.memory().keeps_types();
+        exchange_leaf(&mut self.whole, i, pointer, leaf, row);
+        let entry = Entry::Leaf {
+            root: pointer.root,
+            leaf,
+            path: shadow(&pointer.path),
+            value: Single::of_part(&row.as_part()),
+        };
+        match self.journal.add(entry) {
+            Ok(()) => Ok(()),
+            Err(error) => {
+                exchange_leaf(&mut self.whole, i, pointer, leaf, row);
+                Err(error)
+            }
+        }
+    }
+
+    /// Puts a value of any number of cells where a pointer of an invocation leads; the old one is in the row then.
+    fn store_part(&mut self, i: u32, pointer: &Pointer, row: &mut Row) -> Result<(), NoMemory>
         requires making { IsMaking self.old.gathered i }
         requires there { IsSome (load_of self.old.state.memory i pointer.now) }
         requires may { ∥ MayStore self.old.state.memory i pointer.now row.old ∥₁ }

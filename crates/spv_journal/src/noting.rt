@@ -12,12 +12,10 @@ use crate::journal::Journal;
 use spv_base::{NoMemory, Pointer};
 use spv_state::Whole;
 use spv_state::held::HeldPointer;
-use spv_values::trees::shadow;
 use spv_values::{Row, Single};
 use std::alloc::Global;
 
-/// The entry of a store where a pointer leads, after it was made, by the value that was there: that is a leaf, or a copy of it is kept
-/// where it isn't.
+/// The entry of a store where a pointer leads, after it was made, by a copy of the value that was there.
 fn part_entry(
     alloc: Global,
     whole: &Whole,
@@ -29,18 +27,6 @@ fn part_entry(
     requires may { ∥ MayStore whole.now.memory i pointer.now row.now ∥₁ }
     ensures { IfOk result (λ e. Undoes i e (state.put_store i (Some (pointer.now, row.now)) whole.now) whole.now) }
 {
-    if row.len() == 1
-        && let Some(place) = whole.memory().place(i, pointer)
-        && place.len == 1
-        && let Ok(leaf) = u32::try_from(place.start)
-    {
-        return Ok(Entry::Leaf {
-            root: pointer.root,
-            leaf,
-            path: shadow(&pointer.path),
-            value: Single::of_part(&row.as_part()),
-        });
-    }
     let old = OldPart {
         place: pointer.copy(alloc)?,
         row: Row::of_part(alloc, &row.as_part())?,

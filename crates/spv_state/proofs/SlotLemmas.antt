@@ -37,13 +37,11 @@ no_pointer p id n apart at = let there = number_there id (ids p.values) n at in 
 pub record IsTop (a : Accepted) (function : ℕ) (f : Frame) : Type 0 where
   pub among : Contains (functions_in a) function
   pub plan : f.plan ≡ plan_of a function
-  pub sound : IsSoundFrame a f
 
 pub own_plan : (a : Accepted) (function : ℕ) (f : Frame) → f.plan.function ≡ function → IsSoundFrame a f → IsTop a function f
 own_plan a function f same s = record {
   among = subst (Contains (functions_in a)) same (function_known a f.plan.function f.pc (standing a f.plan.function f.pc s.stands));
   plan = s.plan ∙ ap (plan_of a) same;
-  sound = s;
 }
 
 pub top_plan : (a : Accepted) (function : ℕ) (o : Option Frame) → IsSomeAnd o (λ f. f.plan.function ≡ function) → IsSomeAnd o (IsSoundFrame a) → (f : Frame) × (o ≡ Some f) × IsTop a function f

@@ -6,7 +6,7 @@ use Rattle.spv_journal.specs.Held.{Held}
 use Rattle.spv_journal.specs.Undo.{Undoes}
 use Rattle.spv_journal.proofs.RecordLemmas.{kept, same_held, still, still_unwinds}
 use Rattle.spv_journal.proofs.StoreLemmas.{put_back_part}
-use Rattle.spv_journal.proofs.recorded.Recorded.store.Goals as goal
+use Rattle.spv_journal.proofs.recorded.Recorded.store_part.Goals as goal
 
 pub store-requires-clause-may : goal.store-requires-clause-may
 store-requires-clause-may c = subst (λ (h : Held). ∥ MayStore h.state.memory c.args.i c.args.pointer.now c.args.row.now ∥₁) (sym c.self.view_is) c.requires.may
