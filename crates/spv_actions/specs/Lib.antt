@@ -12,6 +12,7 @@ pub mod Instructions
 pub mod Fits
 pub mod Kept
 pub mod Planned
+pub mod Targets
 pub mod Sites
 pub mod Passing
 pub mod Laws

@@ -13,6 +13,7 @@ use crate::causes::Cause;
 use crate::effects::{Control, Effect, Gain};
 use crate::kept::{copy_memory_is_kept, load_is_kept, store_is_kept};
 use crate::sites::{Site, owned};
+use crate::targets::Target;
 use spv_base::{Fail, NoMemory, Pointer, Root};
 use spv_effects::resize;
 use spv_mem::Memory;
@@ -66,6 +67,17 @@ pub(crate) fn place(site: &Site, at: &Operand) -> Result<Pointer, Fail<Cause>>
     Ok(owned(site.alloc(), reference)?)
 }
 
+/// Where a store goes by an operand. F3 where it is no pointer. It takes no memory where that is a whole variable.
+fn target(site: &Site, at: &Operand) -> Result<Target, Fail<Cause>>
+    requires { IsPlain at.now }
+    ensures { Answers (pointer (shown at.now)) result }
+{
+    if let Operand::Variable(root) = at {
+        return Ok(Target::whole(*root));
+    }
+    Ok(Target::of(site.alloc(), place(site, at)?)?)
+}
+
 /// Copies a value into a row. It takes memory only where the row never had room for as many cells.
 pub(crate) fn copied(part: &Part, row: &mut Row) -> Result<(), NoMemory>
     ensures { OnOk result (row.new ≡ part.now) }
@@ -109,7 +121,7 @@ pub fn store(site: &Site, row: &mut Row) -> Result<Effect, Fail<Cause>>
     let object = site.value(1)?;
     let _part = part(site, &at)?;
     copied(&object.part(), row)?;
-    let place = place(site, &at)?;
+    let place = target(site, &at)?;
     Ok(Effect {
         store: Some(place),
         gain: Gain::Nothing,
@@ -128,11 +140,11 @@ pub fn copy_memory(site: &Site, row: &mut Row) -> Result<Effect, Fail<Cause>>
     copy_memory_is_kept(site);
     site.is_reached();
     let _insts = site.accepted().insts();
-    let target = site.operand(0)?;
+    let to = site.operand(0)?;
     let source = site.operand(1)?;
-    let _part = part(site, &target)?;
+    let _part = part(site, &to)?;
     copied(&part(site, &source)?, row)?;
-    let place = place(site, &target)?;
+    let place = target(site, &to)?;
     Ok(Effect {
         store: Some(place),
         gain: Gain::Nothing,

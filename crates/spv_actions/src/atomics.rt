@@ -24,6 +24,7 @@ use crate::causes::Cause;
 use crate::effects::{Control, Effect, Gain};
 use crate::kept::atomic_is_kept;
 use crate::sites::{Datum, Site};
+use crate::targets::Target;
 use spv_alu::arithmetic::{difference, sum};
 use spv_alu::results::defined_if;
 use spv_alu::{BinaryOp, GlslOp};
@@ -172,8 +173,9 @@ fn exchange(
     is_lane(new);
     put(new, row)?;
     let (place, old) = target;
+    let store = Target::of(site.alloc(), place)?;
     Ok(Effect {
-        store: Some(place),
+        store: Some(store),
         gain: Gain::Handed(old),
         control: Control::Next,
     })
@@ -214,8 +216,9 @@ fn store(site: &Site, row: &mut Row) -> Result<Effect, Fail<Cause>>
     let (place, _old) = target(site, &at)?;
     is_lane(value);
     put(value, row)?;
+    let store = Target::of(site.alloc(), place)?;
     Ok(Effect {
-        store: Some(place),
+        store: Some(store),
         gain: Gain::Nothing,
         control: Control::Next,
     })

@@ -16,6 +16,7 @@ use crate::chains::chain;
 use crate::computing::compute;
 use crate::lengths::array_length;
 use crate::sites::Site;
+use crate::targets::Target;
 use spv_base::{Cell, Fail, Inst, Pointer};
 use spv_frame::Frame;
 use spv_mem::Locals;
@@ -70,10 +71,13 @@ pub enum Gain {
 #[derive(Drop)]
 pub struct Effect {
     /// Where memory is set.
-    pub store: Option<Pointer>,
+    pub store: Option<Target>,
     pub gain: Gain,
     pub control: Control,
 }
+
+/// An effect is moved twice an event.
+const _: () = prove!(size_of::<Effect>() <= 96);
 
 /// What an instruction does at which the top frame of an invocation stands, or why it faults. What it does can be done.
 pub fn effect_at(

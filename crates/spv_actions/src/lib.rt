@@ -20,6 +20,8 @@ mod lengths;
 mod phis;
 pub mod sites;
 mod switches;
+pub mod targets;
 
 pub use causes::Cause;
 pub use effects::{Control, Effect, Gain, effect_at};
+pub use targets::{Place, Target};

@@ -19,8 +19,8 @@ ghost use Rattle.spv_state.specs.State as state;
 
 use crate::passing::come_to;
 use spv_actions::effects::{Entered, PhiValue};
-use spv_actions::{Control, Effect, Gain};
-use spv_base::{Inst, NoMemory, Pointer};
+use spv_actions::{Control, Effect, Gain, Place, Target};
+use spv_base::{Inst, NoMemory, Path, Pointer};
 use spv_journal::Recorded;
 use spv_state::{Runnable, Whole};
 use spv_statuses::Status;
@@ -28,11 +28,39 @@ use spv_valid::Module;
 use spv_values::Row;
 use std::alloc::Global;
 
-/// Puts the value of a row where a store leads; the old one is in the row then.
-fn put_store(
+/// Puts the value of a row where a target is; the old one is in the row then. The pointer to a whole variable is made here: it takes no
+/// memory.
+fn put_at(
+    alloc: Global,
     recorded: &mut Recorded,
     inv: u32,
-    store: Option<Pointer>,
+    target: &Target,
+    row: &mut Row,
+) -> Result<(), NoMemory>
+    requires making { IsMaking recorded.old.gathered inv }
+    requires fits { StoreFits recorded.old.state inv (Some (target.now, row.old)) }
+    ensures store { OnOk result (recorded.new.state ≡ state.put_store inv (Some (target.now, row.old)) recorded.old.state) }
+    ensures handed { OnOk result (load_of recorded.old.state.memory inv target.now ≡ Some row.new) }
+    ensures recorded { Records (entries.store_entries (Some (target.now, row.old))) recorded.old recorded.new }
+{
+    match &target.place {
+        Place::Whole(root) => {
+            let pointer = Pointer {
+                root: *root,
+                path: Path::new(alloc),
+            };
+            recorded.store(inv, &pointer, row)
+        }
+        Place::Part(pointer) => recorded.store(inv, pointer, row),
+    }
+}
+
+/// Puts the value of a row where a store leads; the old one is in the row then.
+fn put_store(
+    alloc: Global,
+    recorded: &mut Recorded,
+    inv: u32,
+    store: Option<Target>,
     row: &mut Row,
 ) -> Result<(), NoMemory>
     requires making { IsMaking recorded.old.gathered inv }
@@ -43,7 +71,7 @@ fn put_store(
     ensures recorded { Records (entries.store_entries (option_map (λ q. (q, row.old)) store)) recorded.old recorded.new }
 {
     match store {
-        Some(pointer) => recorded.store(inv, &pointer, row),
+        Some(target) => put_at(alloc, recorded, inv, &target, row),
         None => Ok(()),
     }
 }
@@ -339,7 +367,7 @@ pub(crate) fn apply(
         gain,
         control,
     } = effect;
-    put_store(recorded, inv, store, row)?;
+    put_store(alloc, recorded, inv, store, row)?;
     put_result(m, recorded, inv, inst, gain, row)?;
     go(alloc, m, recorded, inv, inst, control, row)
 }

@@ -60,7 +60,7 @@ fn stored(accepted: &Module, inv: u32, word: u32, effect: &Effect) -> Happening
     ensures { (v : Value) → result ≡ spec.stored_at accepted.now inv word (shown effect.now v).store }
 {
     match &effect.store {
-        Some(pointer) => written(accepted, inv, word, pointer.root),
+        Some(target) => written(accepted, inv, word, target.root()),
         None => plain(inv, word),
     }
 }

@@ -1,4 +1,5 @@
-use Rattle.std.proofs.Common.{◌≡◌, ◌∙◌, Err, Ok, ap, rules, subst, sym}
+use Rattle.std.proofs.Common.{◌≡◌, ◌∙◌, Err, Ok, Some, ap, rules, subst, sym}
+use Rattle.spv_base.specs.declared.values.Pointer.{Pointer as Reference}
 use Rattle.spv_base.specs.declared.values.Value.{Value}
 use Rattle.spv_types.specs.Laws.{AreSound}
 use Rattle.spv_mem.specs.Memory.{Held as Memory, IsMemory}
@@ -7,6 +8,7 @@ use Rattle.spv_operands.specs.Operands.{shown}
 use Rattle.spv_results.proofs.SoundTypes.{sound_types}
 use Rattle.spv_actions.specs.AtomicSites.{first_of_three, scalar, target}
 use Rattle.spv_actions.specs.Effects.{sets}
+use Rattle.spv_actions.specs.Fits.{StoreFits}
 use Rattle.spv_actions.proofs.AccessLemmas.{outside_due}
 use Rattle.spv_actions.proofs.AtomicLemmas.{exchange_fits, value_width}
 use Rattle.spv_actions.proofs.AtomicSteps.{store_is, stores_by, takes_first, takes_ok, takes_target, takes_value}
@@ -32,13 +34,15 @@ returns-clause-due c =
     store_is c.args.site.now c.requires.action
     ∙ takes_ok c.args.site.now stores_by (shown c.in_ok-at.at) c.in_ok-at.ensures.value c.in_ok-value.value (c.in_ok-place.place, c.in_ok-place._old) c.in_ok-value.ensures.value c.in_ok-place.ensures.target
     ∙ ap (λ (v : Value). Ok (sets c.in_ok-place.place v)) (sym c.in_ok-put.ensures)
+    ∙ ap (λ (q : Reference). Ok (sets q c.put.new.row)) (sym c.in_ok-store.ensures)
 
 pub returns-clause-fits : goal.returns-clause-fits
 returns-clause-fits c =
     let same : c.in_ok-value.value.width ≡ c.in_ok-place._old.width
     = value_width c.args.site.now (subst (λ (a : Accepted). AreSound a.types) c.accepted.ensures (sound_types c.accepted.result.now c.insts-insts.ensures.valid)) (c.requires.rule.0, c.requires.rule.1, c.requires.rule.2.0) (c.in_ok-place.place, c.in_ok-place._old) c.in_ok-place.ensures.is 3 c.in_ok-value.value c.requires.rule.2.1.0 c.in_ok-value.ensures.shape in
     record {
-      store = exchange_fits c.args.site.now (c.in_ok-place.place, c.in_ok-place._old) c.in_ok-place.ensures.is (subst (λ (m : Memory). ∥ IsMemory m ∥₁) c.memory.ensures c.variables_are_shaped.ensures) c.in_ok-value.value c.put.new.row c.in_ok-put.ensures c.is_lane.ensures same;
+      store = subst (λ (q : Reference). StoreFits c.args.site.now.state c.args.site.now.inv (Some (q, c.put.new.row))) (sym c.in_ok-store.ensures)
+          (exchange_fits c.args.site.now (c.in_ok-place.place, c.in_ok-place._old) c.in_ok-place.ensures.is (subst (λ (m : Memory). ∥ IsMemory m ∥₁) c.memory.ensures c.variables_are_shaped.ensures) c.in_ok-value.value c.put.new.row c.in_ok-put.ensures c.is_lane.ensures same);
       result = tt;
       control = c.requires.next;
       rooted = tt;
