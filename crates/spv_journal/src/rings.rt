@@ -76,12 +76,7 @@ pub(crate) struct KeptMark {
 }
 
 /// Undoes the first changes of an invocation, so many, and takes them away.
-fn undo_first(
-    whole: &mut Whole,
-    inv: u32,
-    entries: &mut HeapCircularBuffer<Entry>,
-    count: usize,
-)
+fn undo_first(whole: &mut Whole, inv: u32, entries: &mut HeapCircularBuffer<Entry>, count: usize)
     requires there { count ≤ length entries.old.items }
     requires can { CanUndoAll inv (take count entries.old.items) whole.old }
     ensures whole { whole.new ≡ undo_all inv (take count entries.old.items) whole.old }

@@ -43,7 +43,7 @@ invariant_of-self c =
     let same : r.held - kept_size c.in-Some.kept ≡ r.held - (c.size.result + c.in-Some.kept.beside) = ap (λ (n : ℕ). r.held - (n + c.in-Some.kept.beside)) (sym c.size.ensures) in (
       ap (λ (b : Buffer KeptMark). b.capacity) c.pop_back.ensures.items ∙ c.self.invariant.0 ∙ sym c.drop_last.ensures.capacity,
       subst (λ (n : ℕ). IsRing c.pop_back.new.self.items c.drop_last.new.entries.items n (r.held - (c.size.result + c.in-Some.kept.beside))) (sym c.drop_last.ensures.capacity)
-      (subst (IsRing c.pop_back.new.self.items c.drop_last.new.entries.items r.entries.capacity) same d.ring),
+          (subst (IsRing c.pop_back.new.self.items c.drop_last.new.entries.items r.entries.capacity) same d.ring),
     )
 
 pub unreachable-requires : goal.unreachable-requires

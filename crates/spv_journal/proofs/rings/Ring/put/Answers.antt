@@ -51,9 +51,9 @@ invariant_of-self c =
     let deque = c.args.gathered.now.ok.0 in
     let count : k.beside ≡ length c.args.gathered.now.items = omega (arith, counted, deque) in
     let put : c.push_front.new.self.items ≡ k ∷ r.marks.items =
-        ap (λ (b : Buffer KeptMark). b.items) c.push_front.ensures.items ∙ take_all r.marks.capacity (k ∷ r.marks.items) (omega (arith, marks, alike)) in
+    ap (λ (b : Buffer KeptMark). b.items) c.push_front.ensures.items ∙ take_all r.marks.capacity (k ∷ r.marks.items) (omega (arith, marks, alike)) in
     let ring = ring_put r.marks.items c.push_front.new.self.items r.entries.items c.put_all.new.entries.items c.args.gathered.now.items r.entries.capacity r.held need k c.self-else-need-limit.invariant.1
-        count put c.put_all.ensures.entries is fits in (
+    count put c.put_all.ensures.entries is fits in (
       ap (λ (b : Buffer KeptMark). b.capacity) c.push_front.ensures.items ∙ alike ∙ sym c.put_all.ensures.capacity,
       subst (λ (n : ℕ). IsRing c.push_front.new.self.items c.put_all.new.entries.items n (r.held + need)) (sym c.put_all.ensures.capacity) ring,
     )
@@ -83,7 +83,7 @@ returns-else-need-limit-clause-events c =
     let deque = c.args.gathered.now.ok.0 in
     let count : k.beside ≡ length c.args.gathered.now.items = omega (arith, counted, deque) in
     let put : c.push_front.new.self.items ≡ k ∷ r.marks.items =
-        ap (λ (b : Buffer KeptMark). b.items) c.push_front.ensures.items ∙ take_all r.marks.capacity (k ∷ r.marks.items) (omega (arith, marks, alike)) in
+    ap (λ (b : Buffer KeptMark). b.items) c.push_front.ensures.items ∙ take_all r.marks.capacity (k ∷ r.marks.items) (omega (arith, marks, alike)) in
     event_put r.marks.items c.push_front.new.self.items r.entries.items c.put_all.new.entries.items c.args.gathered.now.items k count put c.put_all.ensures.entries
     ∙ ap (λ (x : Ringed). v ∷ x.events) c.self-else-need-limit.view_is
     ∙ ap (λ (vs : List Event). v ∷ vs) c.make_room.ensures.events
