@@ -1,6 +1,6 @@
 -- An instruction that the top frame of an invocation has come to, what its operands stand for, and what calls inside a step find and
 -- compute there. No definition of a step speaks of it.
-use Rattle.std.specs.Prelude.{◌≡◌, ℕ, ◌<◌, ◌&&◌, not, if◌then◌else◌, Bool, true, false, length, Option, Some, None, Result, Ok, Err, ⊤}
+use Rattle.std.specs.Prelude.{◌≡◌, ℕ, ◌<◌, ◌&&◌, not, if◌then◌else◌, Bool, true, false, length, Option, Some, None, IsSome, Result, Ok, Err, ⊤}
 use Rattle.std.specs.Option.{option_map_or}
 use Rattle.spv_base.specs.Entries.{reads}
 use Rattle.spv_base.specs.declared.causes.Fail.{Fail}
@@ -96,6 +96,16 @@ abbrev pub Finds : {T : Type 0} → Option T → Result T (Fail Cause) → Type 
 Finds due (Ok x) = due ≡ Some x
 Finds due (Err (Refused cause)) = (due ≡ None) × (cause ≡ NoValue)
 Finds due (Err NoMemory) = ⊤
+
+-- nothing is there: the fault F4; or memory ran out
+abbrev pub IsMissing : {T : Type 0} → Option T → Fail Cause → Type 0
+IsMissing due (Refused cause) = (due ≡ None) × (cause ≡ NoValue)
+IsMissing due NoMemory = ⊤
+
+-- something is there, or it is missing
+abbrev pub Asks : {T U : Type 0} → Option T → Result U (Fail Cause) → Type 0
+Asks due (Ok x) = IsSome due
+Asks due (Err e) = IsMissing due e
 
 -- ---- results
 

@@ -4,7 +4,6 @@ ghost use Rattle.spv_state.specs.Actions.{action_of};
 ghost use Rattle.spv_actions.specs.Planned.{IsDue, IsTaken, PlannedFits};
 ghost use Rattle.spv_actions.specs.Sites as spec;
 
-use crate::atomics::first_of_three;
 use crate::causes::Cause;
 use crate::effects::{Control, Effect, Gain};
 use crate::kept::{barrier_is_kept, fence_is_kept};
@@ -21,7 +20,9 @@ pub fn control_barrier(site: &Site, row: &Row) -> Result<Effect, Fail<Cause>>
     ensures taken { IfOk result (λ e. IsTaken site.now.state site.now.inv e row.now) }
 {
     barrier_is_kept(site);
-    let _execution = first_of_three(site)?;
+    site.ask(0)?;
+    site.ask(1)?;
+    site.ask(2)?;
     Ok(Effect {
         store: None,
         gain: Gain::Nothing,
@@ -37,8 +38,8 @@ pub fn memory_barrier(site: &Site, row: &Row) -> Result<Effect, Fail<Cause>>
     ensures taken { IfOk result (λ e. IsTaken site.now.state site.now.inv e row.now) }
 {
     fence_is_kept(site);
-    let _memory = site.operand(0)?;
-    let _semantics = site.operand(1)?;
+    site.ask(0)?;
+    site.ask(1)?;
     Ok(Effect {
         store: None,
         gain: Gain::Nothing,

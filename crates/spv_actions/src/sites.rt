@@ -1,11 +1,11 @@
 //! Instructions where runs have come to them, and their operands.
-ghost use Rattle.std.specs.Prelude.{◌≡◌, ◌<◌, IfOk, IfSome, None, Some, length, option_map, true};
+ghost use Rattle.std.specs.Prelude.{◌≡◌, ◌<◌, IfOk, IfSome, IsSome, None, Some, length, option_map, true};
 ghost use Rattle.std.specs.List.{Contains};
 ghost use Rattle.std.specs.Result.{result_map_both};
 ghost use Rattle.spv_plans.specs.Plans.{functions_in, plan_of};
 ghost use Rattle.spv_index.specs.Definitions.{at, result_type};
 ghost use Rattle.spv_actions.specs.Sites as spec;
-ghost use Rattle.spv_actions.specs.Sites.{Finds, is_data_at};
+ghost use Rattle.spv_actions.specs.Sites.{Asks, Finds, is_data_at};
 ghost use Rattle.spv_state.specs.Events.{IsReadable, passed};
 ghost use Rattle.spv_state.specs.Sound.{IsSound};
 ghost use Rattle.spv_state.specs.State as state;
@@ -15,9 +15,10 @@ ghost use Rattle.spv_results.specs.Operands.{IsOperand};
 use crate::causes::Cause;
 use spv_base::{Fail, Inst, NoMemory, Pointer};
 use spv_frame::{Frame, Plan};
+use spv_index::id_operand;
 use spv_mem::Memory;
-use spv_operands::laws::operands_have_shapes;
-use spv_operands::{Operand, Reference, operand as operand_by, operand_of};
+use spv_operands::laws::{constants_are_meant, operands_have_shapes};
+use spv_operands::{Operand, Reference, constant, operand as operand_by, operand_of};
 use spv_state::{Runnable, Whole, pass_events, plan_in};
 use spv_valid::Module;
 use spv_values::Part;
@@ -222,6 +223,30 @@ impl<'a> Site<'a> {
             Some(operand) => Ok(operand),
             None => Err(Fail::Refused(Cause::NoValue)),
         }
+    }
+
+    /// Whether the operand with a number is a constant, and so stands for something. In constant time.
+    fn is_constant(&self, n: usize) -> bool
+        ensures { result ≡ true → IsSome (spec.values self.now n) }
+    {
+        constants_are_meant();
+        let accepted = self.accepted();
+        let _insts = accepted.insts();
+        match id_operand(self.inst, n) {
+            Some(id) => constant(accepted, id).is_some(),
+            None => false,
+        }
+    }
+
+    /// Asks that the operand with a number stands for something. F4 where it has no value. A constant isn't read for it.
+    pub fn ask(&self, n: usize) -> Result<(), Fail<Cause>>
+        ensures { Asks (spec.values self.now n) result }
+    {
+        if self.is_constant(n) {
+            return Ok(());
+        }
+        let _operand = self.operand(n)?;
+        Ok(())
     }
 
     /// The value of the operand with a number, whose type is no pointer type. F4 where it has none.
