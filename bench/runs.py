@@ -331,12 +331,10 @@ def undone(n, back=100_000):
 
 
 def limited(limit=10, events=4):
-    """What a group keeps whose journal has room for so many marks and entries, where events of the first module are made: an addition takes
-    three (its mark, its register and its pc), the last two of the function fewer; and where as many were taken back."""
-    sizes = (3, 3, 3, 2)
-    kept = events
-    while kept and sum(sizes[kept - 1 : events]) <= limit:
-        kept -= 1
+    """What a group keeps whose journal has room for so many marks and entries, where events of the first module are made, and where as
+    many are taken back. Each of them is a mark and two entries: what is stored or set and the pc, or the frame and the status at the
+    return."""
+    kept = max(events - limit // 3, 0)
     return "limit %d\n@%d kept %d\n@0 kept 0\n" % (limit, events, kept)
 
 

@@ -1,6 +1,6 @@
 //! Calls the program as a user would, and says what it writes and how it ends: blocks of instructions of each group that computes,
-//! and calls that stand in files with their words, setups and commands, and inputs that are made from a number; and a group whose journal keeps little. What is due is worked out
-//! by `bench/runs.py`.
+//! calls that stand in files with their words, setups and commands, and inputs that are made from a number; and what a group keeps
+//! whose journal has little room. What is due is worked out by `bench/runs.py`.
 #![tactic(auto)]
 
 mod calls;
