@@ -3,61 +3,55 @@ use Rattle.std.proofs.Common.{◌≡◌, ◌∙◌, ℕ, zero, suc, ◌+◌, ◌
 use Rattle.std.proofs.Math.Seq.{drop-append_seam, take-append_seam}
 use Rattle.std.proofs.lemmas.List.{drop-take, length-append, length-drop, length-take-le, take-take}
 use Rattle.spv_journal.specs.Events.{Event, fitting, size, size_of}
-use Rattle.spv_journal.specs.Rings.{beside, but_oldest, event_of, events, in_mark, IsRing, mark_size}
+use Rattle.spv_journal.specs.Marks.{Marked}
+use Rattle.spv_journal.specs.Rings.{beside, but_oldest, event_of, events, IsRing, mark_size}
 use Rattle.spv_journal.specs.Undo.{CanUndoAll, undo, undo_all}
 use Rattle.spv_journal.specs.declared.entries.Entry.{Entry}
-use Rattle.spv_journal.specs.declared.rings.KeptMark.{KeptMark}
-use Rattle.spv_journal.specs.declared.rings.Mark as mark
 use Rattle.spv_state.specs.State.{State}
 
 -- ---- sizes
 
--- what a kept mark stands for, with its changes
-abbrev pub kept_size : KeptMark → ℕ
-kept_size k = mark_size k.mark.pc + k.beside
+-- what a mark stands for, with its changes
+abbrev pub kept_size : Marked → ℕ
+kept_size k = mark_size k + k.beside
 
 -- what all stand for
-abbrev pub total : List KeptMark → ℕ
+abbrev pub total : List Marked → ℕ
 total [] = 0
 total (k ∷ ks) = kept_size k + total ks
 
-pub event_size : (m : mark.Mark) (es : List Entry) → size_of (event_of m es) ≡ mark_size m.pc + length es
-event_size m es = each m.pc
-  where
-    each : (o : Option ℕ) → suc (length (in_mark o es)) ≡ mark_size o + length es
-    each None = omega arith
-    each (Some pc) = omega arith
+pub event_size : (m : Marked) (es : List Entry) → size_of (event_of m es) ≡ mark_size m + length es
+event_size m es = let n = length-append m.items es in omega (arith, n)
 
-pub mark_some : (o : Option ℕ) → 1 ≤ mark_size o
-mark_some None = omega arith
-mark_some (Some pc) = omega arith
+pub mark_some : (m : Marked) → 1 ≤ mark_size m
+mark_some m = omega arith
 
-pub counted : (ks : List KeptMark) (es : List Entry) → beside ks ≤ length es → size (events ks es) ≡ total ks
+pub counted : (ks : List Marked) (es : List Entry) → beside ks ≤ length es → size (events ks es) ≡ total ks
 counted [] es h = refl
 counted (k ∷ ks) es h =
     let first : length (take k.beside es) ≡ k.beside = length-take-le k.beside es (omega (arith, h)) in
     let left : length (drop k.beside es) ≡ length es - k.beside = length-drop k.beside es in
     let rest : size (events ks (drop k.beside es)) ≡ total ks = counted ks (drop k.beside es) (omega (arith, h, left)) in
-    let one : size_of (event_of k.mark (take k.beside es)) ≡ mark_size k.mark.pc + length (take k.beside es) = event_size k.mark (take k.beside es) in
+    let one : size_of (event_of k (take k.beside es)) ≡ mark_size k + length (take k.beside es) = event_size k (take k.beside es) in
     omega (arith, first, rest, one)
 
-pub ring_counted : (ks : List KeptMark) (es : List Entry) (limit held : ℕ) → IsRing ks es limit held → size (events ks es) ≡ total ks
+pub ring_counted : (ks : List Marked) (es : List Entry) (limit held : ℕ) → IsRing ks es limit held → size (events ks es) ≡ total ks
 ring_counted ks es limit held ring = let whole = ring.whole in counted ks es (omega (arith, whole))
 
 -- marks and the changes beside them are no more than what they stand for
-pub room_for_both : (ks : List KeptMark) → length ks + beside ks ≤ total ks
+pub room_for_both : (ks : List Marked) → length ks + beside ks ≤ total ks
 room_for_both [] = omega arith
-room_for_both (k ∷ ks) = let rest = room_for_both ks in let some = mark_some k.mark.pc in omega (arith, rest, some)
+room_for_both (k ∷ ks) = let rest = room_for_both ks in let some = mark_some k in omega (arith, rest, some)
 
-pub as_many : (ks : List KeptMark) (es : List Entry) → length (events ks es) ≡ length ks
+pub as_many : (ks : List Marked) (es : List Entry) → length (events ks es) ≡ length ks
 as_many [] es = refl
 as_many (k ∷ ks) es = ap suc (as_many ks (drop k.beside es))
 
-beside_append : (ks : List KeptMark) (k : KeptMark) → beside (ks ++ k ∷ []) ≡ beside ks + k.beside
+beside_append : (ks : List Marked) (k : Marked) → beside (ks ++ k ∷ []) ≡ beside ks + k.beside
 beside_append [] k = omega arith
 beside_append (j ∷ ks) k = let rest = beside_append ks k in omega (arith, rest)
 
-total_append : (ks : List KeptMark) (k : KeptMark) → total (ks ++ k ∷ []) ≡ total ks + kept_size k
+total_append : (ks : List Marked) (k : Marked) → total (ks ++ k ∷ []) ≡ total ks + kept_size k
 total_append [] k = omega arith
 total_append (j ∷ ks) k = let rest = total_append ks k in omega (arith, rest)
 
@@ -123,11 +117,11 @@ cons_but_oldest : (v : Event) (vs : List Event) → 0 < length vs → but_oldest
 cons_but_oldest v [] h = absurd (omega arith)
 cons_but_oldest v (u ∷ vs) h = refl
 
-some_behind : (ks : List KeptMark) (k : KeptMark) → 0 < length (ks ++ k ∷ [])
+some_behind : (ks : List Marked) (k : Marked) → 0 < length (ks ++ k ∷ [])
 some_behind [] k = omega arith
 some_behind (j ∷ ks) k = omega arith
 
-oldest_gone : (ks : List KeptMark) (k : KeptMark) (es : List Entry) → beside ks ≤ length es → but_oldest (events (ks ++ k ∷ []) es) ≡ events ks (take (beside ks) es)
+oldest_gone : (ks : List Marked) (k : Marked) (es : List Entry) → beside ks ≤ length es → but_oldest (events (ks ++ k ∷ []) es) ≡ events ks (take (beside ks) es)
 oldest_gone [] k es h = refl
 oldest_gone (j ∷ ks) k es h =
     let ds = drop j.beside es in
@@ -135,20 +129,20 @@ oldest_gone (j ∷ ks) k es h =
     let many = as_many (ks ++ k ∷ []) ds in
     let more = some_behind ks k in
     let some : 0 < length (events (ks ++ k ∷ []) ds) = omega (arith, many, more) in
-    cons_but_oldest (event_of j.mark (take j.beside es)) (events (ks ++ k ∷ []) ds) some
-    ∙ ap (λ (vs : List Event). event_of j.mark (take j.beside es) ∷ vs) (oldest_gone ks k ds (omega (arith, h, left)))
-    ∙ ap (λ (cs : List Entry). event_of j.mark cs ∷ events ks (take (beside ks) ds)) (sym (take-take j.beside (j.beside + beside ks) es (omega arith)))
-    ∙ ap (λ (cs : List Entry). event_of j.mark (take j.beside (take (j.beside + beside ks) es)) ∷ events ks cs) (sym (drop-take j.beside (beside ks) es))
+    cons_but_oldest (event_of j (take j.beside es)) (events (ks ++ k ∷ []) ds) some
+    ∙ ap (λ (vs : List Event). event_of j (take j.beside es) ∷ vs) (oldest_gone ks k ds (omega (arith, h, left)))
+    ∙ ap (λ (cs : List Entry). event_of j cs ∷ events ks (take (beside ks) ds)) (sym (take-take j.beside (j.beside + beside ks) es (omega arith)))
+    ∙ ap (λ (cs : List Entry). event_of j (take j.beside (take (j.beside + beside ks) es)) ∷ events ks cs) (sym (drop-take j.beside (beside ks) es))
 
 -- the last mark is there, and so are its changes
-pub record Oldest (ks js : List KeptMark) (es : List Entry) (held : ℕ) (k : KeptMark) : Type 0 where
+pub record Oldest (ks js : List Marked) (es : List Entry) (held : ℕ) (k : Marked) : Type 0 where
   pub split : ks ≡ js ++ k ∷ []
   pub there : k.beside ≤ length es
   pub counts : kept_size k ≤ held
 
-pub oldest : (ks js : List KeptMark) (es : List Entry) (limit held : ℕ) (k : KeptMark) → IsRing ks es limit held → slice_get ks (length ks - 1) ≡ Some k → js ≡ take (length ks - 1) ks → Oldest ks js es held k
+pub oldest : (ks js : List Marked) (es : List Entry) (limit held : ℕ) (k : Marked) → IsRing ks es limit held → slice_get ks (length ks - 1) ≡ Some k → js ≡ take (length ks - 1) ks → Oldest ks js es held k
 oldest ks js es limit held k ring last rest =
-    let split : ks ≡ js ++ k ∷ [] = last_split ks k last ∙ ap (λ (ls : List KeptMark). ls ++ k ∷ []) (sym rest) in
+    let split : ks ≡ js ++ k ∷ [] = last_split ks k last ∙ ap (λ (ls : List Marked). ls ++ k ∷ []) (sym rest) in
     let changes : beside ks ≡ beside js + k.beside = ap beside split ∙ beside_append js k in
     let all : total ks ≡ total js + kept_size k = ap total split ∙ total_append js k in
     let size = ring_counted ks es limit held ring in
@@ -157,12 +151,12 @@ oldest ks js es limit held k ring last rest =
     record { split = split; there = omega (arith, whole, changes); counts = omega (arith, entries, size, all) }
 
 -- what is left where the last mark goes, and its changes with it
-pub record Dropped (ks js : List KeptMark) (es ds : List Entry) (limit held : ℕ) : Type 0 where
+pub record Dropped (ks js : List Marked) (es ds : List Entry) (limit held : ℕ) : Type 0 where
   pub ring : IsRing js ds limit held
   pub left : events js ds ≡ but_oldest (events ks es)
   pub less : size (events js ds) < size (events ks es)
 
-pub dropped : (ks js : List KeptMark) (es ds : List Entry) (limit held : ℕ) (k : KeptMark) → IsRing ks es limit held → slice_get ks (length ks - 1) ≡ Some k → js ≡ take (length ks - 1) ks → ds ≡ take (length es - k.beside) es
+pub dropped : (ks js : List Marked) (es ds : List Entry) (limit held : ℕ) (k : Marked) → IsRing ks es limit held → slice_get ks (length ks - 1) ≡ Some k → js ≡ take (length ks - 1) ks → ds ≡ take (length es - k.beside) es
     → Dropped ks js es ds limit (held - kept_size k)
 dropped ks js es ds limit held k ring last rest left =
     let o = oldest ks js es limit held k ring last rest in
@@ -174,71 +168,72 @@ dropped ks js es ds limit held k ring last rest left =
     let long : length ds ≡ beside js = ap length fewer ∙ length-take-le (beside js) es within in
     let old : size (events ks es) ≡ total ks = counted ks es (omega (arith, whole)) in
     let new : size (events js ds) ≡ total js = counted js ds (omega (arith, long)) in
-    let some = mark_some k.mark.pc in
+    let some = mark_some k in
     let entries = ring.entries in
     let fits = ring.fits in
     record {
-      ring = record { whole = long; entries = omega (arith, entries, old, new, all); fits = omega (arith, fits, old, new, all) };
-      left = ap (events js) fewer ∙ sym (oldest_gone js k es within) ∙ ap (λ (ls : List KeptMark). but_oldest (events ls es)) (sym o.split);
+      ring = record { whole = long; entries = omega (arith, entries, old, new, all); fits = omega (arith, fits, old, new, all); counted = ring.counted };
+      left = ap (events js) fewer ∙ sym (oldest_gone js k es within) ∙ ap (λ (ls : List Marked). but_oldest (events ls es)) (sym o.split);
       less = omega (arith, old, new, all, some);
     }
 
-pub none_kept : (ks : List KeptMark) (es : List Entry) → 0 < length (events ks es) → slice_get ks (length ks - 1) ≡ None → ⊥
+pub none_kept : (ks : List Marked) (es : List Entry) → 0 < length (events ks es) → slice_get ks (length ks - 1) ≡ None → ⊥
 none_kept ks es some last = let none = last_none ks last in let many = as_many ks es in let n : length ks ≡ 0 = ap length none in absurd (omega (arith, some, many, n))
 
 -- ---- an event is put
 
-pub event_put : (ks js : List KeptMark) (es ds gs : List Entry) (k : KeptMark) → k.beside ≡ length gs → js ≡ k ∷ ks → ds ≡ gs ++ es → events js ds ≡ event_of k.mark gs ∷ events ks es
+pub event_put : (ks js : List Marked) (es ds gs : List Entry) (k : Marked) → k.beside ≡ length gs → js ≡ k ∷ ks → ds ≡ gs ++ es → events js ds ≡ event_of k gs ∷ events ks es
 event_put ks js es ds gs k count put added =
-    ap (λ (ls : List KeptMark). events ls ds) put
-    ∙ ap (λ (cs : List Entry). event_of k.mark (take k.beside cs) ∷ events ks (drop k.beside cs)) added
-    ∙ ap (λ (n : ℕ). event_of k.mark (take n (gs ++ es)) ∷ events ks (drop n (gs ++ es))) count
-    ∙ ap (λ (cs : List Entry). event_of k.mark cs ∷ events ks (drop (length gs) (gs ++ es))) (take-append_seam gs es)
-    ∙ ap (λ (cs : List Entry). event_of k.mark gs ∷ events ks cs) (drop-append_seam gs es)
+    ap (λ (ls : List Marked). events ls ds) put
+    ∙ ap (λ (cs : List Entry). event_of k (take k.beside cs) ∷ events ks (drop k.beside cs)) added
+    ∙ ap (λ (n : ℕ). event_of k (take n (gs ++ es)) ∷ events ks (drop n (gs ++ es))) count
+    ∙ ap (λ (cs : List Entry). event_of k cs ∷ events ks (drop (length gs) (gs ++ es))) (take-append_seam gs es)
+    ∙ ap (λ (cs : List Entry). event_of k gs ∷ events ks cs) (drop-append_seam gs es)
 
-pub ring_put : (ks js : List KeptMark) (es ds gs : List Entry) (limit held need : ℕ) (k : KeptMark) → IsRing ks es limit held → k.beside ≡ length gs → js ≡ k ∷ ks → ds ≡ gs ++ es
+pub ring_put : (ks js : List Marked) (es ds gs : List Entry) (limit held need : ℕ) (k : Marked) → IsRing ks es limit held → k.beside ≡ length gs → js ≡ k ∷ ks → ds ≡ gs ++ es
     → need ≡ kept_size k → held + need ≤ limit → IsRing js ds limit (held + need)
 ring_put ks js es ds gs limit held need k ring count put added is room =
     let whole = ring.whole in
     let long : length ds ≡ length gs + length es = ap length added ∙ length-append gs es in
     let changes : beside js ≡ k.beside + beside ks = ap beside put in
-    let sizes : size (events js ds) ≡ size_of (event_of k.mark gs) + size (events ks es) = ap size (event_put ks js es ds gs k count put added) in
-    let one = event_size k.mark gs in
+    let sizes : size (events js ds) ≡ size_of (event_of k gs) + size (events ks es) = ap size (event_put ks js es ds gs k count put added) in
+    let one = event_size k gs in
     let entries = ring.entries in
     record {
       whole = omega (arith, whole, long, changes, count);
       entries = omega (arith, entries, sizes, one, is, count);
       fits = omega (arith, entries, sizes, one, is, count, room);
+      counted = ring.counted;
     }
 
 -- there is room for the mark and the changes of an event
-pub has_room : (ks : List KeptMark) (es : List Entry) (limit held need : ℕ) (k : KeptMark) → IsRing ks es limit held → need ≡ kept_size k → held + need ≤ limit → (length ks < limit) × (length es + k.beside ≤ limit)
+pub has_room : (ks : List Marked) (es : List Entry) (limit held need : ℕ) (k : Marked) → IsRing ks es limit held → need ≡ kept_size k → held + need ≤ limit → (length ks < limit) × (length es + k.beside ≤ limit)
 has_room ks es limit held need k ring is room =
     let both = room_for_both ks in
     let size = ring_counted ks es limit held ring in
     let whole = ring.whole in
     let entries = ring.entries in
-    let some = mark_some k.mark.pc in
+    let some = mark_some k in
     (omega (arith, both, size, whole, entries, some, is, room), omega (arith, both, size, whole, entries, is, room))
 
 -- ---- the newest event goes
 
-pub first_split : (ks : List KeptMark) (k : KeptMark) → slice_get ks 0 ≡ Some k → ks ≡ k ∷ drop 1 ks
+pub first_split : (ks : List Marked) (k : Marked) → slice_get ks 0 ≡ Some k → ks ≡ k ∷ drop 1 ks
 first_split [] k h = absurd cc
-first_split (j ∷ ks) k h = let same : j ≡ k = cc in ap (λ (x : KeptMark). x ∷ ks) same
+first_split (j ∷ ks) k h = let same : j ≡ k = cc in ap (λ (x : Marked). x ∷ ks) same
 
-pub first_none : (ks : List KeptMark) → slice_get ks 0 ≡ None → ks ≡ []
+pub first_none : (ks : List Marked) → slice_get ks 0 ≡ None → ks ≡ []
 first_none [] h = refl
 first_none (k ∷ ks) h = absurd cc
 
 -- what is left where the first mark goes, and its changes with it
-pub record Newest (ks : List KeptMark) (es : List Entry) (limit held : ℕ) (k : KeptMark) : Type 0 where
+pub record Newest (ks : List Marked) (es : List Entry) (limit held : ℕ) (k : Marked) : Type 0 where
   pub there : k.beside ≤ length es
   pub counts : kept_size k ≤ held
-  pub all : events ks es ≡ event_of k.mark (take k.beside es) ∷ events (drop 1 ks) (drop k.beside es)
+  pub all : events ks es ≡ event_of k (take k.beside es) ∷ events (drop 1 ks) (drop k.beside es)
   pub ring : IsRing (drop 1 ks) (drop k.beside es) limit (held - kept_size k)
 
-pub newest_gone : (ks : List KeptMark) (es : List Entry) (limit held : ℕ) (k : KeptMark) → IsRing ks es limit held → slice_get ks 0 ≡ Some k → Newest ks es limit held k
+pub newest_gone : (ks : List Marked) (es : List Entry) (limit held : ℕ) (k : Marked) → IsRing ks es limit held → slice_get ks 0 ≡ Some k → Newest ks es limit held k
 newest_gone ks es limit held k ring first =
     let js = drop 1 ks in
     let split = first_split ks k first in
@@ -254,8 +249,8 @@ newest_gone ks es limit held k ring first =
     record {
       there = there;
       counts = omega (arith, entries, old, all);
-      all = ap (λ (ls : List KeptMark). events ls es) split;
-      ring = record { whole = omega (arith, left, whole, changes); entries = omega (arith, entries, old, new, all); fits = omega (arith, fits, old, new, all) };
+      all = ap (λ (ls : List Marked). events ls es) split;
+      ring = record { whole = omega (arith, left, whole, changes); entries = omega (arith, entries, old, new, all); fits = omega (arith, fits, old, new, all); counted = ring.counted };
     }
 
 -- ---- changes are undone one by one

@@ -1,4 +1,5 @@
 pub mod Events
+pub mod Marks
 pub mod Rings
 pub mod Undo
 pub mod Entries

@@ -236,7 +236,7 @@ impl Recorded {
         ensures err { OnErr result (self.new ≡ self.old) }
     {
         let old = self.whole.set_status(i, status);
-        match self.journal.add(Entry::StatusChanged(old)) {
+        match self.journal.change_status(old) {
             Ok(()) => Ok(()),
             Err(error) => {
                 self.whole.set_status(i, old);

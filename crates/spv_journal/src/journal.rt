@@ -3,15 +3,18 @@ ghost use Rattle.std.specs.Prelude.{◌≡◌, ◌<◌, ◌≤◌, ◌∷◌, []
 ghost use Rattle.std.specs.Option.{option_map_or};
 ghost use Rattle.std.specs.VecDeque.{deque_capacity, deque_len};
 ghost use Rattle.spv_journal.specs.Events.{begun, fitting, newest, older, opened, pushed, size};
-ghost use Rattle.spv_journal.specs.Rings.{made, moved};
+ghost use Rattle.spv_journal.specs.Rings.{items_in, made};
 ghost use Rattle.spv_journal.specs.Undo.{CanUnwind, before};
-ghost use Rattle.spv_journal.specs.declared.entries.Entry.TheVariants.{PcMoved};
+ghost use Rattle.spv_journal.specs.declared.entries.Entry.TheVariants.{CellRegister, PcMoved, StatusChanged};
 
 use crate::entries::Entry;
-use crate::rings::{Mark, Ring};
+use crate::marks::Mark;
+use crate::rings::Ring;
 use crate::undoing::undo_gathered;
 use spv_base::{Happening, NoMemory};
 use spv_state::Whole;
+use spv_statuses::Status;
+use spv_values::Single;
 use std::alloc::Global;
 use std::collections::VecDeque;
 use std::marker::Model;
@@ -21,7 +24,7 @@ use std::marker::Model;
 #[derive(Drop)]
 pub struct Journal {
     ring: Ring,
-    /// The mark of the event that is being made, and its changes but for one that lies in the mark, the newest first.
+    /// The mark of the event that is being made, and those of its changes that don't lie in the mark, the newest first.
     making: Option<Mark>,
     gathered: VecDeque<Entry>,
 }
@@ -42,35 +45,18 @@ impl Model for Journal {
     ghost invariant = { λ j. (1 ≤ j.ring.limit) × (j.making ≡ None → j.gathered.items ≡ []) };
 }
 
-/// Puts the change that lies in the mark of an event that is made, if there is one, among the others: a newer one comes. Where memory
-/// runs out nothing changes.
-#[inline(always)]
-fn settle(making: &mut Option<Mark>, gathered: &mut VecDeque<Entry>) -> Result<(), NoMemory>
-    requires { IsSome making.old }
-    ensures same { made making.new gathered.new.items ≡ made making.old gathered.old.items }
-    ensures some { IsSome making.new }
-    ensures ok { OnOk result (moved making.new ≡ None) }
-{
-    if let Some(mark) = *making
-        && let Some(pc) = mark.pc
-    {
-        gathered.reserve(1)?;
-        gathered.push_front_reserved(Entry::PcMoved(pc));
-        *making = Some(Mark::of(mark.happening));
-    }
-    Ok(())
-}
-
-/// Makes room for a change more of an event that is made. Where memory runs out nothing changes.
+/// Makes room for a change more of an event that is made, before all. Where memory runs out nothing changes.
 #[inline(always)]
 fn make_room(making: &mut Option<Mark>, gathered: &mut VecDeque<Entry>) -> Result<(), NoMemory>
     requires { IsSome making.old }
     ensures same { made making.new gathered.new.items ≡ made making.old gathered.old.items }
     ensures some { IsSome making.new }
-    ensures ok { OnOk result (moved making.new ≡ None) }
+    ensures ok { OnOk result (items_in making.new ≡ []) }
     ensures room { OnOk result (deque_len gathered.new < deque_capacity gathered.new) }
 {
-    settle(making, gathered)?;
+    if let Some(mark) = making {
+        mark.empty_into(gathered)?;
+    }
     if gathered.len() == gathered.capacity() {
         gathered.reserve(1)?;
     }
@@ -128,19 +114,50 @@ impl Journal {
         Ok(())
     }
 
-    /// Adds a move of the pc to the event that is being made, by the pc that was: it lies in the mark while it is the newest change.
-    /// Where memory runs out nothing changes.
+    /// Adds a move of the pc to the event that is being made, by the pc that was. Where memory runs out nothing changes.
     #[inline(always)]
     pub(crate) fn move_pc(&mut self, pc: u32) -> Result<(), NoMemory>
         requires { IsSome self.old.gathered }
         ensures ok { OnOk result (self.new ≡ record self.old { gathered = option_map (pushed (PcMoved pc)) self.old.gathered }) }
         ensures err { OnErr result (self.new ≡ self.old) }
     {
-        settle(&mut self.making, &mut self.gathered)?;
-        if let Some(mark) = self.making {
-            self.making = Some(mark.moved(pc));
+        if let Some(mark) = &mut self.making
+            && mark.move_pc(pc)
+        {
+            return Ok(());
         }
-        Ok(())
+        self.add(Entry::PcMoved(pc))
+    }
+
+    /// Adds the value that a register of one cell had, by the number of the register, to the event that is being made. Where memory runs
+    /// out nothing changes.
+    #[inline(always)]
+    pub(crate) fn change_register(&mut self, number: usize, value: Single) -> Result<(), NoMemory>
+        requires { IsSome self.old.gathered }
+        ensures ok { OnOk result (self.new ≡ record self.old { gathered = option_map (pushed (CellRegister number value)) self.old.gathered }) }
+        ensures err { OnErr result (self.new ≡ self.old) }
+    {
+        if let Some(mark) = &mut self.making
+            && mark.change_register(number, &value)
+        {
+            return Ok(());
+        }
+        self.add(Entry::CellRegister { number, value })
+    }
+
+    /// Adds the status that the invocation had to the event that is being made. Where memory runs out nothing changes.
+    #[inline(always)]
+    pub(crate) fn change_status(&mut self, status: Status) -> Result<(), NoMemory>
+        requires { IsSome self.old.gathered }
+        ensures ok { OnOk result (self.new ≡ record self.old { gathered = option_map (pushed (StatusChanged status)) self.old.gathered }) }
+        ensures err { OnErr result (self.new ≡ self.old) }
+    {
+        if let Some(mark) = &mut self.making
+            && mark.change_status(status)
+        {
+            return Ok(());
+        }
+        self.add(Entry::StatusChanged(status))
     }
 
     /// The event that is being made is whole: it is kept, and as many of the oldest go as have to. It takes no memory.
@@ -148,8 +165,7 @@ impl Journal {
         requires { IsSome self.old.gathered }
         ensures { self.new ≡ record self.old { ring = fitting self.old.limit (opened self.old.gathered self.old.ring); gathered = None } }
     {
-        if let Some(mark) = self.making {
-            self.making = None;
+        if let Some(mark) = self.making.take() {
             self.ring.put(mark, &mut self.gathered);
         }
     }
@@ -162,12 +178,12 @@ impl Journal {
         ensures journal { self.new ≡ record self.old { ring = older (opened self.old.gathered self.old.ring); gathered = None } }
         ensures happening { result ≡ option_map (λ v. v.happening) (newest (opened self.old.gathered self.old.ring)) }
     {
-        match self.making {
+        match self.making.take() {
             Some(mark) => {
-                self.making = None;
+                let happening = mark.happening();
                 mark.undo(whole);
-                undo_gathered(whole, mark.happening.inv, &mut self.gathered);
-                Some(mark.happening)
+                undo_gathered(whole, happening.inv, &mut self.gathered);
+                Some(happening)
             }
             None => self.ring.undo(whole),
         }

@@ -4,6 +4,7 @@
 pub mod changes;
 pub mod entries;
 pub mod journal;
+mod marks;
 mod noting;
 pub mod recorded;
 mod rings;

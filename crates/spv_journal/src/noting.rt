@@ -54,16 +54,10 @@ pub(crate) fn keep_part(
     journal.add(entry)
 }
 
-/// The entry of a register by the value that it had.
-fn value_entry(alloc: Global, number: usize, row: &Row) -> Result<Entry, NoMemory>
+/// The entry of a register of more cells than one, or of none, by the value that it had.
+fn row_entry(alloc: Global, number: usize, row: &Row) -> Result<Entry, NoMemory>
     ensures { IfOk result (KeepsValue number (Some row.now) (length (leaves row.now))) }
 {
-    if row.len() == 1 {
-        return Ok(Entry::CellRegister {
-            number,
-            value: Single::of_part(&row.as_part()),
-        });
-    }
     let old = OldValue {
         number,
         row: Row::of_part(alloc, &row.as_part())?,
@@ -83,7 +77,10 @@ fn keep_value(
     ensures ok { OnOk result (Keeps (KeepsValue number (Some row.now) (length (leaves row.now))) journal.old journal.new) }
     ensures err { OnErr result (journal.new ≡ journal.old) }
 {
-    let entry = value_entry(alloc, number, row)?;
+    if row.len() == 1 {
+        return journal.change_register(number, Single::of_part(&row.as_part()));
+    }
+    let entry = row_entry(alloc, number, row)?;
     journal.add(entry)
 }
 

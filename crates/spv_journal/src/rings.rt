@@ -1,11 +1,12 @@
 //! The rings of a journal: the marks of its events, and beside them their changes, the newest first.
-ghost use Rattle.std.specs.Prelude.{◌≡◌, ◌<◌, ◌≤◌, ◌+◌, ◌-◌, ◌++◌, ◌∷◌, [], IfOk, None, Some, drop, length, option_map, take};
+ghost use Rattle.std.specs.Prelude.{◌≡◌, ◌<◌, ◌≤◌, ◌+◌, ◌-◌, ◌++◌, ◌∷◌, [], IfOk, drop, length, option_map, take};
 ghost use Rattle.std.specs.Option.{option_map_or};
 ghost use Rattle.spv_journal.specs.Events.{fitting, newest, older, size};
-ghost use Rattle.spv_journal.specs.Rings.{but_oldest, event_of, in_mark, mark_size};
+ghost use Rattle.spv_journal.specs.Rings.{but_oldest, event_of};
 ghost use Rattle.spv_journal.specs.Undo.{CanUndoAll, CanUnwind, before, undo_all};
 
 use crate::entries::Entry;
+use crate::marks::Mark;
 use crate::undoing::undo;
 use circular_buffer::HeapCircularBuffer;
 use spv_base::{Happening, NoMemory};
@@ -13,67 +14,6 @@ use spv_state::Whole;
 use std::alloc::Global;
 use std::collections::VecDeque;
 use std::marker::Model;
-
-/// The mark of an event. Where the newest change of the event is a move of the pc, the pc that was lies here: most events end by such a
-/// move, so each of them takes an item fewer.
-#[derive(Clone, Copy)]
-pub(crate) struct Mark {
-    pub happening: Happening,
-    pub pc: Option<u32>,
-}
-
-impl Mark {
-    /// The mark of an event that has no changes.
-    #[inline(always)]
-    pub(crate) fn of(happening: Happening) -> Mark
-        ensures { result ≡ record { happening = happening; pc = None } }
-    {
-        Mark {
-            happening,
-            pc: None,
-        }
-    }
-
-    /// The same event, whose newest change is a move of the pc from another.
-    #[inline(always)]
-    pub(crate) fn moved(self, pc: u32) -> Mark
-        ensures { result ≡ record self { pc = Some pc } }
-    {
-        Mark {
-            happening: self.happening,
-            pc: Some(pc),
-        }
-    }
-
-    /// How many marks and entries it stands for.
-    #[inline(always)]
-    fn size(&self) -> usize
-        ensures { result ≡ mark_size self.now.pc }
-    {
-        match self.pc {
-            Some(_pc) => 2,
-            None => 1,
-        }
-    }
-
-    /// Undoes the change that lies in it, if there is one.
-    #[inline(always)]
-    pub(crate) fn undo(&self, whole: &mut Whole)
-        requires { CanUndoAll self.now.happening.inv (in_mark self.now.pc []) whole.old }
-        ensures { whole.new ≡ undo_all self.now.happening.inv (in_mark self.now.pc []) whole.old }
-    {
-        if let Some(pc) = self.pc {
-            whole.set_pc(self.happening.inv, pc);
-        }
-    }
-}
-
-/// A mark that is kept, and how many changes of its event are kept beside it.
-#[derive(Clone, Copy)]
-pub(crate) struct KeptMark {
-    pub mark: Mark,
-    pub beside: usize,
-}
 
 /// Undoes the first changes of an invocation, so many, and takes them away.
 fn undo_first(whole: &mut Whole, inv: u32, entries: &mut HeapCircularBuffer<Entry>, count: usize)
@@ -114,11 +54,11 @@ fn put_all(entries: &mut HeapCircularBuffer<Entry>, gathered: &mut VecDeque<Entr
     }
 }
 
-/// The marks of events, and their changes in another ring, so that an event is dropped by its mark. Contracts see the events, the newest
-/// first, and how many marks and entries there is room for. What lies in a mark is counted as an entry.
+/// The marks of events, and the changes that don't lie in them in another ring, so that an event is dropped by its mark. Contracts see the
+/// events, the newest first, and how many marks and entries there is room for. What lies in a mark is counted as an entry.
 #[derive(Drop)]
 pub(crate) struct Ring {
-    marks: HeapCircularBuffer<KeptMark>,
+    marks: HeapCircularBuffer<Mark>,
     entries: HeapCircularBuffer<Entry>,
     held: usize,
 }
@@ -139,10 +79,13 @@ impl Model for Ring {
 }
 
 impl Ring {
-    /// No events, with room for so many marks and entries.
+    /// No events, with room for so many marks and entries. There is no memory for 4,294,967,296 and more.
     pub(crate) fn new(alloc: Global, limit: usize) -> Result<Ring, NoMemory>
         ensures { IfOk result (λ r. r ≡ record { events = []; limit = limit }) }
     {
+        if limit > u32::MAX as usize {
+            return Err(NoMemory);
+        }
         Ok(Ring {
             marks: HeapCircularBuffer::with_capacity(alloc, limit)?,
             entries: HeapCircularBuffer::with_capacity(alloc, limit)?,
@@ -184,9 +127,10 @@ impl Ring {
         ensures limit { self.new.limit ≡ self.old.limit }
     {
         match self.marks.pop_back() {
-            Some(kept) => {
-                self.held -= kept.mark.size() + kept.beside;
-                drop_last(&mut self.entries, kept.beside);
+            Some(mark) => {
+                let beside = mark.beside();
+                self.held -= mark.size() + beside;
+                drop_last(&mut self.entries, beside);
             }
             None => unreachable!(),
         }
@@ -204,7 +148,7 @@ impl Ring {
     }
 
     /// Puts an event before all, where there is room for it, and takes as many of the oldest away as have to go.
-    pub(crate) fn put(&mut self, mark: Mark, gathered: &mut VecDeque<Entry>)
+    pub(crate) fn put(&mut self, mut mark: Mark, gathered: &mut VecDeque<Entry>)
         ensures events { self.new.events ≡ fitting self.old.limit (event_of mark gathered.old.items ∷ self.old.events) }
         ensures limit { self.new.limit ≡ self.old.limit }
         ensures gathered { gathered.new.items ≡ [] }
@@ -218,7 +162,8 @@ impl Ring {
         } else {
             self.make_room(limit - need);
             self.held += need;
-            self.marks.push_front(KeptMark { mark, beside });
+            mark.set_beside(beside as u32);
+            self.marks.push_front(mark);
             put_all(&mut self.entries, gathered);
         }
     }
@@ -231,10 +176,12 @@ impl Ring {
         ensures limit { self.new.limit ≡ self.old.limit }
         ensures happening { result ≡ option_map (λ v. v.happening) (newest self.old.events) }
     {
-        let KeptMark { mark, beside } = self.marks.pop_front()?;
+        let mark = self.marks.pop_front()?;
+        let happening = mark.happening();
+        let beside = mark.beside();
         self.held -= mark.size() + beside;
         mark.undo(whole);
-        undo_first(whole, mark.happening.inv, &mut self.entries, beside);
-        Some(mark.happening)
+        undo_first(whole, happening.inv, &mut self.entries, beside);
+        Some(happening)
     }
 }

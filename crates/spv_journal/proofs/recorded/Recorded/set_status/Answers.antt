@@ -13,7 +13,7 @@ invariant_of-self c =
     let u : Undoes c.args.i (StatusChanged c.set_status-old.result) s c.set_status-old.new.self =
     subst (Undoes c.args.i (StatusChanged c.set_status-old.result) s) (sym c.set_status-old.ensures.after)
     (status_undone c.args.i c.args.status c.set_status-old.result s inside c.set_status-old.ensures.handed c.set_status-old.ensures.within) in
-    let x = extended 1 c.args.i (StatusChanged c.set_status-old.result) c.self.inside.whole c.set_status-old.new.self c.self.inside.journal c.add.new.self c.args.self.now c.self.view_is c.requires.making c.in-Ok.ensures.ok u c.self.invariant (omega arith) in
+    let x = extended 1 c.args.i (StatusChanged c.set_status-old.result) c.self.inside.whole c.set_status-old.new.self c.self.inside.journal c.change_status.new.self c.args.self.now c.self.view_is c.requires.making c.in-Ok.ensures.ok u c.self.invariant (omega arith) in
     x.unwinds
 
 pub invariant_of-self-in-Err : goal.invariant_of-self-in-Err
@@ -24,7 +24,7 @@ invariant_of-self-in-Err c =
     subst (Undoes c.args.i (StatusChanged c.set_status-old.result) s) (sym c.set_status-old.ensures.after)
     (status_undone c.args.i c.args.status c.set_status-old.result s inside c.set_status-old.ensures.handed c.set_status-old.ensures.within) in
     let back = c.set_status.ensures.after ∙ u.back in
-    still_unwinds s c.set_status.new.self c.self.inside.journal c.add.new.self c.in-Err.ensures.err back c.self.invariant
+    still_unwinds s c.set_status.new.self c.self.inside.journal c.change_status.new.self c.in-Err.ensures.err back c.self.invariant
 
 pub returns-in-Ok-clause-recorded : goal.returns-in-Ok-clause-recorded
 returns-in-Ok-clause-recorded c =
@@ -33,7 +33,7 @@ returns-in-Ok-clause-recorded c =
     let u : Undoes c.args.i (StatusChanged c.set_status-old.result) s c.set_status-old.new.self =
     subst (Undoes c.args.i (StatusChanged c.set_status-old.result) s) (sym c.set_status-old.ensures.after)
     (status_undone c.args.i c.args.status c.set_status-old.result s inside c.set_status-old.ensures.handed c.set_status-old.ensures.within) in
-    let x = extended 1 c.args.i (StatusChanged c.set_status-old.result) c.self.inside.whole c.set_status-old.new.self c.self.inside.journal c.add.new.self c.args.self.now c.self.view_is c.requires.making c.in-Ok.ensures.ok u c.self.invariant (omega arith) in
+    let x = extended 1 c.args.i (StatusChanged c.set_status-old.result) c.self.inside.whole c.set_status-old.new.self c.self.inside.journal c.change_status.new.self c.args.self.now c.self.view_is c.requires.making c.in-Ok.ensures.ok u c.self.invariant (omega arith) in
     x.records
 
 pub returns-in-Err-clause-recorded : goal.returns-in-Err-clause-recorded
@@ -44,7 +44,7 @@ returns-in-Err-clause-recorded c =
     subst (Undoes c.args.i (StatusChanged c.set_status-old.result) s) (sym c.set_status-old.ensures.after)
     (status_undone c.args.i c.args.status c.set_status-old.result s inside c.set_status-old.ensures.handed c.set_status-old.ensures.within) in
     let back = c.set_status.ensures.after ∙ u.back in
-    still 1 c.args.self.now _ (same_held s c.set_status.new.self c.self.inside.journal c.add.new.self c.args.self.now c.self.view_is c.in-Err.ensures.err back)
+    still 1 c.args.self.now _ (same_held s c.set_status.new.self c.self.inside.journal c.change_status.new.self c.args.self.now c.self.view_is c.in-Err.ensures.err back)
 
 pub returns-in-Err-clause-err : goal.returns-in-Err-clause-err
 returns-in-Err-clause-err c =
@@ -54,4 +54,4 @@ returns-in-Err-clause-err c =
     subst (Undoes c.args.i (StatusChanged c.set_status-old.result) s) (sym c.set_status-old.ensures.after)
     (status_undone c.args.i c.args.status c.set_status-old.result s inside c.set_status-old.ensures.handed c.set_status-old.ensures.within) in
     let back = c.set_status.ensures.after ∙ u.back in
-    same_held s c.set_status.new.self c.self.inside.journal c.add.new.self c.args.self.now c.self.view_is c.in-Err.ensures.err back
+    same_held s c.set_status.new.self c.self.inside.journal c.change_status.new.self c.args.self.now c.self.view_is c.in-Err.ensures.err back

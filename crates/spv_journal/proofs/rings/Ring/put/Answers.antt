@@ -3,14 +3,14 @@ use Rattle.std.proofs.lemmas.List.{take_all}
 use Rattle.circular_buffer.specs.Buffer.{Buffer}
 use Rattle.spv_journal.specs.Events.{Event, fitting, size, size_of}
 use Rattle.spv_journal.specs.Rings.{IsRing, Ringed, event_of, events, mark_size}
-use Rattle.spv_journal.specs.declared.rings.KeptMark.{KeptMark}
+use Rattle.spv_journal.specs.Marks.{Marked}
 use Rattle.spv_journal.proofs.RingLemmas.{event_put, event_size, has_room, kept_size, one_fits, ring_put}
 use Rattle.spv_journal.proofs.rings.Ring.put.Goals as goal
 
 pub put_all-requires : goal.put_all-requires
 put_all-requires c =
     let r = c.self-else-need-limit.inside in
-    let k : KeptMark = record { mark = c.args.mark; beside = c.len-beside.result } in
+    let k : Marked = record c.args.mark { beside = c.len-beside.result } in
     let need = c.len-beside.result + c.size.result in
     let sizes : size (events r.marks.items r.entries.items) ≡ size c.make_room.new.self.events = ap (λ (x : Ringed). size x.events) c.self-else-need-limit.view_is in
     let limit : r.entries.capacity ≡ c.make_room.new.self.limit = ap (λ (x : Ringed). x.limit) c.self-else-need-limit.view_is in
@@ -31,7 +31,7 @@ put_all-requires c =
 pub invariant_of-self : goal.invariant_of-self
 invariant_of-self c =
     let r = c.self-else-need-limit.inside in
-    let k : KeptMark = record { mark = c.args.mark; beside = c.len-beside.result } in
+    let k : Marked = record c.args.mark { beside = c.len-beside.result } in
     let need = c.len-beside.result + c.size.result in
     let sizes : size (events r.marks.items r.entries.items) ≡ size c.make_room.new.self.events = ap (λ (x : Ringed). size x.events) c.self-else-need-limit.view_is in
     let limit : r.entries.capacity ≡ c.make_room.new.self.limit = ap (λ (x : Ringed). x.limit) c.self-else-need-limit.view_is in
@@ -50,18 +50,19 @@ invariant_of-self c =
     let counted = c.len-beside.ensures in
     let deque = c.args.gathered.now.ok.0 in
     let count : k.beside ≡ length c.args.gathered.now.items = omega (arith, counted, deque) in
+    let told : c.set_beside.new.self ≡ k = c.set_beside.ensures in
     let put : c.push_front.new.self.items ≡ k ∷ r.marks.items =
-    ap (λ (b : Buffer KeptMark). b.items) c.push_front.ensures.items ∙ take_all r.marks.capacity (k ∷ r.marks.items) (omega (arith, marks, alike)) in
+    ap (λ (b : Buffer Marked). b.items) c.push_front.ensures.items ∙ ap (λ (m : Marked). take r.marks.capacity (m ∷ r.marks.items)) told ∙ take_all r.marks.capacity (k ∷ r.marks.items) (omega (arith, marks, alike)) in
     let ring = ring_put r.marks.items c.push_front.new.self.items r.entries.items c.put_all.new.entries.items c.args.gathered.now.items r.entries.capacity r.held need k c.self-else-need-limit.invariant.1
     count put c.put_all.ensures.entries is fits in (
-      ap (λ (b : Buffer KeptMark). b.capacity) c.push_front.ensures.items ∙ alike ∙ sym c.put_all.ensures.capacity,
+      ap (λ (b : Buffer Marked). b.capacity) c.push_front.ensures.items ∙ alike ∙ sym c.put_all.ensures.capacity,
       subst (λ (n : ℕ). IsRing c.push_front.new.self.items c.put_all.new.entries.items n (r.held + need)) (sym c.put_all.ensures.capacity) ring,
     )
 
 pub returns-else-need-limit-clause-events : goal.returns-else-need-limit-clause-events
 returns-else-need-limit-clause-events c =
     let r = c.self-else-need-limit.inside in
-    let k : KeptMark = record { mark = c.args.mark; beside = c.len-beside.result } in
+    let k : Marked = record c.args.mark { beside = c.len-beside.result } in
     let need = c.len-beside.result + c.size.result in
     let v = event_of c.args.mark c.args.gathered.now.items in
     let sizes : size (events r.marks.items r.entries.items) ≡ size c.make_room.new.self.events = ap (λ (x : Ringed). size x.events) c.self-else-need-limit.view_is in
@@ -82,8 +83,9 @@ returns-else-need-limit-clause-events c =
     let counted = c.len-beside.ensures in
     let deque = c.args.gathered.now.ok.0 in
     let count : k.beside ≡ length c.args.gathered.now.items = omega (arith, counted, deque) in
+    let told : c.set_beside.new.self ≡ k = c.set_beside.ensures in
     let put : c.push_front.new.self.items ≡ k ∷ r.marks.items =
-    ap (λ (b : Buffer KeptMark). b.items) c.push_front.ensures.items ∙ take_all r.marks.capacity (k ∷ r.marks.items) (omega (arith, marks, alike)) in
+    ap (λ (b : Buffer Marked). b.items) c.push_front.ensures.items ∙ ap (λ (m : Marked). take r.marks.capacity (m ∷ r.marks.items)) told ∙ take_all r.marks.capacity (k ∷ r.marks.items) (omega (arith, marks, alike)) in
     event_put r.marks.items c.push_front.new.self.items r.entries.items c.put_all.new.entries.items c.args.gathered.now.items k count put c.put_all.ensures.entries
     ∙ ap (λ (x : Ringed). v ∷ x.events) c.self-else-need-limit.view_is
     ∙ ap (λ (vs : List Event). v ∷ vs) c.make_room.ensures.events

@@ -1,0 +1,244 @@
+//! Marks of events, with the small changes that lie in them.
+ghost use Rattle.std.specs.Prelude.{◌≡◌, ◌<◌, ◌∷◌, ◌++◌, [], OnOk, if◌then◌else◌};
+ghost use Rattle.std.specs.Option.{option_to_list};
+ghost use Rattle.std.specs.VecDeque.{deque_capacity, deque_len};
+ghost use Rattle.spv_journal.specs.Marks.{with_item};
+ghost use Rattle.spv_journal.specs.Rings.{mark_size};
+ghost use Rattle.spv_journal.specs.Undo.{CanUndoAll, undo_all};
+ghost use Rattle.spv_journal.specs.declared.entries.Entry.TheVariants.{CellRegister, PcMoved, StatusChanged};
+ghost use Rattle.spv_types.specs.Rows.{leaves};
+
+use crate::entries::Entry;
+use crate::undoing::undo;
+use spv_base::{Cell, Ghost, Happening, NoMemory, Value};
+use spv_state::Whole;
+use spv_statuses::Status;
+use spv_values::trees::same;
+use spv_values::{Part, Single};
+use std::collections::VecDeque;
+use std::marker::Model;
+
+/// One change as it lies in a mark: what an entry says, without what only proofs read, so that it is copied whole.
+#[derive(Clone, Copy)]
+pub(crate) enum Change {
+    /// A register of one cell had a value.
+    Register { number: u32, cell: Cell },
+    /// The invocation had a status.
+    Status(Status),
+}
+
+/// A mark as it lies in memory.
+#[derive(Clone, Copy)]
+struct Laid {
+    happening: Happening,
+    /// Where the top frame stood, if it moved.
+    pc: Option<u32>,
+    /// How many changes of the event lie beside it.
+    beside: u32,
+    change: Option<Change>,
+}
+
+/// The mark of an event, and up to two of its changes: most events set a register of one cell and move the pc, and so need no entries.
+#[derive(Drop)]
+pub(crate) struct Mark {
+    laid: Laid,
+    /// The value of the register's cell.
+    tree: Ghost<Value>,
+}
+
+impl Model for Mark {
+    ghost use Rattle.std.specs.Coded.{codes};
+    ghost use Rattle.spv_journal.specs.Marks.{IsTree, Marked, items_of};
+    ghost use Rattle.spv_journal.specs.contracts.entries.Entry as entry;
+
+    ghost Value = { Marked };
+
+    ghost coded = { Prim.hlevel (codes, entry.the_row.coded) };
+
+    ghost view = { λ m. record { happening = m.laid.happening; items = items_of m.laid.pc m.laid.change m.tree.value; beside = m.laid.beside } };
+
+    ghost invariant = { λ m. IsTree m.laid.change m.tree.value };
+}
+
+/// A cell as the value of a tree.
+fn single(cell: Cell, tree: &Ghost<Value>) -> Single
+    requires { leaves tree.now.value ≡ cell ∷ [] }
+    ensures { result ≡ tree.now.value }
+{
+    let cells = [cell];
+    Single::of_part(&Part::with_tree(cells.as_slice(), same(tree)))
+}
+
+/// The tree of a value of one cell.
+fn tree_of(tree: &Ghost<Value>, value: &Single) -> Ghost<Value>
+    ensures { result.value ≡ value.now }
+{
+    tree.by(value, tree)
+}
+
+/// Puts an entry before all, if there is one.
+fn put(gathered: &mut VecDeque<Entry>, entry: Option<Entry>)
+    requires { deque_len gathered.old < deque_capacity gathered.old }
+    ensures items { gathered.new.items ≡ option_to_list entry ++ gathered.old.items }
+    ensures capacity { deque_capacity gathered.new ≡ deque_capacity gathered.old }
+{
+    if let Some(entry) = entry {
+        gathered.push_front_reserved(entry);
+    }
+}
+
+impl Mark {
+    /// The mark of an event that has no changes.
+    #[inline(always)]
+    pub(crate) fn of(happening: Happening) -> Mark
+        ensures { result ≡ record { happening = happening; items = []; beside = 0 } }
+    {
+        Mark {
+            laid: Laid {
+                happening,
+                pc: None,
+                beside: 0,
+                change: None,
+            },
+            tree: Ghost::of(),
+        }
+    }
+
+    /// What happened.
+    #[inline(always)]
+    pub(crate) fn happening(&self) -> Happening
+        ensures { result ≡ self.now.happening }
+    {
+        self.laid.happening
+    }
+
+    /// How many changes of the event lie beside it.
+    #[inline(always)]
+    pub(crate) fn beside(&self) -> usize
+        ensures { result ≡ self.now.beside }
+    {
+        self.laid.beside as usize
+    }
+
+    /// How many marks and entries it stands for.
+    #[inline(always)]
+    pub(crate) fn size(&self) -> usize
+        ensures { result ≡ mark_size self.now }
+    {
+        1 + usize::from(self.laid.pc.is_some()) + usize::from(self.laid.change.is_some())
+    }
+
+    /// Says how many changes of the event lie beside it.
+    #[inline(always)]
+    pub(crate) fn set_beside(&mut self, beside: u32)
+        ensures { self.new ≡ record self.old { beside = beside } }
+    {
+        self.laid.beside = beside;
+    }
+
+    /// Takes a move of the pc from where it was, where there is room for it, and says whether it did.
+    #[inline(always)]
+    pub(crate) fn move_pc(&mut self, pc: u32) -> bool
+        ensures { self.new ≡ (if result then with_item (PcMoved pc) self.old else self.old) }
+    {
+        let room = match self.laid.change {
+            None | Some(Change::Register { .. }) => self.laid.pc.is_none(),
+            Some(Change::Status(_)) => false,
+        };
+        if room {
+            self.laid.pc = Some(pc);
+        }
+        room
+    }
+
+    /// Takes the value that a register had, by the number of the register, where there is room for it, and says whether it did.
+    #[inline(always)]
+    pub(crate) fn change_register(&mut self, number: usize, value: &Single) -> bool
+        ensures { self.new ≡ (if result then with_item (CellRegister number value.now) self.old else self.old) }
+    {
+        if self.laid.pc.is_none()
+            && self.laid.change.is_none()
+            && let Ok(number) = u32::try_from(number)
+        {
+            let cell = value.cell();
+            self.laid.change = Some(Change::Register { number, cell });
+            self.tree = tree_of(&self.tree, value);
+            return true;
+        }
+        false
+    }
+
+    /// Takes the status that the invocation had, where there is room for it, and says whether it did.
+    #[inline(always)]
+    pub(crate) fn change_status(&mut self, status: Status) -> bool
+        ensures { self.new ≡ (if result then with_item (StatusChanged status) self.old else self.old) }
+    {
+        let room = self.laid.change.is_none();
+        if room {
+            self.laid.change = Some(Change::Status(status));
+        }
+        room
+    }
+
+    /// Its changes, the newer one first.
+    fn entries(&self) -> (Option<Entry>, Option<Entry>)
+        ensures { self.now.items ≡ option_to_list result.0 ++ option_to_list result.1 }
+    {
+        let pc = match self.laid.pc {
+            Some(pc) => Some(Entry::PcMoved(pc)),
+            None => None,
+        };
+        match self.laid.change {
+            Some(Change::Register { number, cell }) => {
+                let value = single(cell, &self.tree);
+                let number = number as usize;
+                (pc, Some(Entry::CellRegister { number, value }))
+            }
+            Some(Change::Status(status)) => (Some(Entry::StatusChanged(status)), pc),
+            None => (pc, None),
+        }
+    }
+
+    /// Undoes its changes.
+    pub(crate) fn undo(&self, whole: &mut Whole)
+        requires { CanUndoAll self.now.happening.inv self.now.items whole.old }
+        ensures { whole.new ≡ undo_all self.now.happening.inv self.now.items whole.old }
+    {
+        let inv = self.laid.happening.inv;
+        let (newer, older) = self.entries();
+        if let Some(entry) = newer {
+            undo(whole, inv, entry);
+        }
+        if let Some(entry) = older {
+            undo(whole, inv, entry);
+        }
+    }
+
+    /// Moves its changes before others. Where memory runs out nothing changes.
+    fn move_into(&mut self, gathered: &mut VecDeque<Entry>) -> Result<(), NoMemory>
+        ensures happening { self.new.happening ≡ self.old.happening }
+        ensures same { self.new.items ++ gathered.new.items ≡ self.old.items ++ gathered.old.items }
+        ensures ok { OnOk result (self.new.items ≡ []) }
+    {
+        gathered.reserve(2)?;
+        let (newer, older) = self.entries();
+        put(gathered, older);
+        put(gathered, newer);
+        self.laid.pc = None;
+        self.laid.change = None;
+        Ok(())
+    }
+
+    /// Has no changes then: they lie before others. Where memory runs out nothing changes.
+    #[inline(always)]
+    pub(crate) fn empty_into(&mut self, gathered: &mut VecDeque<Entry>) -> Result<(), NoMemory>
+        ensures happening { self.new.happening ≡ self.old.happening }
+        ensures same { self.new.items ++ gathered.new.items ≡ self.old.items ++ gathered.old.items }
+        ensures ok { OnOk result (self.new.items ≡ []) }
+    {
+        if self.laid.pc.is_none() && self.laid.change.is_none() {
+            return Ok(());
+        }
+        self.move_into(gathered)
+    }
+}
