@@ -1,10 +1,11 @@
 -- Events that can be undone, one after the other.
-use Rattle.std.proofs.Common.{◌≡◌, ℕ, ◌-◌, Bool, true, false, nat_le, if◌then◌else◌, List, [], ◌∷◌, Option, Some, None, refl, sym, subst}
+use Rattle.std.proofs.Common.{◌≡◌, ℕ, ◌-◌, Bool, true, false, nat_le, if◌then◌else◌, List, [], ◌∷◌, ◌++◌, Option, Some, None, refl, sym, subst}
 use Rattle.std.specs.Option.{MatchOption, option_map, option_map_or}
 use Rattle.spv_base.specs.declared.happenings.Happening.{Happening}
 use Rattle.spv_journal.specs.Events.{Event, fitting, newest, older, opened, size_of}
 use Rattle.spv_journal.specs.Held.{Held, past_of, unwound}
-use Rattle.spv_journal.specs.Undo.{CanUnwind, before, past}
+use Rattle.spv_journal.specs.Undo.{CanUndoAll, CanUnwind, before, past, undo, undo_all}
+use Rattle.spv_journal.specs.declared.entries.Entry.{Entry}
 use Rattle.spv_state.specs.State.{State}
 
 -- the events that there is room for
@@ -35,3 +36,13 @@ newest_undone w new o is happened =
     each s [] None n = (refl, refl)
     each s (v ∷ vs) None n = refl
     each s vs (Some v) n = refl
+
+-- ---- changes before others
+
+pub front_undoes : (i : ℕ) (xs ys : List Entry) (s : State) → CanUndoAll i (xs ++ ys) s → CanUndoAll i xs s × CanUndoAll i ys (undo_all i xs s)
+front_undoes i [] ys s can = (tt, can)
+front_undoes i (x ∷ xs) ys s can = let rest = front_undoes i xs ys (undo i x s) can.1 in ((can.0, rest.0), rest.1)
+
+pub undo_both : (i : ℕ) (xs ys : List Entry) (s : State) → undo_all i ys (undo_all i xs s) ≡ undo_all i (xs ++ ys) s
+undo_both i [] ys s = refl
+undo_both i (x ∷ xs) ys s = undo_both i xs ys (undo i x s)

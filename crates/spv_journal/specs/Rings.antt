@@ -1,5 +1,5 @@
 -- The events of a journal's rings, of which one has their marks and the other the changes that don't lie in the marks.
-use Rattle.std.specs.Prelude.{◌≡◌, ◌≤◌, ◌<◌, ◌+◌, ◌^◌, ℕ, suc, List, [], ◌∷◌, ◌++◌, drop, length, take, Option, None, Some}
+use Rattle.std.specs.Prelude.{◌≡◌, ◌≤◌, ◌<◌, ◌+◌, ◌^◌, ℕ, suc, List, [], ◌∷◌, ◌++◌, drop, length, take, Bool, true, false, Option, None, Some}
 use Rattle.spv_journal.specs.Events.{Event, size}
 use Rattle.spv_journal.specs.Marks.{Marked}
 use Rattle.spv_journal.specs.declared.entries.Entry.{Entry}
@@ -14,15 +14,10 @@ event_of m es = record { happening = m.happening; changes = m.items ++ es }
 abbrev pub mark_size : Marked → ℕ
 mark_size m = suc (length m.items)
 
--- an event as it is made
-abbrev pub made : Option Marked → List Entry → Option Event
-made None es = None
-made (Some m) es = Some (event_of m es)
-
--- the changes in the mark of an event that is made
-abbrev pub items_in : Option Marked → List Entry
-items_in None = []
-items_in (Some m) = m.items
+-- the event that is being made, if one is
+abbrev pub made : Bool → Marked → List Entry → Option Event
+made false m es = None
+made true m es = Some (event_of m es)
 
 -- ---- two rings
 

@@ -3,7 +3,7 @@ ghost use Rattle.std.specs.Prelude.{◌≡◌, ◌<◌, ◌≤◌, ◌∷◌, []
 ghost use Rattle.std.specs.Option.{option_map_or};
 ghost use Rattle.std.specs.VecDeque.{deque_capacity, deque_len};
 ghost use Rattle.spv_journal.specs.Events.{begun, fitting, newest, older, opened, pushed, size};
-ghost use Rattle.spv_journal.specs.Rings.{items_in, made};
+ghost use Rattle.spv_journal.specs.Rings.{event_of};
 ghost use Rattle.spv_journal.specs.Undo.{CanUnwind, before};
 ghost use Rattle.spv_journal.specs.declared.entries.Entry.TheVariants.{CellRegister, PcMoved, StatusChanged};
 
@@ -24,13 +24,16 @@ use std::marker::Model;
 #[derive(Drop)]
 pub struct Journal {
     ring: Ring,
-    /// The mark of the event that is being made, and those of its changes that don't lie in the mark, the newest first.
-    making: Option<Mark>,
+    /// Whether an event is being made.
+    making: bool,
+    /// The mark of the event that is being made. It stays in its place, so that an event is copied once.
+    mark: Mark,
+    /// Those of its changes that don't lie in the mark, the newest first.
     gathered: VecDeque<Entry>,
 }
 
 impl Model for Journal {
-    ghost use Rattle.std.specs.Prelude.{◌≡◌, ◌≤◌, [], None};
+    ghost use Rattle.std.specs.Prelude.{◌≡◌, ◌≤◌, [], false};
     ghost use Rattle.std.specs.Coded.{codes};
     ghost use Rattle.spv_journal.specs.Events.{Kept};
     ghost use Rattle.spv_journal.specs.Rings.{made};
@@ -40,23 +43,19 @@ impl Model for Journal {
 
     ghost coded = { Prim.hlevel (codes, entry.the_row.coded) };
 
-    ghost view = { λ j. record { ring = j.ring.events; gathered = made j.making j.gathered.items; limit = j.ring.limit } };
+    ghost view = { λ j. record { ring = j.ring.events; gathered = made j.making j.mark j.gathered.items; limit = j.ring.limit } };
 
-    ghost invariant = { λ j. (1 ≤ j.ring.limit) × (j.making ≡ None → j.gathered.items ≡ []) };
+    ghost invariant = { λ j. (1 ≤ j.ring.limit) × (j.making ≡ false → j.gathered.items ≡ []) };
 }
 
 /// Makes room for a change more of an event that is made, before all. Where memory runs out nothing changes.
 #[inline(always)]
-fn make_room(making: &mut Option<Mark>, gathered: &mut VecDeque<Entry>) -> Result<(), NoMemory>
-    requires { IsSome making.old }
-    ensures same { made making.new gathered.new.items ≡ made making.old gathered.old.items }
-    ensures some { IsSome making.new }
-    ensures ok { OnOk result (items_in making.new ≡ []) }
+fn make_room(mark: &mut Mark, gathered: &mut VecDeque<Entry>) -> Result<(), NoMemory>
+    ensures same { event_of mark.new gathered.new.items ≡ event_of mark.old gathered.old.items }
+    ensures ok { OnOk result (mark.new.items ≡ []) }
     ensures room { OnOk result (deque_len gathered.new < deque_capacity gathered.new) }
 {
-    if let Some(mark) = making {
-        mark.empty_into(gathered)?;
-    }
+    mark.empty_into(gathered)?;
     if gathered.len() == gathered.capacity() {
         gathered.reserve(1)?;
     }
@@ -71,7 +70,8 @@ impl Journal {
     {
         Ok(Journal {
             ring: Ring::new(alloc, limit)?,
-            making: None,
+            making: false,
+            mark: Mark::blank(),
             gathered: VecDeque::new(alloc),
         })
     }
@@ -82,7 +82,8 @@ impl Journal {
         ensures ok { OnOk result (self.new ≡ record self.old { gathered = begun happening }) }
         ensures err { OnErr result (self.new ≡ self.old) }
     {
-        self.making = Some(Mark::of(happening));
+        self.mark.begin(happening);
+        self.making = true;
         Ok(())
     }
 
@@ -93,7 +94,7 @@ impl Journal {
         ensures err { OnErr result (self.new ≡ self.old) }
         ensures handed_back { IfErr result (λ e. e ≡ entry) }
     {
-        match make_room(&mut self.making, &mut self.gathered) {
+        match make_room(&mut self.mark, &mut self.gathered) {
             Ok(()) => {
                 self.gathered.push_front_reserved(entry);
                 Ok(())
@@ -109,7 +110,7 @@ impl Journal {
         ensures ok { OnOk result (self.new ≡ record self.old { gathered = option_map (pushed entry) self.old.gathered }) }
         ensures err { OnErr result (self.new ≡ self.old) }
     {
-        make_room(&mut self.making, &mut self.gathered)?;
+        make_room(&mut self.mark, &mut self.gathered)?;
         self.gathered.push_front_reserved(entry);
         Ok(())
     }
@@ -121,9 +122,7 @@ impl Journal {
         ensures ok { OnOk result (self.new ≡ record self.old { gathered = option_map (pushed (PcMoved pc)) self.old.gathered }) }
         ensures err { OnErr result (self.new ≡ self.old) }
     {
-        if let Some(mark) = &mut self.making
-            && mark.move_pc(pc)
-        {
+        if self.mark.move_pc(pc) {
             return Ok(());
         }
         self.add(Entry::PcMoved(pc))
@@ -137,9 +136,7 @@ impl Journal {
         ensures ok { OnOk result (self.new ≡ record self.old { gathered = option_map (pushed (CellRegister number value)) self.old.gathered }) }
         ensures err { OnErr result (self.new ≡ self.old) }
     {
-        if let Some(mark) = &mut self.making
-            && mark.change_register(number, &value)
-        {
+        if self.mark.change_register(number, &value) {
             return Ok(());
         }
         self.add(Entry::CellRegister { number, value })
@@ -152,9 +149,7 @@ impl Journal {
         ensures ok { OnOk result (self.new ≡ record self.old { gathered = option_map (pushed (StatusChanged status)) self.old.gathered }) }
         ensures err { OnErr result (self.new ≡ self.old) }
     {
-        if let Some(mark) = &mut self.making
-            && mark.change_status(status)
-        {
+        if self.mark.change_status(status) {
             return Ok(());
         }
         self.add(Entry::StatusChanged(status))
@@ -165,9 +160,8 @@ impl Journal {
         requires { IsSome self.old.gathered }
         ensures { self.new ≡ record self.old { ring = fitting self.old.limit (opened self.old.gathered self.old.ring); gathered = None } }
     {
-        if let Some(mark) = self.making.take() {
-            self.ring.put(mark, &mut self.gathered);
-        }
+        self.making = false;
+        self.ring.put(&mut self.mark, &mut self.gathered);
     }
 
     /// Undoes the event that is being made, or else the newest, its newest entry first. None exactly where there is none. It takes no
@@ -178,14 +172,14 @@ impl Journal {
         ensures journal { self.new ≡ record self.old { ring = older (opened self.old.gathered self.old.ring); gathered = None } }
         ensures happening { result ≡ option_map (λ v. v.happening) (newest (opened self.old.gathered self.old.ring)) }
     {
-        match self.making.take() {
-            Some(mark) => {
-                let happening = mark.happening();
-                mark.undo(whole);
-                undo_gathered(whole, happening.inv, &mut self.gathered);
-                Some(happening)
-            }
-            None => self.ring.undo(whole),
+        if self.making {
+            self.making = false;
+            let happening = self.mark.happening();
+            self.mark.undo(whole);
+            undo_gathered(whole, happening.inv, &mut self.gathered);
+            Some(happening)
+        } else {
+            self.ring.undo(whole)
         }
     }
 

@@ -1,5 +1,5 @@
 //! Marks of events, with the small changes that lie in them.
-ghost use Rattle.std.specs.Prelude.{◌≡◌, ◌<◌, ◌∷◌, ◌++◌, [], OnOk, if◌then◌else◌};
+ghost use Rattle.std.specs.Prelude.{◌≡◌, ◌<◌, ◌≤◌, ◌∷◌, ◌++◌, [], OnOk, if◌then◌else◌};
 ghost use Rattle.std.specs.Option.{option_to_list};
 ghost use Rattle.std.specs.VecDeque.{deque_capacity, deque_len};
 ghost use Rattle.spv_journal.specs.Marks.{with_item};
@@ -10,7 +10,7 @@ ghost use Rattle.spv_types.specs.Rows.{leaves};
 
 use crate::entries::Entry;
 use crate::undoing::undo;
-use spv_base::{Cell, Ghost, Happening, NoMemory, Value};
+use spv_base::{Cell, Ghost, Happening, Kind, NoMemory, Value};
 use spv_state::Whole;
 use spv_statuses::Status;
 use spv_values::trees::same;
@@ -88,19 +88,46 @@ fn put(gathered: &mut VecDeque<Entry>, entry: Option<Entry>)
 }
 
 impl Mark {
-    /// The mark of an event that has no changes.
-    #[inline(always)]
-    pub(crate) fn of(happening: Happening) -> Mark
-        ensures { result ≡ record { happening = happening; items = []; beside = 0 } }
-    {
+    /// A mark for events to begin in.
+    pub(crate) fn blank() -> Mark {
         Mark {
             laid: Laid {
-                happening,
+                happening: Happening {
+                    inv: 0,
+                    kind: Kind::Idle,
+                    word: 0,
+                    root: 0,
+                    line: 0,
+                },
                 pc: None,
                 beside: 0,
                 change: None,
             },
             tree: Ghost::of(),
+        }
+    }
+
+    /// Becomes the mark of an event that has no changes.
+    #[inline(always)]
+    pub(crate) fn begin(&mut self, happening: Happening)
+        ensures { self.new ≡ record { happening = happening; items = []; beside = 0 } }
+    {
+        self.laid = Laid {
+            happening,
+            pc: None,
+            beside: 0,
+            change: None,
+        };
+    }
+
+    /// The same mark again.
+    #[inline(always)]
+    pub(crate) fn again(&self) -> Mark
+        ensures { result ≡ self.now }
+    {
+        Mark {
+            laid: self.laid,
+            tree: same(&self.tree),
         }
     }
 
@@ -123,7 +150,8 @@ impl Mark {
     /// How many marks and entries it stands for.
     #[inline(always)]
     pub(crate) fn size(&self) -> usize
-        ensures { result ≡ mark_size self.now }
+        ensures size { result ≡ mark_size self.now }
+        ensures few { result ≤ 3 }
     {
         1 + usize::from(self.laid.pc.is_some()) + usize::from(self.laid.change.is_some())
     }

@@ -148,8 +148,8 @@ impl Ring {
     }
 
     /// Puts an event before all, where there is room for it, and takes as many of the oldest away as have to go.
-    pub(crate) fn put(&mut self, mut mark: Mark, gathered: &mut VecDeque<Entry>)
-        ensures events { self.new.events ≡ fitting self.old.limit (event_of mark gathered.old.items ∷ self.old.events) }
+    pub(crate) fn put(&mut self, mark: &mut Mark, gathered: &mut VecDeque<Entry>)
+        ensures events { self.new.events ≡ fitting self.old.limit (event_of mark.old gathered.old.items ∷ self.old.events) }
         ensures limit { self.new.limit ≡ self.old.limit }
         ensures gathered { gathered.new.items ≡ [] }
     {
@@ -163,7 +163,7 @@ impl Ring {
             self.make_room(limit - need);
             self.held += need;
             mark.set_beside(beside as u32);
-            self.marks.push_front(mark);
+            self.marks.push_front(mark.again());
             put_all(&mut self.entries, gathered);
         }
     }

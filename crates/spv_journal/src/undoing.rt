@@ -1,10 +1,12 @@
 //! Changes that are undone. It takes no memory.
 ghost use Rattle.std.specs.Prelude.{◌≡◌, [], option_map};
 ghost use Rattle.spv_journal.specs.Undo.{CanUndo, CanUndoAll, undo, undo_all};
+ghost use Rattle.spv_journal.specs.declared.entries.Entry.TheVariants.{CellRegister, RowRegister};
 
 use crate::entries::{Entry, OldFrame, OldPart, OldValue};
 use spv_base::Pointer;
 use spv_state::Whole;
+use spv_values::Single;
 use std::collections::VecDeque;
 
 /// What is in a box, if there is one.
@@ -15,6 +17,26 @@ fn unboxed(held: Option<Box<Pointer>>) -> Option<Pointer>
         Some(pointer) => Some(Box::into_inner(pointer)),
         None => None,
     }
+}
+
+/// Puts back what a register of one cell had.
+fn put_cell(whole: &mut Whole, inv: u32, number: usize, value: Single)
+    requires { CanUndo inv (CellRegister number value) whole.old }
+    ensures { whole.new ≡ undo inv (CellRegister number value) whole.old }
+{
+    let mut held = value;
+    let mut has = true;
+    whole.exchange_cell(inv, number, &mut held, &mut has);
+}
+
+/// Puts back what a register of another number of cells had.
+fn put_row(whole: &mut Whole, inv: u32, register: Box<OldValue>)
+    requires { CanUndo inv (RowRegister register) whole.old }
+    ensures { whole.new ≡ undo inv (RowRegister register) whole.old }
+{
+    let OldValue { number, mut row } = Box::into_inner(register);
+    let mut has = true;
+    whole.exchange_value(inv, number, &mut row, &mut has);
 }
 
 /// Undoes one change of an invocation.
@@ -37,16 +59,8 @@ pub(crate) fn undo(whole: &mut Whole, inv: u32, entry: Entry)
             whole.store(inv, &place, &mut row);
         }
         Entry::NoValue(number) => whole.clear_value(inv, number),
-        Entry::CellRegister { number, value } => {
-            let mut held = value;
-            let mut has = true;
-            whole.exchange_cell(inv, number, &mut held, &mut has);
-        }
-        Entry::RowRegister(register) => {
-            let OldValue { number, mut row } = Box::into_inner(register);
-            let mut has = true;
-            whole.exchange_value(inv, number, &mut row, &mut has);
-        }
+        Entry::CellRegister { number, value } => put_cell(whole, inv, number, value),
+        Entry::RowRegister(register) => put_row(whole, inv, register),
         Entry::PointerRegister { number, held } => {
             let mut pointer = unboxed(held);
             whole.exchange_pointer(inv, number, &mut pointer);

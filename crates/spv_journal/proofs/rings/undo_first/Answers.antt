@@ -2,7 +2,7 @@ use Rattle.std.proofs.Common.{◌≡◌, ◌∙◌, ◌+◌, ◌-◌, ◌≤◌,
 use Rattle.circular_buffer.specs.Buffer.{Buffer}
 use Rattle.spv_journal.specs.Undo.{CanUndoAll, undo_all}
 use Rattle.spv_journal.specs.declared.entries.Entry.{Entry}
-use Rattle.spv_journal.proofs.RingLemmas.{Undone, one_undone}
+use Rattle.spv_journal.proofs.RingLemmas.{one_undone}
 use Rattle.spv_journal.proofs.rings.undo_first.Goals as goal
 
 pub loop-number-preserved : goal.loop-number-preserved

@@ -3,7 +3,7 @@ use Rattle.circular_buffer.specs.Buffer.{Buffer}
 use Rattle.spv_journal.specs.Events.{Event, size}
 use Rattle.spv_journal.specs.Rings.{IsRing, Ringed, but_oldest, events}
 use Rattle.spv_journal.specs.Marks.{Marked}
-use Rattle.spv_journal.proofs.RingLemmas.{Dropped, Oldest, dropped, kept_size, none_kept, oldest}
+use Rattle.spv_journal.proofs.RingLemmas.{dropped, kept_size, none_kept, oldest}
 use Rattle.spv_journal.proofs.rings.Ring.drop_oldest.Goals as goal
 
 pub overflow_add-self : goal.overflow_add-self
@@ -13,7 +13,7 @@ overflow_add-self c =
     let rest = ap (λ (b : Buffer Marked). b.items) c.pop_back.ensures.items in
     let o = oldest r.marks.items c.pop_back.new.self.items r.entries.items r.entries.capacity r.held c.in-Some.mark c.self.invariant.1 last rest in
     let counts = o.counts in
-    let size = c.size.ensures in
+    let size = c.size.ensures.size in
     let held = c.self.ranges in
     omega (arith, counts, size, held)
 
@@ -24,7 +24,7 @@ overflow_sub-self c =
     let rest = ap (λ (b : Buffer Marked). b.items) c.pop_back.ensures.items in
     let o = oldest r.marks.items c.pop_back.new.self.items r.entries.items r.entries.capacity r.held c.in-Some.mark c.self.invariant.1 last rest in
     let counts = o.counts in
-    let size = c.size.ensures in
+    let size = c.size.ensures.size in
     omega (arith, counts, size)
 
 pub drop_last-requires : goal.drop_last-requires
@@ -42,7 +42,7 @@ invariant_of-self c =
     let left = c.drop_last.ensures.entries ∙ ap (λ (n : ℕ). take (length r.entries.items - n) r.entries.items) c.beside-beside.ensures in
     let d = dropped r.marks.items c.pop_back.new.self.items r.entries.items c.drop_last.new.entries.items r.entries.capacity r.held c.in-Some.mark c.self.invariant.1 last rest left in
     let count = c.beside-beside.ensures in
-    let size = c.size.ensures in
+    let size = c.size.ensures.size in
     let same : r.held - kept_size c.in-Some.mark ≡ r.held - (c.size.result + c.beside-beside.result) = omega (arith, count, size) in (
       ap (λ (b : Buffer Marked). b.capacity) c.pop_back.ensures.items ∙ c.self.invariant.0 ∙ sym c.drop_last.ensures.capacity,
       subst (λ (n : ℕ). IsRing c.pop_back.new.self.items c.drop_last.new.entries.items n (r.held - (c.size.result + c.beside-beside.result))) (sym c.drop_last.ensures.capacity)

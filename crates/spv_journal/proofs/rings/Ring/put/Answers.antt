@@ -1,8 +1,8 @@
-use Rattle.std.proofs.Common.{◌≡◌, ◌∙◌, ◌+◌, ◌-◌, ◌<◌, ◌≤◌, ℕ, List, ◌∷◌, ap, arith, length, subst, sym, take}
+use Rattle.std.proofs.Common.{◌≡◌, ◌∙◌, ◌+◌, ◌-◌, ◌≤◌, ℕ, List, ◌∷◌, ap, arith, length, subst, sym, take}
 use Rattle.std.proofs.lemmas.List.{take_all}
 use Rattle.circular_buffer.specs.Buffer.{Buffer}
-use Rattle.spv_journal.specs.Events.{Event, fitting, size, size_of}
-use Rattle.spv_journal.specs.Rings.{IsRing, Ringed, event_of, events, mark_size}
+use Rattle.spv_journal.specs.Events.{Event, fitting, size}
+use Rattle.spv_journal.specs.Rings.{IsRing, Ringed, event_of, events}
 use Rattle.spv_journal.specs.Marks.{Marked}
 use Rattle.spv_journal.proofs.RingLemmas.{event_put, event_size, has_room, kept_size, one_fits, ring_put}
 use Rattle.spv_journal.proofs.rings.Ring.put.Goals as goal
@@ -10,7 +10,7 @@ use Rattle.spv_journal.proofs.rings.Ring.put.Goals as goal
 pub put_all-requires : goal.put_all-requires
 put_all-requires c =
     let r = c.self-else-need-limit.inside in
-    let k : Marked = record c.args.mark { beside = c.len-beside.result } in
+    let k : Marked = record c.args.mark.now { beside = c.len-beside.result } in
     let need = c.len-beside.result + c.size.result in
     let sizes : size (events r.marks.items r.entries.items) ≡ size c.make_room.new.self.events = ap (λ (x : Ringed). size x.events) c.self-else-need-limit.view_is in
     let limit : r.entries.capacity ≡ c.make_room.new.self.limit = ap (λ (x : Ringed). x.limit) c.self-else-need-limit.view_is in
@@ -20,7 +20,7 @@ put_all-requires c =
     let room = c.make_room.ensures.size in
     let less = c.if-need-limit.false in
     let held = c.self-else-need-limit.invariant.1.entries in
-    let mark = c.size.ensures in
+    let mark = c.size.ensures.size in
     let is : need ≡ kept_size k = omega (arith, mark) in
     let fits : r.held + need ≤ r.entries.capacity = omega (arith, sizes, limit, was, same, capacity, room, less, held) in
     let both = has_room r.marks.items r.entries.items r.entries.capacity r.held need k c.self-else-need-limit.invariant.1 is fits in
@@ -31,7 +31,7 @@ put_all-requires c =
 pub invariant_of-self : goal.invariant_of-self
 invariant_of-self c =
     let r = c.self-else-need-limit.inside in
-    let k : Marked = record c.args.mark { beside = c.len-beside.result } in
+    let k : Marked = record c.args.mark.now { beside = c.len-beside.result } in
     let need = c.len-beside.result + c.size.result in
     let sizes : size (events r.marks.items r.entries.items) ≡ size c.make_room.new.self.events = ap (λ (x : Ringed). size x.events) c.self-else-need-limit.view_is in
     let limit : r.entries.capacity ≡ c.make_room.new.self.limit = ap (λ (x : Ringed). x.limit) c.self-else-need-limit.view_is in
@@ -41,7 +41,7 @@ invariant_of-self c =
     let room = c.make_room.ensures.size in
     let less = c.if-need-limit.false in
     let held = c.self-else-need-limit.invariant.1.entries in
-    let mark = c.size.ensures in
+    let mark = c.size.ensures.size in
     let is : need ≡ kept_size k = omega (arith, mark) in
     let fits : r.held + need ≤ r.entries.capacity = omega (arith, sizes, limit, was, same, capacity, room, less, held) in
     let both = has_room r.marks.items r.entries.items r.entries.capacity r.held need k c.self-else-need-limit.invariant.1 is fits in
@@ -50,7 +50,7 @@ invariant_of-self c =
     let counted = c.len-beside.ensures in
     let deque = c.args.gathered.now.ok.0 in
     let count : k.beside ≡ length c.args.gathered.now.items = omega (arith, counted, deque) in
-    let told : c.set_beside.new.self ≡ k = c.set_beside.ensures in
+    let told : c.again.result ≡ k = c.again.ensures ∙ c.set_beside.ensures in
     let put : c.push_front.new.self.items ≡ k ∷ r.marks.items =
     ap (λ (b : Buffer Marked). b.items) c.push_front.ensures.items ∙ ap (λ (m : Marked). take r.marks.capacity (m ∷ r.marks.items)) told ∙ take_all r.marks.capacity (k ∷ r.marks.items) (omega (arith, marks, alike)) in
     let ring = ring_put r.marks.items c.push_front.new.self.items r.entries.items c.put_all.new.entries.items c.args.gathered.now.items r.entries.capacity r.held need k c.self-else-need-limit.invariant.1
@@ -62,9 +62,9 @@ invariant_of-self c =
 pub returns-else-need-limit-clause-events : goal.returns-else-need-limit-clause-events
 returns-else-need-limit-clause-events c =
     let r = c.self-else-need-limit.inside in
-    let k : Marked = record c.args.mark { beside = c.len-beside.result } in
+    let k : Marked = record c.args.mark.now { beside = c.len-beside.result } in
     let need = c.len-beside.result + c.size.result in
-    let v = event_of c.args.mark c.args.gathered.now.items in
+    let v = event_of c.args.mark.now c.args.gathered.now.items in
     let sizes : size (events r.marks.items r.entries.items) ≡ size c.make_room.new.self.events = ap (λ (x : Ringed). size x.events) c.self-else-need-limit.view_is in
     let limit : r.entries.capacity ≡ c.make_room.new.self.limit = ap (λ (x : Ringed). x.limit) c.self-else-need-limit.view_is in
     let was : c.self.inside.entries.capacity ≡ c.args.self.now.limit = ap (λ (x : Ringed). x.limit) c.self.view_is in
@@ -73,8 +73,8 @@ returns-else-need-limit-clause-events c =
     let room = c.make_room.ensures.size in
     let less = c.if-need-limit.false in
     let held = c.self-else-need-limit.invariant.1.entries in
-    let mark = c.size.ensures in
-    let one = event_size c.args.mark c.args.gathered.now.items in
+    let mark = c.size.ensures.size in
+    let one = event_size c.args.mark.now c.args.gathered.now.items in
     let is : need ≡ kept_size k = omega (arith, mark) in
     let fits : r.held + need ≤ r.entries.capacity = omega (arith, sizes, limit, was, same, capacity, room, less, held) in
     let both = has_room r.marks.items r.entries.items r.entries.capacity r.held need k c.self-else-need-limit.invariant.1 is fits in
@@ -83,7 +83,7 @@ returns-else-need-limit-clause-events c =
     let counted = c.len-beside.ensures in
     let deque = c.args.gathered.now.ok.0 in
     let count : k.beside ≡ length c.args.gathered.now.items = omega (arith, counted, deque) in
-    let told : c.set_beside.new.self ≡ k = c.set_beside.ensures in
+    let told : c.again.result ≡ k = c.again.ensures ∙ c.set_beside.ensures in
     let put : c.push_front.new.self.items ≡ k ∷ r.marks.items =
     ap (λ (b : Buffer Marked). b.items) c.push_front.ensures.items ∙ ap (λ (m : Marked). take r.marks.capacity (m ∷ r.marks.items)) told ∙ take_all r.marks.capacity (k ∷ r.marks.items) (omega (arith, marks, alike)) in
     event_put r.marks.items c.push_front.new.self.items r.entries.items c.put_all.new.entries.items c.args.gathered.now.items k count put c.put_all.ensures.entries
