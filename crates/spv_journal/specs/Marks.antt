@@ -1,11 +1,11 @@
 -- Marks of events, and the changes that lie in them.
-use Rattle.std.specs.Prelude.{◌≡◌, ℕ, List, [], ◌∷◌, ◌++◌, Option, Some, None, ⊤}
+use Rattle.std.specs.Prelude.{◌≡◌, ℕ, List, [], ◌∷◌, ◌++◌, Bool, true, false, Option, Some, None, ⊤}
 use Rattle.spv_base.specs.declared.happenings.Happening.{Happening}
 use Rattle.spv_base.specs.declared.values.Value.{Value}
 use Rattle.spv_journal.specs.declared.entries.Entry.{Entry}
 use Rattle.spv_journal.specs.declared.entries.Entry.TheVariants.{CellRegister, PcMoved, StatusChanged}
 use Rattle.spv_journal.specs.declared.marks.Change.{Change}
-use Rattle.spv_journal.specs.declared.marks.Change.TheVariants.{Register, Status}
+use Rattle.spv_journal.specs.declared.marks.Change.TheVariants.{Nothing, Register, Status}
 use Rattle.spv_types.specs.Rows.{leaves}
 
 -- what happened, the changes that lie in the mark, the newest first, and how many lie beside it
@@ -19,17 +19,20 @@ abbrev pub moved : Option ℕ → List Entry
 moved None = []
 moved (Some pc) = PcMoved pc ∷ []
 
+abbrev pub is_change : Change → Bool
+is_change Nothing = false
+is_change _ = true
+
 -- The changes of a mark. A register is set before the pc moves on, and a status after it.
-abbrev pub items_of : Option ℕ → Option Change → Value → List Entry
-items_of pc None tree = moved pc
-items_of pc (Some (Register number cell)) tree = moved pc ++ CellRegister number tree ∷ []
-items_of pc (Some (Status status)) tree = StatusChanged status ∷ moved pc
+abbrev pub items_of : Option ℕ → Change → Value → List Entry
+items_of pc Nothing tree = moved pc
+items_of pc (Register number cell) tree = moved pc ++ CellRegister number tree ∷ []
+items_of pc (Status status) tree = StatusChanged status ∷ moved pc
 
 -- the tree is of the cell that the register had
-abbrev pub IsTree : Option Change → Value → Type 0
-IsTree None tree = ⊤
-IsTree (Some (Register number cell)) tree = leaves tree ≡ cell ∷ []
-IsTree (Some (Status status)) tree = ⊤
+abbrev pub IsTree : Change → Value → Type 0
+IsTree (Register number cell) tree = leaves tree ≡ cell ∷ []
+IsTree _ tree = ⊤
 
 -- one change more
 abbrev pub with_item : Entry → Marked → Marked

@@ -63,7 +63,7 @@ fn make_room(mark: &mut Mark, gathered: &mut VecDeque<Entry>) -> Result<(), NoMe
 }
 
 impl Journal {
-    /// No events, with room for so many marks and entries.
+    /// No events, with room for so many marks and entries. There is no memory for 4,294,967,296 and more.
     pub fn new(alloc: Global, limit: usize) -> Result<Journal, NoMemory>
         requires { 1 ≤ limit }
         ensures { IfOk result (λ j. j ≡ record { ring = []; gathered = None; limit = limit }) }

@@ -2,7 +2,7 @@
 ghost use Rattle.std.specs.Prelude.{◌≡◌, ◌<◌, ◌≤◌, ◌∷◌, ◌++◌, [], OnOk, if◌then◌else◌};
 ghost use Rattle.std.specs.Option.{option_to_list};
 ghost use Rattle.std.specs.VecDeque.{deque_capacity, deque_len};
-ghost use Rattle.spv_journal.specs.Marks.{with_item};
+ghost use Rattle.spv_journal.specs.Marks.{is_change, with_item};
 ghost use Rattle.spv_journal.specs.Rings.{mark_size};
 ghost use Rattle.spv_journal.specs.Undo.{CanUndoAll, undo_all};
 ghost use Rattle.spv_journal.specs.declared.entries.Entry.TheVariants.{CellRegister, PcMoved, StatusChanged};
@@ -21,10 +21,25 @@ use std::marker::Model;
 /// One change as it lies in a mark: what an entry says, without what only proofs read, so that it is copied whole.
 #[derive(Clone, Copy)]
 pub(crate) enum Change {
+    /// No change.
+    Nothing,
     /// A register of one cell had a value.
     Register { number: u32, cell: Cell },
     /// The invocation had a status.
     Status(Status),
+}
+
+impl Change {
+    /// Whether it is one.
+    #[inline(always)]
+    fn is_some(&self) -> bool
+        ensures { result ≡ is_change self.now }
+    {
+        match self {
+            Change::Nothing => false,
+            Change::Register { .. } | Change::Status(_) => true,
+        }
+    }
 }
 
 /// A mark as it lies in memory.
@@ -35,7 +50,7 @@ struct Laid {
     pc: Option<u32>,
     /// How many changes of the event lie beside it.
     beside: u32,
-    change: Option<Change>,
+    change: Change,
 }
 
 /// The mark of an event, and up to two of its changes: most events set a register of one cell and move the pc, and so need no entries.
@@ -101,7 +116,7 @@ impl Mark {
                 },
                 pc: None,
                 beside: 0,
-                change: None,
+                change: Change::Nothing,
             },
             tree: Ghost::of(),
         }
@@ -116,7 +131,7 @@ impl Mark {
             happening,
             pc: None,
             beside: 0,
-            change: None,
+            change: Change::Nothing,
         };
     }
 
@@ -170,8 +185,8 @@ impl Mark {
         ensures { self.new ≡ (if result then with_item (PcMoved pc) self.old else self.old) }
     {
         let room = match self.laid.change {
-            None | Some(Change::Register { .. }) => self.laid.pc.is_none(),
-            Some(Change::Status(_)) => false,
+            Change::Nothing | Change::Register { .. } => self.laid.pc.is_none(),
+            Change::Status(_) => false,
         };
         if room {
             self.laid.pc = Some(pc);
@@ -185,11 +200,11 @@ impl Mark {
         ensures { self.new ≡ (if result then with_item (CellRegister number value.now) self.old else self.old) }
     {
         if self.laid.pc.is_none()
-            && self.laid.change.is_none()
+            && !self.laid.change.is_some()
             && let Ok(number) = u32::try_from(number)
         {
             let cell = value.cell();
-            self.laid.change = Some(Change::Register { number, cell });
+            self.laid.change = Change::Register { number, cell };
             self.tree = tree_of(&self.tree, value);
             return true;
         }
@@ -201,9 +216,9 @@ impl Mark {
     pub(crate) fn change_status(&mut self, status: Status) -> bool
         ensures { self.new ≡ (if result then with_item (StatusChanged status) self.old else self.old) }
     {
-        let room = self.laid.change.is_none();
+        let room = !self.laid.change.is_some();
         if room {
-            self.laid.change = Some(Change::Status(status));
+            self.laid.change = Change::Status(status);
         }
         room
     }
@@ -217,13 +232,13 @@ impl Mark {
             None => None,
         };
         match self.laid.change {
-            Some(Change::Register { number, cell }) => {
+            Change::Register { number, cell } => {
                 let value = single(cell, &self.tree);
                 let number = number as usize;
                 (pc, Some(Entry::CellRegister { number, value }))
             }
-            Some(Change::Status(status)) => (Some(Entry::StatusChanged(status)), pc),
-            None => (pc, None),
+            Change::Status(status) => (Some(Entry::StatusChanged(status)), pc),
+            Change::Nothing => (pc, None),
         }
     }
 
@@ -253,7 +268,7 @@ impl Mark {
         put(gathered, older);
         put(gathered, newer);
         self.laid.pc = None;
-        self.laid.change = None;
+        self.laid.change = Change::Nothing;
         Ok(())
     }
 
@@ -264,7 +279,7 @@ impl Mark {
         ensures same { self.new.items ++ gathered.new.items ≡ self.old.items ++ gathered.old.items }
         ensures ok { OnOk result (self.new.items ≡ []) }
     {
-        if self.laid.pc.is_none() && self.laid.change.is_none() {
+        if self.laid.pc.is_none() && !self.laid.change.is_some() {
             return Ok(());
         }
         self.move_into(gathered)
