@@ -60,7 +60,7 @@ impl Group {
         Group::open_limited(alloc, m, schedule, LIMIT)
     }
 
-    /// The same, with a journal that keeps at most so many marks and entries of events.
+    /// The same, with a journal that keeps at most so many marks and entries of events. There is no memory for 4,294,967,296 and more.
     pub fn open_limited(
         alloc: Global,
         m: Runnable,

@@ -1,9 +1,11 @@
 -- Events that can be undone, one after the other.
-use Rattle.std.proofs.Common.{◌≡◌, ℕ, ◌-◌, Bool, true, false, nat_le, if◌then◌else◌, List, [], ◌∷◌, ◌++◌, Option, Some, None, refl, sym, subst}
+use Rattle.std.proofs.Common.{◌≡◌, ◌∙◌, ap, ℕ, ◌-◌, Bool, true, false, nat_le, if◌then◌else◌, List, [], ◌∷◌, ◌++◌, Option, Some, None, refl, sym, subst}
 use Rattle.std.specs.Option.{MatchOption, option_map, option_map_or}
 use Rattle.spv_base.specs.declared.happenings.Happening.{Happening}
-use Rattle.spv_journal.specs.Events.{Event, fitting, newest, older, opened, size_of}
+use Rattle.spv_journal.specs.Events.{Event, Kept, fitting, newest, older, opened, size_of}
 use Rattle.spv_journal.specs.Held.{Held, past_of, unwound}
+use Rattle.spv_journal.specs.Marks.{Marked}
+use Rattle.spv_journal.specs.Rings.{event_of, made}
 use Rattle.spv_journal.specs.Undo.{CanUndoAll, CanUnwind, before, past, undo, undo_all}
 use Rattle.spv_journal.specs.declared.entries.Entry.{Entry}
 use Rattle.spv_state.specs.State.{State}
@@ -46,3 +48,16 @@ front_undoes i (x ∷ xs) ys s can = let rest = front_undoes i xs ys (undo i x s
 pub undo_both : (i : ℕ) (xs ys : List Entry) (s : State) → undo_all i ys (undo_all i xs s) ≡ undo_all i (xs ++ ys) s
 undo_both i [] ys s = refl
 undo_both i (x ∷ xs) ys s = undo_both i xs ys (undo i x s)
+
+-- ---- the event that is being made
+
+pub record Making (m : Marked) (es : List Entry) (k : Kept) (s : State) : Type 0 where
+  pub is : Some (event_of m es) ≡ k.gathered
+  pub can : CanUndoAll m.happening.inv (m.items ++ es) s
+
+-- it is the newest, and can be undone
+pub making : (b : Bool) (m : Marked) (es : List Entry) (k : Kept) (s : State) → b ≡ true → made b m es ≡ k.gathered → CanUnwind (opened k.gathered k.ring) s → Making m es k s
+making b m es k s now view can =
+    let is : Some (event_of m es) ≡ k.gathered = ap (λ (x : Bool). made x m es) (sym now) ∙ view in
+    let all : CanUnwind (opened (Some (event_of m es)) k.ring) s = subst (λ (o : Option Event). CanUnwind (opened o k.ring) s) (sym is) can in
+    record { is = is; can = all.0 }

@@ -19,6 +19,7 @@ abbrev pub moved : Option ℕ → List Entry
 moved None = []
 moved (Some pc) = PcMoved pc ∷ []
 
+-- whether a change lies in the mark beside the move of the pc
 abbrev pub is_change : Change → Bool
 is_change Nothing = false
 is_change _ = true

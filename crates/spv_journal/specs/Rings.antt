@@ -40,6 +40,7 @@ pub record Ringed : Type 0 where
   pub limit : ℕ
 
 -- Marks and changes with room for so many have all changes that the marks say and no more, and what they keep is counted and within.
+-- There is room for less than 2 ^ 32, so that a mark says in 32 bits how many changes lie beside it.
 pub record IsRing (ms : List Marked) (es : List Entry) (limit held : ℕ) : Type 0 where
   pub whole : length es ≡ beside ms
   pub entries : held ≡ size (events ms es)

@@ -9,7 +9,7 @@ ghost use Rattle.spv_journal.specs.declared.entries.Entry.TheVariants.{CellRegis
 ghost use Rattle.spv_types.specs.Rows.{leaves};
 
 use crate::entries::Entry;
-use crate::undoing::undo;
+use crate::undoing::put_cell;
 use spv_base::{Cell, Ghost, Happening, Kind, NoMemory, Value};
 use spv_state::Whole;
 use spv_statuses::Status;
@@ -242,18 +242,20 @@ impl Mark {
         }
     }
 
-    /// Undoes its changes.
+    /// Undoes its changes, the newer one first: a register is set before the pc moves, and a status after it.
     pub(crate) fn undo(&self, whole: &mut Whole)
         requires { CanUndoAll self.now.happening.inv self.now.items whole.old }
         ensures { whole.new ≡ undo_all self.now.happening.inv self.now.items whole.old }
     {
         let inv = self.laid.happening.inv;
-        let (newer, older) = self.entries();
-        if let Some(entry) = newer {
-            undo(whole, inv, entry);
+        if let Change::Status(status) = self.laid.change {
+            whole.set_status(inv, status);
         }
-        if let Some(entry) = older {
-            undo(whole, inv, entry);
+        if let Some(pc) = self.laid.pc {
+            whole.set_pc(inv, pc);
+        }
+        if let Change::Register { number, cell } = self.laid.change {
+            put_cell(whole, inv, number as usize, single(cell, &self.tree));
         }
     }
 

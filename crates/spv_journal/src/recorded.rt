@@ -38,7 +38,7 @@ impl Model for Recorded {
 }
 
 impl Recorded {
-    /// A state, and no events, with room for so many marks and entries.
+    /// A state, and no events, with room for so many marks and entries. There is no memory for 4,294,967,296 and more.
     pub fn new(alloc: Global, whole: Whole, limit: usize) -> Result<Recorded, NoMemory>
         requires { 1 ≤ limit }
         ensures { IfOk result (λ r. r ≡ record { state = whole; ring = []; gathered = None; limit = limit }) }
@@ -50,7 +50,7 @@ impl Recorded {
         })
     }
 
-    /// An equal state, and no events, with room for so many marks and entries.
+    /// An equal state, and no events, with room for so many marks and entries, as `new` has it.
     pub fn copy(&self, alloc: Global, limit: usize) -> Result<Recorded, NoMemory>
         requires { 1 ≤ limit }
         ensures { IfOk result (λ r. r ≡ record { state = self.now.state; ring = []; gathered = None; limit = limit }) }
@@ -85,6 +85,7 @@ impl Recorded {
     }
 
     /// The event that is being made is whole: it is kept, and as many of the oldest go as have to. It takes no memory.
+    #[inline(always)]
     pub fn seal(&mut self)
         requires { IsSome self.old.gathered }
         ensures { self.new ≡ sealed self.old }

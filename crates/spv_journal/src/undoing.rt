@@ -20,7 +20,7 @@ fn unboxed(held: Option<Box<Pointer>>) -> Option<Pointer>
 }
 
 /// Puts back what a register of one cell had.
-fn put_cell(whole: &mut Whole, inv: u32, number: usize, value: Single)
+pub(crate) fn put_cell(whole: &mut Whole, inv: u32, number: usize, value: Single)
     requires { CanUndo inv (CellRegister number value) whole.old }
     ensures { whole.new ≡ undo inv (CellRegister number value) whole.old }
 {

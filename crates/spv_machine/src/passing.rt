@@ -30,6 +30,7 @@ fn append_all(recorded: &mut Recorded, inv: u32, events: Vec<DebugEvent>) -> Res
 
 /// The top frame of an invocation comes to an instruction, past the debug instructions before it. Where there are none its pc is all that
 /// changes.
+#[inline(always)]
 pub(crate) fn come_to(
     alloc: Global,
     m: &Runnable,

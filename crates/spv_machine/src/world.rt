@@ -36,7 +36,8 @@ impl Model for World {
 }
 
 impl World {
-    /// The world at the start of a run, which is sound, with room for so many marks and entries of the journal, 1 at least.
+    /// The world at the start of a run, which is sound, with room for so many marks and entries of the journal, 1 at least. There is no
+    /// memory for 4,294,967,296 and more.
     pub fn start(alloc: Global, m: &Runnable, limit: usize) -> Result<World, NoMemory>
         requires { 1 ≤ limit }
         ensures start { IfOk result (λ w. w ≡ record { state = start_of m.now; ring = []; limit = limit }) }
