@@ -40,6 +40,7 @@ fn whole<'a>(site: &Site<'a>, root: Root) -> Result<Part<'a>, Fail<Cause>>
 }
 
 /// The part of memory that an operand names. F3 where there is none. No pointer is made where it is a whole variable.
+#[inline(always)]
 fn part<'a>(site: &Site<'a>, at: &Operand) -> Result<Part<'a>, Fail<Cause>>
     requires { IsPlain at.now }
     ensures { Answers (spec.part_of site.now (shown at.now)) result }
@@ -68,6 +69,7 @@ pub(crate) fn place(site: &Site, at: &Operand) -> Result<Pointer, Fail<Cause>>
 }
 
 /// Where a store goes by an operand. F3 where it is no pointer. It takes no memory where that is a whole variable.
+#[inline(always)]
 fn target(site: &Site, at: &Operand) -> Result<Target, Fail<Cause>>
     requires { IsPlain at.now }
     ensures { Answers (pointer (shown at.now)) result }

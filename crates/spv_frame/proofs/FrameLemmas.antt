@@ -45,7 +45,7 @@ pub record Exchanged (h : Held) (p : Planned) (pc : ℕ) (has : List Bool) (ps :
   pub fits : Fits p after (slice_set has s.number b) ps
 
 pub exchanged : (h : Held) (p : Planned) (pc : ℕ) (row : Value) (has : List Bool) (ps : List (Option Pointer)) (es : List PassedEvent) (s : Slot) (v : Value) (b : Bool) (after : Value)
-    → shown p pc row has ps es ≡ h → Fits p row has ps → (o : Opened h p row has s) → length (leaves v) ≡ s.len → after ≡ with_part row s.path v
+    → shown p pc row has ps es ≡ h → Fits p row has ps → (o : Opened h p row has s) → length (leaves v) ≡ s.len → after ≡ with_part row (s.number ∷ []) v
     → Exchanged h p pc has ps es s v b after
 exchanged h p pc row has ps es s v b after e fits o long made =
     let ws : List Value = slice_set (trees row) s.number v in

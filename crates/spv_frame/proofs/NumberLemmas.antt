@@ -17,7 +17,7 @@ use Rattle.spv_frame.proofs.RegisterLemmas.{marks_length, marks_set, set_is_writ
 
 -- where a register with a number lies
 abbrev pub slot_at : Rooms → ℕ → ℕ → Slot
-slot_at rs n k = record { id = id_at (ids rs) n; number = n; start = cells_before n rs; len = k; path = n ∷ [] }
+slot_at rs n k = record { id = id_at (ids rs) n; number = n; start = cells_before n rs; len = k }
 
 long : (rs : Rooms) (n k : ℕ) → slice_get (sizes rs) n ≡ Some k → slice_get rs n ≡ Some (id_at (ids rs) n, k)
 long [] n k h = absurd cc
@@ -25,7 +25,7 @@ long (r ∷ rs) zero k h = let e : r.1 ≡ k = cc in ap (λ (x : ℕ). Some (r.0
 long (r ∷ rs) (suc n) k h = long rs n k h
 
 slot_is : (rs : Rooms) (n k : ℕ) → slice_get (sizes rs) n ≡ Some k → number_of (id_at (ids rs) n) (ids rs) ≡ Some n → IsSlotOf rs (slot_at rs n k)
-slot_is rs n k h named = record { named = named; begins = refl; long = long rs n k h; path = refl }
+slot_is rs n k h named = record { named = named; begins = refl; long = long rs n k h }
 
 pub inside : (rs : Rooms) (n k : ℕ) → slice_get (sizes rs) n ≡ Some k → n < length rs
 inside [] n k h = absurd cc

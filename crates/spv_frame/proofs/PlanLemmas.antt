@@ -28,18 +28,17 @@ pub record SlotAt (rs : Rooms) (n start k : ℕ) (s : Slot) : Type 0 where
   pub number : s.number ≡ n + k
   pub begins : start + cells_before k rs ≡ s.start
   pub long : slice_get rs k ≡ Some (s.id, s.len)
-  pub path : s.path ≡ s.number ∷ []
 
 pub slot_at : (rs : Rooms) (n start k : ℕ) (s : Slot) → slice_get (slots_from n start rs) k ≡ Some s → SlotAt rs n start k s
 slot_at [] n start k s h = cc
 slot_at (r ∷ rs) n start zero s h =
-    let e : (record { id = r.0; number = n; start = start; len = r.1; path = n ∷ [] }) ≡ s = cc in
-    subst (SlotAt (r ∷ rs) n start zero) e (record { number = omega arith; begins = omega arith; long = refl; path = refl })
+    let e : (record { id = r.0; number = n; start = start; len = r.1 }) ≡ s = cc in
+    subst (SlotAt (r ∷ rs) n start zero) e (record { number = omega arith; begins = omega arith; long = refl })
 slot_at (r ∷ rs) n start (suc k) s h =
     let rest = slot_at rs (suc n) (start + r.1) k s h in
     let number : s.number ≡ n + suc k = let e = rest.number in omega arith in
     let begins : start + (r.1 + cells_before k rs) ≡ s.start = let e = rest.begins in omega arith in
-    record { number = number; begins = begins; long = rest.long; path = rest.path }
+    record { number = number; begins = begins; long = rest.long }
 
 id_at : (rs : Rooms) (k id len : ℕ) → slice_get rs k ≡ Some (id, len) → slice_get (ids rs) k ≡ Some id
 id_at [] k id len h = cc
@@ -55,7 +54,6 @@ slot_is rs slots k s e apart h =
         named = subst (λ (m : ℕ). number_of s.id (ids rs) ≡ Some m) (sym number) (apart k s.id (id_at rs k s.id s.len at.long));
         begins = subst (λ (m : ℕ). cells_before m rs ≡ s.start) (sym number) begins;
         long = subst (λ (m : ℕ). slice_get rs m ≡ Some (s.id, s.len)) (sym number) at.long;
-        path = at.path;
       },
       number,
     )

@@ -126,9 +126,9 @@ pub record Lies (row : Value) (s : Slot) : Type 0 where
   pub is : slice_get (trees row) s.number ≡ Some tree
   pub inside : s.number < length (trees row)
   pub size : length (leaves tree) ≡ s.len
-  pub at : IsRowAt row s.path s.start s.len
-  pub part : part_at row s.path ≡ Some tree
-  pub put : (v : Value) → with_part row s.path v ≡ Many (slice_set (trees row) s.number v)
+  pub at : IsRowAt row (s.number ∷ []) s.start s.len
+  pub part : part_at row (s.number ∷ []) ≡ Some tree
+  pub put : (v : Value) → with_part row (s.number ∷ []) v ≡ Many (slice_set (trees row) s.number v)
   pub sizes : (v : Value) → length (leaves v) ≡ s.len → map cells_in (slice_set (trees row) s.number v) ≡ map cells_in (trees row)
 
 part_is : (vs : List Value) (n : ℕ) (u : Value) → slice_get vs n ≡ Some u → part_at (Many vs) (n ∷ []) ≡ Some u
@@ -149,9 +149,9 @@ lies rs row s many sized slot =
       is = t.is;
       inside = t.inside;
       size = t.size;
-      at = subst (λ (p : List ℕ). IsRowAt row p s.start s.len) (sym slot.path) (subst (λ (r : Value). IsRowAt r (s.number ∷ []) s.start s.len) (sym many) here);
-      part = ap (λ (p : List ℕ). part_at row p) slot.path ∙ ap (λ (r : Value). part_at r (s.number ∷ [])) many ∙ part_is vs s.number t.tree t.is;
-      put = λ v. ap (λ (p : List ℕ). with_part row p v) slot.path ∙ ap (λ (r : Value). with_part r (s.number ∷ []) v) many ∙ put_is vs s.number t.tree v t.is;
+      at = subst (λ (r : Value). IsRowAt r (s.number ∷ []) s.start s.len) (sym many) here;
+      part = ap (λ (r : Value). part_at r (s.number ∷ [])) many ∙ part_is vs s.number t.tree t.is;
+      put = λ v. ap (λ (r : Value). with_part r (s.number ∷ []) v) many ∙ put_is vs s.number t.tree v t.is;
       sizes = λ v long. sizes_keep vs s.number t.tree v t.is (long ∙ sym t.size);
     }
 

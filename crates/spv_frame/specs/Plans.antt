@@ -18,7 +18,7 @@ AreApart ks = (k id : ℕ) → slice_get ks k ≡ Some id → number_of id ks �
 -- the slots of some registers, of which the first has a number and lies behind some cells
 abbrev pub slots_from : ℕ → ℕ → Rooms → List Slot
 slots_from n start [] = []
-slots_from n start (r ∷ rs) = record { id = r.0; number = n; start = start; len = r.1; path = n ∷ [] } ∷ slots_from (suc n) (start + r.1) rs
+slots_from n start (r ∷ rs) = record { id = r.0; number = n; start = start; len = r.1 } ∷ slots_from (suc n) (start + r.1) rs
 
 abbrev pub slots_of : Rooms → List Slot
 slots_of rs = slots_from 0 0 rs

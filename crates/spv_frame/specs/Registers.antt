@@ -53,7 +53,6 @@ pub record IsSlotOf (rs : Rooms) (s : Slot) : Type 0 where
   pub named : number_of s.id (ids rs) ≡ Some s.number
   pub begins : cells_before s.number rs ≡ s.start
   pub long : slice_get rs s.number ≡ Some (s.id, s.len)
-  pub path : s.path ≡ s.number ∷ []
 
 -- where a register of a pointer lies
 abbrev pub IsPointerSlotOf : List ℕ → PointerSlot → Type 0

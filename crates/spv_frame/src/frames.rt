@@ -8,7 +8,7 @@ ghost use Rattle.spv_types.specs.Rows.{leaves};
 use crate::contents::Content;
 use crate::events::DebugEvent;
 use crate::plans::Plan;
-use crate::slots::{PointerSlot, Slot};
+use crate::slots::{PointerSlot, Slot, lent, path_to};
 use spv_base::{NoMemory, Pointer};
 use spv_values::{Part, Row};
 use std::alloc::Global;
@@ -97,7 +97,7 @@ impl Frame {
         ensures { reads slot.now.id self.now.values ≡ Some result }
     {
         if self.has[slot.number] {
-            Some(self.row.part(&slot.path, slot.start, slot.len))
+            Some(lent(&self.row, slot))
         } else {
             None
         }
@@ -109,7 +109,7 @@ impl Frame {
         ensures content { IfOk result (λ c. reads slot.now.id self.now.values ≡ Some (marked c.row c.has)) }
         ensures cells { IfOk result (λ c. length (leaves c.row) ≡ slot.now.len) }
     {
-        let part = self.row.part(&slot.path, slot.start, slot.len);
+        let part = lent(&self.row, slot);
         Ok(Content {
             row: Row::of_part(alloc, &part)?,
             has: self.has[slot.number],
@@ -132,7 +132,8 @@ impl Frame {
         ensures handed { reads slot.now.id self.old.values ≡ Some (marked value.new has.new) }
         ensures room { length (leaves value.new) ≡ slot.now.len }
     {
-        self.row.exchange(&slot.path, slot.start, value);
+        self.row
+            .exchange_by(&path_to(slot.number), slot.start, value);
         mem::swap(&mut self.has[slot.number], has);
     }
 

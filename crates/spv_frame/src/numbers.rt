@@ -10,10 +10,9 @@ ghost use Rattle.spv_types.specs.Rows.{leaves};
 
 use crate::frames::Frame;
 use crate::plans::Plan;
-use crate::slots::PointerSlot;
+use crate::slots::{PointerSlot, path_to};
 use crate::stacks::Stack;
 use spv_base::{Ghost, Path, Pointer};
-use spv_values::trees::shadow;
 use spv_values::{Row, Single};
 use std::mem;
 
@@ -33,7 +32,7 @@ fn found(plan: &Plan, number: usize) -> Lying
 {
     let slot = plan.slot(number);
     Lying {
-        path: shadow(&slot.path),
+        path: path_to(number),
         start: slot.start,
     }
 }

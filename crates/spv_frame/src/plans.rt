@@ -1,12 +1,12 @@
 //! What the frames of a function have: their registers, and where these lie.
-ghost use Rattle.std.specs.Prelude.{◌≡◌, ◌+◌, ◌<◌, ◌≤◌, [], ◌∷◌, IfOk, IfSome, Some, drop, length, map, slice_get, take};
+ghost use Rattle.std.specs.Prelude.{◌≡◌, ◌+◌, ◌<◌, ◌≤◌, [], IfOk, IfSome, Some, drop, length, map, slice_get, take};
 ghost use Rattle.std.specs.List.{AllByRecursion, range_with_len};
 ghost use Rattle.spv_frame.specs.Contents.{Differ};
 ghost use Rattle.spv_frame.specs.Plans.{AreApart, blank_of, slots_of, total};
 ghost use Rattle.spv_frame.specs.Registers.{IsPointerSlotOf, IsSlotOf, ids};
 
 use crate::slots::{Place, PointerSlot, Slot};
-use spv_base::{Cell, Ghost, NoMemory, Path, Value};
+use spv_base::{Cell, Ghost, NoMemory, Value};
 use spv_values::{Part, Row};
 use std::alloc::Global;
 use std::marker::Model;
@@ -149,31 +149,15 @@ fn slots_of(alloc: Global, values: &[(u32, u32)]) -> Result<Vec<Slot>, NoMemory>
     let mut start: usize = 0;
     for (number, register) in values.iter().enumerate() {
         let len = register.1 as usize;
-        slots.push(slot_of(alloc, register.0, number, start, len)?)?;
+        slots.push(Slot {
+            id: register.0,
+            number,
+            start,
+            len,
+        })?;
         start = start.checked_add(len).ok_or(NoMemory)?;
     }
     Ok(slots)
-}
-
-/// A slot, with the path that leads to it.
-fn slot_of(
-    alloc: Global,
-    id: u32,
-    number: usize,
-    start: usize,
-    len: usize,
-) -> Result<Slot, NoMemory>
-    ensures { IfOk result (λ slot. slot ≡ record { id = id; number = number; start = start; len = len; path = number ∷ [] }) }
-{
-    let mut path = Path::new(alloc);
-    path.push(number as u64)?;
-    Ok(Slot {
-        id,
-        number,
-        start,
-        len,
-        path,
-    })
 }
 
 /// How many cells some registers have together; none where they can't be counted.

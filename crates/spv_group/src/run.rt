@@ -116,6 +116,7 @@ impl Run {
     }
 
     /// Makes the next event. It takes one step, or none at an end that is no fault.
+    #[inline(always)]
     pub fn forth<L: Ledger>(
         &mut self,
         alloc: Global,

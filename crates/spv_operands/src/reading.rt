@@ -26,6 +26,7 @@ use spv_valid::{Meaning, Module};
 use std::alloc::Global;
 
 /// What the register at a place of a frame holds, if it holds something.
+#[inline(always)]
 fn held<'a>(plan: &Plan, frame: &'a Frame, id: u32, place: Place) -> Option<Operand<'a>>
     requires plan { frame.now.plan ≡ plan.now }
     requires stands { id_at plan.now.values plan.now.pointers place ≡ Some id }
@@ -54,6 +55,7 @@ fn plan_at(plans: &Plans, number: usize) -> &Plan
 }
 
 /// What the register that was found for an id holds, if it is one of a frame's function and holds something.
+#[inline(always)]
 fn register<'a>(
     accepted: &Module,
     plans: &Plans,
@@ -169,6 +171,7 @@ fn by_meaning<'a>(
 }
 
 /// What an id stands for that is no register that holds something. It takes memory only for an undefined value.
+#[inline(never)]
 fn elsewhere<'a>(
     alloc: Global,
     accepted: &'a Module,
@@ -194,6 +197,7 @@ fn elsewhere<'a>(
 /// What an id stands for where an instruction of a frame at a depth names it; none where it stands for nothing there, as a register
 /// that holds nothing, a type or a block. In constant time; it takes memory only for the undefined value of an OpUndef outside
 /// functions. A frame's function is one of the module, and its plan the one that is read off the module.
+#[inline(always)]
 pub fn operand<'a>(
     alloc: Global,
     accepted: &'a Module,
@@ -221,6 +225,7 @@ pub fn operand<'a>(
 
 /// What the operand with a number of an instruction stands for, where it is an id. Operands are counted from 0, behind the result type
 /// and the result.
+#[inline(always)]
 pub fn operand_of<'a>(
     alloc: Global,
     accepted: &'a Module,

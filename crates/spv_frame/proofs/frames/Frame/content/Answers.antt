@@ -6,8 +6,8 @@ use Rattle.spv_frame.specs.Registers.{marked}
 use Rattle.spv_frame.proofs.FrameLemmas.{opened, value_is}
 use Rattle.spv_frame.proofs.frames.Frame.content.Goals as goal
 
-pub part-part-requires : goal.part-part-requires
-part-part-requires c =
+pub lent-part-requires : goal.lent-part-requires
+lent-part-requires c =
     let o = opened c.args.self.now c.self.inside.plan.value c.self.inside.pc c.self.inside.row c.self.inside.has.items c.self.inside.pointers.items c.self.inside.events.items c.args.slot.now c.self.view_is c.self.invariant c.requires in
     o.lies.at
 
@@ -19,7 +19,7 @@ index-requires c =
 pub returns-clause-content : goal.returns-clause-content
 returns-clause-content c =
     let o = opened c.args.self.now c.self.inside.plan.value c.self.inside.pc c.self.inside.row c.self.inside.has.items c.self.inside.pointers.items c.self.inside.events.items c.args.slot.now c.self.view_is c.self.invariant c.requires in
-    let same : o.lies.tree ≡ c.part-part.result = let h = o.lies.part in let g = c.part-part.ensures in cc in
+    let same : o.lies.tree ≡ c.lent-part.result = let h = o.lies.part in let g = c.lent-part.ensures in cc in
     let mark : slice_get c.self.inside.has.items c.args.slot.now.number ≡ Some c.index.result.now =
     slice_get-get_or c.self.inside.has.items c.args.slot.now.number c.index.result.now o.within ∙ ap Some (sym c.index.ensures) in
     value_is c.args.self.now c.self.inside.plan.value c.self.inside.pc c.self.inside.row c.self.inside.has.items c.self.inside.pointers.items c.self.inside.events.items c.args.slot.now c.index.result.now c.self.view_is o mark ∙ ap (λ (v : Value). Some (marked v c.index.result.now)) (same ∙ sym c.in_ok-of_part.ensures)
@@ -27,5 +27,5 @@ returns-clause-content c =
 pub returns-clause-cells : goal.returns-clause-cells
 returns-clause-cells c =
     let o = opened c.args.self.now c.self.inside.plan.value c.self.inside.pc c.self.inside.row c.self.inside.has.items c.self.inside.pointers.items c.self.inside.events.items c.args.slot.now c.self.view_is c.self.invariant c.requires in
-    let same : o.lies.tree ≡ c.part-part.result = let h = o.lies.part in let g = c.part-part.ensures in cc in
+    let same : o.lies.tree ≡ c.lent-part.result = let h = o.lies.part in let g = c.lent-part.ensures in cc in
     ap (λ (v : Value). length (leaves v)) (c.in_ok-of_part.ensures ∙ sym same) ∙ o.lies.size

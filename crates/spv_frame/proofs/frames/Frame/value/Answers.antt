@@ -10,15 +10,15 @@ index-requires c =
     let o = opened c.args.self.now c.self.inside.plan.value c.self.inside.pc c.self.inside.row c.self.inside.has.items c.self.inside.pointers.items c.self.inside.events.items c.args.slot.now c.self.view_is c.self.invariant c.requires in
     let i = o.within in omega arith
 
-pub part-requires : goal.part-requires
-part-requires c =
+pub lent-requires : goal.lent-requires
+lent-requires c =
     let o = opened c.args.self.now c.self.inside.plan.value c.self.inside.pc c.self.inside.row c.self.inside.has.items c.self.inside.pointers.items c.self.inside.events.items c.args.slot.now c.self.view_is c.self.invariant c.requires in
     o.lies.at
 
 pub returns-then-index : goal.returns-then-index
 returns-then-index c =
     let o = opened c.args.self.now c.self.inside.plan.value c.self.inside.pc c.self.inside.row c.self.inside.has.items c.self.inside.pointers.items c.self.inside.events.items c.args.slot.now c.self.view_is c.self.invariant c.requires in
-    let same : o.lies.tree ≡ c.part.result = let h = o.lies.part in let g = c.part.ensures in cc in
+    let same : o.lies.tree ≡ c.lent.result = let h = o.lies.part in let g = c.lent.ensures in cc in
     let mark : slice_get c.self.inside.has.items c.args.slot.now.number ≡ Some c.index.result.now =
     slice_get-get_or c.self.inside.has.items c.args.slot.now.number c.index.result.now o.within ∙ ap Some (sym c.index.ensures) in
     value_is c.args.self.now c.self.inside.plan.value c.self.inside.pc c.self.inside.row c.self.inside.has.items c.self.inside.pointers.items c.self.inside.events.items c.args.slot.now c.index.result.now c.self.view_is o mark ∙ ap (λ (b : Bool). Some (marked o.lies.tree b)) c.if-index.true ∙ ap (λ (v : Value). Some (Some v)) same
