@@ -37,7 +37,7 @@ build() {
   list=$(crates)
   count=$(wc -w <<< "$list")
   log=$(mktemp)
-  say "proves and builds the program, $count crates. From nothing that takes about half an hour on four processors;"
+  say "proves and builds the program, $count crates. From nothing that may take more than an hour on four processors;"
   say "later runs start at once, and after an edit only what changed is proved again."
   for crate in $list; do
     place=$((place + 1))
