@@ -10,4 +10,4 @@ mod trees;
 
 pub use constants::constant;
 pub use operands::{Operand, Reference};
-pub use reading::{operand, operand_of};
+pub use reading::{module_root, operand, operand_of};

@@ -106,7 +106,7 @@ fn is_own_variable(accepted: &Module, id: u32) -> bool
 }
 
 /// The root that a variable outside functions is.
-fn module_root(accepted: &Module, id: u32) -> Root
+pub fn module_root(accepted: &Module, id: u32) -> Root
     ensures { result ≡ spec.module_root accepted.now.insts id }
 {
     if is_own_variable(accepted, id) {

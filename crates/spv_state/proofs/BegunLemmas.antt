@@ -1,7 +1,6 @@
 -- The state at the start of a run, put together.
 use Rattle.std.proofs.Common.{◌≡◌, ◌∙◌, ℕ, ◌<◌, ◌^◌, List, [], ◌∷◌, length, map, replicate, sym, ap, subst, arith, slice_get}
 use Rattle.std.proofs.lemmas.List.{length-replicate}
-use Rattle.std.specs.List.{filter}
 use Rattle.spv_setup.specs.declared.settings.Settings.{Settings}
 use Rattle.spv_valid.specs.Acceptance.{Accepted}
 use Rattle.spv_valid.specs.Validity.{IsValid}

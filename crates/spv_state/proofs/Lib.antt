@@ -22,3 +22,4 @@ pub mod TopLemmas
 pub mod EventLemmas
 pub mod UndoingLemmas
 pub mod NumberLemmas
+pub mod SourceLemmas

@@ -1,12 +1,12 @@
 -- How many invocations a run starts with.
-use Rattle.std.proofs.Common.{◌≡◌, ◌<◌, ℕ, zero, suc, Bool, true, false, ◌&&◌, nat_le, length, refl}
+use Rattle.std.proofs.Common.{◌≡◌, ◌<◌, ℕ, Bool, true, false, ◌&&◌, nat_le, length, refl}
 use Rattle.std.proofs.Math.Nat.{mul-pos}
 use Rattle.std.proofs.lemmas.Bool.{leb-true}
 use Rattle.std.proofs.lemmas.List.{length-replicate}
 use Rattle.spv_initial.specs.Start.{invocations}
 use Rattle.spv_statuses.specs.declared.invocations.Status.TheVariants.{Ready}
 use Rattle.spv_valid.specs.Acceptance.{Accepted}
-use Rattle.spv_valid.specs.Validity.{HasEntry, IsValid}
+use Rattle.spv_valid.specs.Validity.{IsValid}
 use Rattle.spv_state.specs.Program.{Program}
 use Rattle.spv_state.specs.Start.{start_of}
 

@@ -11,9 +11,9 @@ use Rattle.spv_frame.specs.Stacks.{Stacked, on_top, top}
 use Rattle.spv_mem.specs.Memory.{AreVariables, Held as Memory, Leaves, Levels, entered}
 use Rattle.spv_mem.proofs.MemoryLemmas.{change_set, set_same}
 use Rattle.spv_statuses.specs.Group.{Held as Statuses}
-use Rattle.spv_state.specs.Rooms.{HasLocals, IsBounded}
-use Rattle.spv_state.specs.State.{State, append_event, drop_event, on_frame, on_frames, push_frame, top_of, with_top}
-use Rattle.spv_state.proofs.ChangeLemmas.{inside, length_change, put_is, seen, stack_at, top_bounded, without_is}
+use Rattle.spv_state.specs.Rooms.{IsBounded}
+use Rattle.spv_state.specs.State.{State, append_event, drop_event, on_frames, push_frame, top_of, with_top}
+use Rattle.spv_state.proofs.ChangeLemmas.{inside, length_change, seen, stack_at, top_bounded, without_is}
 
 -- the top frame of the stack that is changed
 pub top_is : (ps : List Planned) (m : Memory) (ks : List Stacked) (ts : Statuses) (s : State) (i : ℕ) (k : Stacked) → seen ps m ks ts ≡ s → i < length ks → k ≡ get_or ks i k → top_of s i ≡ top k.frames

@@ -3,11 +3,11 @@
 use Rattle.std.proofs.Common.{◌≡◌, ◌⊎◌, ◌∙◌, inl, inr, ℕ, zero, suc, ◌==◌, ◌&&◌, ◌||◌, Bool, true, false, List, [], ◌∷◌, drop, length, map, Option, Some, None, Result, Ok, Err, slice_get, refl, sym, ap, subst, arith}
 use Rattle.std.proofs.Math.Logic.{∥∥₁_elim}
 use Rattle.std.proofs.Props.{props}
-use Rattle.std.proofs.lemmas.Bool.{and_parts, both_ways, eq-eqb, eqb-true, not-true, or_cases}
+use Rattle.std.proofs.lemmas.Bool.{eqb-true, or_cases}
 use Rattle.std.specs.Coded.{codes}
 use Rattle.std.specs.Prelude.{find, if◌then◌else◌, nat_lt, not, IsOk}
 use Rattle.std.specs.List.{AllByRecursion, Contains, cons_option, filter_map, list_any, range_with_len}
-use Rattle.std.specs.Option.{is_some, option_and_then, option_map, option_map_or}
+use Rattle.std.specs.Option.{is_some, option_and_then, option_map}
 use Rattle.spv_base.specs.Answers.{after}
 use Rattle.spv_base.specs.State.{Roots}
 use Rattle.spv_base.specs.declared.causes.SetupRefusal.{SetupRefusal}
@@ -26,12 +26,10 @@ use Rattle.spv_setup.specs.declared.line.Content.TheVariants.{Hex, Zero}
 use Rattle.spv_setup.specs.declared.settings.Buffer.{Buffer}
 use Rattle.spv_setup.specs.declared.settings.Push.{Push}
 use Rattle.spv_setup.specs.declared.settings.Settings.{Settings}
-use Rattle.spv_setup.specs.Schedule.{Entries, check_moves, schedule_of}
-use Rattle.spv_fit.specs.Cells.{check_cells}
+use Rattle.spv_setup.specs.Schedule.{check_moves, schedule_of}
 use Rattle.spv_fit.specs.Fit.{fitted}
 use Rattle.spv_fit.specs.Given.{buffer_given, check_bytes, given_at, given_by, given_to, is_block_class, is_block_variable, is_bound, lacks_bytes, lowest_short, push_given, short_due, some_lack}
 use Rattle.spv_fit.specs.Numbers.{check_numbers}
-use Rattle.spv_fit.specs.declared.given.Given.{Given}
 use Rattle.spv_mem.specs.Blanks.{blank_of}
 use Rattle.spv_start.specs.BuiltIns.{Three, built_in, global_id, local_id, value_of_three, word}
 use Rattle.spv_start.specs.declared.built_ins.Invocation.{Invocation}

@@ -8,3 +8,5 @@ pub mod Variables
 pub mod Events
 pub mod Start
 pub mod Roots
+pub mod Sources
+pub mod Predecoded

@@ -4,9 +4,8 @@ use Rattle.spv_base.specs.State.{Roots}
 use Rattle.spv_valid.specs.Acceptance.{Accepted}
 use Rattle.spv_mem.specs.Memory.{Held as Memory, Levels}
 use Rattle.spv_initial.specs.Start.{invocations, local_roots, starting}
-use Rattle.spv_frame.specs.Frames.{Held as Frame, fresh}
+use Rattle.spv_frame.specs.Frames.{fresh}
 use Rattle.spv_plans.specs.Plans.{plan_of, plans_in}
-use Rattle.spv_statuses.specs.declared.invocations.Status.{Status}
 use Rattle.spv_statuses.specs.declared.invocations.Status.TheVariants.{Ready}
 use Rattle.spv_state.specs.Events.{passed}
 use Rattle.spv_state.specs.Program.{Program, words_of}

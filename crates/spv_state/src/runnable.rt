@@ -1,10 +1,14 @@
 //! Accepted modules, with the setups that they run with.
-ghost use Rattle.std.specs.Prelude.{◌≡◌, IfOk};
+ghost use Rattle.std.specs.Prelude.{◌≡◌, IfOk, IfSome, Some, option_copied};
+ghost use Rattle.spv_base.specs.declared.instructions.Inst.{Inst};
+ghost use Rattle.spv_index.specs.Definitions.{at};
 ghost use Rattle.spv_state.specs.Events.{captures_before};
+ghost use Rattle.spv_state.specs.Predecoded.{IsPredecoded};
 ghost use Rattle.spv_state.specs.Program as program;
 ghost use Rattle.spv_state.specs.Variables.{variables_of};
 
 use crate::captures::{Capture, captures_of};
+use crate::predecoded::{Predecoded, predecode};
 use crate::variables::by_function;
 use spv_base::NoMemory;
 use spv_dbg::Keyed;
@@ -24,11 +28,14 @@ pub struct Runnable {
     variables: BTreeMap<u32, Vec<Declared>>,
     /// The debug instructions that a run passes, by the executables before which they stand.
     captures: Keyed<Vec<Capture>>,
+    /// The instructions on values of one cell, by their numbers in the module.
+    predecoded: Vec<Option<Predecoded>>,
 }
 
 impl Model for Runnable {
     ghost use Rattle.std.specs.Prelude.{◌≡◌, ℕ};
     ghost use Rattle.spv_state.specs.Events as events;
+    ghost use Rattle.spv_state.specs.Predecoded.{ArePredecoded};
     ghost use Rattle.spv_state.specs.Program.{IsFitting, Program};
     ghost use Rattle.spv_state.specs.Variables.{under, variables_of};
 
@@ -37,7 +44,8 @@ impl Model for Runnable {
     ghost view = { λ r. record { accepted = r.accepted; setup = r.setup } };
 
     ghost invariant = { λ r. IsFitting r.accepted r.setup × ((function : ℕ) → under r.variables function ≡ variables_of r.accepted function)
-        × ((pc : ℕ) → events.under r.captures pc ≡ events.captures_before r.accepted pc) };
+        × ((pc : ℕ) → events.under r.captures pc ≡ events.captures_before r.accepted pc)
+        × ArePredecoded r.accepted r.predecoded.items };
 }
 
 impl Runnable {
@@ -48,11 +56,13 @@ impl Runnable {
     {
         let variables = by_function(alloc, &accepted)?;
         let captures = captures_of(alloc, &accepted)?;
+        let predecoded = predecode(alloc, &accepted, &captures)?;
         Ok(Runnable {
             accepted,
             setup,
             variables,
             captures,
+            predecoded,
         })
     }
 
@@ -80,6 +90,18 @@ impl Runnable {
         match self.captures.get(pc) {
             Some(list) => list.as_slice(),
             None => &[],
+        }
+    }
+
+    /// The instruction at a word, where it is one on values of one cell. In constant time.
+    #[inline(always)]
+    pub fn predecoded(&self, pc: u32) -> Option<&Predecoded>
+        ensures { IfSome (option_copied result) (λ p. (d : Inst) → at self.now.accepted.insts pc ≡ Some d → ∥ IsPredecoded self.now.accepted d p ∥₁) }
+    {
+        let number = self.accepted.index().number_at(pc)?;
+        match self.predecoded.get(number)? {
+            Some(predecoded) => Some(predecoded),
+            None => None,
         }
     }
 

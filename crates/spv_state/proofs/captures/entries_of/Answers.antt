@@ -1,4 +1,4 @@
-use Rattle.std.proofs.Common.{◌≡◌, ◌∙◌, ◌≤◌, [], ap, arith, drop, length, map}
+use Rattle.std.proofs.Common.{◌∙◌, ◌≤◌, [], ap, arith, drop, length, map}
 use Rattle.spv_state.specs.Events.{entries, listed}
 use Rattle.spv_state.proofs.EventLemmas.{drop_end, entries_all}
 use Rattle.spv_state.proofs.captures.entries_of.Goals as goal

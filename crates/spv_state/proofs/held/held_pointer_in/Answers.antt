@@ -1,4 +1,4 @@
-use Rattle.std.proofs.Common.{◌≡◌, subst, sym}
+use Rattle.std.proofs.Common.{subst, sym}
 use Rattle.spv_plans.specs.Registered.{HasNumber}
 use Rattle.spv_state.proofs.NumberLemmas.{held_pointer, no_pointer_held, own_pointer_slot}
 use Rattle.spv_state.proofs.Standing.{function_known, standing}

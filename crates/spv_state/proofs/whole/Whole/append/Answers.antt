@@ -1,4 +1,4 @@
-use Rattle.std.proofs.Common.{◌≡◌, ◌≢◌, []}
+use Rattle.std.proofs.Common.{◌≡◌}
 use Rattle.spv_frame.proofs.StackLemmas.{on_err, on_ok}
 use Rattle.spv_state.specs.State.{append_event, on_frames}
 use Rattle.spv_state.proofs.ChangeLemmas.{inside, put_bounded, put_stack, some_top}

@@ -1,12 +1,9 @@
-use Rattle.std.proofs.Common.{◌≡◌, ◌≢◌, ◌<◌, [], None, Option, length, subst, sym}
+use Rattle.std.proofs.Common.{Option, subst, sym}
 use Rattle.std.specs.Option.{IsSomeAnd}
 use Rattle.spv_frame.specs.Frames.{Held as Frame}
-use Rattle.spv_frame.specs.Numbers.{HasCells, HasPointer, HoldsPointer, HoldsValue, with_pointer, with_value}
-use Rattle.spv_frame.specs.Registers.{marked}
-use Rattle.spv_types.specs.Rows.{leaves}
-use Rattle.spv_state.specs.State.{drop_event}
+use Rattle.spv_frame.specs.Numbers.{HasPointer, HoldsPointer, with_pointer}
 use Rattle.spv_state.proofs.ChangeLemmas.{inside, put_bounded, put_stack, top_bounded}
-use Rattle.spv_state.proofs.UndoingLemmas.{event_dropped, top_is}
+use Rattle.spv_state.proofs.UndoingLemmas.{top_is}
 use Rattle.spv_state.proofs.whole.Whole.exchange_pointer.Goals as goal
 
 pub exchange_numbered_pointer-requires : goal.exchange_numbered_pointer-requires

@@ -1,4 +1,4 @@
-use Rattle.std.proofs.Common.{◌≡◌, ◌<◌, length, ap, subst, sym}
+use Rattle.std.proofs.Common.{◌<◌, length, subst, sym}
 use Rattle.spv_mem.specs.Memory.{AreVariables}
 use Rattle.spv_state.specs.Rooms.{HasLocals}
 use Rattle.spv_state.specs.State.{State}

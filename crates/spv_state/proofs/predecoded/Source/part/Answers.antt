@@ -1,0 +1,9 @@
+use Rattle.spv_state.proofs.SourceLemmas.{constant_read, register_read}
+use Rattle.spv_state.proofs.predecoded.Source.part.Goals as goal
+
+pub returns-in-Register : goal.returns-in-Register
+returns-in-Register c =
+    register_read c.args.accepted.now c.args.frame.now c.args.self.now c.in-Register.slot c.value.result c.in-Register.is c.requires.source c.requires.frame c.value.ensures
+
+pub returns-in-Constant : goal.returns-in-Constant
+returns-in-Constant c = constant_read c.args.accepted.now c.args.frame.now c.args.self.now c.in-Constant.id c.constant.result c.in-Constant.is c.requires.source c.constant.ensures
