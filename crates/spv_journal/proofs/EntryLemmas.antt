@@ -29,7 +29,7 @@ use Rattle.spv_journal.proofs.LawLemmas.{frame_back, has_top, pointer_back, top_
 out_pointer : (p : Pointer) → out-Value (Ptr p) ≡ Value-F.Ptr p
 out_pointer p = search (rules, the_lemmas)
 
-some_and : {X : Type 0} (o : Option X) (P Q : X → Type 0) → ((x : X) → P x → Q x) → IsSomeAnd o P → IsSomeAnd o Q
+pub some_and : {X : Type 0} (o : Option X) (P Q : X → Type 0) → ((x : X) → P x → Q x) → IsSomeAnd o P → IsSomeAnd o Q
 some_and None P Q f h = h
 some_and (Some x) P Q f h = f x h
 
@@ -161,7 +161,7 @@ same_state i g s same = ap (λ (ks : List Stacked). record s { stacks = ks }) (c
     ap (λ (fs : List Frame). record k { frames = fs })
     (change_still (length k.frames - 1) g k.frames (λ f here. let one : top_of s i ≡ Some f = is ∙ here in subst (λ (o : Option Frame). IsSomeAnd o (λ x. g x ≡ x)) one same))))
 
-level_is : (id : ℕ) (v : Value) (l : Value-F Value) (f : Frame) → pointer_in l ≡ None → with_level id v l f ≡ record f { values = writes id (Some v) f.values }
+pub level_is : (id : ℕ) (v : Value) (l : Value-F Value) (f : Frame) → pointer_in l ≡ None → with_level id v l f ≡ record f { values = writes id (Some v) f.values }
 level_is id v (Value-F.Scalar c) f plain = refl
 level_is id v (Value-F.List vs) f plain = refl
 level_is id v (Value-F.Ptr q) f plain = absurd cc

@@ -4,3 +4,4 @@ pub mod StoreLemmas
 pub mod LawLemmas
 pub mod RecordLemmas
 pub mod EntryLemmas
+pub mod CellLemmas

@@ -1,13 +1,18 @@
 -- Events that can be undone, one after the other.
 use Rattle.std.proofs.Common.{◌≡◌, ◌∙◌, ap, ℕ, ◌-◌, Bool, true, false, nat_le, if◌then◌else◌, List, [], ◌∷◌, ◌++◌, Option, Some, None, refl, sym, subst}
 use Rattle.std.specs.Option.{MatchOption, option_map, option_map_or}
+use Rattle.spv_base.specs.Lane.{Lane}
 use Rattle.spv_base.specs.declared.happenings.Happening.{Happening}
+use Rattle.spv_base.specs.declared.values.Root.{Root}
+use Rattle.spv_base.specs.declared.values.Value.{Value}
 use Rattle.spv_journal.specs.Events.{Event, Kept, fitting, newest, older, opened, size_of}
 use Rattle.spv_journal.specs.Held.{Held, past_of, unwound}
-use Rattle.spv_journal.specs.Marks.{Marked}
+use Rattle.spv_journal.specs.Marks.{Marked, items_of, moved, variable_item}
 use Rattle.spv_journal.specs.Rings.{event_of, made}
-use Rattle.spv_journal.specs.Undo.{CanUndoAll, CanUnwind, before, past, undo, undo_all}
+use Rattle.spv_journal.specs.Undo.{CanUndo, CanUndoAll, CanUnwind, before, past, undo, undo_all}
 use Rattle.spv_journal.specs.declared.entries.Entry.{Entry}
+use Rattle.spv_journal.specs.declared.marks.Change.{Change}
+use Rattle.spv_journal.specs.declared.marks.Change.TheVariants.{Variable}
 use Rattle.spv_state.specs.State.{State}
 
 -- the events that there is room for
@@ -48,6 +53,14 @@ front_undoes i (x ∷ xs) ys s can = let rest = front_undoes i xs ys (undo i x s
 pub undo_both : (i : ℕ) (xs ys : List Entry) (s : State) → undo_all i ys (undo_all i xs s) ≡ undo_all i (xs ++ ys) s
 undo_both i [] ys s = refl
 undo_both i (x ∷ xs) ys s = undo_both i xs ys (undo i x s)
+
+-- a variable is set before the pc moves: it can be put back after the move is undone
+pub variable_first : (i : ℕ) (pc : Option ℕ) (change : Change) (root : Root) (cell : Lane) (tree x : Value) (s t : State) → change ≡ Variable root cell → CanUndoAll i (items_of pc change tree) s → t ≡ undo_all i (moved pc) s → x ≡ tree
+    → CanUndo i (variable_item root x) t
+variable_first i pc change root cell tree x s t is can back same =
+    let all = subst (λ (k : Change). CanUndoAll i (items_of pc k tree) s) is can in
+    let last = (front_undoes i (moved pc) (variable_item root tree ∷ []) s all).1 in
+    subst (λ (v : Value). CanUndo i (variable_item root v) t) (sym same) (subst (λ (y : State). CanUndo i (variable_item root tree) y) (sym back) last.0)
 
 -- ---- the event that is being made
 

@@ -207,7 +207,8 @@ impl Recorded {
         }
     }
 
-    /// Moves the top frame of an invocation to an instruction.
+    /// Moves the top frame of an invocation to an instruction. Inlined: it is called once an event.
+    #[inline(always)]
     pub fn set_pc(&mut self, i: u32, pc: u32) -> Result<(), NoMemory>
         requires making { IsMaking self.old.gathered i }
         requires inside { i < length self.old.state.stacks }

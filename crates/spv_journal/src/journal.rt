@@ -3,15 +3,16 @@ ghost use Rattle.std.specs.Prelude.{◌≡◌, ◌<◌, ◌≤◌, ◌∷◌, []
 ghost use Rattle.std.specs.Option.{option_map_or};
 ghost use Rattle.std.specs.VecDeque.{deque_capacity, deque_len};
 ghost use Rattle.spv_journal.specs.Events.{begun, fitting, newest, older, opened, pushed, size};
+ghost use Rattle.spv_journal.specs.Marks.{variable_item};
 ghost use Rattle.spv_journal.specs.Rings.{event_of};
 ghost use Rattle.spv_journal.specs.Undo.{CanUnwind, before};
 ghost use Rattle.spv_journal.specs.declared.entries.Entry.TheVariants.{CellRegister, PcMoved, StatusChanged};
 
 use crate::entries::Entry;
-use crate::marks::Mark;
+use crate::marks::{Mark, variable_entry};
 use crate::rings::Ring;
 use crate::undoing::undo_gathered;
-use spv_base::{Happening, NoMemory};
+use spv_base::{Happening, NoMemory, Root};
 use spv_state::Whole;
 use spv_statuses::Status;
 use spv_values::Single;
@@ -115,6 +116,16 @@ impl Journal {
         Ok(())
     }
 
+    /// The same, apart from the way that most events go: they need no entry, and their cells are copied whole there.
+    #[inline(never)]
+    fn add_apart(&mut self, entry: Entry) -> Result<(), NoMemory>
+        requires { IsSome self.old.gathered }
+        ensures ok { OnOk result (self.new ≡ record self.old { gathered = option_map (pushed entry) self.old.gathered }) }
+        ensures err { OnErr result (self.new ≡ self.old) }
+    {
+        self.add(entry)
+    }
+
     /// Adds a move of the pc to the event that is being made, by the pc that was. Where memory runs out nothing changes.
     #[inline(always)]
     pub(crate) fn move_pc(&mut self, pc: u32) -> Result<(), NoMemory>
@@ -139,7 +150,21 @@ impl Journal {
         if self.mark.change_register(number, &value) {
             return Ok(());
         }
-        self.add(Entry::CellRegister { number, value })
+        self.add_apart(Entry::CellRegister { number, value })
+    }
+
+    /// Adds the value that a variable of one cell had to the event that is being made. Where memory runs out nothing changes. Inlined: it is
+    /// called once an event.
+    #[inline(always)]
+    pub(crate) fn change_variable(&mut self, root: Root, value: Single) -> Result<(), NoMemory>
+        requires { IsSome self.old.gathered }
+        ensures ok { OnOk result (self.new ≡ record self.old { gathered = option_map (pushed (variable_item root value)) self.old.gathered }) }
+        ensures err { OnErr result (self.new ≡ self.old) }
+    {
+        if self.mark.change_variable(root, &value) {
+            return Ok(());
+        }
+        self.add_apart(variable_entry(root, value))
     }
 
     /// Adds the status that the invocation had to the event that is being made. Where memory runs out nothing changes.

@@ -2,15 +2,15 @@
 ghost use Rattle.std.specs.Prelude.{◌≡◌, ◌<◌, ◌≤◌, ◌∷◌, ◌++◌, [], OnOk, if◌then◌else◌};
 ghost use Rattle.std.specs.Option.{option_to_list};
 ghost use Rattle.std.specs.VecDeque.{deque_capacity, deque_len};
-ghost use Rattle.spv_journal.specs.Marks.{is_change, with_item};
+ghost use Rattle.spv_journal.specs.Marks.{is_change, variable_item, with_item};
 ghost use Rattle.spv_journal.specs.Rings.{mark_size};
 ghost use Rattle.spv_journal.specs.Undo.{CanUndoAll, undo_all};
 ghost use Rattle.spv_journal.specs.declared.entries.Entry.TheVariants.{CellRegister, PcMoved, StatusChanged};
 ghost use Rattle.spv_types.specs.Rows.{leaves};
 
 use crate::entries::Entry;
-use crate::undoing::put_cell;
-use spv_base::{Cell, Ghost, Happening, Kind, NoMemory, Value};
+use crate::undoing::{exchange_variable, put_cell};
+use spv_base::{Cell, Ghost, Happening, Kind, NoMemory, Path, Root, Value};
 use spv_state::Whole;
 use spv_statuses::Status;
 use spv_values::trees::same;
@@ -25,6 +25,8 @@ pub(crate) enum Change {
     Nothing,
     /// A register of one cell had a value.
     Register { number: u32, cell: Cell },
+    /// A variable of one cell had a value.
+    Variable { root: Root, cell: Cell },
     /// The invocation had a status.
     Status(Status),
 }
@@ -37,7 +39,7 @@ impl Change {
     {
         match self {
             Change::Nothing => false,
-            Change::Register { .. } | Change::Status(_) => true,
+            Change::Register { .. } | Change::Variable { .. } | Change::Status(_) => true,
         }
     }
 }
@@ -53,11 +55,15 @@ struct Laid {
     change: Change,
 }
 
-/// The mark of an event, and up to two of its changes: most events set a register of one cell and move the pc, and so need no entries.
+/// A mark is copied once an event.
+const _: () = prove!(size_of::<Laid>() <= 64);
+
+/// The mark of an event, and up to two of its changes: most events set a register or a variable of one cell and move the pc,
+/// and so need no entries.
 #[derive(Drop)]
 pub(crate) struct Mark {
     laid: Laid,
-    /// The value of the register's cell.
+    /// The value of the cell that the register or the variable had.
     tree: Ghost<Value>,
 }
 
@@ -85,10 +91,30 @@ fn single(cell: Cell, tree: &Ghost<Value>) -> Single
 }
 
 /// The tree of a value of one cell.
-fn tree_of(tree: &Ghost<Value>, value: &Single) -> Ghost<Value>
+pub(crate) fn tree_of(tree: &Ghost<Value>, value: &Single) -> Ghost<Value>
     ensures { result.value ≡ value.now }
 {
     tree.by(value, tree)
+}
+
+/// The path that leads to the whole of a variable, for proofs.
+pub(crate) fn no_path() -> Ghost<Path>
+    ensures { result.value ≡ [] }
+{
+    Ghost::of()
+}
+
+/// The entry of a whole variable of one cell, by the value that it had. Inlined: it is called once an event.
+#[inline(always)]
+pub(crate) fn variable_entry(root: Root, value: Single) -> Entry
+    ensures { result ≡ variable_item root value }
+{
+    Entry::Leaf {
+        root,
+        leaf: 0,
+        path: no_path(),
+        value,
+    }
 }
 
 /// Puts an entry before all, if there is one.
@@ -184,8 +210,9 @@ impl Mark {
     pub(crate) fn move_pc(&mut self, pc: u32) -> bool
         ensures { self.new ≡ (if result then with_item (PcMoved pc) self.old else self.old) }
     {
+        let free = self.laid.pc.is_none();
         let room = match self.laid.change {
-            Change::Nothing | Change::Register { .. } => self.laid.pc.is_none(),
+            Change::Nothing | Change::Register { .. } | Change::Variable { .. } => free,
             Change::Status(_) => false,
         };
         if room {
@@ -205,6 +232,21 @@ impl Mark {
         {
             let cell = value.cell();
             self.laid.change = Change::Register { number, cell };
+            self.tree = tree_of(&self.tree, value);
+            return true;
+        }
+        false
+    }
+
+    /// Takes the value that a variable of one cell had, where there is room for it, and says whether it did. Inlined: it is called once
+    /// an event.
+    #[inline(always)]
+    pub(crate) fn change_variable(&mut self, root: Root, value: &Single) -> bool
+        ensures { self.new ≡ (if result then with_item (variable_item root value.now) self.old else self.old) }
+    {
+        if self.laid.pc.is_none() && !self.laid.change.is_some() {
+            let cell = value.cell();
+            self.laid.change = Change::Variable { root, cell };
             self.tree = tree_of(&self.tree, value);
             return true;
         }
@@ -237,12 +279,17 @@ impl Mark {
                 let number = number as usize;
                 (pc, Some(Entry::CellRegister { number, value }))
             }
+            Change::Variable { root, cell } => {
+                let value = single(cell, &self.tree);
+                (pc, Some(variable_entry(root, value)))
+            }
             Change::Status(status) => (Some(Entry::StatusChanged(status)), pc),
             Change::Nothing => (pc, None),
         }
     }
 
-    /// Undoes its changes, the newer one first: a register is set before the pc moves, and a status after it.
+    /// Undoes its changes, the newer one first: a register or a variable is set before the pc moves, and a status
+    /// after it.
     pub(crate) fn undo(&self, whole: &mut Whole)
         requires { CanUndoAll self.now.happening.inv self.now.items whole.old }
         ensures { whole.new ≡ undo_all self.now.happening.inv self.now.items whole.old }
@@ -254,8 +301,15 @@ impl Mark {
         if let Some(pc) = self.laid.pc {
             whole.set_pc(inv, pc);
         }
-        if let Change::Register { number, cell } = self.laid.change {
-            put_cell(whole, inv, number as usize, single(cell, &self.tree));
+        match self.laid.change {
+            Change::Register { number, cell } => {
+                put_cell(whole, inv, number as usize, single(cell, &self.tree));
+            }
+            Change::Variable { root, cell } => {
+                let mut value = single(cell, &self.tree);
+                exchange_variable(whole, inv, root, &mut value);
+            }
+            Change::Nothing | Change::Status(_) => {}
         }
     }
 

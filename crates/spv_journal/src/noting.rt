@@ -9,10 +9,11 @@ ghost use Rattle.spv_types.specs.Rows.{leaves};
 
 use crate::entries::{Entry, OldFrame, OldPart, OldValue};
 use crate::journal::Journal;
-use spv_base::{NoMemory, Pointer};
+use crate::marks::tree_of;
+use spv_base::{Ghost, NoMemory, Pointer};
 use spv_state::Whole;
 use spv_state::held::HeldPointer;
-use spv_values::{Row, Single};
+use spv_values::{Part, Row, Single};
 use std::alloc::Global;
 
 /// The entry of a store where a pointer leads, after it was made, by a copy of the value that was there.
@@ -99,6 +100,36 @@ pub(crate) fn keep_held(
 {
     if has {
         keep_value(alloc, journal, number, row)
+    } else {
+        journal.add(Entry::NoValue(number))
+    }
+}
+
+/// A value of one cell again. Inlined: it is called once an event.
+#[inline(always)]
+pub(crate) fn again(value: &Single) -> Single
+    ensures { result ≡ value.now }
+{
+    let cells = [value.cell()];
+    let none = Ghost::of();
+    Single::of_part(&Part::with_tree(cells.as_slice(), tree_of(&none, value)))
+}
+
+/// Adds the entry of a register of one cell by the value that it had, if a mark says that it had one. Inlined: it is called once an
+/// event.
+#[inline(always)]
+pub(crate) fn keep_cell(
+    journal: &mut Journal,
+    number: usize,
+    value: &Single,
+    has: bool,
+) -> Result<(), NoMemory>
+    requires { IsSome journal.old.gathered }
+    ensures ok { OnOk result (Keeps (KeepsValue number (marked value.now has) 1) journal.old journal.new) }
+    ensures err { OnErr result (journal.new ≡ journal.old) }
+{
+    if has {
+        journal.change_register(number, again(value))
     } else {
         journal.add(Entry::NoValue(number))
     }

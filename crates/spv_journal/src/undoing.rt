@@ -1,10 +1,14 @@
 //! Changes that are undone. It takes no memory.
-ghost use Rattle.std.specs.Prelude.{◌≡◌, [], option_map};
+ghost use Rattle.std.specs.Prelude.{◌≡◌, [], Some, length, option_map};
+ghost use Rattle.spv_journal.specs.Marks.{variable_item};
 ghost use Rattle.spv_journal.specs.Undo.{CanUndo, CanUndoAll, undo, undo_all};
 ghost use Rattle.spv_journal.specs.declared.entries.Entry.TheVariants.{CellRegister, RowRegister};
+ghost use Rattle.spv_mem.specs.Memory.{load_of};
+ghost use Rattle.spv_types.specs.Rows.{leaves};
 
 use crate::entries::{Entry, OldFrame, OldPart, OldValue};
-use spv_base::Pointer;
+use crate::marks::no_path;
+use spv_base::{Pointer, Root};
 use spv_state::Whole;
 use spv_values::Single;
 use std::collections::VecDeque;
@@ -27,6 +31,19 @@ pub(crate) fn put_cell(whole: &mut Whole, inv: u32, number: usize, value: Single
     let mut held = value;
     let mut has = true;
     whole.exchange_cell(inv, number, &mut held, &mut has);
+}
+
+/// Exchanges the value of a whole variable of one cell. Inlined: it is called once an event.
+#[inline(always)]
+pub(crate) fn exchange_variable(whole: &mut Whole, inv: u32, root: Root, value: &mut Single)
+    requires { CanUndo inv (variable_item root value.old) whole.old }
+    ensures after { whole.new ≡ undo inv (variable_item root value.old) whole.old }
+    ensures handed { load_of whole.old.memory inv (record { root = root; path = [] }) ≡ Some value.new }
+    ensures one { length (leaves value.old) ≡ 1 }
+{
+    let _cell = value.cell();
+    let path = no_path();
+    whole.exchange_single(inv, root, 0, &path, value);
 }
 
 /// Puts back what a register of another number of cells had.

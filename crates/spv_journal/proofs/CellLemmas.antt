@@ -1,0 +1,97 @@
+-- Variables and registers of one cell whose entries lead back.
+use Rattle.std.proofs.Common.{◌≡◌, ◌∙◌, ℕ, zero, suc, ◌<◌, Bool, [], ◌∷◌, Option, Some, None, IsSome, length, slice_get, refl, sym, ap, subst}
+use Rattle.std.specs.Option.{IsSomeAnd, option_and_then}
+use Rattle.spv_base.specs.Entries.{writes}
+use Rattle.spv_base.specs.Parts.{part_at}
+use Rattle.spv_base.specs.declared.values.Pointer.{Pointer}
+use Rattle.spv_base.specs.declared.values.Root.{Root}
+use Rattle.spv_base.specs.declared.values.Value.{Value, out-Value}
+use Rattle.spv_types.specs.Rows.{leaves}
+use Rattle.spv_types.specs.Shapes.{pointer_in}
+use Rattle.spv_mem.specs.Memory.{Held as Memory, IsMemory, MayStore, load_of, root_value}
+use Rattle.spv_mem.specs.Singles.{NamesRow}
+use Rattle.spv_mem.proofs.PlaceLemmas.{whole_row}
+use Rattle.spv_frame.specs.Calls.{id_at}
+use Rattle.spv_frame.specs.Numbers.{HasCells, HoldsValue, with_value}
+use Rattle.spv_frame.specs.Registers.{IsSlotOf, Rooms, ids, marked, sizes}
+use Rattle.spv_frame.specs.declared.slots.Slot.{Slot}
+use Rattle.spv_state.specs.State.{State, on_frame, top_of, with_register}
+use Rattle.spv_journal.specs.Entries.{KeepsValue}
+use Rattle.spv_journal.specs.Events.{Kept}
+use Rattle.spv_journal.specs.Held.{Held}
+use Rattle.spv_journal.specs.Marks.{variable_item}
+use Rattle.spv_journal.specs.Undo.{CanUndo, HasTop, Undoes, undo}
+use Rattle.spv_journal.specs.declared.entries.Entry.{Entry}
+use Rattle.spv_journal.proofs.EntryLemmas.{level_is, same_frames, some_and, value_undone}
+use Rattle.spv_journal.proofs.LawLemmas.{frame_back, has_top, value_back}
+use Rattle.spv_journal.proofs.RecordLemmas.{held_of}
+use Rattle.spv_journal.proofs.StoreLemmas.{put_back_leaf}
+
+-- ---- variables
+
+abbrev pub whole : Root → Pointer
+whole root = record { root = root; path = [] }
+
+-- the variable that a root of an invocation names has one cell
+abbrev pub HasOne : Memory → ℕ → Root → Type 0
+HasOne m i root = IsSomeAnd (load_of m i (whole root)) (λ v. length (leaves v) ≡ 1)
+
+named_whole : (m : Memory) (i : ℕ) (root : Root) → HasOne m i root → NamesRow m i (whole root) 0 1
+named_whole m i root h = each (root_value m i root) refl h
+  where
+    each : (o : Option Value) → root_value m i root ≡ o → IsSomeAnd (option_and_then (λ v. part_at v []) o) (λ v. length (leaves v) ≡ 1) → NamesRow m i (whole root) 0 1
+    each None is h = absurd h
+    each (Some v) is h = record { value = v; is = is; row = whole_row v [] 1 refl (sym h) }
+
+some_there : {X : Type 0} (o : Option X) (P : X → Type 0) → IsSomeAnd o P → IsSome o
+some_there None P h = absurd h
+some_there (Some x) P h = refl
+
+-- a value may be put there
+pub can_put : (i : ℕ) (root : Root) (u : Value) (s : State) (j : Kept) (old : Held) → held_of s j ≡ old → HasOne old.state.memory i root → ∥ MayStore old.state.memory i (whole root) u ∥₁ → CanUndo i (variable_item root u) s
+can_put i root u s j old is one may = subst (λ (h : Held). CanUndo i (variable_item root u) h.state) (sym is) (
+  some_there (load_of old.state.memory i (whole root)) (λ v. length (leaves v) ≡ 1) one,
+  ∣ named_whole old.state.memory i root one ∣₁,
+  may,
+)
+
+-- and the entry of the old one leads back
+pub variable_undone : (i : ℕ) (root : Root) (u w x : Value) (s t : State) → CanUndo i (variable_item root u) s → t ≡ undo i (variable_item root u) s → load_of s.memory i (whole root) ≡ Some w → length (leaves u) ≡ 1
+    → ∥ IsMemory s.memory ∥₁ → x ≡ w → Undoes i (variable_item root x) s t
+variable_undone i root u w x s t can after h one is same =
+    let b = put_back_leaf i (whole root) 0 u w s t after h one can.1 is can.2 in
+    subst (λ (y : Value). Undoes i (variable_item root y) s t) (sym same) (record { back = b.back; can = (subst IsSome (sym b.load) refl, b.names, b.may) })
+
+-- ---- registers
+
+register_at : (rs : Rooms) (n id k : ℕ) → slice_get rs n ≡ Some (id, k) → (id_at (ids rs) n ≡ id) × (slice_get (sizes rs) n ≡ Some k)
+register_at [] n id k h = absurd cc
+register_at (r ∷ rs) zero id k h = let e : r ≡ (id, k) = cc in (ap (λ x. x.0) e, ap (λ x. Some x.1) e)
+register_at (r ∷ rs) (suc n) id k h = register_at rs n id k h
+
+-- the register of a slot held what a value r and a mark say, and took a value
+pub record CellExchanged (i n : ℕ) (r : Value) (has : Bool) (s t : State) : Type 0 where
+  pub undone : (e : Entry) → KeepsValue n (marked r has) 1 e → Undoes i e s t
+  pub top : HasTop t i (HasCells n 1)
+  pub back : on_frame i (with_value n (marked r has)) t ≡ s
+
+pub cell_exchanged : (i : ℕ) (x : Slot) (v r : Value) (has : Bool) (s t : State) (j : Kept) (old : Held) → held_of s j ≡ old → i < length old.state.stacks → IsSomeAnd (top_of old.state i) (λ f. IsSlotOf f.plan.values x) → x.len ≡ 1
+    → t ≡ on_frame i (with_value x.number (Some v)) s → IsSomeAnd (top_of s i) (HoldsValue x.number (marked r has)) → CellExchanged i x.number r has s t
+cell_exchanged i x v r has s t j old is inside slot one after held =
+    let n = x.number in
+    let low = subst (λ (h : Held). i < length h.state.stacks) (sym is) inside in
+    let there = subst (λ (h : Held). IsSomeAnd (top_of h.state i) (λ f. IsSlotOf f.plan.values x)) (sym is) slot in
+    let room = some_and (top_of s i) (λ f. IsSlotOf f.plan.values x) (HasCells n 1) (λ f h. (register_at f.plan.values n x.id x.len h.long).1 ∙ ap Some one) there in
+    subst (CellExchanged i n r has s) (sym after) (record {
+      undone = λ e keeps. value_undone i n 1 (marked r has) e v s low room held keeps;
+      top = has_top i (with_value n (Some v)) s (HasCells n 1) low room;
+      back = frame_back i (with_value n (marked r has)) (with_value n (Some v)) s
+          (some_and (top_of s i) (HoldsValue n (marked r has)) (λ f. with_value n (marked r has) (with_value n (Some v) f) ≡ f) (λ f h. value_back n (marked r has) (Some v) f h) held);
+    })
+
+-- a slot's number stands for its id
+pub cell_register_is : (i : ℕ) (x : Slot) (v : Value) (s : State) → pointer_in (out-Value v) ≡ None → IsSomeAnd (top_of s i) (λ f. IsSlotOf f.plan.values x) → on_frame i (with_value x.number (Some v)) s ≡ on_frame i (with_register x.id v) s
+cell_register_is i x v s plain slot =
+    same_frames i (with_value x.number (Some v)) (with_register x.id v) s
+    (some_and (top_of s i) (λ f. IsSlotOf f.plan.values x) (λ f. with_value x.number (Some v) f ≡ with_register x.id v f)
+    (λ f h. ap (λ (k : ℕ). record f { values = writes k (Some v) f.values }) (register_at f.plan.values x.number x.id x.len h.long).0 ∙ sym (level_is x.id v (out-Value v) f plain)) slot)
