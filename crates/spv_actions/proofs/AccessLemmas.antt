@@ -1,9 +1,9 @@
 -- What loads and stores do.
-use Rattle.std.proofs.Common.{◌≡◌, ◌∙◌, ℕ, ◌&&◌, Bool, true, false, not, List, [], length, Option, Some, None, IsSome, Result, Ok, Err, ok_or, refl, sym, ap, subst}
-use Rattle.std.proofs.Math.Logic.{∥∥₁_elim, ∥∥₁_map}
+use Rattle.std.proofs.Common.{◌≡◌, ◌∙◌, ℕ, true, Option, Some, None, IsSome, Result, Ok, Err, ok_or, refl, sym, ap, subst}
+use Rattle.std.proofs.Math.Logic.{∥∥₁_elim}
 use Rattle.std.proofs.Props.{props}
 use Rattle.std.specs.Coded.{codes}
-use Rattle.std.specs.Option.{option_and_then, option_map}
+use Rattle.std.specs.Option.{option_and_then}
 use Rattle.spv_base.specs.Answers.{Answers}
 use Rattle.spv_base.specs.Entries.{reads}
 use Rattle.spv_base.specs.Parts.{part_at}
@@ -12,47 +12,39 @@ use Rattle.spv_base.specs.declared.causes.Fail.{Fail}
 use Rattle.spv_base.specs.declared.causes.Fail.TheVariants.{Refused, NoMemory}
 use Rattle.spv_base.specs.declared.instructions.Inst.{Inst}
 use Rattle.spv_base.specs.declared.values.Pointer.{Pointer as Reference}
-use Rattle.spv_base.specs.declared.values.Root.{Root}
-use Rattle.spv_base.specs.declared.values.Value.{Value, Ptr, out-Value}
-use Rattle.spv_types.specs.declared.forms.Form.{Form}
+use Rattle.spv_base.specs.declared.values.Value.{Value}
 use Rattle.spv_types.specs.declared.forms.Form.TheVariants.{Pointer as PointerForm}
 use Rattle.spv_types.specs.declared.queries.Pointed.{Pointed}
 use Rattle.spv_types.specs.Laws.{AreSound}
 use Rattle.spv_types.specs.Rows.{no_roots}
-use Rattle.spv_types.specs.Rules.{is_sized_data}
-use Rattle.spv_types.specs.Shapes.{HasShape, LeadsTo, pointer_in, reached}
-use Rattle.spv_types.specs.Types.{Types, form_of}
+use Rattle.spv_types.specs.Shapes.{HasShape, LeadsTo, reached}
+use Rattle.spv_types.specs.Types.{Types}
 use Rattle.spv_types.proofs.RowShapes.{shapes_keep}
 use Rattle.spv_bodies.specs.Context.{PointsTo, type_at}
 use Rattle.spv_bodies.specs.Memory.{KeepsLoad, KeepsStore}
-use Rattle.spv_mem.specs.Memory.{Held as Memory, IsMemory, MayStore, id_in, load_of, root_value, roots_in}
+use Rattle.spv_mem.specs.Memory.{Held as Memory, IsMemory, MayStore, id_in, load_of, roots_in}
 use Rattle.spv_mem.specs.Targets.{is_counted}
 use Rattle.spv_valid.specs.Acceptance.{Accepted}
 use Rattle.spv_valid.specs.Validity.{IsValid}
 use Rattle.spv_initial.specs.Start.{variables}
 use Rattle.spv_initial.specs.Variables.{targets_of}
-use Rattle.spv_operands.specs.Operands.{pointer_of}
 use Rattle.spv_operands.specs.Shapes.{target_in}
 use Rattle.spv_operands.proofs.TargetLemmas.{sized_counted}
 use Rattle.spv_results.specs.Operands.{IsOperand, IsResult, known}
 use Rattle.spv_results.proofs.OperandTypes.{HasForm, form_has_type}
 use Rattle.spv_results.proofs.ShapeProps.{shape_prop}
-use Rattle.spv_results.proofs.SoundTypes.{sound_types}
 use Rattle.spv_state.specs.Actions.{action_of}
 use Rattle.spv_actions.specs.Effects as spec
 use Rattle.spv_actions.specs.Effects.{Next, ◌>>=◌, gives, loaded, pointer}
-use Rattle.spv_actions.specs.Instructions.{row}
 use Rattle.spv_actions.specs.Fits.{StoreFits}
-use Rattle.spv_actions.specs.Planned.{IsDue, shown}
+use Rattle.spv_actions.specs.Planned.{IsDue}
 use Rattle.spv_actions.specs.Sites.{Finds, IsShaped, IsSite, Site, accepted, due, part_of, values}
-use Rattle.spv_state.specs.declared.actions.Action.{Action}
 use Rattle.spv_state.specs.declared.actions.Action.TheVariants.{Load, Store}
 use Rattle.spv_actions.specs.declared.causes.Cause.{Cause}
 use Rattle.spv_actions.specs.declared.causes.Cause.TheVariants.{NoValue, OutOfBounds}
 use Rattle.spv_actions.specs.declared.effects.Effect.{Effect}
-use Rattle.spv_actions.specs.declared.effects.Gain.TheVariants.{Nothing, Row}
 use Rattle.spv_actions.proofs.EffectLemmas.{due_by}
-use Rattle.spv_actions.proofs.PointerLemmas.{Leads, pointed, pointer_is, reference_shape}
+use Rattle.spv_actions.proofs.PointerLemmas.{Leads, pointed, reference_shape}
 
 -- ---- steps that may fault
 

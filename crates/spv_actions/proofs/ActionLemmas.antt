@@ -1,6 +1,6 @@
 -- Each instruction at which a run stops is one of the machine's actions: its opcode has a rule of bodies, and each opcode that has one is
 -- that of an action, of an OpExtInst or of instructions that are no executables.
-use Rattle.std.proofs.Common.{◌≡◌, ◌∙◌, ◌⊎◌, inl, inr, ℕ, Bool, true, false, cond, List, [], ◌∷◌, Option, Some, None, refl, sym, ap, subst}
+use Rattle.std.proofs.Common.{◌≡◌, ◌∙◌, inl, inr, ℕ, Bool, true, false, List, [], ◌∷◌, Option, Some, None, refl, sym, ap, subst}
 use Rattle.std.proofs.Math.Logic.{∥∥₁_elim}
 use Rattle.std.proofs.Props.{props}
 use Rattle.std.proofs.lemmas.Bool.{and_parts, both_ways, eqb-true, not-true, or_cases}
@@ -16,7 +16,6 @@ use Rattle.spv_alu.specs.Fields.{field_op}
 use Rattle.spv_alu.specs.Glsl.{glsl_op}
 use Rattle.spv_alu.specs.Unary.{unary_op}
 use Rattle.spv_alu.specs.Vectors.{vector_op}
-use Rattle.spv_index.specs.declared.classes.Class.{Class}
 use Rattle.spv_index.specs.declared.classes.Class.TheVariants.{Executable}
 use Rattle.spv_index.specs.Classes.{class_of, classes, is_debug, is_executable, is_local, sets_of}
 use Rattle.spv_index.specs.Operands.{literal_operand}

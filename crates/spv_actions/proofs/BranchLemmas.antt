@@ -1,24 +1,21 @@
 -- What branches and switches do, by what is read for them.
-use Rattle.std.proofs.Common.{◌≡◌, ◌∙◌, ℕ, ◌++◌, List, [], ◌∷◌, map, drop, append_assoc, append-nil, Bool, true, false, cond, Option, Some, None, Result, Ok, Err, ok_or, refl, sym, ap, subst}
-use Rattle.std.specs.List.{AllByRecursion, filter}
-use Rattle.std.specs.Option.{is_some, option_and_then, option_map}
+use Rattle.std.proofs.Common.{◌≡◌, ◌∙◌, ℕ, ◌++◌, List, [], ◌∷◌, append_assoc, true, false, Option, Some, None, Result, Ok, Err, ok_or, refl, sym, ap, subst}
+use Rattle.std.specs.Option.{option_map}
 use Rattle.spv_base.specs.Answers.{Answers}
 use Rattle.spv_base.specs.Lane.{Lane}
 use Rattle.spv_base.specs.declared.causes.Fail.{Fail}
 use Rattle.spv_base.specs.declared.causes.Fail.TheVariants.{Refused, NoMemory}
-use Rattle.spv_base.specs.declared.instructions.Inst.{Inst}
-use Rattle.spv_base.specs.declared.values.Value.{Value, Scalar, out-Value}
+use Rattle.spv_base.specs.declared.values.Value.{Value, Scalar}
 use Rattle.spv_index.specs.Operands.{id_operand}
-use Rattle.spv_types.specs.Shapes.{scalar_in}
 use Rattle.spv_mem.proofs.BlankLemmas.{out_scalar}
 use Rattle.spv_state.specs.Actions.{action_of}
 use Rattle.spv_state.specs.State.{depth_of}
 use Rattle.spv_state.specs.declared.actions.Action.TheVariants.{Branch, BranchConditional, Switch}
-use Rattle.spv_actions.specs.Branches.{decided, jump_by, number_in, picked, switched}
+use Rattle.spv_actions.specs.Branches.{decided, jump_by, picked, switched}
 use Rattle.spv_actions.specs.Effects as spec
 use Rattle.spv_actions.specs.Effects.{◌>>=◌, Jump, goes}
 use Rattle.spv_actions.specs.Phis.{block_at, phi_values, phis_of}
-use Rattle.spv_actions.specs.Planned.{IsDue, shown}
+use Rattle.spv_actions.specs.Planned.{IsDue}
 use Rattle.spv_actions.specs.Sites.{Finds, Site, accepted, due, values}
 use Rattle.spv_actions.specs.declared.causes.Cause.{Cause}
 use Rattle.spv_actions.specs.declared.causes.Cause.TheVariants.{NoValue, UndefinedBranch}

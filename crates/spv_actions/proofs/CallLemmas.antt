@@ -13,13 +13,13 @@ use Rattle.spv_index.specs.Definitions.{at, defining, result_type}
 use Rattle.spv_index.specs.Operands.{id_in, id_operand}
 use Rattle.spv_types.specs.declared.forms.Form.{Form}
 use Rattle.spv_types.specs.declared.forms.Form.TheVariants.{Function}
-use Rattle.spv_types.specs.Queries.{is_pointer, parameters_in as types_in}
+use Rattle.spv_types.specs.Queries.{parameters_in as types_in}
 use Rattle.spv_types.specs.Rows.{no_roots}
 use Rattle.spv_types.specs.Shapes.{HasShape, pointer_in}
 use Rattle.spv_types.specs.Types.{form_of}
 use Rattle.spv_bodies.specs.Bodies.{KeepsRule}
 use Rattle.spv_bodies.specs.Calls.{KeepsCall, callee_form, form_by, function_form, parameter_type}
-use Rattle.spv_bodies.specs.Context.{Known, type_at, type_in, type_of}
+use Rattle.spv_bodies.specs.Context.{Known, type_in, type_of}
 use Rattle.spv_bodies.specs.Control.{KeepsReturnValue}
 use Rattle.spv_bodies.specs.Rules.{atomic_rule, composite_rule, control_rule, memory_rule, other_rule, rule_of}
 use Rattle.spv_valid.specs.Acceptance.{Accepted, IsAccepted}
@@ -31,7 +31,7 @@ use Rattle.spv_results.specs.Operands.{IsOperand, known}
 use Rattle.spv_results.proofs.ShapeProps.{shape_prop}
 use Rattle.spv_state.specs.Sound.{IsCallOf, StandsIn}
 use Rattle.spv_state.proofs.EntryLemmas.{listed}
-use Rattle.spv_state.proofs.Known.{IsKnown, known as known_of}
+use Rattle.spv_state.proofs.Known.{known as known_of}
 use Rattle.spv_state.proofs.Stands.{stood}
 use Rattle.spv_actions.specs.Calls.{callee}
 use Rattle.spv_actions.specs.Fits.{LeaveFits}

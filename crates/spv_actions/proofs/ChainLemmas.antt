@@ -1,8 +1,5 @@
 -- What access chains do, and that their pointers lead to where their types point.
-use Rattle.std.proofs.Common.{◌≡◌, ◌∙◌, ℕ, suc, ◌+◌, ◌-◌, ◌<◌, ◌≤◌, ◌++◌, Bool, true, false, List, [], ◌∷◌, append_assoc, append-nil, drop, length, map, slice_get, Option, Some, None, Result, Ok, Err, ok_or, refl, sym, ap, subst, arith}
-use Rattle.std.proofs.Math.Logic.{∥∥₁_elim}
-use Rattle.std.proofs.Props.{props}
-use Rattle.std.specs.Coded.{codes}
+use Rattle.std.proofs.Common.{◌≡◌, ◌∙◌, ℕ, suc, ◌+◌, ◌-◌, ◌<◌, ◌≤◌, ◌++◌, Bool, true, false, List, [], ◌∷◌, append_assoc, append-nil, length, map, Option, Some, None, Result, Ok, Err, ok_or, refl, sym, ap, subst, arith}
 use Rattle.std.specs.List.{flat_map, range_with_len}
 use Rattle.std.specs.Option.{IsSomeAnd, option_and_then, option_map}
 use Rattle.std.specs.Prelude.{if◌then◌else◌, not}
@@ -10,12 +7,10 @@ use Rattle.spv_base.specs.Entries.{reads}
 use Rattle.spv_base.specs.Lane.{Lane}
 use Rattle.spv_base.specs.declared.instructions.Inst.{Inst}
 use Rattle.spv_base.specs.declared.values.Pointer.{Pointer as Reference}
-use Rattle.spv_base.specs.declared.values.Root.{Root}
 use Rattle.spv_base.specs.declared.values.Value.{Value, Ptr, out-Value}
-use Rattle.spv_index.specs.Operands.{id_in, id_operand}
+use Rattle.spv_index.specs.Operands.{id_operand}
 use Rattle.spv_types.specs.declared.forms.Form.{Form}
 use Rattle.spv_types.specs.declared.forms.Form.TheVariants.{Pointer as PointerForm}
-use Rattle.spv_types.specs.declared.queries.Pointed.{Pointed}
 use Rattle.spv_types.specs.Laws.{AreSound}
 use Rattle.spv_types.specs.Queries.{is_integer, is_pointer}
 use Rattle.spv_types.specs.Rows.{leaves, no_roots}
@@ -24,11 +19,9 @@ use Rattle.spv_types.specs.Types.{Types, form_of}
 use Rattle.spv_types.proofs.ShapeLemmas.{shapes_are_by_forms}
 use Rattle.spv_consts.specs.Table.{Constants, Row, only, scalar_of}
 use Rattle.spv_consts.specs.Trees.{tree_of}
-use Rattle.spv_bodies.specs.Chains as rule
 use Rattle.spv_bodies.specs.Chains.{KeepsChain, form_in, index_in, is_literal, member_number}
 use Rattle.spv_bodies.specs.Context.{Known, type_at, type_of}
 use Rattle.spv_mem.specs.Chains.{all_defined, extend, extended}
-use Rattle.spv_frame.specs.Frames.{Held as Frame}
 use Rattle.spv_valid.specs.Acceptance.{Accepted, IsAccepted}
 use Rattle.spv_valid.specs.Meanings.{meaning_of}
 use Rattle.spv_valid.specs.Validity.{IsValid}

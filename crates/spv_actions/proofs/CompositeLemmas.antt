@@ -1,9 +1,9 @@
 -- The operands of the instructions on composites are data, by the rules that they keep.
-use Rattle.std.proofs.Common.{◌≡◌, ◌∙◌, ◌⊎◌, inl, inr, ℕ, zero, suc, ◌<◌, ◌≤◌, Bool, true, false, cond, List, [], ◌∷◌, length, drop, slice_get, Option, Some, None, refl, sym, ap, subst, arith}
-use Rattle.std.specs.Prelude.{◌&&◌, ◌||◌, ◌==◌, not, if◌then◌else◌}
+use Rattle.std.proofs.Common.{◌≡◌, ◌∙◌, inl, inr, ℕ, zero, suc, ◌<◌, Bool, true, false, cond, List, [], ◌∷◌, length, drop, slice_get, Option, Some, None, refl, sym, ap, subst, arith}
+use Rattle.std.specs.Prelude.{◌&&◌, ◌||◌, ◌==◌, not}
 use Rattle.std.specs.List.{All, AllZip}
 use Rattle.std.specs.Option.{option_and_then, option_map_or}
-use Rattle.std.proofs.lemmas.Bool.{and_parts, both_ways, eqb-true}
+use Rattle.std.proofs.lemmas.Bool.{and_parts, eqb-true}
 use Rattle.std.proofs.lemmas.List.Elements.{All-head, All-tail}
 use Rattle.spv_base.specs.declared.instructions.Inst.{Inst}
 use Rattle.spv_base.specs.declared.instructions.Operand.{Operand}
@@ -17,9 +17,9 @@ use Rattle.spv_types.specs.Queries.{components_in, is_pointer}
 use Rattle.spv_types.specs.Rules.{is_data as is_data_form, is_runtime, is_scalar, is_sized_data, keep_members, keeps_form, keeps_member}
 use Rattle.spv_types.specs.Types.{Types, form_of, in_first, is_number, number_of}
 use Rattle.spv_typing.specs.Fitting.{is_selectable}
-use Rattle.spv_bodies.specs.Composites.{AreParts, Fill, IsPart, KeepsConstruct, KeepsExtract, KeepsExtractDynamic, KeepsInsert, KeepsInsertDynamic, KeepsShuffle, given, named, part}
+use Rattle.spv_bodies.specs.Composites.{AreParts, IsPart, KeepsConstruct, KeepsExtract, KeepsExtractDynamic, KeepsInsert, KeepsInsertDynamic, KeepsShuffle, given, named, part}
 use Rattle.spv_bodies.specs.Context.{HasType, IsInteger, IsVectorOf, Known, form_at, type_at, type_in, type_of}
-use Rattle.spv_bodies.specs.Matching.{KeepsCopyLogical, Match, Term, form_term, term_among, term_of}
+use Rattle.spv_bodies.specs.Matching.{KeepsCopyLogical, Match, form_term, term_among, term_of}
 use Rattle.spv_valid.specs.Acceptance.{Accepted}
 use Rattle.spv_actions.specs.Sites.{is_data}
 use Rattle.spv_actions.proofs.DataLemmas.{selected_data, typed_data}

@@ -1,5 +1,5 @@
 -- The opcodes of branches and switches, and the rules that they and phis keep.
-use Rattle.std.proofs.Common.{◌≡◌, ◌∙◌, ℕ, Bool, true, false, List, [], ◌∷◌, Option, Some, None, refl, sym, ap, subst}
+use Rattle.std.proofs.Common.{◌≡◌, ◌∙◌, ℕ, Bool, true, List, refl, ap, subst}
 use Rattle.std.specs.Option.{unwrap_or}
 use Rattle.spv_base.specs.Entries.{reads}
 use Rattle.spv_base.specs.declared.instructions.Inst.{Inst}

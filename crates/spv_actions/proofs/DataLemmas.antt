@@ -1,12 +1,9 @@
 -- The operands of an instruction that computes are data, by the rule that it keeps.
-use Rattle.std.proofs.Common.{◌≡◌, ◌≢◌, ◌∙◌, ◌⊎◌, inl, inr, ℕ, zero, suc, ◌<◌, ◌≤◌, Bool, true, false, List, [], ◌∷◌, length, slice_get, Option, Some, None, refl, sym, ap, subst, arith}
-use Rattle.std.specs.Prelude.{◌&&◌, ◌==◌, not, nat_le, if◌then◌else◌}
-use Rattle.std.specs.List.{All, AllByRecursion, AllZip, list_all}
-use Rattle.std.specs.Option.{option_and_then, option_map, option_map_or}
-use Rattle.std.proofs.lemmas.Bool.{and_parts, both_ways, eqb-true}
-use Rattle.std.proofs.lemmas.Bool.Decides.{nat_tests}
+use Rattle.std.proofs.Common.{◌≡◌, ◌≢◌, ◌∙◌, inl, inr, ℕ, zero, suc, Bool, true, false, length, Option, Some, None, refl, sym, ap, subst}
+use Rattle.std.specs.Prelude.{◌==◌, not}
+use Rattle.std.specs.Option.{option_map_or}
+use Rattle.std.proofs.lemmas.Bool.{both_ways, eqb-true}
 use Rattle.spv_base.specs.declared.instructions.Inst.{Inst}
-use Rattle.spv_base.specs.declared.instructions.Operand.{Operand}
 use Rattle.spv_alu.specs.Binary.{binary_op, binary_opcodes}
 use Rattle.spv_alu.specs.Extended.{extended_op, extended_opcodes}
 use Rattle.spv_alu.specs.Fields.{field_op, field_opcodes}
@@ -27,11 +24,10 @@ use Rattle.spv_typing.specs.declared.lanes.Lanes.{Lanes}
 use Rattle.spv_typing.specs.declared.rules.Rule.{Rule}
 use Rattle.spv_typing.specs.declared.rules.Rule.TheVariants.{Convert, Bitcast, Integer, Integers, Clamp, Shift, Boolean as OneBoolean, Booleans, Reduce, Compare, Extended, Select, InsertField, ExtractField}
 use Rattle.spv_typing.specs.Fitting.{is_selectable}
-use Rattle.spv_typing.specs.Lanes.{element_of, form_lanes, lanes_at, lanes_of}
-use Rattle.spv_typing.specs.Glsl.{glsl_rule}
+use Rattle.spv_typing.specs.Lanes.{form_lanes, lanes_at, lanes_of}
 use Rattle.spv_typing.specs.Laws.{IsCondition, IsTyped}
 use Rattle.spv_typing.specs.Rules.{rule_count, rule_of}
-use Rattle.spv_bodies.specs.Context.{Known, type_at}
+use Rattle.spv_bodies.specs.Context.{Known}
 use Rattle.spv_bodies.specs.Lanes.{KeepsExtended, KeepsLanes, count_of, types_after}
 use Rattle.spv_actions.specs.Sites.{is_data}
 use Rattle.spv_actions.proofs.ComputationLemmas.{key_passes, read_there}

@@ -1,7 +1,5 @@
 -- What instructions that compute do, by what their computations give.
-use Rattle.std.proofs.Common.{◌≡◌, ◌⊎◌, ◌∙◌, inl, inr, ℕ, Bool, true, false, List, [], ◌∷◌, Option, Some, None, Result, Ok, Err, ok_or, refl, sym, ap, subst}
-use Rattle.std.specs.Prelude.{⊤}
-use Rattle.std.proofs.lemmas.Bool.{both_ways}
+use Rattle.std.proofs.Common.{◌≡◌, ◌⊎◌, ◌∙◌, inl, inr, ℕ, false, Option, Some, None, Result, Ok, Err, ok_or, refl, sym, ap, subst}
 use Rattle.std.specs.List.{AllByRecursion}
 use Rattle.std.specs.Option.{is_some, option_and_then, option_map, option_or, unwrap_or}
 use Rattle.spv_base.specs.Entries.{reads}
@@ -20,7 +18,6 @@ use Rattle.spv_results.specs.Operands.{IsResult}
 use Rattle.spv_results.specs.Results.{result_by, result_of}
 use Rattle.spv_results.specs.declared.computations.Computation.{Computation}
 use Rattle.spv_state.specs.Actions.{action_of, atomic_op, named}
-use Rattle.spv_actions.specs.Effects as spec
 use Rattle.spv_actions.specs.Effects.{◌>>=◌, gives}
 use Rattle.spv_actions.specs.Instructions.{effect_of, row}
 use Rattle.spv_actions.specs.Fits.{LevelFits, ResultFits}

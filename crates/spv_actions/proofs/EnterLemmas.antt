@@ -21,7 +21,7 @@ use Rattle.spv_valid.specs.Validity.{IsValid}
 use Rattle.spv_base.specs.declared.instructions.Inst.{Inst}
 use Rattle.spv_state.specs.Actions.{action_of}
 use Rattle.spv_state.specs.Events.{passed}
-use Rattle.spv_state.specs.Sound.{HasVariables, IsCallOf, IsSoundFrame}
+use Rattle.spv_state.specs.Sound.{IsCallOf, IsSoundFrame}
 use Rattle.spv_state.specs.Start.{frame_roots}
 use Rattle.spv_state.specs.Roots.{IsRooted}
 use Rattle.spv_state.specs.State.{depth_of, frames_of}

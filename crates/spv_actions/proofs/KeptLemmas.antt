@@ -1,15 +1,13 @@
 -- An instruction that computes, at which a run stops, keeps the rule of its computation.
-use Rattle.std.proofs.Common.{◌≡◌, ◌∙◌, ◌⊎◌, inl, inr, ℕ, Bool, true, false, cond, List, [], ◌∷◌, Option, Some, None, refl, sym, ap, subst}
-use Rattle.std.specs.Prelude.{◌&&◌, ◌==◌, not}
-use Rattle.std.specs.List.{list_all}
-use Rattle.std.specs.Option.{option_and_then, unwrap_or}
+use Rattle.std.proofs.Common.{◌≡◌, ◌∙◌, inl, inr, ℕ, Bool, true, false, cond, List, Some, refl, sym, ap, subst}
+use Rattle.std.specs.Prelude.{◌&&◌, not}
+use Rattle.std.specs.Option.{unwrap_or}
 use Rattle.std.proofs.lemmas.Bool.{and_parts, both_ways, false_from_ne_true, not-true}
 use Rattle.spv_base.specs.Entries.{reads}
 use Rattle.spv_base.specs.declared.instructions.Inst.{Inst}
 use Rattle.spv_alu.specs.Binary.{binary_op, binary_opcodes}
 use Rattle.spv_alu.specs.Extended.{extended_op, extended_opcodes}
 use Rattle.spv_alu.specs.Fields.{field_op, field_opcodes}
-use Rattle.spv_alu.specs.Glsl.{glsl_op}
 use Rattle.spv_alu.specs.Unary.{unary_op, unary_opcodes}
 use Rattle.spv_alu.specs.Vectors.{vector_op, vector_opcodes}
 use Rattle.spv_alu.specs.declared.binary_op.BinaryOp.{BinaryOp}
@@ -17,11 +15,9 @@ use Rattle.spv_alu.specs.declared.extended_op.ExtendedOp.{ExtendedOp}
 use Rattle.spv_alu.specs.declared.field_op.FieldOp.{FieldOp}
 use Rattle.spv_alu.specs.declared.unary_op.UnaryOp.{UnaryOp}
 use Rattle.spv_alu.specs.declared.vector_op.VectorOp.{VectorOp}
-use Rattle.spv_index.specs.declared.classes.Class.{Class}
 use Rattle.spv_index.specs.declared.classes.Class.TheVariants.{Line, Executable}
 use Rattle.spv_index.specs.Classes.{class_of, classes, is_debug, is_executable, is_local, is_terminator, sets_of}
-use Rattle.spv_index.specs.Operands.{literal_operand}
-use Rattle.spv_bodies.specs.Bodies.{KeepsBody, KeepsRule}
+use Rattle.spv_bodies.specs.Bodies.{KeepsRule}
 use Rattle.spv_bodies.specs.Context.{Known}
 use Rattle.spv_bodies.specs.Lanes.{KeepsLanes}
 use Rattle.spv_bodies.specs.Memory.{KeepsLoad, KeepsStore}

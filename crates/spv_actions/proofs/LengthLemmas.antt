@@ -1,14 +1,11 @@
 -- What the lengths of runtime arrays are.
-use Rattle.std.proofs.Common.{◌≡◌, ◌∙◌, ℕ, ◌<◌, ◌≤◌, ◌^◌, ◌++◌, Bool, true, false, cond, List, [], ◌∷◌, slice_get, Option, Some, None, Result, Ok, Err, ok_or, refl, sym, ap, subst, arith, rules}
-use Rattle.std.proofs.Math.Logic.{∥∥₁_elim, ∥∥₁_map}
-use Rattle.std.proofs.Props.{props}
-use Rattle.std.specs.Coded.{codes}
+use Rattle.std.proofs.Common.{◌≡◌, ◌∙◌, ℕ, ◌<◌, ◌^◌, ◌++◌, Bool, true, false, List, [], ◌∷◌, slice_get, Option, Some, None, Result, Ok, Err, ok_or, refl, sym, ap, subst, arith}
+use Rattle.std.proofs.Math.Logic.{∥∥₁_map}
 use Rattle.std.specs.Option.{option_and_then, option_map, option_map_or}
 use Rattle.std.specs.Prelude.{if◌then◌else◌}
 use Rattle.spv_base.specs.Entries.{reads}
-use Rattle.spv_base.specs.Lane.{IsLane, Lane, defined_lane}
+use Rattle.spv_base.specs.Lane.{IsLane, defined_lane}
 use Rattle.spv_base.specs.Parts.{part_at, parts_in}
-use Rattle.spv_base.specs.State.{Roots}
 use Rattle.spv_base.specs.declared.causes.MemErr.{MemErr}
 use Rattle.spv_base.specs.declared.causes.MemErr.TheVariants.{UndefinedIndex, OutOfBounds as OutsideMemory, NoMemory}
 use Rattle.spv_base.specs.declared.values.Pointer.{Pointer as Reference}
@@ -20,13 +17,13 @@ use Rattle.spv_types.specs.declared.forms.Form.{Form}
 use Rattle.spv_types.specs.declared.forms.Form.TheVariants.{Void, Bool as Boolean, Int, Vector, Array, Runtime, Struct, Pointer, Function}
 use Rattle.spv_types.specs.declared.forms.Member.{Member}
 use Rattle.spv_types.specs.Laws.{AreSound}
-use Rattle.spv_types.specs.Queries.{member_of as member_type_of, member_type}
+use Rattle.spv_types.specs.Queries.{member_of as member_type_of}
 use Rattle.spv_types.specs.Rows.{no_roots}
 use Rattle.spv_types.specs.Rules.{is_runtime}
-use Rattle.spv_types.specs.Shapes.{HasShape, IsScalar, LeadsTo, reached}
+use Rattle.spv_types.specs.Shapes.{LeadsTo, reached}
 use Rattle.spv_types.specs.Types.{Types, form_of}
 use Rattle.spv_types.proofs.ShapeLemmas.{shapes_are_by_forms}
-use Rattle.spv_bodies.specs.Memory.{KeepsArrayLength, member_at}
+use Rattle.spv_bodies.specs.Memory.{KeepsArrayLength}
 use Rattle.spv_consts.proofs.ScalarShapes.{is_scalar}
 use Rattle.spv_mem.specs.Memory.{Held as Memory, Loads, NamesArray, id_in, load_of, member_of, root_value}
 use Rattle.spv_mem.specs.Targets.{count_in, is_array_at}

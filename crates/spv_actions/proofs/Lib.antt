@@ -5,6 +5,7 @@ pub mod DataLemmas
 pub mod CompositeLemmas
 pub mod ConstituentLemmas
 pub mod OperandLemmas
+pub mod CellLemmas
 pub mod PointerLemmas
 pub mod SiteLemmas
 pub mod KeptLemmas

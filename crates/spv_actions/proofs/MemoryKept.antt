@@ -1,5 +1,5 @@
 -- What access chains, copies of memory and lengths of arrays keep where a run has come to them.
-use Rattle.std.proofs.Common.{◌≡◌, ◌⊎◌, inl, inr, ℕ, true, refl, subst}
+use Rattle.std.proofs.Common.{◌≡◌, ◌⊎◌, inl, inr, ℕ, true, refl}
 use Rattle.spv_bodies.specs.Bodies.{KeepsRule}
 use Rattle.spv_bodies.specs.Chains.{KeepsChain}
 use Rattle.spv_bodies.specs.Memory.{KeepsArrayLength, KeepsCopyMemory}

@@ -1,17 +1,17 @@
 -- What operands stand for where a run has come to their instruction.
-use Rattle.std.proofs.Common.{◌≡◌, ◌≢◌, ◌∙◌, ◌<◌, ℕ, zero, suc, ◌==◌, length, Bool, true, false, cond, not, List, [], ◌∷◌, slice_get, Option, Some, None, refl, sym, ap, subst}
+use Rattle.std.proofs.Common.{◌≡◌, ◌∙◌, ◌<◌, ℕ, suc, ◌==◌, length, Bool, true, false, cond, List, [], ◌∷◌, slice_get, Option, Some, None, refl, ap, subst}
 use Rattle.std.proofs.Math.Logic.{∥∥₁_elim, ∥∥₁_map}
 use Rattle.std.proofs.Props.{props}
-use Rattle.std.proofs.lemmas.Bool.{both_ways, eqb-true, not-true}
+use Rattle.std.proofs.lemmas.Bool.{eqb-true, not-true}
 use Rattle.std.specs.Coded.{codes}
 use Rattle.std.specs.List.{Contains}
-use Rattle.std.specs.Option.{is_some, option_and_then, option_map, option_map_or}
+use Rattle.std.specs.Option.{is_some, option_and_then, option_map}
 use Rattle.std.specs.Prelude.{if◌then◌else◌}
 use Rattle.spv_base.specs.contracts.values.Value.{the_row}
 use Rattle.spv_base.specs.declared.instructions.Inst.{Inst}
 use Rattle.spv_base.specs.declared.values.Pointer.{Pointer as Reference}
 use Rattle.spv_base.specs.declared.values.Root.{Root}
-use Rattle.spv_base.specs.declared.values.Value.{Value as Whole, Ptr}
+use Rattle.spv_base.specs.declared.values.Value.{Value as Whole}
 use Rattle.spv_index.specs.Definitions.{result_type}
 use Rattle.spv_index.specs.Operands.{id_operand}
 use Rattle.spv_types.specs.Laws.{AreSound}
@@ -21,10 +21,9 @@ use Rattle.spv_types.specs.Shapes.{HasShape}
 use Rattle.spv_types.specs.Types.{Types, form_of}
 use Rattle.spv_bodies.specs.Context.{type_at, type_of}
 use Rattle.spv_valid.specs.Acceptance.{Accepted, IsAccepted}
-use Rattle.spv_valid.specs.Validity.{IsValid}
 use Rattle.spv_frame.specs.Frames.{Held as Frame}
 use Rattle.spv_frame.specs.Registers.{number_of}
-use Rattle.spv_plans.specs.Plans.{functions_in, plan_of, plans_in}
+use Rattle.spv_plans.specs.Plans.{functions_in, plans_in}
 use Rattle.spv_plans.specs.Registered.{IsOfFunction}
 use Rattle.spv_plans.proofs.NumberLemmas.{at_contains, contains_at, number_there}
 use Rattle.spv_operands.specs.Operands.{IsPlain, data_of, pointer_of, shown}
@@ -34,7 +33,6 @@ use Rattle.spv_operands.specs.declared.operands.Operand.{Operand}
 use Rattle.spv_operands.proofs.ShapeLemmas.{data_plain}
 use Rattle.spv_results.specs.Operands.{IsOperand, known}
 use Rattle.spv_results.proofs.ShapeProps.{shape_prop}
-use Rattle.spv_results.proofs.SoundTypes.{sound_types}
 use Rattle.spv_actions.specs.Sites.{IsShaped, IsSite, Site, accepted, is_data, is_data_at, values}
 use Rattle.spv_state.specs.State.{depth_of}
 use Rattle.spv_actions.proofs.SiteLemmas.{frame_sound}

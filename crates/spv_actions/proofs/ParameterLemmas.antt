@@ -1,12 +1,10 @@
 -- The parameters of a function have the types that its function type names, in order.
-use Rattle.std.proofs.Common.{◌≡◌, ◌≢◌, ◌⊎◌, ◌∙◌, inl, inr, ℕ, zero, suc, ◌+◌, ◌==◌, Bool, true, false, cond, List, [], ◌∷◌, ◌++◌, length, drop, map, Option, Some, None, slice_get, refl, sym, ap, subst, arith}
+use Rattle.std.proofs.Common.{◌≡◌, ◌≢◌, ◌⊎◌, ◌∙◌, inl, inr, ℕ, zero, suc, ◌+◌, ◌==◌, Bool, true, false, cond, List, [], ◌∷◌, ◌++◌, length, drop, Some, slice_get, refl, sym, ap, subst, arith}
 use Rattle.std.proofs.lemmas.Bool.{both_ways, eq-eqb, eqb-true, ne_eqb}
 use Rattle.std.specs.Prelude.{not}
-use Rattle.std.specs.List.{AllByRecursion, AllZip, filter, flat_map}
-use Rattle.std.specs.Option.{option_and_then}
+use Rattle.std.specs.List.{AllByRecursion, filter, flat_map}
 use Rattle.spv_base.specs.Order.{AreDistinct}
 use Rattle.spv_base.specs.declared.instructions.Inst.{Inst}
-use Rattle.spv_base.specs.declared.instructions.Operand.{Operand}
 use Rattle.spv_ops.specs.Forms.{row_of}
 use Rattle.spv_ops.specs.Module.{Decoded}
 use Rattle.spv_ops.specs.Opcodes.{table}
@@ -15,7 +13,7 @@ use Rattle.spv_index.specs.declared.classes.Class.TheVariants.{Function as Begin
 use Rattle.spv_index.specs.declared.positions.Position.{Position}
 use Rattle.spv_index.specs.Classes.{class_of, sets_of}
 use Rattle.spv_index.specs.Definitions.{before_functions}
-use Rattle.spv_index.specs.Operands.{id_in, id_operand}
+use Rattle.spv_index.specs.Operands.{id_operand}
 use Rattle.spv_index.specs.Positions.{Stand, begins, outside, position_after, stands, stands_of}
 use Rattle.spv_types.specs.Types.{Types}
 use Rattle.spv_sections.specs.Ids.{has_result as results, has_type as types, head_of, is_result, is_type_id}
@@ -30,11 +28,10 @@ use Rattle.std.proofs.lemmas.List.Elements.{recursion_from_All}
 use Rattle.spv_valid.specs.Acceptance.{Accepted, IsAccepted, decoded_in}
 use Rattle.spv_valid.specs.Validity.{IsValid}
 use Rattle.spv_plans.specs.Members.{is_within, leading, members, stands_in}
-use Rattle.spv_plans.specs.Registers.{has_result, has_value, is_parameter, is_register, register_in, register_of, registers_of}
+use Rattle.spv_plans.specs.Registers.{has_result, is_parameter, is_register, register_in, register_of, registers_of}
 use Rattle.spv_plans.proofs.ApartLemmas.{insts_of_stands}
 use Rattle.spv_plans.proofs.PlanLemmas.{each_inst, facts, function_named, result_here}
 use Rattle.spv_results.specs.Operands.{known}
-use Rattle.spv_state.proofs.Lists.{each_at}
 
 -- ---- lists
 

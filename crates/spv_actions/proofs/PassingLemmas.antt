@@ -1,9 +1,9 @@
 -- The arguments of a call in the registers of the parameters.
-use Rattle.std.proofs.Common.{◌≡◌, ◌∙◌, ℕ, zero, suc, ◌+◌, ◌<◌, ◌≤◌, Bool, true, false, cond, List, [], ◌∷◌, length, drop, get_or, map, Option, Some, None, Result, Ok, Err, ok_or, slice_get, refl, sym, ap, subst, arith}
+use Rattle.std.proofs.Common.{◌≡◌, ◌∙◌, ℕ, zero, suc, ◌+◌, ◌<◌, ◌≤◌, Bool, true, false, List, [], ◌∷◌, length, drop, get_or, map, Option, Some, None, Result, Ok, Err, ok_or, slice_get, refl, sym, ap, subst, arith}
 use Rattle.std.proofs.Math.Logic.{∥∥₁_elim}
 use Rattle.std.proofs.Props.{props}
 use Rattle.std.proofs.lemmas.Option.{slice_get-get_or, slice_get_within}
-use Rattle.std.specs.List.{Contains, filter}
+use Rattle.std.specs.List.{Contains}
 use Rattle.std.specs.Option.{is_some}
 use Rattle.std.specs.Prelude.{if◌then◌else◌}
 use Rattle.spv_base.specs.Answers.{Answers}
@@ -13,7 +13,7 @@ use Rattle.spv_base.specs.declared.causes.Fail.TheVariants.{Refused, NoMemory}
 use Rattle.spv_base.specs.declared.instructions.Inst.{Inst}
 use Rattle.spv_base.specs.declared.values.Pointer.{Pointer as Reference}
 use Rattle.spv_base.specs.declared.values.Root.{Root}
-use Rattle.spv_base.specs.declared.values.Value.{Value as Whole, Ptr, out-Value}
+use Rattle.spv_base.specs.declared.values.Value.{Value as Whole, out-Value}
 use Rattle.spv_base.specs.declared.values.Value.TheOpen.{Value-F}
 use Rattle.spv_index.specs.Definitions.{result_type}
 use Rattle.spv_index.specs.Positions.{Stand, stands_of}
@@ -23,7 +23,6 @@ use Rattle.spv_types.specs.Queries.{is_pointer}
 use Rattle.spv_types.specs.Rows.{leaves, no_roots}
 use Rattle.spv_types.specs.Shapes.{HasShape, pointer_in}
 use Rattle.spv_types.specs.Types.{Types, form_of}
-use Rattle.spv_bodies.specs.Context.{type_at}
 use Rattle.spv_mem.specs.Memory.{AreVariables, IsVariable}
 use Rattle.spv_base.specs.State.{Roots}
 use Rattle.spv_valid.specs.Acceptance.{Accepted, IsAccepted}
@@ -36,27 +35,26 @@ use Rattle.spv_valid.specs.Validity.{IsValid}
 use Rattle.spv_frame.specs.declared.slots.Place.{Place}
 use Rattle.spv_frame.specs.declared.slots.Place.TheVariants.{Value, Pointer}
 use Rattle.spv_frame.specs.Frames.{Held as Frame, fresh}
-use Rattle.spv_frame.specs.Registers.{Planned, ids, number_of, sizes}
+use Rattle.spv_frame.specs.Registers.{Planned, ids, number_of}
 use Rattle.spv_plans.specs.Members.{members}
-use Rattle.spv_plans.specs.Plans.{functions_in, id_at, place_among, plan_of}
+use Rattle.spv_plans.specs.Plans.{functions_in, place_among, plan_of}
 use Rattle.spv_plans.specs.Registered.{HasApart, HasValueType}
-use Rattle.spv_plans.specs.Registers.{has_cells, has_pointer, is_parameter, is_register, register_of, registers_of}
+use Rattle.spv_plans.specs.Registers.{has_cells, has_pointer, is_parameter, is_register}
 use Rattle.spv_plans.proofs.ComesLemmas.{Chosen, chosen}
 use Rattle.spv_plans.proofs.NumberLemmas.{at_contains, map_at, map_from, number_gets}
 use Rattle.spv_operands.specs.Operands.{pointer_of}
 use Rattle.spv_operands.specs.Shapes.{target_in}
 use Rattle.spv_operands.proofs.ShapeLemmas.{data_plain}
-use Rattle.spv_results.specs.Operands.{known}
 use Rattle.spv_results.proofs.ShapeProps.{shape_prop}
 use Rattle.spv_results.proofs.SoundTypes.{sound_types}
 use Rattle.spv_state.specs.Sound.{IsSoundFrame}
 use Rattle.spv_state.specs.Roots.{IsRooted}
-use Rattle.spv_state.specs.State.{depth_of, frames_of, with_level, with_register, with_registers}
+use Rattle.spv_state.specs.State.{depth_of, frames_of, with_register, with_registers}
 use Rattle.spv_state.proofs.Known.{IsKnown, known_as}
 use Rattle.spv_state.proofs.StartSound.{fresh_rooted}
 use Rattle.spv_state.proofs.SlotLemmas.{no_value}
 use Rattle.spv_state.proofs.Stands.{IsOne, member_one, stand_inst}
-use Rattle.spv_actions.specs.Calls.{arguments, called, parameters_of}
+use Rattle.spv_actions.specs.Calls.{arguments, parameters_of}
 use Rattle.spv_actions.specs.Effects.{◌>>=◌}
 use Rattle.spv_actions.specs.Fits.{LevelFits}
 use Rattle.spv_actions.specs.Passing.{IsParameter, Passes, Suits, frame_due, parameters_in}
@@ -66,7 +64,7 @@ use Rattle.spv_actions.specs.declared.causes.Cause.TheVariants.{NoValue}
 use Rattle.spv_actions.proofs.KeepsFrames.{RegisterFits, register_kept, register_stays}
 use Rattle.spv_actions.proofs.OperandLemmas.{plain_none, recovered}
 use Rattle.spv_actions.proofs.ParameterLemmas.{drop_here}
-use Rattle.spv_actions.proofs.PointerLemmas.{pointed, pointer_form, reference_shape}
+use Rattle.spv_actions.proofs.PointerLemmas.{pointed, pointer_form}
 use Rattle.spv_actions.proofs.RootedLemmas.{IsOwnRoot, register_rooted}
 
 -- ---- registers, by the laws of plans

@@ -1,13 +1,12 @@
 -- The phis of a block: where they stand, the rule that they keep, and the values that they take.
-use Rattle.std.proofs.Common.{◌≡◌, ◌∙◌, ℕ, zero, suc, ◌+◌, ◌<◌, ◌==◌, ◌&&◌, Bool, true, false, not, cond, get_or, length, List, [], ◌∷◌, ◌++◌, drop, drop-cons, add-one, map, slice_get, Result, Option, Some, None, refl, sym, ap, subst, arith}
+use Rattle.std.proofs.Common.{◌≡◌, ◌∙◌, ℕ, zero, suc, ◌+◌, ◌<◌, ◌==◌, ◌&&◌, Bool, true, false, not, cond, get_or, length, List, [], ◌∷◌, ◌++◌, drop, drop-cons, add-one, map, slice_get, Result, Option, Some, None, refl, sym, ap, subst}
 use Rattle.std.proofs.Math.Logic.{∥∥₁_elim}
 use Rattle.std.proofs.Props.{props}
 use Rattle.std.proofs.lemmas.Bool.{and_parts, eqb-true}
 use Rattle.std.proofs.lemmas.List.Elements.{recursion_from_All}
 use Rattle.std.proofs.lemmas.Option.{slice_get-get_or}
 use Rattle.std.specs.Coded.{codes}
-use Rattle.std.specs.List.{All}
-use Rattle.std.specs.Prelude.{find, if◌then◌else◌}
+use Rattle.std.specs.Prelude.{find}
 use Rattle.std.specs.List.{AllByRecursion, filter}
 use Rattle.std.specs.Option.{is_some, option_and_then, option_map, option_map_or}
 use Rattle.spv_base.specs.declared.causes.Fail.{Fail}
@@ -18,26 +17,23 @@ use Rattle.spv_base.specs.declared.values.Value.{Value, out-Value}
 use Rattle.spv_index.specs.declared.classes.Class.{Class}
 use Rattle.spv_index.specs.declared.classes.Class.TheVariants.{Function, Parameter, End, Label, Line, Phi, Variable, Terminator, Passed, Executable}
 use Rattle.spv_index.specs.declared.positions.Position.{Position}
-use Rattle.spv_index.specs.declared.positions.Stage.{Stage}
 use Rattle.spv_index.specs.declared.positions.Stage.TheVariants.{Phis}
 use Rattle.spv_index.specs.declared.positions.Standing.{Standing}
 use Rattle.spv_index.specs.Classes.{class_of, is_label, sets_of}
 use Rattle.spv_index.specs.Definitions.{holds, number_at, number_of, result_type, stands_at}
 use Rattle.spv_index.specs.Operands.{id_in}
-use Rattle.spv_index.specs.Positions.{Stand, in_block, in_function, is_head, outside, position_after, stand_of, standing, stands, stands_of}
+use Rattle.spv_index.specs.Positions.{Stand, in_block, in_function, is_head, outside, position_after, standing, stands, stands_of}
 use Rattle.spv_index.proofs.StandingLemmas.{standing_led, standing_of}
-use Rattle.spv_types.specs.Laws.{AreSound}
 use Rattle.spv_types.specs.Queries.{is_pointer}
 use Rattle.spv_types.specs.Rows.{no_roots}
 use Rattle.spv_types.specs.Shapes.{HasShape, pointer_in}
-use Rattle.spv_types.specs.Types.{Types, form_of}
+use Rattle.spv_types.specs.Types.{form_of}
 use Rattle.spv_cfg.specs.Branches.{is_later_block_of, is_target, stands_so}
 use Rattle.spv_bodies.specs.Context.{Known, type_in, type_of}
 use Rattle.spv_bodies.specs.Control.{KeepsPhi, firsts}
 use Rattle.spv_valid.specs.Acceptance.{Accepted, IsAccepted}
 use Rattle.spv_valid.specs.Validity.{IsValid}
 use Rattle.spv_frame.specs.Frames.{Held as Frame}
-use Rattle.spv_plans.specs.Members.{leading}
 use Rattle.spv_plans.proofs.NumberLemmas.{filtered, leading_at, map_from}
 use Rattle.spv_operands.specs.Values.{value_of}
 use Rattle.spv_operands.proofs.ShapeLemmas.{data_plain}

@@ -1,21 +1,17 @@
 -- The pointers that an instruction gives, or passes on to a function, name variables that are there.
-use Rattle.std.proofs.Common.{◌≡◌, ◌⊎◌, ◌∙◌, inl, inr, ℕ, ◌-◌, Bool, true, false, List, length, slice_get, ok_or, Option, Some, None, Result, Ok, Err, refl, sym, ap, subst}
+use Rattle.std.proofs.Common.{◌≡◌, ◌⊎◌, inl, inr, ℕ, ◌-◌, Bool, true, false, List, length, ok_or, Option, Some, None, Ok, Err, refl, ap, subst}
 use Rattle.std.proofs.Math.Logic.{∥∥₁_elim}
-use Rattle.std.specs.List.{Contains}
 use Rattle.std.specs.Option.{option_and_then}
 use Rattle.std.specs.Prelude.{if◌then◌else◌}
-use Rattle.spv_base.specs.Entries.{reads, writes}
+use Rattle.spv_base.specs.Entries.{reads}
 use Rattle.spv_base.specs.Lane.{Lane}
 use Rattle.spv_base.specs.declared.instructions.Inst.{Inst}
 use Rattle.spv_base.specs.declared.values.Pointer.{Pointer as Reference}
 use Rattle.spv_base.specs.declared.values.Root.{Root}
 use Rattle.spv_base.specs.declared.values.Value.{Value, Ptr, out-Value}
 use Rattle.spv_base.specs.declared.values.Value.TheOpen.{Value-F}
-use Rattle.spv_index.specs.Definitions.{result_type}
 use Rattle.spv_index.specs.Operands.{id_operand}
-use Rattle.spv_types.specs.declared.forms.Form.{Form}
 use Rattle.spv_types.specs.declared.forms.Form.TheVariants.{Pointer as PointerForm}
-use Rattle.spv_types.specs.declared.queries.Pointed.{Pointed}
 use Rattle.spv_types.specs.Laws.{AreSound}
 use Rattle.spv_types.specs.Shapes.{pointer_in}
 use Rattle.spv_types.specs.Types.{form_of}
@@ -34,11 +30,10 @@ use Rattle.spv_state.proofs.Entries.{reads_written}
 use Rattle.spv_state.proofs.OperandRoots.{operand_root, pointer_own}
 use Rattle.spv_state.proofs.RootLemmas.{frame_rooted, root_prop}
 use Rattle.spv_actions.specs.Chains.{chained, with_indexes}
-use Rattle.spv_actions.specs.Effects.{◌>>=◌, pointer}
+use Rattle.spv_actions.specs.Effects.{◌>>=◌}
 use Rattle.spv_actions.specs.Fits.{ResultRooted}
 use Rattle.spv_actions.specs.Planned.{gained}
 use Rattle.spv_actions.specs.Sites.{IsGain, IsSite, Site, accepted, values}
-use Rattle.spv_actions.specs.declared.causes.Cause.{Cause}
 use Rattle.spv_actions.specs.declared.causes.Cause.TheVariants.{OutOfBounds, UndefinedIndex}
 use Rattle.spv_actions.specs.declared.effects.Gain.{Gain}
 use Rattle.spv_actions.specs.declared.effects.Gain.TheVariants.{Nothing, Row, Pointer, Handed}

@@ -1,8 +1,8 @@
 -- What is so of each instruction of a module where it stands: its class, the word at which it is found, and that one in a block stands
 -- behind an OpFunction.
-use Rattle.std.proofs.Common.{◌≡◌, ℕ, suc, ◌≤◌, ◌==◌, Bool, true, false, cond, eqb, List, [], ◌∷◌, drop, length, Some, refl, sym, subst, arith}
+use Rattle.std.proofs.Common.{◌≡◌, ℕ, suc, ◌≤◌, ◌==◌, Bool, true, false, cond, eqb, List, [], ◌∷◌, drop, length, Some, refl, subst, arith}
 use Rattle.std.proofs.lemmas.Bool.{and_parts, both_ways, eq-eqb, eqb-true, false_from_ne_true, ne_eqb}
-use Rattle.std.specs.Prelude.{find, not, unwrap_or, ◌||◌, ◌&&◌}
+use Rattle.std.specs.Prelude.{not, unwrap_or, ◌||◌}
 use Rattle.std.specs.List.{AllByRecursion, list_all}
 use Rattle.spv_base.specs.Entries.{reads}
 use Rattle.spv_base.specs.Order.{Ascend}
@@ -13,7 +13,7 @@ use Rattle.spv_index.specs.declared.positions.Position.{Position}
 use Rattle.spv_index.specs.declared.positions.Stage.{Stage}
 use Rattle.spv_index.specs.declared.positions.Stage.TheVariants.{Outside, Head, Phis, Variables, Body, Between}
 use Rattle.spv_index.specs.Classes.{class_of, classes, is_debug, is_local, is_terminator}
-use Rattle.spv_index.specs.Definitions.{at, before_functions, stands_at}
+use Rattle.spv_index.specs.Definitions.{at, before_functions}
 use Rattle.spv_index.specs.Positions.{Stand, among_variables, in_block, in_function, position_after, stands}
 
 -- ---- classes

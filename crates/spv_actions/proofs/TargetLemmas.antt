@@ -2,7 +2,7 @@
 use Rattle.std.proofs.Common.{◌≡◌, ◌∙◌, ℕ, zero, suc, ◌==◌, ◌&&◌, Bool, true, false, not, cond, List, [], ◌∷◌, ◌++◌, drop, map, slice_get, Option, Some, None, refl, sym, ap, subst}
 use Rattle.std.proofs.Math.Logic.{∥∥₁_elim, ∥∥₁_map}
 use Rattle.std.proofs.Props.{props}
-use Rattle.std.proofs.lemmas.Bool.{and_parts, eq-eqb, eqb-true}
+use Rattle.std.proofs.lemmas.Bool.{and_parts, eqb-true}
 use Rattle.std.specs.Prelude.{find, if◌then◌else◌}
 use Rattle.std.specs.List.{AllByRecursion, flat_map, list_all}
 use Rattle.std.specs.Coded.{codes}
@@ -11,7 +11,7 @@ use Rattle.spv_base.specs.Entries.{reads}
 use Rattle.spv_base.specs.declared.instructions.Inst.{Inst}
 use Rattle.spv_base.specs.declared.values.Value.{Value, out-Value}
 use Rattle.spv_index.specs.Classes.{class_of, is_executable, is_terminator, sets_of}
-use Rattle.spv_index.specs.Definitions.{at, stands_at}
+use Rattle.spv_index.specs.Definitions.{at}
 use Rattle.spv_index.specs.Operands.{id_operand}
 use Rattle.spv_index.specs.Positions.{Stand, in_block, in_function, stands_of}
 use Rattle.spv_types.specs.declared.forms.Form.{Form}
@@ -22,7 +22,6 @@ use Rattle.spv_types.specs.Rows.{no_roots}
 use Rattle.spv_types.specs.Shapes.{HasShape, scalar_in, shape_step}
 use Rattle.spv_types.proofs.ShapeLemmas.{shapes_are_by_forms}
 use Rattle.spv_cfg.specs.Branches.{at_width, branch_breach, case_words, cases, has_targets, is_branch_right, is_switch_right, is_target, selector_width, targets_of}
-use Rattle.spv_cfg.specs.Flow.{Flow}
 use Rattle.spv_cfg.specs.Laws.{IsEntered}
 use Rattle.spv_cfg.specs.Operands.{is_literal}
 use Rattle.spv_cfg.proofs.FlowLemmas.{flow_accepted}
@@ -37,9 +36,9 @@ use Rattle.spv_results.proofs.SoundTypes.{sound_types}
 use Rattle.spv_state.specs.Sound.{StandsIn}
 use Rattle.spv_state.proofs.Known.{IsKnown, known}
 use Rattle.spv_state.proofs.Lists.{each_at}
-use Rattle.spv_state.proofs.Standing.{Standing, at_standing, standing}
+use Rattle.spv_state.proofs.Standing.{at_standing, standing}
 use Rattle.spv_state.proofs.Stands.{IsOne, class_is, stood}
-use Rattle.spv_actions.specs.Branches.{case_of, picked, switched}
+use Rattle.spv_actions.specs.Branches.{picked, switched}
 use Rattle.spv_actions.specs.Sites.{IsSite, Site, accepted, is_data_at}
 use Rattle.spv_actions.proofs.ControlCodes.{branch_ends, condition_ends, condition_kept, selector_kept, switch_ends}
 use Rattle.spv_actions.proofs.DataLemmas.{typed_data}

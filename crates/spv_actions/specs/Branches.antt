@@ -1,5 +1,5 @@
 -- Branches and switches (SPIR-V 1.6 section 3.42.17, OpBranch, OpBranchConditional and OpSwitch).
-use Rattle.std.specs.Prelude.{ℕ, ◌==◌, if◌then◌else◌, find, List, Option, Some, None, Result, Ok, Err, ok_or}
+use Rattle.std.specs.Prelude.{ℕ, ◌==◌, if◌then◌else◌, find, List, Option, Result, Ok, Err, ok_or}
 use Rattle.std.specs.Option.{option_map, option_map_or, option_or}
 use Rattle.spv_base.specs.Lane.{Lane}
 use Rattle.spv_base.specs.declared.instructions.Inst.{Inst}

@@ -14,5 +14,6 @@ pub mod Kept
 pub mod Planned
 pub mod Targets
 pub mod Sites
+pub mod Cells
 pub mod Passing
 pub mod Laws

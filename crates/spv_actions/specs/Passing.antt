@@ -1,5 +1,5 @@
 -- What acceptance gives of the arguments of a call, and what they are worked out by. No definition of a step speaks of it.
-use Rattle.std.specs.Prelude.{◌≡◌, ◌<◌, ℕ, suc, true, filter, List, length, slice_get, Some, None, Option, Result, Ok}
+use Rattle.std.specs.Prelude.{◌≡◌, ◌<◌, ℕ, suc, true, filter, List, length, slice_get, Some, None, Result, Ok}
 use Rattle.std.specs.Option.{is_some}
 use Rattle.spv_base.specs.declared.instructions.Inst.{Inst}
 use Rattle.spv_base.specs.declared.values.Value.{Value as Whole}

@@ -1,6 +1,6 @@
 -- An instruction that the top frame of an invocation has come to, what its operands stand for, and what calls inside a step find and
 -- compute there. No definition of a step speaks of it.
-use Rattle.std.specs.Prelude.{◌≡◌, ℕ, ◌<◌, ◌&&◌, not, if◌then◌else◌, Bool, true, false, length, Option, Some, None, IsSome, Result, Ok, Err, ⊤}
+use Rattle.std.specs.Prelude.{◌≡◌, ℕ, ◌<◌, not, if◌then◌else◌, Bool, true, false, length, Option, Some, None, IsSome, Result, Ok, Err, ⊤}
 use Rattle.std.specs.Option.{option_map_or}
 use Rattle.spv_base.specs.Entries.{reads}
 use Rattle.spv_base.specs.declared.causes.Fail.{Fail}
@@ -20,7 +20,7 @@ use Rattle.spv_mem.specs.Memory.{Held as Memory, id_in}
 use Rattle.spv_mem.specs.Targets.{is_array_at}
 use Rattle.spv_operands.specs.Shapes.{target_in}
 use Rattle.spv_operands.specs.Values.{operand_value, value_of}
-use Rattle.spv_results.specs.Operands.{IsOperand, IsResult, known}
+use Rattle.spv_results.specs.Operands.{IsResult, known}
 use Rattle.spv_results.specs.Results.{result_by}
 use Rattle.spv_results.specs.declared.computations.Computation.{Computation}
 use Rattle.spv_actions.specs.Effects as spec

@@ -81,6 +81,7 @@ fn target(site: &Site, at: &Operand) -> Result<Target, Fail<Cause>>
 }
 
 /// Copies a value into a row. It takes memory only where the row never had room for as many cells.
+#[inline(always)]
 pub(crate) fn copied(part: &Part, row: &mut Row) -> Result<(), NoMemory>
     ensures { OnOk result (row.new ≡ part.now) }
 {

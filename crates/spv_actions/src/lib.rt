@@ -7,6 +7,7 @@ mod barriers;
 mod branches;
 mod calls;
 pub mod causes;
+mod cells;
 mod chains;
 mod computing;
 mod computing_composites;
@@ -23,5 +24,6 @@ mod switches;
 pub mod targets;
 
 pub use causes::Cause;
+pub use cells::{CellEffect, cell_effect};
 pub use effects::{Control, Effect, Gain, effect_at};
 pub use targets::{Place, Target};

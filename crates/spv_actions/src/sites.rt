@@ -7,19 +7,21 @@ ghost use Rattle.spv_index.specs.Definitions.{at, result_type};
 ghost use Rattle.spv_actions.specs.Sites as spec;
 ghost use Rattle.spv_actions.specs.Sites.{Asks, Finds, is_data_at};
 ghost use Rattle.spv_state.specs.Events.{IsReadable, passed};
+ghost use Rattle.spv_state.specs.Predecoded.{IsNamedAt, IsReadAt};
 ghost use Rattle.spv_state.specs.Sound.{IsSound};
 ghost use Rattle.spv_state.specs.State as state;
 ghost use Rattle.spv_operands.specs.Operands.{IsPlain, pointer_of, referred, shown};
+ghost use Rattle.spv_operands.specs.Values.{pointer_to};
 ghost use Rattle.spv_results.specs.Operands.{IsOperand};
 
 use crate::causes::Cause;
-use spv_base::{Fail, Inst, NoMemory, Pointer};
+use spv_base::{Fail, Inst, NoMemory, Pointer, Root};
 use spv_frame::{Frame, Plan};
 use spv_index::id_operand;
 use spv_mem::Memory;
 use spv_operands::laws::{constants_are_meant, operands_have_shapes};
 use spv_operands::{Operand, Reference, constant, operand as operand_by, operand_of};
-use spv_state::{Runnable, Whole, pass_events, plan_in};
+use spv_state::{Runnable, Source, VariableName, Whole, pass_events, plan_in};
 use spv_valid::Module;
 use spv_values::Part;
 use std::alloc::Global;
@@ -259,6 +261,37 @@ impl<'a> Site<'a> {
         let _insts = self.accepted().insts();
         let operand = self.operand(n)?;
         Ok(Datum { operand })
+    }
+
+    /// The value of the operand with a number by where it lies, lent; none where a register holds none.
+    #[inline(always)]
+    pub(crate) fn read<'b>(&'b self, n: usize, source: &'b Source) -> Option<Part<'b>>
+        requires lies { ∥ IsReadAt self.now.program.accepted self.now.frame.plan.function self.now.inst n source.now ∥₁ }
+        requires data { is_data_at self.now.program.accepted self.now.inst n ≡ true }
+        ensures value { IfSome result (λ v. spec.values self.now n ≡ Some v) }
+        ensures shape { IfSome result (IsOperand self.now.program.accepted self.now.inst n) }
+    {
+        operands_have_shapes();
+        self.is_reached();
+        let _number = n;
+        let accepted = self.accepted();
+        let _insts = accepted.insts();
+        source.part(accepted, self.frame)
+    }
+
+    /// The variable that the operand with a number stands for, by its name.
+    #[inline(always)]
+    pub(crate) fn variable(&self, n: usize, name: &VariableName) -> Root
+        requires { ∥ IsNamedAt self.now.program.accepted self.now.frame.plan.function self.now.inst n name.now ∥₁ }
+        ensures value { spec.values self.now n ≡ Some (pointer_to result) }
+        ensures shape { spec.IsShaped self.now.program.accepted self.now.inst n (pointer_to result) }
+    {
+        operands_have_shapes();
+        self.is_reached();
+        let _number = n;
+        let accepted = self.accepted();
+        let _insts = accepted.insts();
+        name.root(accepted, self.frame, self.depth)
     }
 
     /// What an id stands for, if it stands for something.

@@ -6,11 +6,10 @@ use Rattle.spv_valid.specs.Acceptance.{Accepted}
 use Rattle.spv_valid.specs.Validity.{IsValid}
 use Rattle.spv_operands.specs.Operands.{shown}
 use Rattle.spv_results.proofs.SoundTypes.{sound_types}
-use Rattle.spv_actions.specs.Effects.{pointer}
 use Rattle.spv_actions.specs.Fits.{StoreFits}
-use Rattle.spv_actions.specs.Sites.{due, part_of, values}
+use Rattle.spv_actions.specs.Sites.{part_of, values}
 use Rattle.spv_actions.proofs.AccessLemmas.{no_value_due, outside_due, stores}
-use Rattle.spv_actions.proofs.CopyLemmas.{copy_fits, copy_gives, copy_missing, copy_nothing, copy_nowhere, copy_outside, copy_without}
+use Rattle.spv_actions.proofs.CopyLemmas.{copy_fits, copy_gives, copy_missing, copy_nowhere, copy_outside, copy_without}
 use Rattle.spv_actions.proofs.accesses.copy_memory.Goals as goal
 
 pub returns-in_err-to-clause-due : goal.returns-in_err-to-clause-due

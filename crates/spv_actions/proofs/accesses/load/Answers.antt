@@ -8,7 +8,7 @@ use Rattle.spv_operands.specs.Operands.{shown}
 use Rattle.spv_results.specs.Operands.{IsResult}
 use Rattle.spv_results.proofs.SoundTypes.{sound_types}
 use Rattle.spv_actions.specs.Effects.{gives}
-use Rattle.spv_actions.specs.Sites.{due, part_of, values}
+use Rattle.spv_actions.specs.Sites.{part_of, values}
 use Rattle.spv_actions.proofs.AccessLemmas.{load_gives, load_missing, load_outside, load_shape, no_value_due, outside_due}
 use Rattle.spv_actions.proofs.EffectLemmas.{loading, result_fits, result_plain}
 use Rattle.spv_actions.proofs.RootedLemmas.{result_rooted}

@@ -1,7 +1,4 @@
-use Rattle.std.proofs.Common.{◌≡◌, ◌∙◌, Err, List, Ok, Result, ap, rules, subst, sym}
-use Rattle.spv_base.specs.Answers.{Answers}
-use Rattle.spv_base.specs.declared.instructions.Inst.{Inst}
-use Rattle.spv_base.specs.declared.values.Value.{Value}
+use Rattle.std.proofs.Common.{◌≡◌, ◌∙◌, Err, Ok, ap, rules, sym}
 use Rattle.spv_actions.specs.Branches.{decided, switched}
 use Rattle.spv_actions.specs.Sites.{due, values}
 use Rattle.spv_actions.proofs.BranchLemmas.{answer_due, by_missing, by_number, by_undefined, switch_due, due_as, found_due, jumps}

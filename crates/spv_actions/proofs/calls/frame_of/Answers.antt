@@ -1,5 +1,4 @@
-use Rattle.std.proofs.Common.{◌≡◌, ◌∙◌, ◌+◌, ◌<◌, ◌≤◌, ℕ, suc, Err, List, Option, Some, None, ap, arith, get_or, length, rules, subst, sym}
-use Rattle.spv_base.specs.declared.values.Value.{Value as Whole}
+use Rattle.std.proofs.Common.{◌≡◌, ◌∙◌, ◌+◌, ◌≤◌, ℕ, suc, Err, List, ap, arith, get_or, length, rules, subst, sym}
 use Rattle.spv_frame.specs.declared.slots.Place.{Place}
 use Rattle.spv_frame.specs.declared.slots.Place.TheVariants.{Value}
 use Rattle.spv_frame.specs.Frames.{fresh}

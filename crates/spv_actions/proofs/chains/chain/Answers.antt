@@ -9,7 +9,7 @@ use Rattle.spv_results.proofs.SoundTypes.{sound_types}
 use Rattle.spv_actions.specs.Chains.{chained, indexes}
 use Rattle.spv_actions.specs.Effects.{gives}
 use Rattle.spv_actions.specs.Fits.{Fits}
-use Rattle.spv_actions.specs.Sites.{due, values}
+use Rattle.spv_actions.specs.Sites.{values}
 use Rattle.spv_actions.proofs.AccessLemmas.{no_value_due, outside_due}
 use Rattle.spv_actions.proofs.ChainLemmas.{chain_data, chain_fails, chain_fits, chain_gives, chain_missing, chain_without}
 use Rattle.spv_actions.proofs.RootedLemmas.{chain_rooted, chain_typed, site_root}

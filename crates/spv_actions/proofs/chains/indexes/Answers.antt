@@ -1,4 +1,4 @@
-use Rattle.std.proofs.Common.{◌≡◌, ◌+◌, ◌<◌, List, arith, length, rules, subst, sym}
+use Rattle.std.proofs.Common.{◌≡◌, ◌+◌, ◌<◌, List, length, rules, subst, sym}
 use Rattle.spv_base.specs.Lane.{Lane}
 use Rattle.spv_actions.proofs.ChainLemmas.{Reads, one_read}
 use Rattle.spv_actions.proofs.chains.indexes.Goals as goal

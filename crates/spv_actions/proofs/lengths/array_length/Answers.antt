@@ -8,9 +8,9 @@ use Rattle.spv_results.specs.Operands.{IsResult}
 use Rattle.spv_results.proofs.SoundTypes.{sound_types}
 use Rattle.spv_actions.specs.Effects.{gives}
 use Rattle.spv_actions.specs.Lengths.{length_of}
-use Rattle.spv_actions.specs.Sites.{due, values}
+use Rattle.spv_actions.specs.Sites.{values}
 use Rattle.spv_actions.proofs.AccessLemmas.{no_value_due, outside_due}
-use Rattle.spv_actions.proofs.EffectLemmas.{result_fits, result_plain}
+use Rattle.spv_actions.proofs.EffectLemmas.{result_fits}
 use Rattle.spv_actions.proofs.LengthLemmas.{leads_to_array, length_gives, length_missing, length_outside, length_shape}
 use Rattle.spv_actions.proofs.RootedLemmas.{result_rooted}
 use Rattle.spv_state.specs.State.{frames_of}

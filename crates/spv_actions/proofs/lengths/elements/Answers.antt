@@ -1,6 +1,6 @@
 use Rattle.std.proofs.Common.{◌≡◌, ◌∙◌, ℕ, None, Some, ap, subst, sym}
 use Rattle.std.specs.Option.{option_map}
-use Rattle.spv_mem.specs.Memory.{Held as Memory, NamesArray, load_of, member_of}
+use Rattle.spv_mem.specs.Memory.{Held as Memory, load_of, member_of}
 use Rattle.spv_mem.specs.Targets.{count_in}
 use Rattle.spv_actions.specs.Sites.{LeadsToArray}
 use Rattle.spv_actions.proofs.LengthLemmas.{elements_outside, elements_private, elements_there, names_array, outside_none}

@@ -2,7 +2,7 @@ use Rattle.std.proofs.Common.{◌≡◌, List, Some, rules, slice_get, subst}
 use Rattle.spv_base.specs.declared.instructions.Inst.{Inst}
 use Rattle.spv_index.specs.Classes.{sets_of}
 use Rattle.spv_state.specs.State.{depth_of}
-use Rattle.spv_actions.specs.Phis.{behind_label, block_at, first_ones, is_phi}
+use Rattle.spv_actions.specs.Phis.{behind_label, block_at, first_ones}
 use Rattle.spv_actions.proofs.PhiLemmas.{taken_as}
 use Rattle.spv_actions.proofs.phis.phi_values.Goals as goal
 

@@ -1,4 +1,4 @@
-use Rattle.std.proofs.Common.{◌≡◌, ◌∙◌, ap, subst, sym}
+use Rattle.std.proofs.Common.{◌∙◌, ap, subst, sym}
 use Rattle.std.specs.List.{Contains}
 use Rattle.spv_plans.specs.Plans.{functions_in, plans_in}
 use Rattle.spv_valid.specs.Acceptance.{Accepted}

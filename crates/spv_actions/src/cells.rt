@@ -1,0 +1,119 @@
+//! What predecoded instructions do: those on values of one cell.
+ghost use Rattle.std.specs.Prelude.{◌≡◌, IfSome, Some};
+ghost use Rattle.spv_actions.specs.Cells.{IsCellEffect};
+ghost use Rattle.spv_results.specs.Computations.{computation_of};
+ghost use Rattle.spv_state.specs.Actions.{action_of};
+ghost use Rattle.spv_state.specs.Predecoded.{IsNamedAt, IsReadAt, IsResultAt, IsShort};
+
+use crate::accesses::{copied, variables_are_shaped};
+use crate::computing_lanes::binary_on;
+use crate::kept::{is_kept, load_is_kept, store_is_kept};
+use crate::sites::Site;
+use spv_alu::BinaryOp;
+use spv_base::Root;
+use spv_frame::Slot;
+use spv_results::Computation;
+use spv_state::{Action, Short, Source, VariableName};
+use spv_values::Row;
+
+/// What an instruction does with the value of one cell in the row at hand.
+#[derive(Clone, Copy)]
+pub enum CellEffect {
+    /// The register in the slot takes it.
+    Gives(Slot),
+    /// The whole variable takes it.
+    Sets(Root),
+}
+
+/// A binary operation.
+#[inline(always)]
+fn binary(
+    site: &Site,
+    operation: BinaryOp,
+    first: &Source,
+    second: &Source,
+    into: Slot,
+    row: &mut Row,
+) -> Option<CellEffect>
+    requires computes { action_of site.now.inst ≡ Action.Compute }
+    requires operation { computation_of site.now.inst ≡ Some (Computation.Binary operation) }
+    requires first { ∥ IsReadAt site.now.program.accepted site.now.frame.plan.function site.now.inst 0 first.now ∥₁ }
+    requires second { ∥ IsReadAt site.now.program.accepted site.now.frame.plan.function site.now.inst 1 second.now ∥₁ }
+    requires into { ∥ IsResultAt site.now.program.accepted site.now.frame.plan.function site.now.inst into ∥₁ }
+    ensures { IfSome result (IsCellEffect site.now row.new) }
+{
+    is_kept(site, Computation::Binary(operation));
+    site.is_reached();
+    let _insts = site.accepted().insts();
+    let a = site.read(0, first)?;
+    let b = site.read(1, second)?;
+    match binary_on(site, operation, &a, &b, row) {
+        Ok(()) if row.len() == 1 => Some(CellEffect::Gives(into)),
+        _ => None,
+    }
+}
+
+/// OpLoad of a whole variable.
+#[inline(always)]
+fn load(site: &Site, from: &VariableName, into: Slot, row: &mut Row) -> Option<CellEffect>
+    requires loads { action_of site.now.inst ≡ Action.Load }
+    requires from { ∥ IsNamedAt site.now.program.accepted site.now.frame.plan.function site.now.inst 0 from.now ∥₁ }
+    requires into { ∥ IsResultAt site.now.program.accepted site.now.frame.plan.function site.now.inst into ∥₁ }
+    ensures { IfSome result (IsCellEffect site.now row.new) }
+{
+    variables_are_shaped(site.memory());
+    load_is_kept(site);
+    site.is_reached();
+    let _insts = site.accepted().insts();
+    let root = site.variable(0, from);
+    let part = site.memory().whole(site.inv(), root)?;
+    if part.cells().len() != 1 {
+        return None;
+    }
+    match copied(&part, row) {
+        Ok(()) => Some(CellEffect::Gives(into)),
+        Err(_) => None,
+    }
+}
+
+/// OpStore to a whole variable.
+#[inline(always)]
+fn store(site: &Site, to: &VariableName, object: &Source, row: &mut Row) -> Option<CellEffect>
+    requires stores { action_of site.now.inst ≡ Action.Store }
+    requires to { ∥ IsNamedAt site.now.program.accepted site.now.frame.plan.function site.now.inst 0 to.now ∥₁ }
+    requires object { ∥ IsReadAt site.now.program.accepted site.now.frame.plan.function site.now.inst 1 object.now ∥₁ }
+    ensures { IfSome result (IsCellEffect site.now row.new) }
+{
+    store_is_kept(site);
+    site.is_reached();
+    let _insts = site.accepted().insts();
+    let root = site.variable(0, to);
+    let value = site.read(1, object)?;
+    let part = site.memory().whole(site.inv(), root)?;
+    if part.cells().len() != 1 || value.cells().len() != 1 {
+        return None;
+    }
+    match copied(&value, row) {
+        Ok(()) => Some(CellEffect::Sets(root)),
+        Err(_) => None,
+    }
+}
+
+/// What a predecoded instruction does with the value that lies in the row then; none where it is to be worked out as any other, as
+/// where an operand has no value. Nothing is looked up but the variable of a load or a store.
+#[inline(always)]
+pub fn cell_effect(site: &Site, short: &Short, row: &mut Row) -> Option<CellEffect>
+    requires { ∥ IsShort site.now.program.accepted site.now.frame.plan.function site.now.inst short.now ∥₁ }
+    ensures { IfSome result (IsCellEffect site.now row.new) }
+{
+    match short {
+        Short::Binary {
+            operation,
+            first,
+            second,
+            into,
+        } => binary(site, *operation, first, second, *into, row),
+        Short::Load { from, into } => load(site, from, *into, row),
+        Short::Store { to, object } => store(site, to, object, row),
+    }
+}
