@@ -16,3 +16,4 @@ pub mod WeightLemmas
 pub mod EventLemmas
 pub mod Recording
 pub mod PassedLemmas
+pub mod CellLemmas

@@ -74,7 +74,7 @@ reached_frame p s i d b same r =
     let h = reached_top p s i d r in
     subst (λ (o : Option Frame). IsSomeAnd o (IsSoundFrame b)) (sym h.top) (subst (λ (x : Accepted). IsSoundFrame x h.frame) (sym same) h.sound)
 
-reached_step : (p : Program) (s : State) (i : ℕ) (d : Inst) (r : IsReached p s i d) → step_of p s i ≡ outcome p s i d (effect_of p s i r.frame d)
+pub reached_step : (p : Program) (s : State) (i : ℕ) (d : Inst) (r : IsReached p s i d) → step_of p s i ≡ outcome p s i d (effect_of p s i r.frame d)
 unfolding step_of
 reached_step p s i d r = ap (by_status p s i) r.ready ∙ ap (at_frame p s i) r.top ∙ ap (at_inst p s i r.frame) r.at
 

@@ -15,7 +15,7 @@ use Rattle.spv_machine.specs.Reached.{IsReached}
 use Rattle.spv_machine.specs.Step.{apply, go_on}
 use Rattle.spv_machine.specs.Weights.{effect_weight, events_before, frame_weight, inst_weight, result_weight, status_weight, weight_of}
 
-reached_weight : (p : Program) (s : State) (i : ℕ) (d : Inst) (r : IsReached p s i d) → weight_of p s i ≡ result_weight p s i d (effect_of p s i r.frame d)
+pub reached_weight : (p : Program) (s : State) (i : ℕ) (d : Inst) (r : IsReached p s i d) → weight_of p s i ≡ result_weight p s i d (effect_of p s i r.frame d)
 unfolding weight_of
 reached_weight p s i d r = ap (status_weight p s i) r.ready ∙ ap (frame_weight p s i) r.top ∙ ap (inst_weight p s i r.frame) r.at
 

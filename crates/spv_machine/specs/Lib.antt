@@ -1,4 +1,5 @@
 pub mod Step
+pub mod Cells
 pub mod Reached
 pub mod Weights
 pub mod World

@@ -16,6 +16,7 @@ ghost use Rattle.spv_state.specs.Sound.{IsSound};
 ghost use Rattle.spv_state.specs.State as state;
 
 use crate::applying::{apply, word_behind};
+use crate::cells::{cell_due, cell_event};
 use crate::finishing::{finished, idle};
 use crate::happenings::{happening_of, plain};
 use crate::passing::come_to;
@@ -142,7 +143,10 @@ fn ready(
     let _insts = accepted.insts();
     let whole = recorded.whole();
     let inst = reached(m, whole, inv);
-    match due(alloc, m, whole, inv, inst, row) {
+    if let Some(step) = cell_due(alloc, m, whole, inv, inst, row) {
+        return cell_event(m, recorded, inv, inst, step, row);
+    }
+    match due(alloc, m, recorded.whole(), inv, inst, row) {
         Ok(effect) => perform(alloc, m, recorded, inv, inst, effect, row),
         Err(Fail::Refused(cause)) => Err(StepErr::Fault(fault(cause, inv, inst.word))),
         Err(Fail::NoMemory) => Err(StepErr::NoMemory),

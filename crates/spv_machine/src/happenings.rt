@@ -40,7 +40,7 @@ fn is_written(accepted: &Module, id: u32) -> bool
 }
 
 /// The event of a store in a variable.
-fn written(accepted: &Module, inv: u32, word: u32, root: Root) -> Happening
+pub(crate) fn written(accepted: &Module, inv: u32, word: u32, root: Root) -> Happening
     ensures { result ≡ spec.written accepted.now inv word root }
 {
     match root {

@@ -2,6 +2,7 @@
 #![tactic(auto)]
 
 pub mod applying;
+mod cells;
 pub mod execution;
 mod finishing;
 pub mod happenings;

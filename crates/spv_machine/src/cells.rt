@@ -1,0 +1,137 @@
+//! The events of predecoded instructions, which are those on values of one cell: the same as by any other way, without look-ups.
+ghost use Rattle.std.specs.Prelude.{◌≡◌, ◌<◌, IfSome, None, OnOk, length};
+ghost use Rattle.spv_actions.specs.Cells.{full};
+ghost use Rattle.spv_base.specs.declared.values.Value.{Value};
+ghost use Rattle.spv_journal.specs.Held.{IsMaking, Records};
+ghost use Rattle.spv_machine.specs.Cells.{IsCellStep, put as put_by};
+ghost use Rattle.spv_machine.specs.Reached.{IsReached};
+ghost use Rattle.spv_machine.specs.Recording.{Made};
+ghost use Rattle.spv_machine.specs.Step as spec;
+ghost use Rattle.spv_machine.specs.Weights.{effect_weight};
+ghost use Rattle.spv_state.specs.State.{State};
+
+use crate::execution::{Did, StepErr};
+use crate::finishing::finished;
+use crate::happenings::{plain, written};
+use spv_actions::sites::Site;
+use spv_actions::{CellEffect, cell_effect};
+use spv_base::{Happening, Inst, NoMemory};
+use spv_journal::Recorded;
+use spv_state::{Runnable, Whole};
+use spv_valid::Module;
+use spv_values::{Row, Single};
+use std::alloc::Global;
+
+/// What a predecoded instruction does, the word at which it stands, and that of the executable behind it, before which no debug instruction stands.
+#[derive(Clone, Copy)]
+pub(crate) struct CellStep {
+    effect: CellEffect,
+    word: u32,
+    next: u32,
+}
+
+/// What the instruction does that a Ready invocation has reached, with the value that lies in the row then, where it is predecoded and
+/// its operands have values.
+#[inline(always)]
+pub(crate) fn cell_due(
+    alloc: Global,
+    m: &Runnable,
+    whole: &Whole,
+    inv: u32,
+    inst: &Inst,
+    row: &mut Row,
+) -> Option<CellStep>
+    requires inv { inv < length whole.now.statuses.list }
+    requires reached { IsReached m.now whole.now inv inst.now }
+    ensures { IfSome result (IsCellStep m.now whole.now inv inst.now row.new) }
+{
+    let frame = whole.top(inv)?;
+    let word = frame.pc();
+    let predecoded = m.predecoded(word)?;
+    if frame.function() != predecoded.function {
+        return None;
+    }
+    let site = Site::of(alloc, m, whole, inv, frame, inst);
+    let effect = cell_effect(&site, &predecoded.short, row)?;
+    let next = predecoded.next;
+    Some(CellStep { effect, word, next })
+}
+
+/// The event of what a predecoded instruction does.
+#[inline(always)]
+fn happening_of(accepted: &Module, inv: u32, word: u32, effect: &CellEffect) -> Happening
+    ensures { (s : State) (v : Value) → result ≡ spec.happening_of accepted.now s inv word (full effect.now v) }
+{
+    match effect {
+        CellEffect::Gives(_) => plain(inv, word),
+        CellEffect::Sets(root) => written(accepted, inv, word, *root),
+    }
+}
+
+/// Puts the value in a row where a predecoded instruction puts it.
+#[inline(always)]
+fn put(
+    m: &Runnable,
+    recorded: &mut Recorded,
+    inv: u32,
+    inst: &Inst,
+    step: CellStep,
+    row: &Row,
+) -> Result<(), NoMemory>
+    requires making { IsMaking recorded.old.gathered inv }
+    requires reached { IsReached m.now recorded.old.state inv inst.now }
+    requires step { IsCellStep m.now recorded.old.state inv inst.now row.now step }
+    ensures ok { OnOk result (recorded.new.state ≡ put_by inv inst.now.id (full step.effect row.now) recorded.old.state) }
+    ensures recorded { Records 1 recorded.old recorded.new }
+{
+    let value = Single::of_part(&row.as_part());
+    match step.effect {
+        CellEffect::Gives(slot) => recorded.set_cell(inv, &slot, value),
+        CellEffect::Sets(root) => recorded.store_cell(inv, root, value),
+    }
+}
+
+/// Does what a predecoded instruction does with the value in a row, each change recorded.
+#[inline(always)]
+fn apply(
+    m: &Runnable,
+    recorded: &mut Recorded,
+    inv: u32,
+    inst: &Inst,
+    step: CellStep,
+    row: &Row,
+) -> Result<(), NoMemory>
+    requires making { IsMaking recorded.old.gathered inv }
+    requires reached { IsReached m.now recorded.old.state inv inst.now }
+    requires step { IsCellStep m.now recorded.old.state inv inst.now row.now step }
+    ensures ok { OnOk result (recorded.new.state ≡ spec.apply m.now.accepted inv inst.now (full step.effect row.now) recorded.old.state) }
+    ensures recorded { Records 2 recorded.old recorded.new }
+{
+    put(m, recorded, inv, inst, step, row)?;
+    recorded.set_pc(inv, step.next)
+}
+
+/// Does what a predecoded instruction does with the value in a row as one event, or leaves all as it was.
+#[inline(always)]
+pub(crate) fn cell_event(
+    m: &Runnable,
+    recorded: &mut Recorded,
+    inv: u32,
+    inst: &Inst,
+    step: CellStep,
+    row: &Row,
+) -> Result<Did, StepErr>
+    requires none { recorded.old.gathered ≡ None }
+    requires reached { IsReached m.now recorded.old.state inv inst.now }
+    requires step { IsCellStep m.now recorded.old.state inv inst.now row.now step }
+    ensures { Made (spec.happening_of m.now.accepted recorded.old.state inv inst.now.word (full step.effect row.now)) (spec.apply m.now.accepted inv inst.now (full step.effect row.now) recorded.old.state) (effect_weight m.now.accepted inv (full step.effect row.now) (spec.apply m.now.accepted inv inst.now (full step.effect row.now) recorded.old.state)) result recorded.old recorded.new }
+{
+    let happening = happening_of(m.accepted(), inv, step.word, &step.effect);
+    match recorded.mark(happening) {
+        Ok(()) => {
+            let done = apply(m, recorded, inv, inst, step, row);
+            finished(recorded, happening, done)
+        }
+        Err(NoMemory) => Err(StepErr::NoMemory),
+    }
+}
