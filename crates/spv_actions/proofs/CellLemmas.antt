@@ -20,8 +20,9 @@ use Rattle.spv_operands.proofs.ShapeLemmas.{out_pointer}
 use Rattle.spv_plans.specs.Plans.{plan_of}
 use Rattle.spv_results.specs.Operands.{IsOperand}
 use Rattle.spv_state.specs.Predecoded.{IsNamedAt, IsReadAt, IsResultAt}
-use Rattle.spv_state.specs.Sources.{IsName, IsSource, id_of, name_of}
+use Rattle.spv_state.specs.Sources.{IsName, IsSource, id_of, name_of, slot_of}
 use Rattle.spv_state.specs.State.{depth_of}
+use Rattle.spv_state.specs.declared.predecoded.CellSlot.{CellSlot}
 use Rattle.spv_state.specs.declared.predecoded.Source.{Source}
 use Rattle.spv_state.specs.declared.predecoded.Source.TheVariants.{Register, Constant}
 use Rattle.spv_state.specs.declared.predecoded.VariableName.{VariableName}
@@ -43,23 +44,23 @@ slot_lies rs slot h lies = record {
   long = ∥∥₁_elim h (hlevel (props, codes)) (λ t. (lies t).long);
 }
 
-result_slot : (a : Accepted) (function : ℕ) (d : Inst) (slot : Slot) → ∥ IsResultAt a function d slot ∥₁ → IsResultAt a function d slot
+result_slot : (a : Accepted) (function : ℕ) (d : Inst) (slot : CellSlot) → ∥ IsResultAt a function d slot ∥₁ → IsResultAt a function d slot
 result_slot a function d slot h = record {
-  lies = slot_lies (plan_of a function).values slot h (λ (r : IsResultAt a function d slot). r.lies);
+  lies = slot_lies (plan_of a function).values (slot_of slot) h (λ (r : IsResultAt a function d slot). r.lies);
   id = ∥∥₁_elim h (hlevel (props, codes)) (λ (r : IsResultAt a function d slot). r.id);
-  one = ∥∥₁_elim h (hlevel (props, codes)) (λ (r : IsResultAt a function d slot). r.one);
 }
 
-pub gives_cell : (x : Site) (v : Value) (slot : Slot) → ∥ IsSite x ∥₁ → ∥ IsResultAt (accepted x) x.frame.plan.function x.inst slot ∥₁ → pointer_in (out-Value v) ≡ None → GivesCell x v slot
-gives_cell x v slot site h plain =
-    let r = result_slot (accepted x) x.frame.plan.function x.inst slot h in
-    record { lies = subst (λ (p : Planned). IsSlotOf p.values slot) (sym (of_function x site).is) r.lies; id = r.id; one = r.one; plain = plain }
+pub gives_cell : (x : Site) (v : Value) (into : CellSlot) (slot : Slot) → slot ≡ slot_of into → ∥ IsSite x ∥₁ → ∥ IsResultAt (accepted x) x.frame.plan.function x.inst into ∥₁ → pointer_in (out-Value v) ≡ None
+    → GivesCell x v slot
+gives_cell x v into slot is site h plain =
+    let r = result_slot (accepted x) x.frame.plan.function x.inst into h in
+    subst (GivesCell x v) (sym is) (record { lies = subst (λ (p : Planned). IsSlotOf p.values (slot_of into)) (sym (of_function x site).is) r.lies; id = r.id; one = refl; plain = plain })
 
 -- ---- operands
 
 pub source_lies : (a : Accepted) (function : ℕ) (d : Inst) (n : ℕ) (source : Source) → ∥ IsReadAt a function d n source ∥₁ → IsSource a function source
 source_lies a function d n (Register slot) h = (
-  slot_lies (plan_of a function).values slot h (λ (r : IsReadAt a function d n (Register slot)). r.lies.0),
+  slot_lies (plan_of a function).values (slot_of slot) h (λ (r : IsReadAt a function d n (Register slot)). r.lies.0),
   ∥∥₁_elim h (hlevel (props, codes)) (λ (r : IsReadAt a function d n (Register slot)). r.lies.1),
 )
 source_lies a function d n (Constant id) h = ∥∥₁_elim h (hlevel (props, codes)) (λ (r : IsReadAt a function d n (Constant id)). r.lies)

@@ -1,4 +1,4 @@
--- What predecoded instructions on values of one cell do, with the value in a row. No definition of a step speaks of it.
+-- What predecoded instructions on values of one cell do. No definition of a step speaks of it.
 use Rattle.std.specs.Prelude.{◌≡◌, [], length, None, Ok}
 use Rattle.std.specs.Option.{IsSomeAnd}
 use Rattle.spv_base.specs.declared.values.Pointer.{Pointer}
@@ -20,12 +20,12 @@ use Rattle.spv_actions.specs.declared.cells.CellEffect.TheVariants.{Gives, Sets}
 abbrev pub whole : Root → Pointer
 whole r = record { root = r; path = [] }
 
--- the effect, with its value
-abbrev pub full : CellEffect → Value → spec.Effect
-full (Gives slot) v = gives v
-full (Sets root) v = sets (whole root) v
+-- the effect of a step that it is
+abbrev pub full : CellEffect → spec.Effect
+full (Gives slot v) = gives v
+full (Sets root v) = sets (whole root) v
 
--- the register of the instruction's result lies in a slot, and has one cell, as the value has, which is no pointer
+-- the register of the instruction's result lies in a slot, and has one cell; the value is no pointer
 pub record GivesCell (x : Site) (v : Value) (slot : Slot) : Type 0 where
   pub lies : IsSlotOf x.frame.plan.values slot
   pub id : slot.id ≡ x.inst.id
@@ -36,13 +36,12 @@ pub record GivesCell (x : Site) (v : Value) (slot : Slot) : Type 0 where
 abbrev pub SetsCell : Site → Root → Type 0
 SetsCell x r = IsSomeAnd (load_of x.state.memory x.inv (whole r)) (λ w. length (leaves w) ≡ 1)
 
-abbrev pub IsOn : Site → Value → CellEffect → Type 0
-IsOn x v (Gives slot) = GivesCell x v slot
-IsOn x v (Sets root) = SetsCell x root
+abbrev pub IsOn : Site → CellEffect → Type 0
+IsOn x (Gives slot v) = GivesCell x v slot
+IsOn x (Sets root v) = SetsCell x root
 
--- what the instruction does, by a value of one cell; it can be done
-pub record IsCellEffect (x : Site) (v : Value) (e : CellEffect) : Type 0 where
-  pub due : due x ≡ Ok (full e v)
-  pub fits : Fits x.program x.state x.inv x.inst (full e v)
-  pub cell : length (leaves v) ≡ 1
-  pub on : IsOn x v e
+-- what the instruction does; it can be done
+pub record IsCellEffect (x : Site) (e : CellEffect) : Type 0 where
+  pub due : due x ≡ Ok (full e)
+  pub fits : Fits x.program x.state x.inv x.inst (full e)
+  pub on : IsOn x e

@@ -5,24 +5,24 @@ ghost use Rattle.spv_results.specs.Computations.{computation_of};
 ghost use Rattle.spv_state.specs.Actions.{action_of};
 ghost use Rattle.spv_state.specs.Predecoded.{IsNamedAt, IsReadAt, IsResultAt, IsShort};
 
-use crate::accesses::{copied, variables_are_shaped};
-use crate::computing_lanes::binary_on;
+use crate::accesses::variables_are_shaped;
+use crate::computing_lanes::binary_single;
 use crate::kept::{is_kept, load_is_kept, store_is_kept};
 use crate::sites::Site;
 use spv_alu::BinaryOp;
 use spv_base::Root;
 use spv_frame::Slot;
 use spv_results::Computation;
-use spv_state::{Action, Short, Source, VariableName};
-use spv_values::Row;
+use spv_state::{Action, CellSlot, Short, Source, VariableName};
+use spv_values::Single;
 
-/// What an instruction does with the value of one cell in the row at hand.
-#[derive(Clone, Copy)]
+/// What an instruction does with a value of one cell.
+#[derive(Drop)]
 pub enum CellEffect {
     /// The register in the slot takes it.
-    Gives(Slot),
+    Gives { slot: Slot, value: Single },
     /// The whole variable takes it.
-    Sets(Root),
+    Sets { root: Root, value: Single },
 }
 
 /// A binary operation.
@@ -32,34 +32,34 @@ fn binary(
     operation: BinaryOp,
     first: &Source,
     second: &Source,
-    into: Slot,
-    row: &mut Row,
+    into: &CellSlot,
 ) -> Option<CellEffect>
     requires computes { action_of site.now.inst ≡ Action.Compute }
     requires operation { computation_of site.now.inst ≡ Some (Computation.Binary operation) }
     requires first { ∥ IsReadAt site.now.program.accepted site.now.frame.plan.function site.now.inst 0 first.now ∥₁ }
     requires second { ∥ IsReadAt site.now.program.accepted site.now.frame.plan.function site.now.inst 1 second.now ∥₁ }
-    requires into { ∥ IsResultAt site.now.program.accepted site.now.frame.plan.function site.now.inst into ∥₁ }
-    ensures { IfSome result (IsCellEffect site.now row.new) }
+    requires into { ∥ IsResultAt site.now.program.accepted site.now.frame.plan.function site.now.inst into.now ∥₁ }
+    ensures { IfSome result (IsCellEffect site.now) }
 {
     is_kept(site, Computation::Binary(operation));
     site.is_reached();
     let _insts = site.accepted().insts();
     let a = site.read(0, first)?;
     let b = site.read(1, second)?;
-    match binary_on(site, operation, &a, &b, row) {
-        Ok(()) if row.len() == 1 => Some(CellEffect::Gives(into)),
-        _ => None,
+    if a.cells().len() != 1 {
+        return None;
     }
+    let (slot, value) = (into.slot(), binary_single(site, operation, &a, &b));
+    Some(CellEffect::Gives { slot, value })
 }
 
 /// OpLoad of a whole variable.
 #[inline(always)]
-fn load(site: &Site, from: &VariableName, into: Slot, row: &mut Row) -> Option<CellEffect>
+fn load(site: &Site, from: &VariableName, into: &CellSlot) -> Option<CellEffect>
     requires loads { action_of site.now.inst ≡ Action.Load }
     requires from { ∥ IsNamedAt site.now.program.accepted site.now.frame.plan.function site.now.inst 0 from.now ∥₁ }
-    requires into { ∥ IsResultAt site.now.program.accepted site.now.frame.plan.function site.now.inst into ∥₁ }
-    ensures { IfSome result (IsCellEffect site.now row.new) }
+    requires into { ∥ IsResultAt site.now.program.accepted site.now.frame.plan.function site.now.inst into.now ∥₁ }
+    ensures { IfSome result (IsCellEffect site.now) }
 {
     variables_are_shaped(site.memory());
     load_is_kept(site);
@@ -70,19 +70,17 @@ fn load(site: &Site, from: &VariableName, into: Slot, row: &mut Row) -> Option<C
     if part.cells().len() != 1 {
         return None;
     }
-    match copied(&part, row) {
-        Ok(()) => Some(CellEffect::Gives(into)),
-        Err(_) => None,
-    }
+    let (slot, value) = (into.slot(), Single::of_part(&part));
+    Some(CellEffect::Gives { slot, value })
 }
 
 /// OpStore to a whole variable.
 #[inline(always)]
-fn store(site: &Site, to: &VariableName, object: &Source, row: &mut Row) -> Option<CellEffect>
+fn store(site: &Site, to: &VariableName, object: &Source) -> Option<CellEffect>
     requires stores { action_of site.now.inst ≡ Action.Store }
     requires to { ∥ IsNamedAt site.now.program.accepted site.now.frame.plan.function site.now.inst 0 to.now ∥₁ }
     requires object { ∥ IsReadAt site.now.program.accepted site.now.frame.plan.function site.now.inst 1 object.now ∥₁ }
-    ensures { IfSome result (IsCellEffect site.now row.new) }
+    ensures { IfSome result (IsCellEffect site.now) }
 {
     store_is_kept(site);
     site.is_reached();
@@ -93,18 +91,16 @@ fn store(site: &Site, to: &VariableName, object: &Source, row: &mut Row) -> Opti
     if part.cells().len() != 1 || value.cells().len() != 1 {
         return None;
     }
-    match copied(&value, row) {
-        Ok(()) => Some(CellEffect::Sets(root)),
-        Err(_) => None,
-    }
+    let value = Single::of_part(&value);
+    Some(CellEffect::Sets { root, value })
 }
 
-/// What a predecoded instruction does with the value that lies in the row then; none where it is to be worked out as any other, as
-/// where an operand has no value. Nothing is looked up but the variable of a load or a store.
+/// What a predecoded instruction does; none where it is to be worked out as any other, as where an operand has no value. Nothing is
+/// looked up but constants and the variable of a load or a store. Inlined: it is called once an event.
 #[inline(always)]
-pub fn cell_effect(site: &Site, short: &Short, row: &mut Row) -> Option<CellEffect>
+pub fn cell_effect(site: &Site, short: &Short) -> Option<CellEffect>
     requires { ∥ IsShort site.now.program.accepted site.now.frame.plan.function site.now.inst short.now ∥₁ }
-    ensures { IfSome result (IsCellEffect site.now row.new) }
+    ensures { IfSome result (IsCellEffect site.now) }
 {
     match short {
         Short::Binary {
@@ -112,8 +108,8 @@ pub fn cell_effect(site: &Site, short: &Short, row: &mut Row) -> Option<CellEffe
             first,
             second,
             into,
-        } => binary(site, *operation, first, second, *into, row),
-        Short::Load { from, into } => load(site, from, *into, row),
-        Short::Store { to, object } => store(site, to, object, row),
+        } => binary(site, *operation, first, second, into),
+        Short::Load { from, into } => load(site, from, into),
+        Short::Store { to, object } => store(site, to, object),
     }
 }

@@ -1,10 +1,11 @@
 //! The instructions that compute on lanes: their operands, in order, and the result (SPIR-V 1.6 sections 3.42.11 and 3.42.13 to 3.42.15,
 //! and GLSL.std.450).
-ghost use Rattle.std.specs.Prelude.{◌≡◌, ◌≢◌, false, Ok, OnOk, Some};
+ghost use Rattle.std.specs.Prelude.{◌≡◌, ◌≢◌, false, length, Ok, Some};
 ghost use Rattle.spv_alu.specs.declared.field_op.FieldOp.TheVariants.{BitFieldInsert};
 ghost use Rattle.spv_actions.specs.Kept.{Keeps};
 ghost use Rattle.spv_actions.specs.Sites.{Computes, values};
 ghost use Rattle.spv_results.specs.Operands.{IsOperand};
+ghost use Rattle.spv_types.specs.Rows.{leaves};
 ghost use Rattle.spv_types.specs.Rules.{has_runtime};
 ghost use Rattle.spv_bodies.specs.Lanes.{count_of};
 
@@ -12,9 +13,9 @@ use crate::causes::Cause;
 use crate::effects::Gain;
 use crate::sites::Site;
 use spv_alu::{BinaryOp, ExtendedOp, FieldOp, GlslOp, UnaryOp, VectorOp};
-use spv_base::{Fail, NoMemory};
+use spv_base::Fail;
 use spv_results::Computation;
-use spv_values::{Part, Row};
+use spv_values::{Part, Row, Single};
 
 /// A unary operation: its operand.
 pub(crate) fn unary(site: &Site, operation: UnaryOp, row: &mut Row) -> Result<Gain, Fail<Cause>>
@@ -46,23 +47,18 @@ pub(crate) fn truth(site: &Site, operation: VectorOp, row: &mut Row) -> Result<G
     Ok(Gain::Row)
 }
 
-/// A binary operation on the values of its operands.
+/// A binary operation on the values of its operands, which have one lane. Inlined: it is called once an event.
 #[inline(always)]
-pub(crate) fn binary_on(
-    site: &Site,
-    operation: BinaryOp,
-    a: &Part,
-    b: &Part,
-    row: &mut Row,
-) -> Result<(), NoMemory>
+pub(crate) fn binary_single(site: &Site, operation: BinaryOp, a: &Part, b: &Part) -> Single
     requires rule { Keeps site.now.program.accepted site.now.inst (Computation.Binary operation) }
     requires first { values site.now 0 ≡ Some a.now }
     requires second { values site.now 1 ≡ Some b.now }
     requires first_shape { IsOperand site.now.program.accepted site.now.inst 0 a.now }
     requires second_shape { IsOperand site.now.program.accepted site.now.inst 1 b.now }
-    ensures { OnOk result (Computes site.now (Computation.Binary operation) row.new (Ok Gain.Row)) }
+    requires one { length (leaves a.now) ≡ 1 }
+    ensures { Computes site.now (Computation.Binary operation) result (Ok Gain.Row) }
 {
-    spv_results::binary(site.accepted(), site.inst(), operation, a, b, row)
+    spv_results::binary_single(site.accepted(), site.inst(), operation, a, b)
 }
 
 /// A binary operation: its operands.
@@ -72,7 +68,14 @@ pub(crate) fn binary(site: &Site, operation: BinaryOp, row: &mut Row) -> Result<
 {
     let a = site.value(0)?;
     let b = site.value(1)?;
-    binary_on(site, operation, &a.part(), &b.part(), row)?;
+    spv_results::binary(
+        site.accepted(),
+        site.inst(),
+        operation,
+        &a.part(),
+        &b.part(),
+        row,
+    )?;
     Ok(Gain::Row)
 }
 

@@ -6,10 +6,10 @@ ghost use Rattle.spv_alu.specs.Binary.{binary_lane};
 ghost use Rattle.spv_effects.specs.BinaryOps.{MayMeet, binary_value};
 ghost use Rattle.spv_types.specs.Rows.{leaves};
 
-use crate::lanes::{lane_of, of_lanes, put_lane};
+use crate::lanes::{lane_of, of_lanes, put_lane, single_of};
 use spv_alu::BinaryOp;
 use spv_base::Cell;
-use spv_values::{Part, Row};
+use spv_values::{Part, Row, Single};
 
 /// A binary operation on each lane of two operands. It takes no memory.
 pub fn binary(operation: BinaryOp, a: &Part, b: &Part, into: &mut Row)
@@ -24,6 +24,14 @@ pub fn binary(operation: BinaryOp, a: &Part, b: &Part, into: &mut Row)
     let mut cells = into.take_cells();
     binary_cells(operation, a.cells(), b.cells(), cells.as_mut_slice());
     *into = of_lanes(cells);
+}
+
+/// The same on two scalars: no row is needed for the result.
+pub fn binary_single(operation: BinaryOp, a: &Part, b: &Part) -> Single
+    requires { MayMeet operation (leaves a.now) (leaves b.now) 1 }
+    ensures { result ≡ binary_value operation a.now b.now }
+{
+    single_of(operation.apply(lane_of(a), lane_of(b)))
 }
 
 /// The same on rows.

@@ -5,7 +5,8 @@ ghost use Rattle.spv_effects.specs.Lanes.{lane_of, of_lanes};
 ghost use Rattle.spv_types.specs.Rows.{leaves};
 
 use spv_base::Cell;
-use spv_values::{Part, Row};
+use spv_values::{Part, Row, Single};
+use std::slice;
 
 /// These lanes as a value: one is a scalar, and several are a vector. It takes no memory.
 #[tactic(auto, using(crate::proofs::LaneLemmas::leaves_of_lanes))]
@@ -34,4 +35,11 @@ pub(crate) fn put_lane(into: &mut Row, lane: Cell)
     ensures room { length (leaves into.new) ≡ 1 }
 {
     into.put_lane(lane);
+}
+
+/// A scalar of its own.
+pub(crate) fn single_of(lane: Cell) -> Single
+    ensures { result ≡ Scalar lane }
+{
+    Single::of_part(&Part::of(slice::from_ref(&lane)))
 }

@@ -20,7 +20,7 @@ pub mod truths;
 pub mod unary_ops;
 pub mod vectors;
 
-pub use binary_ops::binary;
+pub use binary_ops::{binary, binary_single};
 pub use bitcasts::bitcast;
 pub use composites::{construct, construct_vector, copy, extract, insert};
 pub use extended_ops::extended;

@@ -180,7 +180,9 @@ impl Journal {
         self.add(Entry::StatusChanged(status))
     }
 
-    /// The event that is being made is whole: it is kept, and as many of the oldest go as have to. It takes no memory.
+    /// The event that is being made is whole: it is kept, and as many of the oldest go as have to. It takes no memory. Inlined: it is
+    /// called once an event.
+    #[inline(always)]
     pub fn seal(&mut self)
         requires { IsSome self.old.gathered }
         ensures { self.new ≡ record self.old { ring = fitting self.old.limit (opened self.old.gathered self.old.ring); gathered = None } }

@@ -82,7 +82,8 @@ impl Model for Mark {
 }
 
 /// A cell as the value of a tree.
-fn single(cell: Cell, tree: &Ghost<Value>) -> Single
+#[inline(always)]
+pub(crate) fn single(cell: Cell, tree: &Ghost<Value>) -> Single
     requires { leaves tree.now.value ≡ cell ∷ [] }
     ensures { result ≡ tree.now.value }
 {

@@ -9,11 +9,11 @@ ghost use Rattle.spv_types.specs.Rows.{leaves};
 
 use crate::entries::{Entry, OldFrame, OldPart, OldValue};
 use crate::journal::Journal;
-use crate::marks::tree_of;
+use crate::marks::{single, tree_of};
 use spv_base::{Ghost, NoMemory, Pointer};
 use spv_state::Whole;
 use spv_state::held::HeldPointer;
-use spv_values::{Part, Row, Single};
+use spv_values::{Row, Single};
 use std::alloc::Global;
 
 /// The entry of a store where a pointer leads, after it was made, by a copy of the value that was there.
@@ -110,9 +110,8 @@ pub(crate) fn keep_held(
 pub(crate) fn again(value: &Single) -> Single
     ensures { result ≡ value.now }
 {
-    let cells = [value.cell()];
     let none = Ghost::of();
-    Single::of_part(&Part::with_tree(cells.as_slice(), tree_of(&none, value)))
+    single(value.cell(), &tree_of(&none, value))
 }
 
 /// Adds the entry of a register of one cell by the value that it had, if a mark says that it had one. Inlined: it is called once an

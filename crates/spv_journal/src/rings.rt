@@ -31,6 +31,15 @@ fn undo_first(whole: &mut Whole, inv: u32, entries: &mut HeapCircularBuffer<Entr
     }
 }
 
+/// Drops the last change. Apart from the way that most events go, which have none beside their marks.
+#[inline(never)]
+fn drop_one(entries: &mut HeapCircularBuffer<Entry>)
+    ensures entries { entries.new.items ≡ take (length entries.old.items - 1) entries.old.items }
+    ensures capacity { entries.new.capacity ≡ entries.old.capacity }
+{
+    let _entry = entries.pop_back();
+}
+
 /// Drops the last changes, so many.
 fn drop_last(entries: &mut HeapCircularBuffer<Entry>, count: usize)
     requires { count ≤ length entries.old.items }
@@ -38,8 +47,18 @@ fn drop_last(entries: &mut HeapCircularBuffer<Entry>, count: usize)
     ensures capacity { entries.new.capacity ≡ entries.old.capacity }
 {
     for _number in 0..count {
-        let _entry = entries.pop_back();
+        drop_one(entries);
     }
+}
+
+/// Puts a change before all, where there is room for it. Apart, as `drop_one` is.
+#[inline(never)]
+fn put_one(entries: &mut HeapCircularBuffer<Entry>, entry: Entry)
+    requires { length entries.old.items < entries.old.capacity }
+    ensures entries { entries.new.items ≡ entry ∷ entries.old.items }
+    ensures capacity { entries.new.capacity ≡ entries.old.capacity }
+{
+    entries.push_front(entry);
 }
 
 /// Puts the changes of an event before all, where there is room for them.
@@ -50,7 +69,7 @@ fn put_all(entries: &mut HeapCircularBuffer<Entry>, gathered: &mut VecDeque<Entr
     ensures gathered { gathered.new.items ≡ [] }
 {
     while let Some(entry) = gathered.pop_back() {
-        entries.push_front(entry);
+        put_one(entries, entry);
     }
 }
 
@@ -109,7 +128,8 @@ impl Ring {
         self.marks.len() as u64
     }
 
-    /// Takes all events away.
+    /// Takes all events away. Apart, as `drop_one` is.
+    #[inline(never)]
     fn clear(&mut self)
         ensures events { self.new.events ≡ [] }
         ensures limit { self.new.limit ≡ self.old.limit }
@@ -147,7 +167,9 @@ impl Ring {
         }
     }
 
-    /// Puts an event before all, where there is room for it, and takes as many of the oldest away as have to go.
+    /// Puts an event before all, where there is room for it, and takes as many of the oldest away as have to go. Inlined: it is called
+    /// once an event.
+    #[inline(always)]
     pub(crate) fn put(&mut self, mark: &mut Mark, gathered: &mut VecDeque<Entry>)
         ensures events { self.new.events ≡ fitting self.old.limit (event_of mark.old gathered.old.items ∷ self.old.events) }
         ensures limit { self.new.limit ≡ self.old.limit }

@@ -2,25 +2,18 @@
 use Rattle.std.specs.Prelude.{◌≡◌, ℕ, [], Some}
 use Rattle.spv_base.specs.Entries.{reads}
 use Rattle.spv_base.specs.declared.instructions.Inst.{Inst}
-use Rattle.spv_base.specs.declared.values.Value.{Value}
 use Rattle.spv_frame.specs.Frames.{Held as Frame}
 use Rattle.spv_actions.specs.Cells.{IsCellEffect}
-use Rattle.spv_actions.specs.Effects.{Effect}
 use Rattle.spv_state.specs.Events.{captures_before}
 use Rattle.spv_state.specs.Program.{Program}
-use Rattle.spv_state.specs.State.{State, put_store, top_of}
-use Rattle.spv_machine.specs.Step.{put_result}
+use Rattle.spv_state.specs.State.{State, top_of}
 use Rattle.spv_machine.specs.declared.cells.CellStep.{CellStep}
 
--- the store and the result of an effect, done
-abbrev pub put : ℕ → ℕ → Effect → State → State
-put i id e s = put_result i id e.result (put_store i e.store s)
-
--- its effect, by the value in a row, its word, and the executable behind it, before which no debug instruction stands
-pub record IsCellStep (p : Program) (s : State) (i : ℕ) (d : Inst) (v : Value) (step : CellStep) : Type 0 where
+-- its effect, its word, and the executable behind it, before which no debug instruction stands
+pub record IsCellStep (p : Program) (s : State) (i : ℕ) (d : Inst) (step : CellStep) : Type 0 where
   pub frame : Frame
   pub top : top_of s i ≡ Some frame
-  pub effect : IsCellEffect (record { program = p; state = s; inv = i; frame = frame; inst = d }) v step.effect
+  pub effect : IsCellEffect (record { program = p; state = s; inv = i; frame = frame; inst = d }) step.effect
   pub word : step.word ≡ d.word
   pub next : reads d.word p.accepted.flow.nexts ≡ Some (Some step.next)
   pub silent : captures_before p.accepted step.next ≡ []

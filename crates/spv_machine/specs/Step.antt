@@ -35,6 +35,10 @@ abbrev pub put_result : ℕ → ℕ → Option Value → State → State
 put_result i id None s = s
 put_result i id (Some v) s = on_frame i (with_register id v) s
 
+-- the store and the result of an effect
+abbrev pub put : ℕ → ℕ → Effect → State → State
+put i id e s = put_result i id e.result (put_store i e.store s)
+
 -- to the next executable
 abbrev pub to_next : Accepted → ℕ → State → State
 to_next a i s = on_frame i (λ (f : Frame). with_pc (next_of a f.pc) f) s
@@ -89,7 +93,7 @@ go a i word (Leave v) s = leave a i v s
 go a i word Wait s = arrive i word s
 
 abbrev pub apply : Accepted → ℕ → Inst → Effect → State → State
-apply a i d e s = go a i d.word e.control (put_result i d.id e.result (put_store i e.store s))
+apply a i d e s = go a i d.word e.control (put i d.id e s)
 
 -- ---- a step
 

@@ -1,9 +1,8 @@
-//! The events of predecoded instructions, which are those on values of one cell: the same as by any other way, without look-ups.
+//! The events of predecoded instructions, which are those on values of one cell: the same as by any other way, with few look-ups.
 ghost use Rattle.std.specs.Prelude.{◌≡◌, ◌<◌, IfSome, None, OnOk, length};
 ghost use Rattle.spv_actions.specs.Cells.{full};
-ghost use Rattle.spv_base.specs.declared.values.Value.{Value};
 ghost use Rattle.spv_journal.specs.Held.{IsMaking, Records};
-ghost use Rattle.spv_machine.specs.Cells.{IsCellStep, put as put_by};
+ghost use Rattle.spv_machine.specs.Cells.{IsCellStep};
 ghost use Rattle.spv_machine.specs.Reached.{IsReached};
 ghost use Rattle.spv_machine.specs.Recording.{Made};
 ghost use Rattle.spv_machine.specs.Step as spec;
@@ -19,19 +18,18 @@ use spv_base::{Happening, Inst, NoMemory};
 use spv_journal::Recorded;
 use spv_state::{Runnable, Whole};
 use spv_valid::Module;
-use spv_values::{Row, Single};
 use std::alloc::Global;
 
 /// What a predecoded instruction does, the word at which it stands, and that of the executable behind it, before which no debug instruction stands.
-#[derive(Clone, Copy)]
+#[derive(Drop)]
 pub(crate) struct CellStep {
     effect: CellEffect,
+    /// The instruction's, which itself isn't read: it lies elsewhere in memory.
     word: u32,
     next: u32,
 }
 
-/// What the instruction does that a Ready invocation has reached, with the value that lies in the row then, where it is predecoded and
-/// its operands have values.
+/// What the instruction does that a Ready invocation has reached, where it is predecoded and its operands have values.
 #[inline(always)]
 pub(crate) fn cell_due(
     alloc: Global,
@@ -39,11 +37,10 @@ pub(crate) fn cell_due(
     whole: &Whole,
     inv: u32,
     inst: &Inst,
-    row: &mut Row,
 ) -> Option<CellStep>
     requires inv { inv < length whole.now.statuses.list }
     requires reached { IsReached m.now whole.now inv inst.now }
-    ensures { IfSome result (IsCellStep m.now whole.now inv inst.now row.new) }
+    ensures { IfSome result (IsCellStep m.now whole.now inv inst.now) }
 {
     let frame = whole.top(inv)?;
     let word = frame.pc();
@@ -52,7 +49,7 @@ pub(crate) fn cell_due(
         return None;
     }
     let site = Site::of(alloc, m, whole, inv, frame, inst);
-    let effect = cell_effect(&site, &predecoded.short, row)?;
+    let effect = cell_effect(&site, &predecoded.short)?;
     let next = predecoded.next;
     Some(CellStep { effect, word, next })
 }
@@ -60,15 +57,15 @@ pub(crate) fn cell_due(
 /// The event of what a predecoded instruction does.
 #[inline(always)]
 fn happening_of(accepted: &Module, inv: u32, word: u32, effect: &CellEffect) -> Happening
-    ensures { (s : State) (v : Value) → result ≡ spec.happening_of accepted.now s inv word (full effect.now v) }
+    ensures { (s : State) → result ≡ spec.happening_of accepted.now s inv word (full effect.now) }
 {
     match effect {
-        CellEffect::Gives(_) => plain(inv, word),
-        CellEffect::Sets(root) => written(accepted, inv, word, *root),
+        CellEffect::Gives { .. } => plain(inv, word),
+        CellEffect::Sets { root, .. } => written(accepted, inv, word, *root),
     }
 }
 
-/// Puts the value in a row where a predecoded instruction puts it.
+/// Puts the value where a predecoded instruction puts it.
 #[inline(always)]
 fn put(
     m: &Runnable,
@@ -76,22 +73,20 @@ fn put(
     inv: u32,
     inst: &Inst,
     step: CellStep,
-    row: &Row,
 ) -> Result<(), NoMemory>
     requires making { IsMaking recorded.old.gathered inv }
     requires reached { IsReached m.now recorded.old.state inv inst.now }
-    requires step { IsCellStep m.now recorded.old.state inv inst.now row.now step }
-    ensures ok { OnOk result (recorded.new.state ≡ put_by inv inst.now.id (full step.effect row.now) recorded.old.state) }
+    requires step { IsCellStep m.now recorded.old.state inv inst.now step }
+    ensures ok { OnOk result (recorded.new.state ≡ spec.put inv inst.now.id (full step.effect) recorded.old.state) }
     ensures recorded { Records 1 recorded.old recorded.new }
 {
-    let value = Single::of_part(&row.as_part());
     match step.effect {
-        CellEffect::Gives(slot) => recorded.set_cell(inv, &slot, value),
-        CellEffect::Sets(root) => recorded.store_cell(inv, root, value),
+        CellEffect::Gives { slot, value } => recorded.set_cell(inv, &slot, value),
+        CellEffect::Sets { root, value } => recorded.store_cell(inv, root, value),
     }
 }
 
-/// Does what a predecoded instruction does with the value in a row, each change recorded.
+/// Does what a predecoded instruction does, each change recorded.
 #[inline(always)]
 fn apply(
     m: &Runnable,
@@ -99,19 +94,19 @@ fn apply(
     inv: u32,
     inst: &Inst,
     step: CellStep,
-    row: &Row,
 ) -> Result<(), NoMemory>
     requires making { IsMaking recorded.old.gathered inv }
     requires reached { IsReached m.now recorded.old.state inv inst.now }
-    requires step { IsCellStep m.now recorded.old.state inv inst.now row.now step }
-    ensures ok { OnOk result (recorded.new.state ≡ spec.apply m.now.accepted inv inst.now (full step.effect row.now) recorded.old.state) }
+    requires step { IsCellStep m.now recorded.old.state inv inst.now step }
+    ensures ok { OnOk result (recorded.new.state ≡ spec.apply m.now.accepted inv inst.now (full step.effect) recorded.old.state) }
     ensures recorded { Records 2 recorded.old recorded.new }
 {
-    put(m, recorded, inv, inst, step, row)?;
-    recorded.set_pc(inv, step.next)
+    let next = step.next;
+    put(m, recorded, inv, inst, step)?;
+    recorded.set_pc(inv, next)
 }
 
-/// Does what a predecoded instruction does with the value in a row as one event, or leaves all as it was.
+/// Does what a predecoded instruction does as one event, or leaves all as it was.
 #[inline(always)]
 pub(crate) fn cell_event(
     m: &Runnable,
@@ -119,17 +114,16 @@ pub(crate) fn cell_event(
     inv: u32,
     inst: &Inst,
     step: CellStep,
-    row: &Row,
 ) -> Result<Did, StepErr>
     requires none { recorded.old.gathered ≡ None }
     requires reached { IsReached m.now recorded.old.state inv inst.now }
-    requires step { IsCellStep m.now recorded.old.state inv inst.now row.now step }
-    ensures { Made (spec.happening_of m.now.accepted recorded.old.state inv inst.now.word (full step.effect row.now)) (spec.apply m.now.accepted inv inst.now (full step.effect row.now) recorded.old.state) (effect_weight m.now.accepted inv (full step.effect row.now) (spec.apply m.now.accepted inv inst.now (full step.effect row.now) recorded.old.state)) result recorded.old recorded.new }
+    requires step { IsCellStep m.now recorded.old.state inv inst.now step }
+    ensures { Made (spec.happening_of m.now.accepted recorded.old.state inv inst.now.word (full step.effect)) (spec.apply m.now.accepted inv inst.now (full step.effect) recorded.old.state) (effect_weight m.now.accepted inv (full step.effect) (spec.apply m.now.accepted inv inst.now (full step.effect) recorded.old.state)) result recorded.old recorded.new }
 {
     let happening = happening_of(m.accepted(), inv, step.word, &step.effect);
     match recorded.mark(happening) {
         Ok(()) => {
-            let done = apply(m, recorded, inv, inst, step, row);
+            let done = apply(m, recorded, inv, inst, step);
             finished(recorded, happening, done)
         }
         Err(NoMemory) => Err(StepErr::NoMemory),

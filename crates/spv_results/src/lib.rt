@@ -20,7 +20,7 @@ pub mod unary_ops;
 pub mod undefs;
 pub mod vectors;
 
-pub use binary_ops::binary;
+pub use binary_ops::{binary, binary_single};
 pub use bitcasts::bitcast;
 pub use composites::{construct, extract, insert};
 pub use computations::Computation;

@@ -9,7 +9,6 @@ use Rattle.spv_base.specs.declared.values.Root.{Root}
 use Rattle.spv_base.specs.declared.values.Root.TheVariants as root
 use Rattle.spv_base.specs.declared.values.Value.{Value}
 use Rattle.spv_consts.specs.Trees.{tree_of}
-use Rattle.spv_frame.specs.declared.slots.Slot.{Slot}
 use Rattle.spv_frame.specs.Frames.{Held}
 use Rattle.spv_frame.specs.Registers.{IsSlotOf, Planned, ids, number_of}
 use Rattle.spv_index.specs.Definitions.{at, number_at, stands_at}
@@ -20,7 +19,8 @@ use Rattle.spv_plans.specs.Registered.{IsOfFunction}
 use Rattle.spv_valid.specs.Acceptance.{Accepted}
 use Rattle.spv_valid.specs.declared.meanings.Meaning.TheVariants as meaning
 use Rattle.spv_state.specs.Predecoded.{ArePredecoded, IsPredecoded}
-use Rattle.spv_state.specs.Sources.{IsName, IsSource, id_of, name_of}
+use Rattle.spv_state.specs.Sources.{IsName, IsSource, id_of, name_of, slot_of}
+use Rattle.spv_state.specs.declared.predecoded.CellSlot.{CellSlot}
 use Rattle.spv_state.specs.declared.predecoded.Predecoded.{Predecoded}
 use Rattle.spv_state.specs.declared.predecoded.Source.{Source}
 use Rattle.spv_state.specs.declared.predecoded.Source.TheVariants.{Register, Constant}
@@ -32,14 +32,14 @@ use Rattle.spv_state.specs.declared.predecoded.VariableName.TheVariants.{Module,
 register_holds : (f : Held) (id n : ℕ) (v : Value) → number_of id (ids f.plan.values) ≡ Some n → reads id f.values ≡ Some (Some v) → register_value f id ≡ Some v
 register_holds f id n v number read = rw (number, read) refl
 
-register_value_of : (a : Accepted) (f : Held) (source : Source) (slot : Slot) (v : Value) → source ≡ Register slot → IsSource a f.plan.function source → IsOfFunction a f.plan
+register_value_of : (a : Accepted) (f : Held) (source : Source) (slot : CellSlot) (v : Value) → source ≡ Register slot → IsSource a f.plan.function source → IsOfFunction a f.plan
     → reads slot.id f.values ≡ Some (Some v) → (depth : ℕ) → value_of a f depth (id_of source) ≡ Some v
 register_value_of a f source slot v is lies of_function read depth =
     let (own, meant) : IsSource a f.plan.function (Register slot) = subst (IsSource a f.plan.function) is lies in
-    let slot_of : IsSlotOf f.plan.values slot = subst (λ (p : Planned). IsSlotOf p.values slot) (sym of_function.is) own in
-    ap (λ (x : Source). value_of a f depth (id_of x)) is ∙ sym (value_meant a f depth slot.id (meaning.Register f.plan.function) meant) ∙ register_holds f slot.id slot.number v slot_of.named read
+    let lies_at : IsSlotOf f.plan.values (slot_of slot) = subst (λ (p : Planned). IsSlotOf p.values (slot_of slot)) (sym of_function.is) own in
+    ap (λ (x : Source). value_of a f depth (id_of x)) is ∙ sym (value_meant a f depth slot.id (meaning.Register f.plan.function) meant) ∙ register_holds f slot.id slot.number v lies_at.named read
 
-pub register_read : (a : Accepted) (f : Held) (source : Source) (slot : Slot) (o : Option Value) → source ≡ Register slot → IsSource a f.plan.function source → IsOfFunction a f.plan
+pub register_read : (a : Accepted) (f : Held) (source : Source) (slot : CellSlot) (o : Option Value) → source ≡ Register slot → IsSource a f.plan.function source → IsOfFunction a f.plan
     → reads slot.id f.values ≡ Some o → IfSome o (λ v. (depth : ℕ) → value_of a f depth (id_of source) ≡ Some v)
 register_read a f source slot None is lies of_function read = tt
 register_read a f source slot (Some v) is lies of_function read = register_value_of a f source slot v is lies of_function read

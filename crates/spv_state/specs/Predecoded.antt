@@ -3,7 +3,6 @@ use Rattle.std.specs.Prelude.{◌≡◌, ℕ, List, [], Option, Some, slice_get}
 use Rattle.spv_base.specs.Entries.{reads}
 use Rattle.spv_base.specs.declared.instructions.Inst.{Inst}
 use Rattle.spv_frame.specs.Registers.{IsSlotOf}
-use Rattle.spv_frame.specs.declared.slots.Slot.{Slot}
 use Rattle.spv_index.specs.Operands.{id_operand}
 use Rattle.spv_plans.specs.Plans.{plan_of}
 use Rattle.spv_results.specs.Computations.{computation_of}
@@ -11,8 +10,9 @@ use Rattle.spv_results.specs.declared.computations.Computation.TheVariants as co
 use Rattle.spv_valid.specs.Acceptance.{Accepted}
 use Rattle.spv_state.specs.Actions.{action_of}
 use Rattle.spv_state.specs.Events.{captures_before}
-use Rattle.spv_state.specs.Sources.{IsName, IsSource, id_of, name_of}
+use Rattle.spv_state.specs.Sources.{IsName, IsSource, id_of, name_of, slot_of}
 use Rattle.spv_state.specs.declared.actions.Action.TheVariants as action
+use Rattle.spv_state.specs.declared.predecoded.CellSlot.{CellSlot}
 use Rattle.spv_state.specs.declared.predecoded.Predecoded.{Predecoded}
 use Rattle.spv_state.specs.declared.predecoded.Short.{Short}
 use Rattle.spv_state.specs.declared.predecoded.Short.TheVariants.{Binary, Load, Store}
@@ -30,10 +30,9 @@ pub record IsNamedAt (a : Accepted) (function : ℕ) (d : Inst) (n : ℕ) (varia
   pub names : IsName a function variable
 
 -- the register of the result, which has one cell
-pub record IsResultAt (a : Accepted) (function : ℕ) (d : Inst) (slot : Slot) : Type 0 where
-  pub lies : IsSlotOf (plan_of a function).values slot
+pub record IsResultAt (a : Accepted) (function : ℕ) (d : Inst) (slot : CellSlot) : Type 0 where
+  pub lies : IsSlotOf (plan_of a function).values (slot_of slot)
   pub id : slot.id ≡ d.id
-  pub one : slot.len ≡ 1
 
 abbrev pub IsShort : Accepted → ℕ → Inst → Short → Type 0
 IsShort a function d (Binary operation first second into) =

@@ -20,6 +20,6 @@ pub use actions::{Action, AtomicOp};
 pub use captures::Capture;
 pub use events::{captured_at, pass_events};
 pub use plans::plan_in;
-pub use predecoded::{Predecoded, Short, Source, VariableName};
+pub use predecoded::{CellSlot, Predecoded, Short, Source, VariableName};
 pub use runnable::Runnable;
 pub use whole::Whole;

@@ -10,7 +10,7 @@ ghost use Rattle.spv_state.specs.Actions.{action_of};
 ghost use Rattle.spv_state.specs.Events as events;
 ghost use Rattle.spv_state.specs.Events.{captures_before};
 ghost use Rattle.spv_state.specs.Predecoded.{ArePredecoded, IsNamedAt, IsPredecoded, IsReadAt, IsResultAt, IsShort};
-ghost use Rattle.spv_state.specs.Sources.{IsName, IsSource, id_of, name_of};
+ghost use Rattle.spv_state.specs.Sources.{IsName, IsSource, id_of, name_of, slot_of};
 
 use crate::actions::Action;
 use crate::captures::Capture;
@@ -28,11 +28,19 @@ use spv_valid::{Meaning, Module};
 use spv_values::Part;
 use std::alloc::Global;
 
+/// Where a register of one cell lies in the frames of a function, in 12 bytes: each predecoded instruction has up to three.
+#[derive(Clone, Copy)]
+pub struct CellSlot {
+    id: u32,
+    number: u32,
+    start: u32,
+}
+
 /// Where the value lies that an id stands for in the frames of a function.
 #[derive(Drop)]
 pub enum Source {
     /// In a register of one cell.
-    Register(Slot),
+    Register(CellSlot),
     /// Among the constants, under this id.
     Constant(u32),
 }
@@ -46,16 +54,48 @@ pub enum VariableName {
     Local(u32),
 }
 
+impl CellSlot {
+    /// A slot of one cell, in this form.
+    fn of(slot: &Slot) -> Option<CellSlot>
+        ensures { IfSome result (λ s. slot_of s ≡ slot.now) }
+    {
+        if slot.len != 1 {
+            return None;
+        }
+        Some(CellSlot {
+            id: slot.id,
+            number: u32::try_from(slot.number).ok()?,
+            start: u32::try_from(slot.start).ok()?,
+        })
+    }
+
+    /// The slot.
+    #[inline(always)]
+    pub fn slot(&self) -> Slot
+        ensures { result ≡ slot_of self.now }
+    {
+        Slot {
+            id: self.id,
+            number: self.number as usize,
+            start: self.start as usize,
+            len: 1,
+        }
+    }
+}
+
 /// Where the register of a value with an id lies in the frames of a function, if they have it and it has one cell. In constant time.
-pub(crate) fn register_of(accepted: &Module, plans: &Plans, function: u32, id: u32) -> Option<Slot>
+pub(crate) fn register_of(
+    accepted: &Module,
+    plans: &Plans,
+    function: u32,
+    id: u32,
+) -> Option<CellSlot>
     requires plans { plans.now ≡ plans_in accepted.now }
     requires function { HasNumber accepted.now function }
-    ensures slot { IfSome result (IsSlotOf (plan_of accepted.now function).values) }
+    ensures slot { IfSome result (λ s. IsSlotOf (plan_of accepted.now function).values (slot_of s)) }
     ensures id { IfSome result (λ s. s.id ≡ id) }
-    ensures one { IfSome result (λ s. s.len ≡ 1) }
 {
-    let slot = value_slot_of(accepted, plans, function, id)?;
-    if slot.len == 1 { Some(*slot) } else { None }
+    CellSlot::of(value_slot_of(accepted, plans, function, id)?)
 }
 
 impl Source {
@@ -83,7 +123,7 @@ impl Source {
         ensures { IfSome result (λ v. (depth : ℕ) → value_of accepted.now frame.now depth (id_of self.now) ≡ Some v) }
     {
         match self {
-            Source::Register(slot) => frame.value(slot),
+            Source::Register(register) => frame.value(&register.slot()),
             Source::Constant(id) => constant(accepted, *id),
         }
     }
@@ -126,12 +166,12 @@ pub enum Short {
         operation: BinaryOp,
         first: Source,
         second: Source,
-        into: Slot,
+        into: CellSlot,
     },
     /// OpLoad of a whole variable.
     Load {
         from: VariableName,
-        into: Slot,
+        into: CellSlot,
     },
     /// OpStore to a whole variable.
     Store {
@@ -166,7 +206,7 @@ fn named_at(accepted: &Module, function: u32, inst: &Inst, n: usize) -> Option<V
 }
 
 /// Where the result lies in the frames of a function.
-fn result_at(accepted: &Module, plans: &Plans, function: u32, inst: &Inst) -> Option<Slot>
+fn result_at(accepted: &Module, plans: &Plans, function: u32, inst: &Inst) -> Option<CellSlot>
     requires plans { plans.now ≡ plans_in accepted.now }
     requires function { HasNumber accepted.now function }
     ensures { IfSome result (IsResultAt accepted.now function inst.now) }

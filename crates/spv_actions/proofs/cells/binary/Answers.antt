@@ -1,4 +1,4 @@
-use Rattle.std.proofs.Common.{◌∙◌, subst, sym}
+use Rattle.std.proofs.Common.{subst}
 use Rattle.spv_types.specs.Laws.{AreSound}
 use Rattle.spv_valid.specs.Acceptance.{Accepted}
 use Rattle.spv_results.specs.Operands.{known}
@@ -21,14 +21,14 @@ read-requires-2-clause-data c =
     let rule = c.is_kept.ensures.rule in
     (lane_operands (known c.args.site.now.program.accepted) c.args.site.now.inst 2 (binary_has c.args.site.now.inst.op c.args.operation rule.0) rule.1).1
 
-pub returns-in-Ok : goal.returns-in-Ok
-returns-in-Ok c =
+pub returns : goal.returns
+returns c =
     let x = c.args.site.now in
     let sound = subst (λ (a : Accepted). AreSound a.types) c.accepted.ensures (sound_types c.accepted.result.now c.insts-insts.ensures.valid) in
-    let computes = c.in-Ok.ensures in
+    let v = c.binary_single-value.result in
+    let computes = c.binary_single-value.ensures in
     record {
-      due = computed_due x (computation.Binary c.args.operation) Row c.binary_on.new.row c.requires.computes c.requires.operation computes;
-      fits = record { store = tt; result = gain_fits x Row c.binary_on.new.row sound computes.1; control = c.is_kept.ensures.next; rooted = gain_rooted x Row c.binary_on.new.row sound computes.1; passed = tt };
-      cell = sym c.len.ensures ∙ c.if-len-eq1.true;
-      on = gives_cell x c.binary_on.new.row c.args.into c.is_reached.ensures c.requires.into (gain_taken x Row c.binary_on.new.row sound computes.1).0;
+      due = computed_due x (computation.Binary c.args.operation) Row v c.requires.computes c.requires.operation computes;
+      fits = record { store = tt; result = gain_fits x Row v sound computes.1; control = c.is_kept.ensures.next; rooted = gain_rooted x Row v sound computes.1; passed = tt };
+      on = gives_cell x v c.args.into.now c.slot-slot.result c.slot-slot.ensures c.is_reached.ensures c.requires.into (gain_taken x Row v sound computes.1).0;
     }

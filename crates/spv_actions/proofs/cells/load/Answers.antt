@@ -1,7 +1,6 @@
-use Rattle.std.proofs.Common.{◌≡◌, ◌∙◌, Ok, ap, length, subst, sym}
+use Rattle.std.proofs.Common.{◌≡◌, ◌∙◌, Ok, ap, subst, sym}
 use Rattle.spv_base.specs.declared.values.Value.{Value}
 use Rattle.spv_types.specs.Laws.{AreSound}
-use Rattle.spv_types.specs.Rows.{leaves}
 use Rattle.spv_mem.specs.Memory.{Held as Memory, IsMemory, root_value}
 use Rattle.spv_valid.specs.Acceptance.{Accepted}
 use Rattle.spv_valid.specs.Validity.{IsValid}
@@ -20,8 +19,8 @@ use Rattle.spv_actions.proofs.cells.load.Goals as goal
 pub load_is_kept-requires : goal.load_is_kept-requires
 load_is_kept-requires c = loading c.args.site.now.inst c.requires.loads
 
-pub returns-in-Ok : goal.returns-in-Ok
-returns-in-Ok c =
+pub returns : goal.returns
+returns c =
     let x = c.args.site.now in
     let at = pointer_to c.variable-root.result in
     let v = c.in_ok-part.part in
@@ -32,10 +31,10 @@ returns-in-Ok c =
     let valid = subst (λ (a : Accepted). ∥ IsValid a ∥₁) c.accepted.ensures c.insts-insts.ensures.valid in
     let memory : ∥ IsMemory x.state.memory ∥₁ = subst (λ (m : Memory). ∥ IsMemory m ∥₁) c.memory.ensures c.variables_are_shaped.ensures in
     let shape = load_shape x sound valid c.is_reached.ensures at c.variable-root.ensures.shape v c.load_is_kept.ensures.rule memory there in
-    let own : IsResult (accepted x) x.inst c.copied.new.row = subst (IsResult (accepted x) x.inst) (sym c.in-Ok.ensures) shape in
+    let w = c.of_part-value.result in
+    let own : IsResult (accepted x) x.inst w = subst (IsResult (accepted x) x.inst) (sym c.of_part-value.ensures) shape in
     record {
-      due = load_gives x at v c.requires.loads c.variable-root.ensures.value there ∙ ap (λ (v : Value). Ok (gives v)) (sym c.in-Ok.ensures);
-      fits = record { store = tt; result = result_fits (accepted x) x.inst c.copied.new.row sound own; control = c.load_is_kept.ensures.next; rooted = result_rooted (accepted x) (frames_of x.state x.inv) x.inst c.copied.new.row sound own; passed = tt };
-      cell = ap (λ (w : Value). length (leaves w)) c.in-Ok.ensures ∙ sym (ap length c.cells.ensures) ∙ c.if-cells-ne1.false;
-      on = gives_cell x c.copied.new.row c.args.into c.is_reached.ensures c.requires.into (result_plain (accepted x) x.inst c.copied.new.row sound own);
+      due = load_gives x at v c.requires.loads c.variable-root.ensures.value there ∙ ap (λ (v : Value). Ok (gives v)) (sym c.of_part-value.ensures);
+      fits = record { store = tt; result = result_fits (accepted x) x.inst w sound own; control = c.load_is_kept.ensures.next; rooted = result_rooted (accepted x) (frames_of x.state x.inv) x.inst w sound own; passed = tt };
+      on = gives_cell x w c.args.into.now c.slot-slot.result c.slot-slot.ensures c.is_reached.ensures c.requires.into (result_plain (accepted x) x.inst w sound own);
     }

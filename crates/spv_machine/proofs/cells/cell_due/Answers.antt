@@ -31,7 +31,7 @@ returns c =
     record {
       frame = f;
       top = sym c.in_ok-frame.ensures;
-      effect = subst (λ (x : Site). IsCellEffect x c.cell_effect.new.row c.in_ok-effect.effect) c.of-site.ensures c.in_ok-effect.ensures;
+      effect = subst (λ (x : Site). IsCellEffect x c.in_ok-effect.effect) c.of-site.ensures c.in_ok-effect.ensures;
       word = c.pc-word.ensures ∙ word_at c.args.m.now c.args.whole.now c.args.inv d f c.requires.reached (sym c.in_ok-frame.ensures);
       next = ∥∥₁_elim is (hlevel props) (λ (h : IsPredecoded a d p). h.next);
       silent = ∥∥₁_elim is (hlevel (props, codes)) (λ (h : IsPredecoded a d p). h.silent);

@@ -77,21 +77,20 @@ returns-in-Some-clause-does c =
     let s = c.args.recorded.now.state in
     let i = c.args.inv in
     let d = c.reached-inst.result.now in
-    let v = c.cell_due.new.row in
     let step = c.in-Some.step in
-    let e = full step.effect v in
+    let e = full step.effect in
     let reached : IsReached p s i d = subst (λ (x : State). IsReached p x i d) c.whole-whole.ensures c.reached-inst.ensures in
-    let is : IsCellStep p s i d v step = subst (λ (x : State). IsCellStep p x i d v step) c.whole-whole.ensures c.in-Some.ensures in
-    subst (λ (n : ℕ). Does i (step_of p s i) n c.cell_event.result (seen c.args.recorded.now) (seen c.cell_event.new.recorded)) (sym (cell_weighs p s i d v step reached is))
+    let is : IsCellStep p s i d step = subst (λ (x : State). IsCellStep p x i d step) c.whole-whole.ensures c.in-Some.ensures in
+    subst (λ (n : ℕ). Does i (step_of p s i) n c.cell_event.result (seen c.args.recorded.now) (seen c.cell_event.new.recorded)) (sym (cell_weighs p s i d step reached is))
     (made_does i (step_of p s i) (effect_weight p.accepted i e (apply p.accepted i d e s)) (happening_of p.accepted s i d.word e) (apply p.accepted i d e s) c.cell_event.result c.args.recorded.now c.cell_event.new.recorded
-    (cell_moves p s i d v step reached is) c.cell_event.ensures)
+    (cell_moves p s i d step reached is) c.cell_event.ensures)
 
 pub returns-in-Some-clause-none : goal.returns-in-Some-clause-none
 returns-in-Some-clause-none c =
     let p = c.args.m.now in
     let s = c.args.recorded.now.state in
     let d = c.reached-inst.result.now in
-    let e = full c.in-Some.step.effect c.cell_due.new.row in
+    let e = full c.in-Some.step.effect in
     made_none (happening_of p.accepted s c.args.inv d.word e) (apply p.accepted c.args.inv d e s) (effect_weight p.accepted c.args.inv e (apply p.accepted c.args.inv d e s)) c.cell_event.result c.args.recorded.now c.cell_event.new.recorded c.requires.none c.cell_event.ensures
 
 pub returns-in-Some-clause-sound : goal.returns-in-Some-clause-sound
@@ -99,12 +98,11 @@ returns-in-Some-clause-sound c =
     let p = c.args.m.now in
     let s = c.args.recorded.now.state in
     let d = c.reached-inst.result.now in
-    let v = c.cell_due.new.row in
     let step = c.in-Some.step in
-    let e = full step.effect v in
+    let e = full step.effect in
     let known : Facts p.accepted = facts p.accepted c.accepted-accepted.result.now c.accepted-accepted.ensures.module c.insts-insts.ensures.accepted c.insts-insts.ensures.valid in
     let reached : IsReached p s c.args.inv d = subst (λ (x : State). IsReached p x c.args.inv d) c.whole-whole.ensures c.reached-inst.ensures in
-    let is : IsCellStep p s c.args.inv d v step = subst (λ (x : State). IsCellStep p x c.args.inv d v step) c.whole-whole.ensures c.in-Some.ensures in
+    let is : IsCellStep p s c.args.inv d step = subst (λ (x : State). IsCellStep p x c.args.inv d step) c.whole-whole.ensures c.in-Some.ensures in
     made_keeps (IsSound p) (happening_of p.accepted s c.args.inv d.word e) (apply p.accepted c.args.inv d e s) (effect_weight p.accepted c.args.inv e (apply p.accepted c.args.inv d e s)) c.cell_event.result c.args.recorded.now c.cell_event.new.recorded c.requires.sound
     (applied_sound p known s c.args.inv d e reached is.effect.fits) c.cell_event.ensures
 
@@ -113,6 +111,6 @@ returns-in-Some-clause-invocations c =
     let p = c.args.m.now in
     let s = c.args.recorded.now.state in
     let d = c.reached-inst.result.now in
-    let e = full c.in-Some.step.effect c.cell_due.new.row in
+    let e = full c.in-Some.step.effect in
     made_keeps (λ (x : State). length x.statuses.list ≡ length s.statuses.list) (happening_of p.accepted s c.args.inv d.word e) (apply p.accepted c.args.inv d e s) (effect_weight p.accepted c.args.inv e (apply p.accepted c.args.inv d e s)) c.cell_event.result c.args.recorded.now c.cell_event.new.recorded
     refl (applied_count p.accepted c.args.inv d e s) c.cell_event.ensures
