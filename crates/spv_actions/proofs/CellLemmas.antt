@@ -50,11 +50,10 @@ result_slot a function d slot h = record {
   id = ∥∥₁_elim h (hlevel (props, codes)) (λ (r : IsResultAt a function d slot). r.id);
 }
 
-pub gives_cell : (x : Site) (v : Value) (into : CellSlot) (slot : Slot) → slot ≡ slot_of into → ∥ IsSite x ∥₁ → ∥ IsResultAt (accepted x) x.frame.plan.function x.inst into ∥₁ → pointer_in (out-Value v) ≡ None
-    → GivesCell x v slot
-gives_cell x v into slot is site h plain =
+pub gives_cell : (x : Site) (v : Value) (into : CellSlot) → ∥ IsSite x ∥₁ → ∥ IsResultAt (accepted x) x.frame.plan.function x.inst into ∥₁ → pointer_in (out-Value v) ≡ None → GivesCell x v into
+gives_cell x v into site h plain =
     let r = result_slot (accepted x) x.frame.plan.function x.inst into h in
-    subst (GivesCell x v) (sym is) (record { lies = subst (λ (p : Planned). IsSlotOf p.values (slot_of into)) (sym (of_function x site).is) r.lies; id = r.id; one = refl; plain = plain })
+    record { lies = subst (λ (p : Planned). IsSlotOf p.values (slot_of into)) (sym (of_function x site).is) r.lies; id = r.id; plain = plain }
 
 -- ---- operands
 

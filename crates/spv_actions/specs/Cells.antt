@@ -8,7 +8,8 @@ use Rattle.spv_types.specs.Rows.{leaves}
 use Rattle.spv_types.specs.Shapes.{pointer_in}
 use Rattle.spv_mem.specs.Memory.{load_of}
 use Rattle.spv_frame.specs.Registers.{IsSlotOf}
-use Rattle.spv_frame.specs.declared.slots.Slot.{Slot}
+use Rattle.spv_state.specs.Sources.{slot_of}
+use Rattle.spv_state.specs.declared.predecoded.CellSlot.{CellSlot}
 use Rattle.spv_actions.specs.Effects as spec
 use Rattle.spv_actions.specs.Effects.{gives, sets}
 use Rattle.spv_actions.specs.Fits.{Fits}
@@ -25,11 +26,10 @@ abbrev pub full : CellEffect → spec.Effect
 full (Gives slot v) = gives v
 full (Sets root v) = sets (whole root) v
 
--- the register of the instruction's result lies in a slot, and has one cell; the value is no pointer
-pub record GivesCell (x : Site) (v : Value) (slot : Slot) : Type 0 where
-  pub lies : IsSlotOf x.frame.plan.values slot
+-- the register of the instruction's result lies in a slot of one cell; the value is no pointer
+pub record GivesCell (x : Site) (v : Value) (slot : CellSlot) : Type 0 where
+  pub lies : IsSlotOf x.frame.plan.values (slot_of slot)
   pub id : slot.id ≡ x.inst.id
-  pub one : slot.len ≡ 1
   pub plain : pointer_in (out-Value v) ≡ None
 
 -- the variable is there, and has one cell

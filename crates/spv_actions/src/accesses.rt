@@ -39,7 +39,8 @@ fn whole<'a>(site: &Site<'a>, root: Root) -> Result<Part<'a>, Fail<Cause>>
     }
 }
 
-/// The part of memory that an operand names. F3 where there is none. No pointer is made where it is a whole variable.
+/// The part of memory that an operand names. F3 where there is none. No pointer is made where it is a whole variable. Inlined: most
+/// loads go through it.
 #[inline(always)]
 fn part<'a>(site: &Site<'a>, at: &Operand) -> Result<Part<'a>, Fail<Cause>>
     requires { IsPlain at.now }
@@ -68,7 +69,8 @@ pub(crate) fn place(site: &Site, at: &Operand) -> Result<Pointer, Fail<Cause>>
     Ok(owned(site.alloc(), reference)?)
 }
 
-/// Where a store goes by an operand. F3 where it is no pointer. It takes no memory where that is a whole variable.
+/// Where a store goes by an operand. F3 where it is no pointer. It takes no memory where that is a whole variable. Inlined: most
+/// stores go through it.
 #[inline(always)]
 fn target(site: &Site, at: &Operand) -> Result<Target, Fail<Cause>>
     requires { IsPlain at.now }
@@ -81,7 +83,6 @@ fn target(site: &Site, at: &Operand) -> Result<Target, Fail<Cause>>
 }
 
 /// Copies a value into a row. It takes memory only where the row never had room for as many cells.
-#[inline(always)]
 pub(crate) fn copied(part: &Part, row: &mut Row) -> Result<(), NoMemory>
     ensures { OnOk result (row.new ≡ part.now) }
 {

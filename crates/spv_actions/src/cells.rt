@@ -11,7 +11,6 @@ use crate::kept::{is_kept, load_is_kept, store_is_kept};
 use crate::sites::Site;
 use spv_alu::BinaryOp;
 use spv_base::Root;
-use spv_frame::Slot;
 use spv_results::Computation;
 use spv_state::{Action, CellSlot, Short, Source, VariableName};
 use spv_values::Single;
@@ -20,12 +19,12 @@ use spv_values::Single;
 #[derive(Drop)]
 pub enum CellEffect {
     /// The register in the slot takes it.
-    Gives { slot: Slot, value: Single },
+    Gives { slot: CellSlot, value: Single },
     /// The whole variable takes it.
     Sets { root: Root, value: Single },
 }
 
-/// A binary operation.
+/// A binary operation. Inlined, as `cell_effect` is.
 #[inline(always)]
 fn binary(
     site: &Site,
@@ -49,11 +48,11 @@ fn binary(
     if a.cells().len() != 1 {
         return None;
     }
-    let (slot, value) = (into.slot(), binary_single(site, operation, &a, &b));
-    Some(CellEffect::Gives { slot, value })
+    let value = binary_single(site, operation, &a, &b);
+    Some(CellEffect::Gives { slot: *into, value })
 }
 
-/// OpLoad of a whole variable.
+/// OpLoad of a whole variable. Inlined, as `cell_effect` is.
 #[inline(always)]
 fn load(site: &Site, from: &VariableName, into: &CellSlot) -> Option<CellEffect>
     requires loads { action_of site.now.inst ≡ Action.Load }
@@ -70,11 +69,11 @@ fn load(site: &Site, from: &VariableName, into: &CellSlot) -> Option<CellEffect>
     if part.cells().len() != 1 {
         return None;
     }
-    let (slot, value) = (into.slot(), Single::of_part(&part));
-    Some(CellEffect::Gives { slot, value })
+    let value = Single::of_part(&part);
+    Some(CellEffect::Gives { slot: *into, value })
 }
 
-/// OpStore to a whole variable.
+/// OpStore to a whole variable. Inlined, as `cell_effect` is.
 #[inline(always)]
 fn store(site: &Site, to: &VariableName, object: &Source) -> Option<CellEffect>
     requires stores { action_of site.now.inst ≡ Action.Store }

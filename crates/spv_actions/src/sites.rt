@@ -193,7 +193,8 @@ impl<'a> Site<'a> {
         self.inv
     }
 
-    /// What the operand with a number stands for, if it stands for something, counted from 0 behind the result.
+    /// What the operand with a number stands for, if it stands for something, counted from 0 behind the result. Inlined, as
+    /// `operand` is.
     #[inline(always)]
     fn found(&self, n: usize) -> Result<Option<Operand<'a>>, NoMemory>
         ensures value { IfOk result (λ o. option_map shown o ≡ spec.values self.now n) }
@@ -211,7 +212,7 @@ impl<'a> Site<'a> {
         )
     }
 
-    /// What the operand with a number stands for. F4 where it has no value.
+    /// What the operand with a number stands for. F4 where it has no value. Inlined: it is called more than once an event.
     #[inline(always)]
     pub fn operand(&self, n: usize) -> Result<Operand<'a>, Fail<Cause>>
         ensures value { Finds (spec.values self.now n) (result_map_both shown (λ e. e) result) }
@@ -227,7 +228,7 @@ impl<'a> Site<'a> {
         }
     }
 
-    /// Whether the operand with a number is a constant, and so stands for something. In constant time.
+    /// True only where the operand with a number stands for something, as a constant does. In constant time.
     fn is_constant(&self, n: usize) -> bool
         ensures { result ≡ true → IsSome (spec.values self.now n) }
     {
@@ -251,7 +252,8 @@ impl<'a> Site<'a> {
         Ok(())
     }
 
-    /// The value of the operand with a number, whose type is no pointer type. F4 where it has none.
+    /// The value of the operand with a number, whose type is no pointer type. F4 where it has none. Inlined, as `operand`
+    /// is.
     #[inline(always)]
     pub fn value(&self, n: usize) -> Result<Datum<'a>, Fail<Cause>>
         requires { is_data_at self.now.program.accepted self.now.inst n ≡ true }

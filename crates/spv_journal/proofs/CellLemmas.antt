@@ -1,5 +1,5 @@
 -- Variables and registers of one cell whose entries lead back.
-use Rattle.std.proofs.Common.{◌≡◌, ◌∙◌, ℕ, zero, suc, ◌<◌, Bool, [], ◌∷◌, Option, Some, None, IsSome, length, slice_get, refl, sym, ap, subst}
+use Rattle.std.proofs.Common.{◌≡◌, ◌∙◌, ℕ, zero, suc, ◌<◌, Bool, true, false, [], ◌∷◌, Option, Some, None, IsSome, length, option_map, slice_get, refl, sym, ap, subst}
 use Rattle.std.specs.Option.{IsSomeAnd, option_and_then}
 use Rattle.spv_base.specs.Entries.{writes}
 use Rattle.spv_base.specs.Parts.{part_at}
@@ -12,18 +12,20 @@ use Rattle.spv_mem.specs.Memory.{Held as Memory, IsMemory, MayStore, load_of, ro
 use Rattle.spv_mem.specs.Singles.{NamesRow}
 use Rattle.spv_mem.proofs.PlaceLemmas.{whole_row}
 use Rattle.spv_frame.specs.Calls.{id_at}
+use Rattle.spv_frame.specs.Frames.{Held as Frame}
 use Rattle.spv_frame.specs.Numbers.{HasCells, HoldsValue, with_value}
 use Rattle.spv_frame.specs.Registers.{IsSlotOf, Rooms, ids, marked, sizes}
 use Rattle.spv_frame.specs.declared.slots.Slot.{Slot}
-use Rattle.spv_state.specs.State.{State, on_frame, top_of, with_register}
+use Rattle.spv_state.specs.State.{State, on_frame, top_of, with_pc, with_register}
 use Rattle.spv_journal.specs.Entries.{KeepsValue}
 use Rattle.spv_journal.specs.Events.{Kept}
 use Rattle.spv_journal.specs.Held.{Held}
-use Rattle.spv_journal.specs.Marks.{variable_item}
+use Rattle.spv_journal.specs.Marks.{register_item, variable_item}
 use Rattle.spv_journal.specs.Undo.{CanUndo, HasTop, Undoes, undo}
 use Rattle.spv_journal.specs.declared.entries.Entry.{Entry}
+use Rattle.spv_journal.specs.declared.entries.Entry.TheVariants.{PcMoved}
 use Rattle.spv_journal.proofs.EntryLemmas.{level_is, same_frames, some_and, value_undone}
-use Rattle.spv_journal.proofs.LawLemmas.{frame_back, has_top, value_back}
+use Rattle.spv_journal.proofs.LawLemmas.{frame_back, has_top, pc_undone, value_back}
 use Rattle.spv_journal.proofs.RecordLemmas.{held_of}
 use Rattle.spv_journal.proofs.StoreLemmas.{put_back_leaf}
 
@@ -43,7 +45,7 @@ named_whole m i root h = each (root_value m i root) refl h
     each None is h = absurd h
     each (Some v) is h = record { value = v; is = is; row = whole_row v [] 1 refl (sym h) }
 
-some_there : {X : Type 0} (o : Option X) (P : X → Type 0) → IsSomeAnd o P → IsSome o
+pub some_there : {X : Type 0} (o : Option X) (P : X → Type 0) → IsSomeAnd o P → IsSome o
 some_there None P h = absurd h
 some_there (Some x) P h = refl
 
@@ -95,3 +97,25 @@ cell_register_is i x v s plain slot =
     same_frames i (with_value x.number (Some v)) (with_register x.id v) s
     (some_and (top_of s i) (λ f. IsSlotOf f.plan.values x) (λ f. with_value x.number (Some v) f ≡ with_register x.id v f)
     (λ f h. ap (λ (k : ℕ). record f { values = writes k (Some v) f.values }) (register_at f.plan.values x.number x.id x.len h.long).0 ∙ sym (level_is x.id v (out-Value v) f plain)) slot)
+
+-- what a mark says of the register
+pub register_kept : (n : ℕ) (r : Value) (has : Bool) → KeepsValue n (marked r has) 1 (register_item n r has)
+register_kept n r true = (refl, refl, refl)
+register_kept n r false = (refl, refl)
+
+-- ---- moves
+
+-- the top frame of an invocation stands at a word
+abbrev pub Stands : State → ℕ → ℕ → Type 0
+Stands s i w = HasTop s i (λ f. f.pc ≡ w)
+
+pub move_undone : (i pc w : ℕ) (s : State) → Stands s i w → Undoes i (PcMoved w) s (on_frame i (with_pc pc) s)
+move_undone i pc w s h = pc_undone i pc w s h.0 (some_there (top_of s i) (λ f. f.pc ≡ w) h.1) (each (top_of s i) h.1)
+  where
+    each : (o : Option Frame) → IsSomeAnd o (λ f. f.pc ≡ w) → option_map (λ (f : Frame). f.pc) o ≡ Some w
+    each None h = absurd h
+    each (Some f) h = ap (λ (n : ℕ). Some n) h
+
+-- a register doesn't move it
+pub stands_still : (i n w : ℕ) (v : Value) (s t : State) → i < length s.stacks → IsSomeAnd (top_of s i) (λ f. f.pc ≡ w) → t ≡ on_frame i (with_value n (Some v)) s → Stands t i w
+stands_still i n w v s t inside h after = subst (λ (x : State). Stands x i w) (sym after) (has_top i (with_value n (Some v)) s (λ f. f.pc ≡ w) inside h)

@@ -1,11 +1,13 @@
 -- A change that is recorded.
-use Rattle.std.proofs.Common.{◌≡◌, ◌∙◌, ℕ, ◌≤◌, List, ◌∷◌, Option, Some, None, IsSome, option_map, refl, sym, ap, subst, arith}
+use Rattle.std.proofs.Common.{◌≡◌, ◌∙◌, ℕ, ◌≤◌, List, [], ◌∷◌, Option, Some, None, IsSome, option_map, refl, sym, ap, subst, arith}
+use Rattle.spv_base.specs.declared.happenings.Happening.{Happening}
 use Rattle.spv_state.specs.State.{State}
 use Rattle.spv_journal.specs.Entries.{Keeps}
-use Rattle.spv_journal.specs.Events.{Event, Kept, opened, pushed}
-use Rattle.spv_journal.specs.Held.{Held, IsMaking, Records}
+use Rattle.spv_journal.specs.Events.{Event, Kept, fitting, opened, pushed}
+use Rattle.spv_journal.specs.Held.{Held, IsMaking, KeepsEvent, Records}
 use Rattle.spv_journal.specs.Undo.{CanUndo, CanUndoAll, CanUnwind, Undoes, past, undo, undo_all}
 use Rattle.spv_journal.specs.declared.entries.Entry.{Entry}
+use Rattle.spv_journal.proofs.UndoLemmas.{fitting_unwinds}
 
 pub making_some : (g : Option Event) (i : ℕ) → IsMaking g i → IsSome g
 making_some None i h = absurd h
@@ -65,3 +67,31 @@ making_of (Some v) h = (v.happening.inv, refl)
 
 pub same_held : (s t : State) (j k : Kept) (old : Held) → held_of s j ≡ old → k ≡ j → t ≡ s → held_of t k ≡ old
 same_held s t j k old is same back = ap (λ (x : Kept). held_of t x) same ∙ ap (λ (x : State). held_of x j) back ∙ is
+
+-- ---- an event that is made at once
+
+-- of two changes, the newer one first
+abbrev pub event_with : Happening → Entry → Entry → Event
+event_with h d e = record { happening = h; changes = d ∷ e ∷ [] }
+
+pub record AtOnce (h : Happening) (old : Held) (t : State) (k : Kept) : Type 0 where
+  pub unwinds : CanUnwind (opened k.gathered k.ring) t
+  pub kept : KeepsEvent 2 h old (held_of t k)
+
+pub at_once : (h : Happening) (e d : Entry) (s t u : State) (j k : Kept) (old : Held) → held_of s j ≡ old → old.gathered ≡ None → k ≡ record j { ring = fitting j.limit (event_with h d e ∷ j.ring) }
+    → Undoes h.inv e s t → Undoes h.inv d t u → CanUnwind (opened j.gathered j.ring) s → AtOnce h old u k
+at_once h e d s t u j k old is none made first second can =
+    subst (AtOnce h old u) (sym made)
+    (subst (λ (o : Held). AtOnce h o u (record j { ring = fitting j.limit (event_with h d e ∷ j.ring) })) is
+    (each j.ring j.limit j.gathered (ap (λ (o : Held). o.gathered) is ∙ none) can))
+  where
+    leads : undo h.inv e (undo h.inv d u) ≡ s
+    leads = ap (undo h.inv e) second.back ∙ first.back
+
+    each : (vs : List Event) (limit : ℕ) (g : Option Event) → g ≡ None → CanUnwind (opened g vs) s
+        → AtOnce h (record { state = s; ring = vs; gathered = g; limit = limit }) u (record { ring = fitting limit (event_with h d e ∷ vs); gathered = g; limit = limit })
+    each vs limit (Some v) missing c = absurd cc
+    each vs limit None missing c = record {
+      unwinds = fitting_unwinds limit (event_with h d e ∷ vs) u ((second.can, (subst (CanUndo h.inv e) (sym second.back) first.can, tt)), subst (CanUnwind vs) (sym leads) c);
+      kept = record { event = event_with h d e; happening = refl; leads = leads; few = omega arith; ring = refl; gathered = refl; limit = refl };
+    }

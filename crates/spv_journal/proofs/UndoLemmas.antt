@@ -1,7 +1,6 @@
 -- Events that can be undone, one after the other.
 use Rattle.std.proofs.Common.{◌≡◌, ◌∙◌, ap, ℕ, ◌-◌, Bool, true, false, nat_le, if◌then◌else◌, List, [], ◌∷◌, ◌++◌, Option, Some, None, refl, sym, subst}
 use Rattle.std.specs.Option.{MatchOption, option_map, option_map_or}
-use Rattle.spv_base.specs.Lane.{Lane}
 use Rattle.spv_base.specs.declared.happenings.Happening.{Happening}
 use Rattle.spv_base.specs.declared.values.Root.{Root}
 use Rattle.spv_base.specs.declared.values.Value.{Value}
@@ -55,11 +54,11 @@ undo_both i [] ys s = refl
 undo_both i (x ∷ xs) ys s = undo_both i xs ys (undo i x s)
 
 -- a variable is set before the pc moves: it can be put back after the move is undone
-pub variable_first : (i : ℕ) (pc : Option ℕ) (change : Change) (root : Root) (cell : Lane) (tree x : Value) (s t : State) → change ≡ Variable root cell → CanUndoAll i (items_of pc change tree) s → t ≡ undo_all i (moved pc) s → x ≡ tree
+pub variable_first : (i w : ℕ) (m : Bool) (change : Change) (root : Root) (tree x : Value) (s t : State) → change ≡ Variable root → CanUndoAll i (items_of m w change tree) s → t ≡ undo_all i (moved m w) s → x ≡ tree
     → CanUndo i (variable_item root x) t
-variable_first i pc change root cell tree x s t is can back same =
-    let all = subst (λ (k : Change). CanUndoAll i (items_of pc k tree) s) is can in
-    let last = (front_undoes i (moved pc) (variable_item root tree ∷ []) s all).1 in
+variable_first i w m change root tree x s t is can back same =
+    let all = subst (λ (k : Change). CanUndoAll i (items_of m w k tree) s) is can in
+    let last = (front_undoes i (moved m w) (variable_item root tree ∷ []) s all).1 in
     subst (λ (v : Value). CanUndo i (variable_item root v) t) (sym same) (subst (λ (y : State). CanUndo i (variable_item root tree) y) (sym back) last.0)
 
 -- ---- the event that is being made

@@ -1,5 +1,5 @@
 -- What callers see of a state whose changes are recorded.
-use Rattle.std.specs.Prelude.{◌≡◌, ◌≤◌, ◌+◌, ℕ, List, length, Option, None, option_map}
+use Rattle.std.specs.Prelude.{◌≡◌, ◌≤◌, ◌+◌, ℕ, List, ◌∷◌, length, Option, None, option_map}
 use Rattle.std.specs.Option.{IsSomeAnd, option_map_or}
 use Rattle.spv_base.specs.declared.happenings.Happening.{Happening}
 use Rattle.spv_state.specs.State.{State}
@@ -53,3 +53,15 @@ pub record Records (n : ℕ) (old new : Held) : Type 0 where
   pub limit : new.limit ≡ old.limit
   pub happening : option_map (λ (v : Event). v.happening) new.gathered ≡ option_map (λ (v : Event). v.happening) old.gathered
   pub changes : changes_in new.gathered ≤ changes_in old.gathered + n
+
+-- ---- an event that is made at once
+
+-- It is kept before the others, of which as many go as have to. It leads back to the state before, and has at most n changes.
+pub record KeepsEvent (n : ℕ) (h : Happening) (old new : Held) : Type 0 where
+  pub event : Event
+  pub happening : event.happening ≡ h
+  pub leads : before event new.state ≡ old.state
+  pub few : length event.changes ≤ n
+  pub ring : new.ring ≡ fitting old.limit (event ∷ old.ring)
+  pub gathered : new.gathered ≡ None
+  pub limit : new.limit ≡ old.limit

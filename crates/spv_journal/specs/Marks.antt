@@ -1,12 +1,14 @@
 -- Marks of events, and the changes that lie in them.
-use Rattle.std.specs.Prelude.{◌≡◌, ℕ, List, [], ◌∷◌, ◌++◌, Bool, true, false, Option, Some, None, ⊤}
+use Rattle.std.specs.Prelude.{◌≡◌, ℕ, List, [], ◌∷◌, ◌++◌, Bool, true, false, ⊤}
+use Rattle.spv_base.specs.Lane.{IsLane, Lane}
 use Rattle.spv_base.specs.declared.happenings.Happening.{Happening}
 use Rattle.spv_base.specs.declared.values.Root.{Root}
 use Rattle.spv_base.specs.declared.values.Value.{Value}
 use Rattle.spv_journal.specs.declared.entries.Entry.{Entry}
-use Rattle.spv_journal.specs.declared.entries.Entry.TheVariants.{CellRegister, Leaf, PcMoved, StatusChanged}
+use Rattle.spv_journal.specs.declared.entries.Entry.TheVariants.{CellRegister, Leaf, NoValue, PcMoved, StatusChanged}
 use Rattle.spv_journal.specs.declared.marks.Change.{Change}
-use Rattle.spv_journal.specs.declared.marks.Change.TheVariants.{Nothing, Register, Status, Variable}
+use Rattle.spv_journal.specs.declared.marks.MarkData.{MarkData}
+use Rattle.spv_journal.specs.declared.marks.Change.TheVariants.{Blank, Nothing, Register, Status, Variable}
 use Rattle.spv_types.specs.Rows.{leaves}
 
 -- what happened, the changes that lie in the mark, the newest first, and how many lie beside it
@@ -15,10 +17,34 @@ pub record Marked : Type 0 where
   pub items : List Entry
   pub beside : ℕ
 
--- a move of the pc from where it was, if there is one
-abbrev pub moved : Option ℕ → List Entry
-moved None = []
-moved (Some pc) = PcMoved pc ∷ []
+-- what happened, by the fields of a mark
+abbrev pub happening_in : MarkData → Happening
+happening_in l = record { inv = l.inv; kind = l.kind; word = l.word; root = l.root; line = l.line }
+
+-- the cell
+abbrev pub cell_in : MarkData → Lane
+cell_in l = record { bits = l.bits; width = l.width; defined = l.defined }
+
+-- a mark of no changes
+abbrev pub data_of : Happening → MarkData
+data_of h = record {
+  bits = 0;
+  inv = h.inv;
+  word = h.word;
+  root = h.root;
+  line = h.line;
+  beside = 0;
+  change = Nothing;
+  kind = h.kind;
+  width = 1;
+  defined = false;
+  moved = false;
+}
+
+-- a move of the pc from a word, if there is one
+abbrev pub moved : Bool → ℕ → List Entry
+moved false word = []
+moved true word = PcMoved word ∷ []
 
 -- whether a change lies in the mark beside the move of the pc
 abbrev pub is_change : Change → Bool
@@ -29,18 +55,24 @@ is_change _ = true
 abbrev pub variable_item : Root → Value → Entry
 variable_item root tree = Leaf root 0 (record { of = record {}; value = [] }) tree
 
--- The changes of a mark. A register or a variable is set before the pc moves on, and a status after it.
-abbrev pub items_of : Option ℕ → Change → Value → List Entry
-items_of pc Nothing tree = moved pc
-items_of pc (Register number cell) tree = moved pc ++ CellRegister number tree ∷ []
-items_of pc (Variable root cell) tree = moved pc ++ variable_item root tree ∷ []
-items_of pc (Status status) tree = StatusChanged status ∷ moved pc
+-- the entry of a register of one cell, by the value that it had, if a mark says that it had one
+abbrev pub register_item : ℕ → Value → Bool → Entry
+register_item number tree false = NoValue number
+register_item number tree true = CellRegister number tree
 
--- the tree is of the cell that the register or the variable had
-abbrev pub IsTree : Change → Value → Type 0
-IsTree (Register number cell) tree = leaves tree ≡ cell ∷ []
-IsTree (Variable root cell) tree = leaves tree ≡ cell ∷ []
-IsTree _ tree = ⊤
+-- The changes of a mark. A register or a variable is set before the pc moves on from the word, and a status after it.
+abbrev pub items_of : Bool → ℕ → Change → Value → List Entry
+items_of m word Nothing tree = moved m word
+items_of m word (Blank number) tree = moved m word ++ NoValue number ∷ []
+items_of m word (Register number) tree = moved m word ++ CellRegister number tree ∷ []
+items_of m word (Variable root) tree = moved m word ++ variable_item root tree ∷ []
+items_of m word (Status status) tree = StatusChanged status ∷ moved m word
+
+-- the tree is of the cell that the register or the variable had, which is one
+abbrev pub IsTree : Change → Lane → Value → Type 0
+IsTree (Register number) cell tree = IsLane cell × (leaves tree ≡ cell ∷ [])
+IsTree (Variable root) cell tree = IsLane cell × (leaves tree ≡ cell ∷ [])
+IsTree _ cell tree = ⊤
 
 -- one change more
 abbrev pub with_item : Entry → Marked → Marked

@@ -3,16 +3,15 @@ ghost use Rattle.std.specs.Prelude.{◌≡◌, ◌<◌, ◌≤◌, ◌∷◌, []
 ghost use Rattle.std.specs.Option.{option_map_or};
 ghost use Rattle.std.specs.VecDeque.{deque_capacity, deque_len};
 ghost use Rattle.spv_journal.specs.Events.{begun, fitting, newest, older, opened, pushed, size};
-ghost use Rattle.spv_journal.specs.Marks.{variable_item};
 ghost use Rattle.spv_journal.specs.Rings.{event_of};
 ghost use Rattle.spv_journal.specs.Undo.{CanUnwind, before};
 ghost use Rattle.spv_journal.specs.declared.entries.Entry.TheVariants.{CellRegister, PcMoved, StatusChanged};
 
 use crate::entries::Entry;
-use crate::marks::{Mark, variable_entry};
+use crate::marks::Mark;
 use crate::rings::Ring;
 use crate::undoing::undo_gathered;
-use spv_base::{Happening, NoMemory, Root};
+use spv_base::{Happening, Kind, NoMemory};
 use spv_state::Whole;
 use spv_statuses::Status;
 use spv_values::Single;
@@ -72,7 +71,13 @@ impl Journal {
         Ok(Journal {
             ring: Ring::new(alloc, limit)?,
             making: false,
-            mark: Mark::blank(),
+            mark: Mark::of(Happening {
+                inv: 0,
+                kind: Kind::Idle,
+                word: 0,
+                root: 0,
+                line: 0,
+            }),
             gathered: VecDeque::new(alloc),
         })
     }
@@ -83,7 +88,7 @@ impl Journal {
         ensures ok { OnOk result (self.new ≡ record self.old { gathered = begun happening }) }
         ensures err { OnErr result (self.new ≡ self.old) }
     {
-        self.mark.begin(happening);
+        self.mark = Mark::of(happening);
         self.making = true;
         Ok(())
     }
@@ -153,20 +158,6 @@ impl Journal {
         self.add_apart(Entry::CellRegister { number, value })
     }
 
-    /// Adds the value that a variable of one cell had to the event that is being made. Where memory runs out nothing changes. Inlined: it is
-    /// called once an event.
-    #[inline(always)]
-    pub(crate) fn change_variable(&mut self, root: Root, value: Single) -> Result<(), NoMemory>
-        requires { IsSome self.old.gathered }
-        ensures ok { OnOk result (self.new ≡ record self.old { gathered = option_map (pushed (variable_item root value)) self.old.gathered }) }
-        ensures err { OnErr result (self.new ≡ self.old) }
-    {
-        if self.mark.change_variable(root, &value) {
-            return Ok(());
-        }
-        self.add_apart(variable_entry(root, value))
-    }
-
     /// Adds the status that the invocation had to the event that is being made. Where memory runs out nothing changes.
     #[inline(always)]
     pub(crate) fn change_status(&mut self, status: Status) -> Result<(), NoMemory>
@@ -178,6 +169,17 @@ impl Journal {
             return Ok(());
         }
         self.add(Entry::StatusChanged(status))
+    }
+
+    /// Keeps an event that is whole in its mark, and as many of the oldest go as have to. It takes no memory. Inlined: it is called once an
+    /// event.
+    #[inline(always)]
+    pub(crate) fn keep(&mut self, mark: Mark)
+        requires none { self.old.gathered ≡ None }
+        requires whole { mark.beside ≡ 0 }
+        ensures { self.new ≡ record self.old { ring = fitting self.old.limit (event_of mark [] ∷ self.old.ring) } }
+    {
+        self.ring.keep(mark);
     }
 
     /// The event that is being made is whole: it is kept, and as many of the oldest go as have to. It takes no memory. Inlined: it is

@@ -1,8 +1,9 @@
 //! Marks of events, with the small changes that lie in them.
-ghost use Rattle.std.specs.Prelude.{◌≡◌, ◌<◌, ◌≤◌, ◌∷◌, ◌++◌, [], OnOk, if◌then◌else◌};
+ghost use Rattle.std.specs.Prelude.{◌≡◌, ◌<◌, ◌≤◌, ◌∷◌, ◌++◌, [], OnOk, if◌then◌else◌, true};
 ghost use Rattle.std.specs.Option.{option_to_list};
 ghost use Rattle.std.specs.VecDeque.{deque_capacity, deque_len};
-ghost use Rattle.spv_journal.specs.Marks.{is_change, variable_item, with_item};
+ghost use Rattle.spv_base.specs.Lane.{IsLane};
+ghost use Rattle.spv_journal.specs.Marks.{cell_in, happening_in, is_change, items_of, data_of, register_item, variable_item, with_item};
 ghost use Rattle.spv_journal.specs.Rings.{mark_size};
 ghost use Rattle.spv_journal.specs.Undo.{CanUndoAll, undo_all};
 ghost use Rattle.spv_journal.specs.declared.entries.Entry.TheVariants.{CellRegister, PcMoved, StatusChanged};
@@ -18,16 +19,18 @@ use spv_values::{Part, Single};
 use std::collections::VecDeque;
 use std::marker::Model;
 
-/// One change as it lies in a mark: what an entry says, without what only proofs read, so that it is copied whole.
+/// What was changed, of which the mark holds what it was.
 #[derive(Clone, Copy)]
 pub(crate) enum Change {
-    /// No change.
+    /// Nothing.
     Nothing,
-    /// A register of one cell had a value.
-    Register { number: u32, cell: Cell },
-    /// A variable of one cell had a value.
-    Variable { root: Root, cell: Cell },
-    /// The invocation had a status.
+    /// A register of one cell that had no value, by its number.
+    Blank(u32),
+    /// A register of one cell that had a value, by its number.
+    Register(u32),
+    /// A variable of one cell.
+    Variable(Root),
+    /// The invocation's status, and it was this.
     Status(Status),
 }
 
@@ -39,46 +42,132 @@ impl Change {
     {
         match self {
             Change::Nothing => false,
-            Change::Register { .. } | Change::Variable { .. } | Change::Status(_) => true,
+            Change::Blank(_) | Change::Register(_) | Change::Variable(_) | Change::Status(_) =>
+                true,
         }
     }
 }
 
-/// A mark as it lies in memory.
+/// A mark as it lies in memory. The fields of what happened and of the cell stand apart, so that it has no gaps.
 #[derive(Clone, Copy)]
-struct Laid {
-    happening: Happening,
-    /// Where the top frame stood, if it moved.
-    pc: Option<u32>,
+struct MarkData {
+    /// The cell's, where a register or a variable had a value.
+    bits: u64,
+    /// What happened.
+    inv: u32,
+    word: u32,
+    root: u32,
+    line: u32,
     /// How many changes of the event lie beside it.
     beside: u32,
     change: Change,
+    kind: Kind,
+    /// The cell's.
+    width: u8,
+    defined: bool,
+    /// Whether the top frame moved from the word of what happened.
+    moved: bool,
 }
 
-/// A mark is copied once an event.
-const _: () = prove!(size_of::<Laid>() <= 64);
+/// A mark is written once an event, and what it takes is most of what a journal costs.
+const _: () = prove!(size_of::<MarkData>() <= 48);
+
+impl MarkData {
+    /// A mark of no changes.
+    #[inline(always)]
+    fn of(happening: Happening) -> MarkData
+        ensures { result ≡ data_of happening }
+    {
+        let Happening {
+            inv,
+            kind,
+            word,
+            root,
+            line,
+        } = happening;
+        MarkData {
+            bits: 0,
+            inv,
+            word,
+            root,
+            line,
+            beside: 0,
+            change: Change::Nothing,
+            kind,
+            width: 1,
+            defined: false,
+            moved: false,
+        }
+    }
+
+    /// The same with a cell that was changed.
+    #[inline(always)]
+    fn with(self, change: Change, cell: Cell) -> MarkData
+        ensures { result ≡ record self { bits = cell.bits; change = change; width = cell.width; defined = cell.defined } }
+    {
+        let Cell {
+            bits,
+            width,
+            defined,
+        } = cell;
+        MarkData {
+            bits,
+            change,
+            width,
+            defined,
+            ..self
+        }
+    }
+
+    /// The cell.
+    #[inline(always)]
+    fn cell(&self) -> Cell
+        requires { IsLane (cell_in self.now) }
+        ensures { result ≡ cell_in self.now }
+    {
+        Cell {
+            bits: self.bits,
+            width: self.width,
+            defined: self.defined,
+        }
+    }
+
+    /// What happened.
+    #[inline(always)]
+    fn happening(&self) -> Happening
+        ensures { result ≡ happening_in self.now }
+    {
+        Happening {
+            inv: self.inv,
+            kind: self.kind,
+            word: self.word,
+            root: self.root,
+            line: self.line,
+        }
+    }
+}
 
 /// The mark of an event, and up to two of its changes: most events set a register or a variable of one cell and move the pc,
 /// and so need no entries.
 #[derive(Drop)]
 pub(crate) struct Mark {
-    laid: Laid,
+    data: MarkData,
     /// The value of the cell that the register or the variable had.
     tree: Ghost<Value>,
 }
 
 impl Model for Mark {
     ghost use Rattle.std.specs.Coded.{codes};
-    ghost use Rattle.spv_journal.specs.Marks.{IsTree, Marked, items_of};
+    ghost use Rattle.spv_journal.specs.Marks.{IsTree, Marked, cell_in, happening_in, items_of};
     ghost use Rattle.spv_journal.specs.contracts.entries.Entry as entry;
 
     ghost Value = { Marked };
 
     ghost coded = { Prim.hlevel (codes, entry.the_row.coded) };
 
-    ghost view = { λ m. record { happening = m.laid.happening; items = items_of m.laid.pc m.laid.change m.tree.value; beside = m.laid.beside } };
+    ghost view = { λ m. record { happening = happening_in m.data; items = items_of m.data.moved m.data.word m.data.change m.tree.value; beside = m.data.beside } };
 
-    ghost invariant = { λ m. IsTree m.laid.change m.tree.value };
+    ghost invariant = { λ m. IsTree m.data.change (cell_in m.data) m.tree.value };
 }
 
 /// A cell as the value of a tree.
@@ -130,36 +219,53 @@ fn put(gathered: &mut VecDeque<Entry>, entry: Option<Entry>)
 }
 
 impl Mark {
-    /// A mark for events to begin in.
-    pub(crate) fn blank() -> Mark {
+    /// The mark of an event that has no changes.
+    #[inline(always)]
+    pub(crate) fn of(happening: Happening) -> Mark
+        ensures { result ≡ record { happening = happening; items = []; beside = 0 } }
+    {
         Mark {
-            laid: Laid {
-                happening: Happening {
-                    inv: 0,
-                    kind: Kind::Idle,
-                    word: 0,
-                    root: 0,
-                    line: 0,
-                },
-                pc: None,
-                beside: 0,
-                change: Change::Nothing,
-            },
+            data: MarkData::of(happening),
             tree: Ghost::of(),
         }
     }
 
-    /// Becomes the mark of an event that has no changes.
+    /// The mark of an event that set a register of one cell and moved the pc from its word, by the number of the register and the value that
+    /// it had, if a mark says that it had one.
     #[inline(always)]
-    pub(crate) fn begin(&mut self, happening: Happening)
-        ensures { self.new ≡ record { happening = happening; items = []; beside = 0 } }
+    pub(crate) fn of_register(happening: Happening, number: u32, value: &Single, has: bool) -> Mark
+        ensures { result ≡ record { happening = happening; items = PcMoved happening.word ∷ register_item number value.now has ∷ []; beside = 0 } }
     {
-        self.laid = Laid {
-            happening,
-            pc: None,
-            beside: 0,
-            change: Change::Nothing,
+        let change = if has {
+            Change::Register(number)
+        } else {
+            Change::Blank(number)
         };
+        Mark::of_cell(happening, change, value)
+    }
+
+    /// The mark of an event that set a variable of one cell and moved the pc from its word, by the value that the variable had.
+    #[inline(always)]
+    pub(crate) fn of_variable(happening: Happening, root: Root, value: &Single) -> Mark
+        ensures { result ≡ record { happening = happening; items = PcMoved happening.word ∷ variable_item root value.now ∷ []; beside = 0 } }
+    {
+        Mark::of_cell(happening, Change::Variable(root), value)
+    }
+
+    /// The mark of an event that changed what has a cell and moved the pc from its word, by the value that there was.
+    #[inline(always)]
+    fn of_cell(happening: Happening, change: Change, value: &Single) -> Mark
+        ensures { result ≡ record { happening = happening; items = items_of true happening.word change value.now; beside = 0 } }
+    {
+        let none = Ghost::of();
+        let data = MarkData {
+            moved: true,
+            ..MarkData::of(happening).with(change, value.cell())
+        };
+        Mark {
+            data,
+            tree: tree_of(&none, value),
+        }
     }
 
     /// The same mark again.
@@ -168,7 +274,7 @@ impl Mark {
         ensures { result ≡ self.now }
     {
         Mark {
-            laid: self.laid,
+            data: self.data,
             tree: same(&self.tree),
         }
     }
@@ -178,7 +284,7 @@ impl Mark {
     pub(crate) fn happening(&self) -> Happening
         ensures { result ≡ self.now.happening }
     {
-        self.laid.happening
+        self.data.happening()
     }
 
     /// How many changes of the event lie beside it.
@@ -186,7 +292,7 @@ impl Mark {
     pub(crate) fn beside(&self) -> usize
         ensures { result ≡ self.now.beside }
     {
-        self.laid.beside as usize
+        self.data.beside as usize
     }
 
     /// How many marks and entries it stands for.
@@ -195,7 +301,7 @@ impl Mark {
         ensures size { result ≡ mark_size self.now }
         ensures few { result ≤ 3 }
     {
-        1 + usize::from(self.laid.pc.is_some()) + usize::from(self.laid.change.is_some())
+        1 + usize::from(self.data.moved) + usize::from(self.data.change.is_some())
     }
 
     /// Says how many changes of the event lie beside it.
@@ -203,7 +309,7 @@ impl Mark {
     pub(crate) fn set_beside(&mut self, beside: u32)
         ensures { self.new ≡ record self.old { beside = beside } }
     {
-        self.laid.beside = beside;
+        self.data.beside = beside;
     }
 
     /// Takes a move of the pc from where it was, where there is room for it, and says whether it did.
@@ -211,13 +317,13 @@ impl Mark {
     pub(crate) fn move_pc(&mut self, pc: u32) -> bool
         ensures { self.new ≡ (if result then with_item (PcMoved pc) self.old else self.old) }
     {
-        let free = self.laid.pc.is_none();
-        let room = match self.laid.change {
-            Change::Nothing | Change::Register { .. } | Change::Variable { .. } => free,
+        let free = !self.data.moved && pc == self.data.word;
+        let room = match self.data.change {
+            Change::Nothing | Change::Blank(_) | Change::Register(_) | Change::Variable(_) => free,
             Change::Status(_) => false,
         };
         if room {
-            self.laid.pc = Some(pc);
+            self.data.moved = true;
         }
         room
     }
@@ -227,27 +333,11 @@ impl Mark {
     pub(crate) fn change_register(&mut self, number: usize, value: &Single) -> bool
         ensures { self.new ≡ (if result then with_item (CellRegister number value.now) self.old else self.old) }
     {
-        if self.laid.pc.is_none()
-            && !self.laid.change.is_some()
+        if !self.data.moved
+            && !self.data.change.is_some()
             && let Ok(number) = u32::try_from(number)
         {
-            let cell = value.cell();
-            self.laid.change = Change::Register { number, cell };
-            self.tree = tree_of(&self.tree, value);
-            return true;
-        }
-        false
-    }
-
-    /// Takes the value that a variable of one cell had, where there is room for it, and says whether it did. Inlined: it is called once
-    /// an event.
-    #[inline(always)]
-    pub(crate) fn change_variable(&mut self, root: Root, value: &Single) -> bool
-        ensures { self.new ≡ (if result then with_item (variable_item root value.now) self.old else self.old) }
-    {
-        if self.laid.pc.is_none() && !self.laid.change.is_some() {
-            let cell = value.cell();
-            self.laid.change = Change::Variable { root, cell };
+            self.data = self.data.with(Change::Register(number), value.cell());
             self.tree = tree_of(&self.tree, value);
             return true;
         }
@@ -259,9 +349,9 @@ impl Mark {
     pub(crate) fn change_status(&mut self, status: Status) -> bool
         ensures { self.new ≡ (if result then with_item (StatusChanged status) self.old else self.old) }
     {
-        let room = !self.laid.change.is_some();
+        let room = !self.data.change.is_some();
         if room {
-            self.laid.change = Change::Status(status);
+            self.data.change = Change::Status(status);
         }
         room
     }
@@ -270,22 +360,24 @@ impl Mark {
     fn entries(&self) -> (Option<Entry>, Option<Entry>)
         ensures { self.now.items ≡ option_to_list result.0 ++ option_to_list result.1 }
     {
-        let pc = match self.laid.pc {
-            Some(pc) => Some(Entry::PcMoved(pc)),
-            None => None,
+        let moved = if self.data.moved {
+            Some(Entry::PcMoved(self.data.word))
+        } else {
+            None
         };
-        match self.laid.change {
-            Change::Register { number, cell } => {
-                let value = single(cell, &self.tree);
+        match self.data.change {
+            Change::Nothing => (moved, None),
+            Change::Blank(number) => (moved, Some(Entry::NoValue(number as usize))),
+            Change::Register(number) => {
+                let value = single(self.data.cell(), &self.tree);
                 let number = number as usize;
-                (pc, Some(Entry::CellRegister { number, value }))
+                (moved, Some(Entry::CellRegister { number, value }))
             }
-            Change::Variable { root, cell } => {
-                let value = single(cell, &self.tree);
-                (pc, Some(variable_entry(root, value)))
+            Change::Variable(root) => {
+                let value = single(self.data.cell(), &self.tree);
+                (moved, Some(variable_entry(root, value)))
             }
-            Change::Status(status) => (Some(Entry::StatusChanged(status)), pc),
-            Change::Nothing => (pc, None),
+            Change::Status(status) => (Some(Entry::StatusChanged(status)), moved),
         }
     }
 
@@ -295,19 +387,21 @@ impl Mark {
         requires { CanUndoAll self.now.happening.inv self.now.items whole.old }
         ensures { whole.new ≡ undo_all self.now.happening.inv self.now.items whole.old }
     {
-        let inv = self.laid.happening.inv;
-        if let Change::Status(status) = self.laid.change {
+        let inv = self.data.inv;
+        if let Change::Status(status) = self.data.change {
             whole.set_status(inv, status);
         }
-        if let Some(pc) = self.laid.pc {
-            whole.set_pc(inv, pc);
+        if self.data.moved {
+            whole.set_pc(inv, self.data.word);
         }
-        match self.laid.change {
-            Change::Register { number, cell } => {
-                put_cell(whole, inv, number as usize, single(cell, &self.tree));
+        match self.data.change {
+            Change::Blank(number) => whole.clear_value(inv, number as usize),
+            Change::Register(number) => {
+                let value = single(self.data.cell(), &self.tree);
+                put_cell(whole, inv, number as usize, value);
             }
-            Change::Variable { root, cell } => {
-                let mut value = single(cell, &self.tree);
+            Change::Variable(root) => {
+                let mut value = single(self.data.cell(), &self.tree);
                 exchange_variable(whole, inv, root, &mut value);
             }
             Change::Nothing | Change::Status(_) => {}
@@ -324,8 +418,8 @@ impl Mark {
         let (newer, older) = self.entries();
         put(gathered, older);
         put(gathered, newer);
-        self.laid.pc = None;
-        self.laid.change = Change::Nothing;
+        self.data.moved = false;
+        self.data.change = Change::Nothing;
         Ok(())
     }
 
@@ -336,7 +430,7 @@ impl Mark {
         ensures same { self.new.items ++ gathered.new.items ≡ self.old.items ++ gathered.old.items }
         ensures ok { OnOk result (self.new.items ≡ []) }
     {
-        if self.laid.pc.is_none() && !self.laid.change.is_some() {
+        if !self.data.moved && !self.data.change.is_some() {
             return Ok(());
         }
         self.move_into(gathered)

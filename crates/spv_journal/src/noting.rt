@@ -9,8 +9,7 @@ ghost use Rattle.spv_types.specs.Rows.{leaves};
 
 use crate::entries::{Entry, OldFrame, OldPart, OldValue};
 use crate::journal::Journal;
-use crate::marks::{single, tree_of};
-use spv_base::{Ghost, NoMemory, Pointer};
+use spv_base::{NoMemory, Pointer};
 use spv_state::Whole;
 use spv_state::held::HeldPointer;
 use spv_values::{Row, Single};
@@ -100,35 +99,6 @@ pub(crate) fn keep_held(
 {
     if has {
         keep_value(alloc, journal, number, row)
-    } else {
-        journal.add(Entry::NoValue(number))
-    }
-}
-
-/// A value of one cell again. Inlined: it is called once an event.
-#[inline(always)]
-pub(crate) fn again(value: &Single) -> Single
-    ensures { result ≡ value.now }
-{
-    let none = Ghost::of();
-    single(value.cell(), &tree_of(&none, value))
-}
-
-/// Adds the entry of a register of one cell by the value that it had, if a mark says that it had one. Inlined: it is called once an
-/// event.
-#[inline(always)]
-pub(crate) fn keep_cell(
-    journal: &mut Journal,
-    number: usize,
-    value: &Single,
-    has: bool,
-) -> Result<(), NoMemory>
-    requires { IsSome journal.old.gathered }
-    ensures ok { OnOk result (Keeps (KeepsValue number (marked value.now has) 1) journal.old journal.new) }
-    ensures err { OnErr result (journal.new ≡ journal.old) }
-{
-    if has {
-        journal.change_register(number, again(value))
     } else {
         journal.add(Entry::NoValue(number))
     }

@@ -190,6 +190,24 @@ impl Ring {
         }
     }
 
+    /// The same for an event that is whole in its mark. Inlined: it is called once an event.
+    #[inline(always)]
+    pub(crate) fn keep(&mut self, mark: Mark)
+        requires { mark.beside ≡ 0 }
+        ensures events { self.new.events ≡ fitting self.old.limit (event_of mark [] ∷ self.old.events) }
+        ensures limit { self.new.limit ≡ self.old.limit }
+    {
+        let limit = self.entries.capacity();
+        let need = mark.size();
+        if need > limit {
+            self.clear();
+        } else {
+            self.make_room(limit - need);
+            self.held += need;
+            self.marks.push_front(mark);
+        }
+    }
+
     /// Undoes the newest event, if there is one, its newest change first.
     pub(crate) fn undo(&mut self, whole: &mut Whole) -> Option<Happening>
         requires { CanUnwind self.old.events whole.old }

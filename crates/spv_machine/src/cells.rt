@@ -1,7 +1,6 @@
 //! The events of predecoded instructions, which are those on values of one cell: the same as by any other way, with few look-ups.
-ghost use Rattle.std.specs.Prelude.{◌≡◌, ◌<◌, IfSome, None, OnOk, length};
+ghost use Rattle.std.specs.Prelude.{◌≡◌, ◌<◌, IfSome, None, Ok, length};
 ghost use Rattle.spv_actions.specs.Cells.{full};
-ghost use Rattle.spv_journal.specs.Held.{IsMaking, Records};
 ghost use Rattle.spv_machine.specs.Cells.{IsCellStep};
 ghost use Rattle.spv_machine.specs.Reached.{IsReached};
 ghost use Rattle.spv_machine.specs.Recording.{Made};
@@ -9,12 +8,11 @@ ghost use Rattle.spv_machine.specs.Step as spec;
 ghost use Rattle.spv_machine.specs.Weights.{effect_weight};
 ghost use Rattle.spv_state.specs.State.{State};
 
-use crate::execution::{Did, StepErr};
-use crate::finishing::finished;
+use crate::execution::Did;
 use crate::happenings::{plain, written};
 use spv_actions::sites::Site;
 use spv_actions::{CellEffect, cell_effect};
-use spv_base::{Happening, Inst, NoMemory};
+use spv_base::{Happening, Inst};
 use spv_journal::Recorded;
 use spv_state::{Runnable, Whole};
 use spv_valid::Module;
@@ -65,48 +63,7 @@ fn happening_of(accepted: &Module, inv: u32, word: u32, effect: &CellEffect) -> 
     }
 }
 
-/// Puts the value where a predecoded instruction puts it.
-#[inline(always)]
-fn put(
-    m: &Runnable,
-    recorded: &mut Recorded,
-    inv: u32,
-    inst: &Inst,
-    step: CellStep,
-) -> Result<(), NoMemory>
-    requires making { IsMaking recorded.old.gathered inv }
-    requires reached { IsReached m.now recorded.old.state inv inst.now }
-    requires step { IsCellStep m.now recorded.old.state inv inst.now step }
-    ensures ok { OnOk result (recorded.new.state ≡ spec.put inv inst.now.id (full step.effect) recorded.old.state) }
-    ensures recorded { Records 1 recorded.old recorded.new }
-{
-    match step.effect {
-        CellEffect::Gives { slot, value } => recorded.set_cell(inv, &slot, value),
-        CellEffect::Sets { root, value } => recorded.store_cell(inv, root, value),
-    }
-}
-
-/// Does what a predecoded instruction does, each change recorded.
-#[inline(always)]
-fn apply(
-    m: &Runnable,
-    recorded: &mut Recorded,
-    inv: u32,
-    inst: &Inst,
-    step: CellStep,
-) -> Result<(), NoMemory>
-    requires making { IsMaking recorded.old.gathered inv }
-    requires reached { IsReached m.now recorded.old.state inv inst.now }
-    requires step { IsCellStep m.now recorded.old.state inv inst.now step }
-    ensures ok { OnOk result (recorded.new.state ≡ spec.apply m.now.accepted inv inst.now (full step.effect) recorded.old.state) }
-    ensures recorded { Records 2 recorded.old recorded.new }
-{
-    let next = step.next;
-    put(m, recorded, inv, inst, step)?;
-    recorded.set_pc(inv, next)
-}
-
-/// Does what a predecoded instruction does as one event, or leaves all as it was.
+/// Does what a predecoded instruction does as one event.
 #[inline(always)]
 pub(crate) fn cell_event(
     m: &Runnable,
@@ -114,18 +71,22 @@ pub(crate) fn cell_event(
     inv: u32,
     inst: &Inst,
     step: CellStep,
-) -> Result<Did, StepErr>
+) -> Did
     requires none { recorded.old.gathered ≡ None }
     requires reached { IsReached m.now recorded.old.state inv inst.now }
     requires step { IsCellStep m.now recorded.old.state inv inst.now step }
-    ensures { Made (spec.happening_of m.now.accepted recorded.old.state inv inst.now.word (full step.effect)) (spec.apply m.now.accepted inv inst.now (full step.effect) recorded.old.state) (effect_weight m.now.accepted inv (full step.effect) (spec.apply m.now.accepted inv inst.now (full step.effect) recorded.old.state)) result recorded.old recorded.new }
+    ensures { Made (spec.happening_of m.now.accepted recorded.old.state inv inst.now.word (full step.effect)) (spec.apply m.now.accepted inv inst.now (full step.effect) recorded.old.state) (effect_weight m.now.accepted inv (full step.effect) (spec.apply m.now.accepted inv inst.now (full step.effect) recorded.old.state)) (Ok result) recorded.old recorded.new }
 {
     let happening = happening_of(m.accepted(), inv, step.word, &step.effect);
-    match recorded.mark(happening) {
-        Ok(()) => {
-            let done = apply(m, recorded, inv, inst, step);
-            finished(recorded, happening, done)
+    let next = step.next;
+    match step.effect {
+        CellEffect::Gives { slot, value } => {
+            recorded.set_cell(happening, &slot, value, next);
+            Did::Moved(happening)
         }
-        Err(NoMemory) => Err(StepErr::NoMemory),
+        CellEffect::Sets { root, value } => {
+            recorded.store_cell(happening, root, value, next);
+            Did::Moved(happening)
+        }
     }
 }

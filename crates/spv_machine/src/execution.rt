@@ -144,7 +144,7 @@ fn ready(
     let whole = recorded.whole();
     let inst = reached(m, whole, inv);
     if let Some(step) = cell_due(alloc, m, whole, inv, inst) {
-        return cell_event(m, recorded, inv, inst, step);
+        return Ok(cell_event(m, recorded, inv, inst, step));
     }
     match due(alloc, m, recorded.whole(), inv, inst, row) {
         Ok(effect) => perform(alloc, m, recorded, inv, inst, effect, row),

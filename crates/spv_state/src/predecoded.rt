@@ -31,9 +31,11 @@ use std::alloc::Global;
 /// Where a register of one cell lies in the frames of a function, in 12 bytes: each predecoded instruction has up to three.
 #[derive(Clone, Copy)]
 pub struct CellSlot {
-    id: u32,
-    number: u32,
-    start: u32,
+    pub id: u32,
+    /// Of the register in the plan of the function.
+    pub number: u32,
+    /// Of its cell in a frame.
+    pub start: u32,
 }
 
 /// Where the value lies that an id stands for in the frames of a function.
@@ -69,7 +71,7 @@ impl CellSlot {
         })
     }
 
-    /// The slot.
+    /// The slot. Inlined: it is called once or more an event.
     #[inline(always)]
     pub fn slot(&self) -> Slot
         ensures { result ≡ slot_of self.now }
@@ -115,7 +117,8 @@ impl Source {
         }
     }
 
-    /// The value in a frame of the function, lent, if there is one: a register may hold none yet.
+    /// The value in a frame of the function, lent, if there is one: a register may hold none yet. Inlined: it is called once or more an
+    /// event.
     #[inline(always)]
     pub fn part<'a>(&self, accepted: &'a Module, frame: &'a Frame) -> Option<Part<'a>>
         requires source { IsSource accepted.now frame.now.plan.function self.now }
@@ -145,7 +148,7 @@ impl VariableName {
         }
     }
 
-    /// The variable, in a frame of the function at a depth. Nothing is looked up.
+    /// The variable, in a frame of the function at a depth. Nothing is looked up. Inlined: it is called once an event.
     #[inline(always)]
     pub fn root(&self, accepted: &Module, frame: &Frame, depth: u32) -> Root
         requires { IsName accepted.now frame.now.plan.function self.now }

@@ -93,7 +93,7 @@ impl Runnable {
         }
     }
 
-    /// The instruction at a word, where it is one on values of one cell. In constant time.
+    /// The instruction at a word, where it is one on values of one cell. In constant time. Inlined: it is called once an event.
     #[inline(always)]
     pub fn predecoded(&self, pc: u32) -> Option<&Predecoded>
         ensures { IfSome (option_copied result) (λ p. (d : Inst) → at self.now.accepted.insts pc ≡ Some d → ∥ IsPredecoded self.now.accepted d p ∥₁) }

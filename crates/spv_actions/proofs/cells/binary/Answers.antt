@@ -30,5 +30,5 @@ returns c =
     record {
       due = computed_due x (computation.Binary c.args.operation) Row v c.requires.computes c.requires.operation computes;
       fits = record { store = tt; result = gain_fits x Row v sound computes.1; control = c.is_kept.ensures.next; rooted = gain_rooted x Row v sound computes.1; passed = tt };
-      on = gives_cell x v c.args.into.now c.slot-slot.result c.slot-slot.ensures c.is_reached.ensures c.requires.into (gain_taken x Row v sound computes.1).0;
+      on = gives_cell x v c.args.into.now c.is_reached.ensures c.requires.into (gain_taken x Row v sound computes.1).0;
     }

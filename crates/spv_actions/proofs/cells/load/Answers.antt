@@ -36,5 +36,5 @@ returns c =
     record {
       due = load_gives x at v c.requires.loads c.variable-root.ensures.value there ∙ ap (λ (v : Value). Ok (gives v)) (sym c.of_part-value.ensures);
       fits = record { store = tt; result = result_fits (accepted x) x.inst w sound own; control = c.load_is_kept.ensures.next; rooted = result_rooted (accepted x) (frames_of x.state x.inv) x.inst w sound own; passed = tt };
-      on = gives_cell x w c.args.into.now c.slot-slot.result c.slot-slot.ensures c.is_reached.ensures c.requires.into (result_plain (accepted x) x.inst w sound own);
+      on = gives_cell x w c.args.into.now c.is_reached.ensures c.requires.into (result_plain (accepted x) x.inst w sound own);
     }

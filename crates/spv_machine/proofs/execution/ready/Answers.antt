@@ -1,4 +1,4 @@
-use Rattle.std.proofs.Common.{◌≡◌, ℕ, length, refl, sym, subst}
+use Rattle.std.proofs.Common.{◌≡◌, ℕ, Ok, length, refl, sym, subst}
 use Rattle.spv_actions.specs.Cells.{full}
 use Rattle.spv_actions.specs.Fits.{Fits}
 use Rattle.spv_actions.specs.Planned.{IsTaken, shown}
@@ -81,8 +81,8 @@ returns-in-Some-clause-does c =
     let e = full step.effect in
     let reached : IsReached p s i d = subst (λ (x : State). IsReached p x i d) c.whole-whole.ensures c.reached-inst.ensures in
     let is : IsCellStep p s i d step = subst (λ (x : State). IsCellStep p x i d step) c.whole-whole.ensures c.in-Some.ensures in
-    subst (λ (n : ℕ). Does i (step_of p s i) n c.cell_event.result (seen c.args.recorded.now) (seen c.cell_event.new.recorded)) (sym (cell_weighs p s i d step reached is))
-    (made_does i (step_of p s i) (effect_weight p.accepted i e (apply p.accepted i d e s)) (happening_of p.accepted s i d.word e) (apply p.accepted i d e s) c.cell_event.result c.args.recorded.now c.cell_event.new.recorded
+    subst (λ (n : ℕ). Does i (step_of p s i) n (Ok c.cell_event.result) (seen c.args.recorded.now) (seen c.cell_event.new.recorded)) (sym (cell_weighs p s i d step reached is))
+    (made_does i (step_of p s i) (effect_weight p.accepted i e (apply p.accepted i d e s)) (happening_of p.accepted s i d.word e) (apply p.accepted i d e s) (Ok c.cell_event.result) c.args.recorded.now c.cell_event.new.recorded
     (cell_moves p s i d step reached is) c.cell_event.ensures)
 
 pub returns-in-Some-clause-none : goal.returns-in-Some-clause-none
@@ -91,7 +91,7 @@ returns-in-Some-clause-none c =
     let s = c.args.recorded.now.state in
     let d = c.reached-inst.result.now in
     let e = full c.in-Some.step.effect in
-    made_none (happening_of p.accepted s c.args.inv d.word e) (apply p.accepted c.args.inv d e s) (effect_weight p.accepted c.args.inv e (apply p.accepted c.args.inv d e s)) c.cell_event.result c.args.recorded.now c.cell_event.new.recorded c.requires.none c.cell_event.ensures
+    made_none (happening_of p.accepted s c.args.inv d.word e) (apply p.accepted c.args.inv d e s) (effect_weight p.accepted c.args.inv e (apply p.accepted c.args.inv d e s)) (Ok c.cell_event.result) c.args.recorded.now c.cell_event.new.recorded c.requires.none c.cell_event.ensures
 
 pub returns-in-Some-clause-sound : goal.returns-in-Some-clause-sound
 returns-in-Some-clause-sound c =
@@ -103,7 +103,7 @@ returns-in-Some-clause-sound c =
     let known : Facts p.accepted = facts p.accepted c.accepted-accepted.result.now c.accepted-accepted.ensures.module c.insts-insts.ensures.accepted c.insts-insts.ensures.valid in
     let reached : IsReached p s c.args.inv d = subst (λ (x : State). IsReached p x c.args.inv d) c.whole-whole.ensures c.reached-inst.ensures in
     let is : IsCellStep p s c.args.inv d step = subst (λ (x : State). IsCellStep p x c.args.inv d step) c.whole-whole.ensures c.in-Some.ensures in
-    made_keeps (IsSound p) (happening_of p.accepted s c.args.inv d.word e) (apply p.accepted c.args.inv d e s) (effect_weight p.accepted c.args.inv e (apply p.accepted c.args.inv d e s)) c.cell_event.result c.args.recorded.now c.cell_event.new.recorded c.requires.sound
+    made_keeps (IsSound p) (happening_of p.accepted s c.args.inv d.word e) (apply p.accepted c.args.inv d e s) (effect_weight p.accepted c.args.inv e (apply p.accepted c.args.inv d e s)) (Ok c.cell_event.result) c.args.recorded.now c.cell_event.new.recorded c.requires.sound
     (applied_sound p known s c.args.inv d e reached is.effect.fits) c.cell_event.ensures
 
 pub returns-in-Some-clause-invocations : goal.returns-in-Some-clause-invocations
@@ -112,5 +112,5 @@ returns-in-Some-clause-invocations c =
     let s = c.args.recorded.now.state in
     let d = c.reached-inst.result.now in
     let e = full c.in-Some.step.effect in
-    made_keeps (λ (x : State). length x.statuses.list ≡ length s.statuses.list) (happening_of p.accepted s c.args.inv d.word e) (apply p.accepted c.args.inv d e s) (effect_weight p.accepted c.args.inv e (apply p.accepted c.args.inv d e s)) c.cell_event.result c.args.recorded.now c.cell_event.new.recorded
+    made_keeps (λ (x : State). length x.statuses.list ≡ length s.statuses.list) (happening_of p.accepted s c.args.inv d.word e) (apply p.accepted c.args.inv d e s) (effect_weight p.accepted c.args.inv e (apply p.accepted c.args.inv d e s)) (Ok c.cell_event.result) c.args.recorded.now c.cell_event.new.recorded
     refl (applied_count p.accepted c.args.inv d e s) c.cell_event.ensures
