@@ -26,7 +26,7 @@ pub fn binary(operation: BinaryOp, a: &Part, b: &Part, into: &mut Row)
     *into = of_lanes(cells);
 }
 
-/// The same on two scalars: no row is needed for the result.
+/// The same on two values of one lane: no row is needed for the result.
 pub fn binary_single(operation: BinaryOp, a: &Part, b: &Part) -> Single
     requires { MayMeet operation (leaves a.now) (leaves b.now) 1 }
     ensures { result ≡ binary_value operation a.now b.now }
@@ -34,7 +34,7 @@ pub fn binary_single(operation: BinaryOp, a: &Part, b: &Part) -> Single
     single_of(operation.apply(lane_of(a), lane_of(b)))
 }
 
-/// The same on rows.
+/// A binary operation on each lane of two rows.
 fn binary_cells(operation: BinaryOp, a: &[Cell], b: &[Cell], into: &mut [Cell])
     requires { MayMeet operation a.now b.now (length into.old) }
     ensures { into.new ≡ zip2 (binary_lane operation) a.now b.now }

@@ -19,11 +19,11 @@ pub record Marked : Type 0 where
 
 -- what happened, by the fields of a mark
 abbrev pub happening_in : MarkData → Happening
-happening_in l = record { inv = l.inv; kind = l.kind; word = l.word; root = l.root; line = l.line }
+happening_in m = record { inv = m.inv; kind = m.kind; word = m.word; root = m.root; line = m.line }
 
 -- the cell
 abbrev pub cell_in : MarkData → Lane
-cell_in l = record { bits = l.bits; width = l.width; defined = l.defined }
+cell_in m = record { bits = m.bits; width = m.width; defined = m.defined }
 
 -- a mark of no changes
 abbrev pub data_of : Happening → MarkData
@@ -68,7 +68,7 @@ items_of m word (Register number) tree = moved m word ++ CellRegister number tre
 items_of m word (Variable root) tree = moved m word ++ variable_item root tree ∷ []
 items_of m word (Status status) tree = StatusChanged status ∷ moved m word
 
--- the tree is of the cell that the register or the variable had, which is one
+-- the tree is of the one cell that the register or the variable had
 abbrev pub IsTree : Change → Lane → Value → Type 0
 IsTree (Register number) cell tree = IsLane cell × (leaves tree ≡ cell ∷ [])
 IsTree (Variable root) cell tree = IsLane cell × (leaves tree ≡ cell ∷ [])

@@ -207,7 +207,7 @@ impl Recorded {
         }
     }
 
-    /// Moves the top frame of an invocation to an instruction. Inlined: it is called once an event.
+    /// Moves the top frame of an invocation to an instruction. Inlined: it is called at each event that is not made at once.
     #[inline(always)]
     pub fn set_pc(&mut self, i: u32, pc: u32) -> Result<(), NoMemory>
         requires making { IsMaking self.old.gathered i }

@@ -183,7 +183,7 @@ impl Journal {
     }
 
     /// The event that is being made is whole: it is kept, and as many of the oldest go as have to. It takes no memory. Inlined: it is
-    /// called once an event.
+    /// called at each event that is not made at once.
     #[inline(always)]
     pub fn seal(&mut self)
         requires { IsSome self.old.gathered }

@@ -48,7 +48,7 @@ impl Change {
     }
 }
 
-/// A mark as it lies in memory. The fields of what happened and of the cell stand apart, so that it has no gaps.
+/// A mark as it lies in memory. The fields of what happened and of the cell stand apart, so that one byte alone is left over.
 #[derive(Clone, Copy)]
 struct MarkData {
     /// The cell's, where a register or a variable had a value.
@@ -69,7 +69,7 @@ struct MarkData {
     moved: bool,
 }
 
-/// A mark is written once an event, and what it takes is most of what a journal costs.
+/// A mark is written at every event, so its size is bounded here.
 const _: () = prove!(size_of::<MarkData>() <= 48);
 
 impl MarkData {
@@ -194,7 +194,7 @@ pub(crate) fn no_path() -> Ghost<Path>
     Ghost::of()
 }
 
-/// The entry of a whole variable of one cell, by the value that it had. Inlined: it is called once an event.
+/// The entry of a whole variable of one cell, by the value that it had.
 #[inline(always)]
 pub(crate) fn variable_entry(root: Root, value: Single) -> Entry
     ensures { result ≡ variable_item root value }

@@ -168,7 +168,7 @@ impl Ring {
     }
 
     /// Puts an event before all, where there is room for it, and takes as many of the oldest away as have to go. Inlined: it is called
-    /// once an event.
+    /// at each event that is not made at once.
     #[inline(always)]
     pub(crate) fn put(&mut self, mark: &mut Mark, gathered: &mut VecDeque<Entry>)
         ensures events { self.new.events ≡ fitting self.old.limit (event_of mark.old gathered.old.items ∷ self.old.events) }
@@ -190,7 +190,7 @@ impl Ring {
         }
     }
 
-    /// The same for an event that is whole in its mark. Inlined: it is called once an event.
+    /// The same for an event that is whole in its mark. Inlined: it is called at each event that is made at once.
     #[inline(always)]
     pub(crate) fn keep(&mut self, mark: Mark)
         requires { mark.beside ≡ 0 }

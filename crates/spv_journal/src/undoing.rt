@@ -33,7 +33,7 @@ pub(crate) fn put_cell(whole: &mut Whole, inv: u32, number: usize, value: Single
     whole.exchange_cell(inv, number, &mut held, &mut has);
 }
 
-/// Exchanges the value of a whole variable of one cell. Inlined: it is called once an event.
+/// Exchanges the value of a whole variable of one cell. Inlined: it is called at every store of a predecoded instruction.
 #[inline(always)]
 pub(crate) fn exchange_variable(whole: &mut Whole, inv: u32, root: Root, value: &mut Single)
     requires { CanUndo inv (variable_item root value.old) whole.old }

@@ -8,7 +8,8 @@ use crate::execution::{Did, StepErr};
 use spv_base::{Happening, Kind, NoMemory};
 use spv_journal::Recorded;
 
-/// Keeps an event whose changes are made, or undoes those that were made before memory ran out. Inlined: it is called once an event.
+/// Keeps an event whose changes are made, or undoes those that were made before memory ran out. Inlined: it is called at each event
+/// that is not made at once.
 #[inline(always)]
 pub(crate) fn finished(
     recorded: &mut Recorded,
