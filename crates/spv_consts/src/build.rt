@@ -10,7 +10,8 @@ ghost use Rattle.spv_consts.specs.Steps.{breaches_from, walked};
 
 use crate::context::Context;
 use crate::numbers::RULES_CODE;
-use crate::overrides::held;
+use crate::overrides::fitting_overrides;
+use crate::steps::after_all;
 use crate::table::ConstTable;
 use crate::walk::Walk;
 use spv_base::{Fail, Inst, NoMemory, Overrides, Refusal};
@@ -27,7 +28,7 @@ fn context_of<'a>(
 ) -> Result<Context<'a>, NoMemory>
     ensures { IfOk result (λ context. context ≡ context_of types.now index.now.insts over.now) }
 {
-    let held = held(alloc, index, types, over)?;
+    let held = fitting_overrides(alloc, index, types, over)?;
     Ok(Context { index, held })
 }
 
@@ -77,27 +78,25 @@ impl ConstTable {
         let context = context_of(alloc, &types, index, over)?;
         let word = context.lowest_wrong(insts);
         let front = &insts[..index.functions_start()];
-        let outcome = Walk::new(alloc, types).built(alloc, &context, front);
+        let outcome = known_after(alloc, Walk::new(alloc, types), &context, front);
         unless_earlier(word, outcome)
     }
 }
 
-impl Walk {
-    /// The types and the constants after some instructions.
-    fn built(
-        self,
-        alloc: Global,
-        context: &Context,
-        insts: &[Inst],
-    ) -> Result<(TypeTable, ConstTable), Fail<Refusal>>
-        ensures { Answers (unless_refused (known_of (walked context.now self insts.now)) (breaches_from context.now self insts.now)) result }
-    {
-        let Walk {
-            mut types,
-            values,
-            ..
-        } = self.walked(alloc, context, insts)?;
-        types.count(alloc)?;
-        Ok((types, values))
-    }
+/// The types and the constants after some instructions.
+fn known_after(
+    alloc: Global,
+    walk: Walk,
+    context: &Context,
+    insts: &[Inst],
+) -> Result<(TypeTable, ConstTable), Fail<Refusal>>
+    ensures { Answers (unless_refused (known_of (walked context.now walk insts.now)) (breaches_from context.now walk insts.now)) result }
+{
+    let Walk {
+        mut types,
+        values,
+        ..
+    } = after_all(alloc, walk, context, insts)?;
+    types.count(alloc)?;
+    Ok((types, values))
 }

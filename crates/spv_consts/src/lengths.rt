@@ -47,55 +47,42 @@ fn lane_length(sign: u32, cell: Cell) -> Option<u64>
 }
 
 /// Whether a type is an array without a length.
-fn is_unset(types: &TypeTable, ty: u32) -> bool
+pub(crate) fn is_unset(types: &TypeTable, ty: u32) -> bool
     ensures { result ≡ spec.is_unset (form_of types.now ty) }
 {
     matches!(types.form(ty), Some(Form::Array { length: None, .. }))
 }
 
-impl Walk {
-    /// The length that the constant with an id gives.
-    fn constant_length(&self, context: &Context, id: u32) -> Option<u64>
-        ensures length { result ≡ spec.constant_length context.now self.now id }
-        ensures positive { IfSome result (λ length. 1 ≤ length) }
-    {
-        let sign = sign_of(&self.types, context.index.result_type(id)?)?;
-        lane_length(sign, self.values.scalar(id)?)
-    }
+/// The length that the constant with an id gives.
+fn constant_length(walk: &Walk, context: &Context, id: u32) -> Option<u64>
+    ensures length { result ≡ spec.constant_length context.now walk.now id }
+    ensures positive { IfSome result (λ length. 1 ≤ length) }
+{
+    let sign = sign_of(&walk.types, context.index.result_type(id)?)?;
+    lane_length(sign, walk.values.scalar(id)?)
+}
 
-    /// The length of an array type.
-    pub(crate) fn length_at(&self, context: &Context, inst: &Inst) -> Option<u64>
-        ensures length { result ≡ spec.length_at context.now self.now inst.now }
-        ensures positive { IfSome result (λ length. 1 ≤ length) }
-    {
-        if inst.op == op::TYPE_ARRAY {
-            self.constant_length(context, id_operand(inst, 1)?)
-        } else {
-            None
-        }
+/// The length of an array type.
+pub(crate) fn length_at(walk: &Walk, context: &Context, inst: &Inst) -> Option<u64>
+    ensures length { result ≡ spec.length_at context.now walk.now inst.now }
+    ensures positive { IfSome result (λ length. 1 ≤ length) }
+{
+    if inst.op == op::TYPE_ARRAY {
+        constant_length(walk, context, id_operand(inst, 1)?)
+    } else {
+        None
     }
+}
 
-    /// Gives a length to the array type that comes next.
-    fn with_array(mut self, id: u32, length: u32) -> Walk
-        requires { 1 ≤ length }
-        ensures { result ≡ spec.with_array self id length }
-    {
-        if self.is_next(id) && is_unset(&self.types, id) {
-            self.types.set_length(id, length);
-        }
-        self
+/// Sets the length of an array type. There is no walk where it is longer than a type may have cells.
+pub(crate) fn lengthened(walk: Walk, context: &Context, inst: &Inst) -> Option<Walk>
+    ensures { result ≡ spec.lengthened context.now walk inst.now }
+{
+    let Some(length) = length_at(&walk, context, inst) else {
+        return Some(walk);
+    };
+    if length > MOST_CELLS {
+        return None;
     }
-
-    /// Sets the length of an array type. There is no walk where it is longer than a type may have cells.
-    pub(crate) fn lengthened(self, context: &Context, inst: &Inst) -> Option<Walk>
-        ensures { result ≡ spec.lengthened context.now self inst.now }
-    {
-        let Some(length) = self.length_at(context, inst) else {
-            return Some(self);
-        };
-        if length > MOST_CELLS {
-            return None;
-        }
-        Some(self.with_array(inst.id, length as u32))
-    }
+    Some(walk.with_array(inst.id, length as u32))
 }

@@ -136,7 +136,7 @@ fn without(
 }
 
 /// The overrides that hold: those that fit all the constants of their SpecId.
-pub(crate) fn held(
+pub(crate) fn fitting_overrides(
     alloc: Global,
     index: &Index,
     types: &TypeTable,

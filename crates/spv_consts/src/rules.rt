@@ -5,6 +5,7 @@ ghost use Rattle.spv_types.specs.Types.{form_of};
 ghost use Rattle.spv_consts.specs.Rules as spec;
 
 use crate::context::Context;
+use crate::lengths::length_at;
 use crate::literals::{integer_width, keeps_literal};
 use crate::walk::Walk;
 use spv_base::{Inst, Operand};
@@ -103,101 +104,99 @@ fn keeps_count(inst: &Inst, op: u16) -> bool
     }
 }
 
-impl Walk {
-    /// Whether a constituent is a constant or an OpUndef before the composite, of a part's type.
-    fn keeps_part(&self, context: &Context, inst: &Inst, part: usize, id: Option<u32>) -> bool
-        ensures { result ≡ spec.keeps_part context.now self.now inst.now.word (spec.part_type_of (form_of self.now.types inst.now.ty) part) id }
-    {
-        match id {
-            Some(id) => {
-                self.is_operand(context, inst.word, id)
-                    && has_type(context, part_type(&self.types, inst.ty, part), id)
-            }
-            None => false,
+/// Whether a constituent is a constant or an OpUndef before the composite, of a part's type.
+fn keeps_part(walk: &Walk, context: &Context, inst: &Inst, part: usize, id: Option<u32>) -> bool
+    ensures { result ≡ spec.keeps_part context.now walk.now inst.now.word (spec.part_type_of (form_of walk.now.types inst.now.ty) part) id }
+{
+    match id {
+        Some(id) => {
+            walk.is_operand(context, inst.word, id)
+                && has_type(context, part_type(&walk.types, inst.ty, part), id)
+        }
+        None => false,
+    }
+}
+
+/// Whether constituents are of the types of the parts.
+fn keeps_parts(walk: &Walk, context: &Context, inst: &Inst) -> bool
+    ensures { result ≡ spec.keeps_parts context.now walk.now inst.now.word (form_of walk.now.types inst.now.ty) 0 inst.now.operands }
+{
+    for (part, operand) in inst.operands.as_slice().iter().enumerate() {
+        if !keeps_part(walk, context, inst, part, id_in(operand)) {
+            return false;
         }
     }
+    true
+}
 
-    /// Whether constituents are of the types of the parts.
-    fn keeps_parts(&self, context: &Context, inst: &Inst) -> bool
-        ensures { result ≡ spec.keeps_parts context.now self.now inst.now.word (form_of self.now.types inst.now.ty) 0 inst.now.operands }
-    {
-        for (part, operand) in inst.operands.as_slice().iter().enumerate() {
-            if !self.keeps_part(context, inst, part, id_in(operand)) {
-                return false;
-            }
-        }
-        true
-    }
+/// Whether a composite has one constituent for each part.
+fn keeps_composite(walk: &Walk, context: &Context, inst: &Inst) -> bool
+    ensures { result ≡ spec.keeps_composite context.now walk.now inst.now (form_of walk.now.types inst.now.ty) }
+{
+    part_count(&walk.types, inst.ty) == Some(inst.operands.len())
+        && keeps_parts(walk, context, inst)
+}
 
-    /// Whether a composite has one constituent for each part.
-    fn keeps_composite(&self, context: &Context, inst: &Inst) -> bool
-        ensures { result ≡ spec.keeps_composite context.now self.now inst.now (form_of self.now.types inst.now.ty) }
-    {
-        part_count(&self.types, inst.ty) == Some(inst.operands.len())
-            && self.keeps_parts(context, inst)
-    }
-
-    /// Whether each operand is a constant or an OpUndef before a word.
-    fn are_operands(&self, context: &Context, word: u32, operands: &[Operand]) -> bool
-        ensures { result ≡ spec.are_operands context.now self.now word operands.now }
-    {
-        for operand in operands {
-            if !self.is_given(context, word, id_in(operand)) {
-                return false;
-            }
-        }
-        true
-    }
-
-    /// Whether an operation has as many operands as it wants, of types that fit the result.
-    #[tactic(auto, using(spv_typing::proofs::LawLemmas::fits_by))]
-    fn keeps_opcode(&self, context: &Context, inst: &Inst, op: u16) -> bool
-        ensures { result ≡ spec.keeps_opcode context.now self.now inst.now op }
-    {
-        is_constant_operation(op)
-            && keeps_count(inst, op)
-            && self.are_operands(context, inst.word, operands_of(inst))
-            && fits_types(&self.types, op, inst.ty, operand_types(context, inst))
-    }
-
-    /// Whether an OpSpecConstantOp keeps its rules.
-    fn keeps_operation(&self, context: &Context, inst: &Inst) -> bool
-        ensures { result ≡ spec.keeps_operation context.now self.now inst.now }
-    {
-        match opcode_of(inst) {
-            Some(op) => self.keeps_opcode(context, inst, op),
-            None => false,
+/// Whether each operand is a constant or an OpUndef before a word.
+fn are_operands(walk: &Walk, context: &Context, word: u32, operands: &[Operand]) -> bool
+    ensures { result ≡ spec.are_operands context.now walk.now word operands.now }
+{
+    for operand in operands {
+        if !walk.is_given(context, word, id_in(operand)) {
+            return false;
         }
     }
+    true
+}
 
-    /// Whether a constant keeps the rule of its kind.
-    fn keeps_kind(&self, context: &Context, inst: &Inst) -> bool
-        ensures { result ≡ spec.keeps_kind context.now self.now inst.now }
-    {
-        match inst.op {
-            op::CONSTANT_COMPOSITE | op::SPEC_CONSTANT_COMPOSITE => self.keeps_composite(
-                context, inst,
-            ),
-            op::CONSTANT_NULL => true,
-            op::SPEC_CONSTANT_OP => self.keeps_operation(context, inst),
-            op::CONSTANT | op::SPEC_CONSTANT => keeps_literal(
-                integer_width(&self.types, inst.ty),
-                inst,
-            ),
-            _ => is_boolean(self.types.form(inst.ty)),
-        }
-    }
+/// Whether an operation has as many operands as it wants, of types that fit the result.
+#[tactic(auto, using(spv_typing::proofs::LawLemmas::fits_by))]
+fn keeps_opcode(walk: &Walk, context: &Context, inst: &Inst, op: u16) -> bool
+    ensures { result ≡ spec.keeps_opcode context.now walk.now inst.now op }
+{
+    is_constant_operation(op)
+        && keeps_count(inst, op)
+        && are_operands(walk, context, inst.word, operands_of(inst))
+        && fits_types(&walk.types, op, inst.ty, operand_types(context, inst))
+}
 
-    /// Whether an instruction keeps the rules of constants and array lengths.
-    pub(crate) fn keeps_rules(&self, context: &Context, inst: &Inst) -> bool
-        ensures { result ≡ spec.keeps_rules context.now self.now inst.now }
-    {
-        if inst.op == op::TYPE_ARRAY {
-            return self.length_at(context, inst).is_some();
-        }
-        if !is_constant(inst.op) {
-            return true;
-        }
-        self.types.is_sized_data(inst.ty) && self.keeps_kind(context, inst)
+/// Whether an OpSpecConstantOp keeps its rules.
+fn keeps_operation(walk: &Walk, context: &Context, inst: &Inst) -> bool
+    ensures { result ≡ spec.keeps_operation context.now walk.now inst.now }
+{
+    match opcode_of(inst) {
+        Some(op) => keeps_opcode(walk, context, inst, op),
+        None => false,
     }
+}
+
+/// Whether a constant keeps the rule of its kind.
+fn keeps_kind(walk: &Walk, context: &Context, inst: &Inst) -> bool
+    ensures { result ≡ spec.keeps_kind context.now walk.now inst.now }
+{
+    match inst.op {
+        op::CONSTANT_COMPOSITE | op::SPEC_CONSTANT_COMPOSITE => keeps_composite(
+            walk, context, inst,
+        ),
+        op::CONSTANT_NULL => true,
+        op::SPEC_CONSTANT_OP => keeps_operation(walk, context, inst),
+        op::CONSTANT | op::SPEC_CONSTANT => keeps_literal(
+            integer_width(&walk.types, inst.ty),
+            inst,
+        ),
+        _ => is_boolean(walk.types.form(inst.ty)),
+    }
+}
+
+/// Whether an instruction keeps the rules of constants and array lengths.
+pub(crate) fn keeps_rules(walk: &Walk, context: &Context, inst: &Inst) -> bool
+    ensures { result ≡ spec.keeps_rules context.now walk.now inst.now }
+{
+    if inst.op == op::TYPE_ARRAY {
+        return length_at(walk, context, inst).is_some();
+    }
+    if !is_constant(inst.op) {
+        return true;
+    }
+    walk.types.is_sized_data(inst.ty) && keeps_kind(walk, context, inst)
 }

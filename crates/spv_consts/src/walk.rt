@@ -1,11 +1,16 @@
 //! What is known of a module's constants up to an instruction.
-ghost use Rattle.std.specs.Prelude.{◌≡◌, [], ◌++◌, OnOk};
+ghost use Rattle.std.specs.Prelude.{◌≡◌, ◌≤◌, [], ◌∷◌, ◌++◌, IfOk, IsTrue, OnOk};
+ghost use Rattle.spv_consts.specs.Lengths.{with_array};
 ghost use Rattle.spv_consts.specs.State as spec;
+ghost use Rattle.spv_consts.specs.Steps.{cells_with, with_type};
+ghost use Rattle.spv_consts.specs.Values.{null_of};
 
 use crate::context::Context;
+use crate::lengths::is_unset;
 use crate::table::ConstTable;
 use crate::values::append_blank;
-use spv_base::{Cell, NoMemory};
+use spv_base::{Cell, Inst, NoMemory};
+use spv_types::limits::{form_limit, known_limit};
 use spv_types::{Limit, TypeTable};
 use std::alloc::Global;
 use std::marker::Model;
@@ -106,5 +111,78 @@ impl Walk {
             Some(id) => self.append_operand(cells, context, id),
             None => Ok(()),
         }
+    }
+
+    /// Gives a length to the array type that comes next.
+    pub(crate) fn with_array(mut self, id: u32, length: u32) -> Walk
+        requires { 1 ≤ length }
+        ensures { result ≡ with_array self id length }
+    {
+        if self.is_next(id) && is_unset(&self.types, id) {
+            self.types.set_length(id, length);
+        }
+        self
+    }
+
+    /// The cells of all constants with one more, of a type.
+    pub(crate) fn cells_with(&self, ty: u32) -> u64
+        ensures { result ≡ cells_with self.now ty }
+    {
+        self.cells
+            .saturating_add(known_limit(&self.types, self.limits.as_slice(), ty).cells)
+    }
+
+    /// Passes the type that comes next.
+    pub(crate) fn pass_type(mut self, id: u32) -> Result<Walk, NoMemory>
+        requires { IsTrue (spec.is_next self id) }
+        ensures { IfOk result (λ walk. walk ≡ with_type self) }
+    {
+        let Some(form) = self.types.form(id) else {
+            return Ok(self);
+        };
+        let limit = form_limit(&self.types, self.limits.as_slice(), form);
+        self.limits.push(limit)?;
+        Ok(self)
+    }
+
+    /// Adds a null constant.
+    pub(crate) fn with_null(self, inst: &Inst) -> Result<Walk, NoMemory>
+        ensures { IfOk result (λ walk. walk ≡ record self { values = self.values ++ (inst.now.id, record { ty = inst.now.ty; cells = null_of self.types inst.now.ty }) ∷ []; cells = cells_with self inst.now.ty }) }
+    {
+        let cells = self.cells_with(inst.ty);
+        let room = cells.saturating_sub(self.cells);
+        let Walk {
+            types,
+            values,
+            limits,
+            ..
+        } = self;
+        let values = values.with_null(&types, inst.id, inst.ty, room)?;
+        Ok(Walk {
+            types,
+            values,
+            limits,
+            cells,
+        })
+    }
+
+    /// Adds a constant of these leaves.
+    pub(crate) fn with_row(self, inst: &Inst, row: &[Cell]) -> Result<Walk, NoMemory>
+        ensures { IfOk result (λ walk. walk ≡ record self { values = self.values ++ (inst.now.id, record { ty = inst.now.ty; cells = row.now }) ∷ []; cells = cells_with self inst.now.ty }) }
+    {
+        let cells = self.cells_with(inst.ty);
+        let Walk {
+            types,
+            values,
+            limits,
+            ..
+        } = self;
+        let values = values.with_row(inst.id, inst.ty, row)?;
+        Ok(Walk {
+            types,
+            values,
+            limits,
+            cells,
+        })
     }
 }

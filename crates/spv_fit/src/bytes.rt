@@ -15,6 +15,7 @@ use spv_base::{Fail, Inst, SetupRefusal};
 use spv_index::{Index, literal_operand};
 use spv_ops::{decoration, op, storage_class};
 use spv_setup::Setup;
+use spv_types::layout::{sizes, whole_size};
 use spv_types::{Form, TypeTable};
 use std::alloc::Global;
 use std::collections::BTreeMap;
@@ -57,7 +58,7 @@ fn block_size(types: &TypeTable, sizes: &[u64], ty: u32) -> u64
     ensures { result ≡ due.block_size types.now (form_of types.now ty) }
 {
     match types.form(ty) {
-        Some(Form::Pointer { target, .. }) => types.whole_size(sizes, *target),
+        Some(Form::Pointer { target, .. }) => whole_size(types, sizes, *target),
         _ => 0,
     }
 }
@@ -199,7 +200,7 @@ pub fn check_bytes(
     if some_lack(index, setup, pairs, index.insts()) {
         return Err(NO_BYTES);
     }
-    let sizes = types.sizes(alloc)?;
+    let sizes = sizes(alloc, types)?;
     match lowest_short(index, types, &sizes, setup, pairs, index.insts()) {
         None => Ok(()),
         Some(line) => Err(Fail::Refused(SetupRefusal { code: 7, line })),

@@ -95,7 +95,7 @@ impl Group {
     }
 
     /// The least position to which a motion back takes no step: the events from there on are kept.
-    pub fn kept(&self) -> u64
+    pub fn first_kept(&self) -> u64
         ensures kept { result ≡ self.now.kept }
         ensures within { result ≤ self.now.group.position }
     {

@@ -27,7 +27,7 @@ use std::alloc::Global;
 
 /// What the register at a place of a frame holds, if it holds something.
 #[inline(always)]
-fn held<'a>(plan: &Plan, frame: &'a Frame, id: u32, place: Place) -> Option<Operand<'a>>
+fn operand_at<'a>(plan: &Plan, frame: &'a Frame, id: u32, place: Place) -> Option<Operand<'a>>
     requires plan { frame.now.plan ≡ plan.now }
     requires stands { id_at plan.now.values plan.now.pointers place ≡ Some id }
     requires apart { HasApart plan.now }
@@ -75,7 +75,7 @@ fn register<'a>(
     let _insts = accepted.insts();
     let plan = plan_at(plans, found.plan);
     if plan.function() == frame.function() {
-        held(plan, frame, id, found.place)
+        operand_at(plan, frame, id, found.place)
     } else {
         None
     }

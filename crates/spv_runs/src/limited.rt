@@ -28,7 +28,7 @@ struct Stand {
 fn stand_of(group: &Group) -> Stand {
     Stand {
         position: group.position(),
-        kept: group.kept(),
+        kept: group.first_kept(),
     }
 }
 

@@ -99,7 +99,7 @@ fn go_back<L: Ledger>(group: &mut Group, target: u64, steps: &mut Steps<L>) -> R
     ensures cost { steps.new ≡ steps.old }
     ensures reached { group.old.kept ≤ group.old.group.position }
 {
-    if target < group.kept() {
+    if target < group.first_kept() {
         group.restart()
     } else {
         undo_to(group, target, steps)

@@ -1,5 +1,5 @@
 //! The leaves of each type, counted once.
-ghost use Rattle.std.specs.Prelude.{◌≡◌, ◌<◌, ◌↔◌, ℕ, IfOk, IfSome, IsTrue, List, Some, length};
+ghost use Rattle.std.specs.Prelude.{◌≡◌, ◌<◌, ◌↔◌, IfOk, IsTrue, Some, length};
 ghost use Rattle.std.specs.Option.{option_map};
 ghost use Rattle.spv_types.specs.Cells.{added, cells_among};
 ghost use Rattle.spv_types.specs.Cuts.{cut};
@@ -7,6 +7,7 @@ ghost use Rattle.spv_types.specs.Laws.{IsAmong};
 ghost use Rattle.spv_types.specs.Types.{IsUnset, form_at};
 ghost use Rattle.spv_types.specs.Counted.{AreBefore, HasFirsts, IsCounted, PartsAreBefore, members_of};
 
+use crate::counts::{cells_among, form_cells};
 use crate::forms::{Form, Member};
 use crate::table::TypeTable;
 use spv_base::{Items, NoMemory};
@@ -31,7 +32,7 @@ pub(crate) fn members_of(form: &Form) -> &[Member]
 }
 
 /// Whether a form is an array without a length.
-fn is_unset(form: &Form) -> bool
+pub(crate) fn is_unset(form: &Form) -> bool
     ensures { IsTrue result ↔ IsUnset (Some form.now) }
 {
     matches!(form, Form::Array { length: None, .. })
@@ -44,113 +45,70 @@ fn sum(a: Option<u64>, b: Option<u64>) -> Option<u64>
     Some(a?.saturating_add(b?))
 }
 
-impl TypeTable {
-    /// Whether a type is among the first types.
-    fn is_before(&self, limit: usize, ty: u32) -> bool
-        ensures { IsTrue result → IsAmong self.now limit ty }
-    {
-        match self.number(ty) {
-            Some(number) => number < limit,
-            None => false,
+/// Whether a type is among the first types.
+fn is_before(types: &TypeTable, limit: usize, ty: u32) -> bool
+    ensures { IsTrue result → IsAmong types.now limit ty }
+{
+    match types.number(ty) {
+        Some(number) => number < limit,
+        None => false,
+    }
+}
+
+/// Whether the types of members are among the first types.
+fn members_before(types: &TypeTable, limit: usize, members: &[Member]) -> bool
+    ensures { IsTrue result → AreBefore types.now limit members.now }
+{
+    for member in members {
+        if !is_before(types, limit, member.ty) {
+            return false;
         }
     }
+    true
+}
 
-    /// Whether the types of members are among the first types.
-    fn members_before(&self, limit: usize, members: &[Member]) -> bool
-        ensures { IsTrue result → AreBefore self.now limit members.now }
-    {
-        for member in members {
-            if !self.is_before(limit, member.ty) {
-                return false;
-            }
+/// Whether the parts of a form are among the first types.
+pub(crate) fn parts_before(types: &TypeTable, limit: usize, form: &Form) -> bool
+    ensures { IsTrue result → PartsAreBefore types.now limit form.now }
+{
+    match form {
+        Form::Vector { component, .. } => is_before(types, limit, *component),
+        Form::Array { element, .. } | Form::Runtime { element, .. } => {
+            is_before(types, limit, *element)
         }
-        true
+        Form::Struct { members, .. } => members_before(types, limit, members.as_slice()),
+        Form::Void | Form::Bool | Form::Int { .. } | Form::Pointer { .. } | Form::Function { .. } =>
+            true,
     }
+}
 
-    /// Whether the parts of a form are among the first types.
-    fn parts_before(&self, limit: usize, form: &Form) -> bool
-        ensures { IsTrue result → PartsAreBefore self.now limit form.now }
-    {
-        match form {
-            Form::Vector { component, .. } => self.is_before(limit, *component),
-            Form::Array { element, .. } | Form::Runtime { element, .. } => {
-                self.is_before(limit, *element)
-            }
-            Form::Struct { members, .. } => self.members_before(limit, members.as_slice()),
-            Form::Void
-            | Form::Bool
-            | Form::Int { .. }
-            | Form::Pointer { .. }
-            | Form::Function { .. } => true,
-        }
+/// The leaves before each of some members, whose types are among the first types.
+pub(crate) fn firsts(
+    alloc: Global,
+    types: &TypeTable,
+    limit: usize,
+    members: &[Member],
+) -> Result<Items<Option<u64>>, NoMemory>
+    ensures { IfOk result (λ firsts. HasFirsts (cells_among types.now limit) members.now (length members.now) firsts) }
+{
+    let mut firsts = Items::new(alloc);
+    let mut before = Some(0);
+    for member in members {
+        firsts.push(before)?;
+        before = sum(before, cells_among(types, limit, member.ty));
     }
+    Ok(firsts)
+}
 
-    /// The leaves before each of some members, whose types are among the first types.
-    fn firsts(
-        &self,
-        alloc: Global,
-        limit: usize,
-        members: &[Member],
-    ) -> Result<Items<Option<u64>>, NoMemory>
-        ensures { IfOk result (λ firsts. HasFirsts (cells_among self.now limit) members.now (length members.now) firsts) }
-    {
-        let mut firsts = Items::new(alloc);
-        let mut before = Some(0);
-        for member in members {
-            firsts.push(before)?;
-            before = sum(before, self.cells_among(limit, member.ty));
-        }
-        Ok(firsts)
-    }
-
-    /// The count of the type with a number, whose parts come before it.
-    fn counted(&self, alloc: Global, number: usize) -> Result<Count, NoMemory>
-        requires within { number < length self.now }
-        requires parts { PartsAreBefore self.now number (form_at self.now number) }
-        ensures { IfOk result (λ count. IsCounted self.now number count) }
-    {
-        let form = self.form_at(number);
-        Ok(Count {
-            cells: self.form_cells(number, form),
-            firsts: self.firsts(alloc, number, members_of(form))?,
-        })
-    }
-
-    /// Counts the type behind those that are counted, and tells whether it could: its parts come before it, and it is no
-    /// array without a length.
-    fn count_next(&mut self, alloc: Global) -> Result<bool, NoMemory>
-        ensures { self.new ≡ self.old }
-    {
-        let number = self.counts.len();
-        if number >= self.len() {
-            return Ok(false);
-        }
-        let form = self.form_at(number);
-        if is_unset(form) || !self.parts_before(number, form) {
-            return Ok(false);
-        }
-        let count = self.counted(alloc, number)?;
-        self.counts.push(count)?;
-        Ok(true)
-    }
-
-    /// Counts the types before the first array without a length. What a type is stays as it was: where it was counted, its
-    /// leaves are found without a walk over its parts.
-    pub fn count(&mut self, alloc: Global) -> Result<(), NoMemory>
-        ensures { self.new ≡ self.old }
-    {
-        for _ in self.counts.len()..self.entries.len() {
-            if !self.count_next(alloc)? {
-                break;
-            }
-        }
-        Ok(())
-    }
-
-    /// The count of the type with a number, where it was counted.
-    pub(crate) fn count_of(&self, number: usize) -> Option<&Count>
-        ensures { IfSome result (λ count. IsCounted self.now number count.now) }
-    {
-        self.counts.get(number)
-    }
+/// The count of the type with a number, whose parts come before it.
+pub(crate) fn count_at(alloc: Global, types: &TypeTable, number: usize) -> Result<Count, NoMemory>
+    requires within { number < length types.now }
+    requires parts { PartsAreBefore types.now number (form_at types.now number) }
+    ensures { IfOk result (λ count. IsCounted types.now number count) }
+{
+    let form = types.form_at(number);
+    Ok(Count {
+        cells: form_cells(types, number, form),
+        firsts: firsts(alloc, types, number, members_of(form))?,
+    })
 }

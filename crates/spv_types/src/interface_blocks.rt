@@ -27,6 +27,7 @@ ghost use Rattle.spv_types.specs.InterfaceBlocks.{
 };
 
 use crate::forms::Form;
+use crate::layout::{are_laid, sizes, whole_laid};
 use crate::table::TypeTable;
 use spv_base::{Fail, Inst, NoMemory, Refusal};
 use spv_index::{Index, id_operand, literal_operand};
@@ -136,75 +137,90 @@ fn note_place(index: &Index, places: &mut Places, inst: &Inst) -> Result<(), NoM
     add_place(places, set, binding)
 }
 
-impl TypeTable {
-    /// Whether a type is a pointer type whose target is laid out.
-    fn points_to_laid(&self, laid: &[bool], ty: u32) -> bool
-        requires laid { AreLaid self.now laid.now }
-        requires all { length laid.now ≡ length self.now }
-        ensures { result ≡ points_to_laid self.now (form_of self.now ty) }
-    {
-        match self.form(ty) {
-            Some(Form::Pointer { target, .. }) => self.whole_laid(laid, *target),
-            _ => false,
-        }
+/// Whether a type is a pointer type whose target is laid out.
+fn points_to_laid(types: &TypeTable, laid: &[bool], ty: u32) -> bool
+    requires laid { AreLaid types.now laid.now }
+    requires all { length laid.now ≡ length types.now }
+    ensures { result ≡ points_to_laid types.now (form_of types.now ty) }
+{
+    match types.form(ty) {
+        Some(Form::Pointer { target, .. }) => whole_laid(types, laid, *target),
+        _ => false,
     }
+}
 
-    /// Whether a variable of a block class points to a block that is laid out, and a buffer has a place of its own.
-    fn keeps_block(&self, index: &Index, laid: &[bool], places: &Places, inst: &Inst) -> bool
-        requires laid { AreLaid self.now laid.now }
-        requires all { length laid.now ≡ length self.now }
-        ensures { (before : List Instruction) → ArePlaces index.now.insts before (λ a b. contains pair_cmp places.now (a, b)) → result ≡ keeps_block index.now.insts self.now before inst.now }
-    {
-        if !self.points_to_laid(laid, inst.ty) {
-            return false;
-        }
-        let set = index.decoration(inst.id, decoration::DESCRIPTOR_SET);
-        let binding = index.decoration(inst.id, decoration::BINDING);
-        literal_operand(inst, 0) == Some(storage_class::PUSH_CONSTANT)
-            || keeps_pair(places, set, binding)
+/// Whether a variable of a block class points to a block that is laid out, and a buffer has a place of its own.
+fn keeps_block(
+    types: &TypeTable,
+    index: &Index,
+    laid: &[bool],
+    places: &Places,
+    inst: &Inst,
+) -> bool
+    requires laid { AreLaid types.now laid.now }
+    requires all { length laid.now ≡ length types.now }
+    ensures { (before : List Instruction) → ArePlaces index.now.insts before (λ a b. contains pair_cmp places.now (a, b)) → result ≡ keeps_block index.now.insts types.now before inst.now }
+{
+    if !points_to_laid(types, laid, inst.ty) {
+        return false;
     }
+    let set = index.decoration(inst.id, decoration::DESCRIPTOR_SET);
+    let binding = index.decoration(inst.id, decoration::BINDING);
+    literal_operand(inst, 0) == Some(storage_class::PUSH_CONSTANT)
+        || keeps_pair(places, set, binding)
+}
 
-    /// Whether an instruction keeps the rules of layout.
-    #[tactic(auto, unfolding(crate::specs::InterfaceBlocks::keeps_layout))]
-    fn keeps_layout(&self, index: &Index, laid: &[bool], places: &Places, inst: &Inst) -> bool
-        requires laid { AreLaid self.now laid.now }
-        requires all { length laid.now ≡ length self.now }
-        ensures { (before : List Instruction) → ArePlaces index.now.insts before (λ a b. contains pair_cmp places.now (a, b)) → result ≡ keeps_layout index.now.insts self.now before inst.now }
-    {
-        match inst.op {
-            op::DECORATE => keeps_decoration(index, inst, literal_operand(inst, 1)),
-            op::MEMBER_DECORATE => keeps_decoration(index, inst, literal_operand(inst, 2)),
-            _ if is_block_variable(inst) => self.keeps_block(index, laid, places, inst),
-            _ => true,
-        }
+/// Whether an instruction keeps the rules of layout.
+#[tactic(auto, unfolding(crate::specs::InterfaceBlocks::keeps_layout))]
+fn keeps_layout(
+    types: &TypeTable,
+    index: &Index,
+    laid: &[bool],
+    places: &Places,
+    inst: &Inst,
+) -> bool
+    requires laid { AreLaid types.now laid.now }
+    requires all { length laid.now ≡ length types.now }
+    ensures { (before : List Instruction) → ArePlaces index.now.insts before (λ a b. contains pair_cmp places.now (a, b)) → result ≡ keeps_layout index.now.insts types.now before inst.now }
+{
+    match inst.op {
+        op::DECORATE => keeps_decoration(index, inst, literal_operand(inst, 1)),
+        op::MEMBER_DECORATE => keeps_decoration(index, inst, literal_operand(inst, 2)),
+        _ if is_block_variable(inst) => keeps_block(types, index, laid, places, inst),
+        _ => true,
     }
+}
 
-    /// Checks the layout of the blocks that variables point to.
-    ///
-    /// Refuses M13: at the variable whose block, descriptor set or binding breaks a rule, or at a decoration BufferBlock.
-    #[tactic(auto, unfolding(crate::specs::InterfaceBlocks::layout_of))]
-    pub fn check_layout(&self, alloc: Global, index: &Index) -> Result<(), Fail<Refusal>>
-        ensures { Answers (layout_of self.now index.now.insts) result }
-    {
-        let sizes = self.sizes(alloc)?;
-        let laid = self.laid(alloc, sizes.as_slice())?;
-        self.check_blocks(alloc, index, laid.as_slice())
-    }
+/// Checks the layout of the blocks that variables point to.
+///
+/// Refuses M13: at the variable whose block, descriptor set or binding breaks a rule, or at a decoration BufferBlock.
+#[tactic(auto, unfolding(crate::specs::InterfaceBlocks::layout_of))]
+pub fn check_layout(alloc: Global, types: &TypeTable, index: &Index) -> Result<(), Fail<Refusal>>
+    ensures { Answers (layout_of types.now index.now.insts) result }
+{
+    let sizes = sizes(alloc, types)?;
+    let laid = are_laid(alloc, types, sizes.as_slice())?;
+    check_blocks(alloc, types, index, laid.as_slice())
+}
 
-    /// Refuses the first instruction that breaks a rule of layout.
-    fn check_blocks(&self, alloc: Global, index: &Index, laid: &[bool]) -> Result<(), Fail<Refusal>>
-        requires laid { AreLaid self.now laid.now }
-        requires all { length laid.now ≡ length self.now }
-        ensures { Answers (unless_refused tt (module_breaches index.now.insts self.now [] index.now.insts)) result }
-    {
-        let insts = index.insts();
-        let mut places = BTreeSet::new(alloc);
-        for inst in insts {
-            if !self.keeps_layout(index, laid, &places, inst) {
-                return Err(breach(inst));
-            }
-            note_place(index, &mut places, inst)?;
+/// Refuses the first instruction that breaks a rule of layout.
+pub(crate) fn check_blocks(
+    alloc: Global,
+    types: &TypeTable,
+    index: &Index,
+    laid: &[bool],
+) -> Result<(), Fail<Refusal>>
+    requires laid { AreLaid types.now laid.now }
+    requires all { length laid.now ≡ length types.now }
+    ensures { Answers (unless_refused tt (module_breaches index.now.insts types.now [] index.now.insts)) result }
+{
+    let insts = index.insts();
+    let mut places = BTreeSet::new(alloc);
+    for inst in insts {
+        if !keeps_layout(types, index, laid, &places, inst) {
+            return Err(breach(inst));
         }
-        Ok(())
+        note_place(index, &mut places, inst)?;
     }
+    Ok(())
 }

@@ -2,14 +2,13 @@
 //! module variables and blocks keep (SPIR-V 1.6 sections 2.16.1, 2.16.2 and 3.42.6).
 #![tactic(auto)]
 
-mod build;
 pub mod constants;
 pub mod counting;
 pub mod counts;
 pub mod forms;
 mod interface_blocks;
 pub mod laws;
-mod layout;
+pub mod layout;
 pub mod leaves;
 pub mod limits;
 mod numbers;
@@ -22,5 +21,6 @@ pub mod table;
 mod typing;
 
 pub use forms::{Form, Member};
+pub use interface_blocks::check_layout;
 pub use limits::Limit;
 pub use table::TypeTable;

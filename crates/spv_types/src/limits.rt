@@ -31,71 +31,67 @@ impl Limit {
     }
 }
 
-impl TypeTable {
-    /// What a type among the first counts as, where it is known of them.
-    pub fn known_limit(&self, limits: &[Limit], ty: u32) -> Limit
-        requires { AreLimits self.now limits.now }
-        ensures { result ≡ limit_among self.now (length limits.now) ty }
-    {
-        match self.number(ty) {
-            Some(n) if n < limits.len() => limits[n],
-            _ => Limit {
-                nesting: 0,
-                cells: 0,
-            },
-        }
+/// What a type among the first counts as, where it is known of them.
+pub fn known_limit(types: &TypeTable, limits: &[Limit], ty: u32) -> Limit
+    requires { AreLimits types.now limits.now }
+    ensures { result ≡ limit_among types.now (length limits.now) ty }
+{
+    match types.number(ty) {
+        Some(n) if n < limits.len() => limits[n],
+        _ => Limit {
+            nesting: 0,
+            cells: 0,
+        },
     }
+}
 
-    /// The deepest of some members, and their cells together.
-    fn members_limit(&self, limits: &[Limit], members: &[Member]) -> Limit
-        requires { AreLimits self.now limits.now }
-        ensures { result ≡ members_limit (limit_among self.now (length limits.now)) members.now }
-    {
-        let mut nesting: u64 = 0;
-        let mut cells: u64 = 0;
-        for member in members {
-            let limit = self.known_limit(limits, member.ty);
-            nesting = nesting.max(limit.nesting);
-            cells = cells.saturating_add(limit.cells);
-        }
-        Limit { nesting, cells }
+/// The deepest of some members, and their cells together.
+fn members_limit(types: &TypeTable, limits: &[Limit], members: &[Member]) -> Limit
+    requires { AreLimits types.now limits.now }
+    ensures { result ≡ members_limit (limit_among types.now (length limits.now)) members.now }
+{
+    let mut nesting: u64 = 0;
+    let mut cells: u64 = 0;
+    for member in members {
+        let limit = known_limit(types, limits, member.ty);
+        nesting = nesting.max(limit.nesting);
+        cells = cells.saturating_add(limit.cells);
     }
+    Limit { nesting, cells }
+}
 
-    /// What a struct counts as; one without members is a cell.
-    fn struct_limit(&self, limits: &[Limit], members: &[Member]) -> Limit
-        requires { AreLimits self.now limits.now }
-        ensures { result ≡ struct_limit (limit_among self.now (length limits.now)) members.now }
-    {
-        if members.is_empty() {
-            return alone(1);
-        }
-        let inside = self.members_limit(limits, members);
-        Limit {
-            nesting: inside.nesting.saturating_add(1),
-            cells: inside.cells,
-        }
+/// What a struct counts as; one without members is a cell.
+fn struct_limit(types: &TypeTable, limits: &[Limit], members: &[Member]) -> Limit
+    requires { AreLimits types.now limits.now }
+    ensures { result ≡ struct_limit (limit_among types.now (length limits.now)) members.now }
+{
+    if members.is_empty() {
+        return alone(1);
     }
+    let inside = members_limit(types, limits, members);
+    Limit {
+        nesting: inside.nesting.saturating_add(1),
+        cells: inside.cells,
+    }
+}
 
-    /// What a form counts as, where it is known of the types before it.
-    pub fn form_limit(&self, limits: &[Limit], form: &Form) -> Limit
-        requires { AreLimits self.now limits.now }
-        ensures { result ≡ limit_step (limit_among self.now (length limits.now)) form.now }
-    {
-        match form {
-            Form::Void | Form::Function { .. } => alone(0),
-            Form::Bool | Form::Int { .. } | Form::Pointer { .. } => alone(1),
-            Form::Vector { component, count } => self
-                .known_limit(limits, *component)
-                .repeated(*count),
-            Form::Array {
-                element,
-                length,
-                ..
-            } => self
-                .known_limit(limits, *element)
-                .repeated(length.unwrap_or(0)),
-            Form::Runtime { element, .. } => self.known_limit(limits, *element).repeated(0),
-            Form::Struct { members, .. } => self.struct_limit(limits, members.as_slice()),
-        }
+/// What a form counts as, where it is known of the types before it.
+pub fn form_limit(types: &TypeTable, limits: &[Limit], form: &Form) -> Limit
+    requires { AreLimits types.now limits.now }
+    ensures { result ≡ limit_step (limit_among types.now (length limits.now)) form.now }
+{
+    match form {
+        Form::Void | Form::Function { .. } => alone(0),
+        Form::Bool | Form::Int { .. } | Form::Pointer { .. } => alone(1),
+        Form::Vector { component, count } => known_limit(types, limits, *component).repeated(
+            *count,
+        ),
+        Form::Array {
+            element,
+            length,
+            ..
+        } => known_limit(types, limits, *element).repeated(length.unwrap_or(0)),
+        Form::Runtime { element, .. } => known_limit(types, limits, *element).repeated(0),
+        Form::Struct { members, .. } => struct_limit(types, limits, members.as_slice()),
     }
 }

@@ -1,14 +1,32 @@
 //! The table of the types of a module.
-ghost use Rattle.std.specs.Prelude.{◌≡◌, ◌↔◌, ◌<◌, ◌≤◌, ℕ, List, [], ◌∷◌, ◌++◌, length, Some, None, IfOk, OnOk, OnErr, MatchOption, IsTrue, slice_get, option_map, option_copied};
+ghost use Rattle.std.specs.Prelude.{◌≡◌, ◌↔◌, ◌<◌, ◌≤◌, ℕ, List, [], ◌∷◌, ◌++◌, length, Some, None, false, IfOk, IfSome, OnOk, OnErr, MatchOption, IsTrue, slice_get, option_map, option_copied};
+ghost use Rattle.std.specs.Option.{option_map_or};
+ghost use Rattle.spv_base.specs.Answers.{Answers};
+ghost use Rattle.spv_types.specs.Build.{types_of};
+ghost use Rattle.spv_types.specs.Cells.{cells_of};
+ghost use Rattle.spv_types.specs.Counted.{IsCounted};
+ghost use Rattle.spv_types.specs.Cuts.{cut};
+ghost use Rattle.spv_types.specs.Leaves.{leaf_of};
+ghost use Rattle.spv_types.specs.Places.{place_of};
+ghost use Rattle.spv_types.specs.Rules.{has_runtime, is_block, is_data, is_runtime, is_scalar, is_sized_data, is_three_words, is_word, last_type};
 ghost use Rattle.spv_types.specs.Typing.{with_form};
 ghost use Rattle.spv_types.specs.Types.{IsUnset, form_at, form_of, found_among, number_of, with_length};
 
-use crate::counting::Count;
-use crate::forms::Form;
+use crate::counting::{Count, count_at, is_unset, parts_before};
+use crate::counts::cells_among;
+use crate::forms::{Form, Member};
+use crate::leaves::part_at;
 use crate::numbers::{number_in, put_number};
-use spv_base::NoMemory;
+use crate::places::place_among;
+use crate::rules::{keeps_rules, last_type};
+use crate::typing::defined_form;
+use spv_base::{Fail, NoMemory, Refusal};
+use spv_index::Index;
 use std::alloc::Global;
 use std::marker::Model;
+
+/// The code of the rules of types.
+const TYPE_CODE: u8 = 12;
 
 /// The types of a module, in its order. Contracts see a list of ids, each with its form.
 #[derive(Drop)]
@@ -146,5 +164,177 @@ impl TypeTable {
         ensures { result.now ≡ form_at self.now number }
     {
         &self.entries[number].1
+    }
+
+    /// The types of a module, by the instructions before its functions.
+    ///
+    /// Refuses M12, at the first instruction that breaks a rule of types, module variables or undefined values.
+    pub fn build(alloc: Global, index: &Index) -> Result<TypeTable, Fail<Refusal>>
+        ensures { Answers (types_of index.now.insts) result }
+    {
+        let insts = index.insts();
+        let module = &insts[..index.functions_start()];
+        let mut table = TypeTable::new(alloc);
+        for inst in module {
+            let form = defined_form(alloc, index, inst)?;
+            if !keeps_rules(&table, index, inst, &form) {
+                return Err(Fail::Refused(Refusal {
+                    code: TYPE_CODE,
+                    word: inst.word,
+                }));
+            }
+            table.add_form(inst.id, form)?;
+        }
+        table.count(alloc)?;
+        Ok(table)
+    }
+
+    /// Whether a type is a scalar: a Boolean or an integer.
+    pub fn is_scalar(&self, ty: u32) -> bool
+        ensures { result ≡ is_scalar (form_of self.now ty) }
+    {
+        matches!(self.form(ty), Some(Form::Bool | Form::Int { .. }))
+    }
+
+    /// Whether a type is of data: not void, a pointer or a function.
+    pub fn is_data(&self, ty: u32) -> bool
+        ensures { result ≡ is_data (form_of self.now ty) }
+    {
+        match self.form(ty) {
+            None | Some(Form::Void | Form::Pointer { .. } | Form::Function { .. }) => false,
+            _ => true,
+        }
+    }
+
+    /// Whether a type is a runtime array.
+    pub fn is_runtime(&self, ty: u32) -> bool
+        ensures { result ≡ is_runtime (form_of self.now ty) }
+    {
+        matches!(self.form(ty), Some(Form::Runtime { .. }))
+    }
+
+    /// Whether a type is a struct that is decorated with Block.
+    pub fn is_block(&self, ty: u32) -> bool
+        ensures { result ≡ is_block (form_of self.now ty) }
+    {
+        matches!(self.form(ty), Some(Form::Struct { block: true, .. }))
+    }
+
+    /// Whether a type is an integer of 32 bits.
+    pub fn is_word(&self, ty: u32) -> bool
+        ensures { result ≡ is_word (form_of self.now ty) }
+    {
+        match self.form(ty) {
+            Some(Form::Int { width, .. }) => *width == 32,
+            _ => false,
+        }
+    }
+
+    /// Whether a type is a vector of three integers of 32 bits.
+    pub fn is_three_words(&self, ty: u32) -> bool
+        ensures { result ≡ is_three_words self.now (form_of self.now ty) }
+    {
+        match self.form(ty) {
+            Some(Form::Vector { component, count }) => *count == 3 && self.is_word(*component),
+            _ => false,
+        }
+    }
+
+    /// Whether the last of some members is a runtime array.
+    fn ends_in_runtime(&self, members: &[Member]) -> bool
+        ensures { result ≡ option_map_or (λ ty. is_runtime (form_of self.now ty)) (last_type members.now) false }
+    {
+        match last_type(members) {
+            Some(ty) => self.is_runtime(ty),
+            None => false,
+        }
+    }
+
+    /// Whether a type is a runtime array or has one as its last member.
+    pub fn has_runtime(&self, ty: u32) -> bool
+        ensures { result ≡ has_runtime self.now ty }
+    {
+        match self.form(ty) {
+            Some(Form::Runtime { .. }) => true,
+            Some(Form::Struct { members, .. }) => self.ends_in_runtime(members.as_slice()),
+            _ => false,
+        }
+    }
+
+    /// Whether a type is of data without a runtime array.
+    pub fn is_sized_data(&self, ty: u32) -> bool
+        ensures { result ≡ is_sized_data self.now ty }
+    {
+        self.is_data(ty) && !self.has_runtime(ty)
+    }
+
+    /// The count of the type with a number, where it was counted.
+    pub(crate) fn count_of(&self, number: usize) -> Option<&Count>
+        ensures { IfSome result (λ count. IsCounted self.now number count.now) }
+    {
+        self.counts.get(number)
+    }
+
+    /// Counts the type behind those that are counted, and tells whether it could: its parts come before it, and it is no
+    /// array without a length.
+    fn count_next(&mut self, alloc: Global) -> Result<bool, NoMemory>
+        ensures { self.new ≡ self.old }
+    {
+        let number = self.counts.len();
+        if number >= self.len() {
+            return Ok(false);
+        }
+        let form = self.form_at(number);
+        if is_unset(form) || !parts_before(self, number, form) {
+            return Ok(false);
+        }
+        let count = count_at(alloc, self, number)?;
+        self.counts.push(count)?;
+        Ok(true)
+    }
+
+    /// Counts the types before the first array without a length. What a type is stays as it was: where it was counted, its
+    /// leaves are found without a walk over its parts.
+    pub fn count(&mut self, alloc: Global) -> Result<(), NoMemory>
+        ensures { self.new ≡ self.old }
+    {
+        for _ in self.counts.len()..self.entries.len() {
+            if !self.count_next(alloc)? {
+                break;
+            }
+        }
+        Ok(())
+    }
+
+    /// The number of leaves of a type, or the greatest u64 where there are more; none where it has a runtime array or a
+    /// length that is not set.
+    #[tactic(auto, unfolding(crate::specs::Cells::cells_of))]
+    pub fn cells(&self, ty: u32) -> Option<u64>
+        ensures { result ≡ option_map cut (cells_of self.now ty) }
+    {
+        cells_among(self, self.len(), ty)
+    }
+
+    /// The number of leaves before the part that a path names, or the greatest u64 where there are more; none where the path
+    /// is not in the type.
+    #[tactic(auto, unfolding(crate::specs::Leaves::leaf_of))]
+    pub fn leaf(&self, ty: u32, path: &[u64]) -> Option<u64>
+        ensures { result ≡ option_map cut (leaf_of self.now ty path.now) }
+    {
+        let Some((first, rest)) = path.split_first() else {
+            return Some(0);
+        };
+        let (before, part) = part_at(self, self.number(ty)?, *first)?;
+        let within = self.leaf(part, rest)?;
+        Some(before.saturating_add(within))
+    }
+
+    /// The byte offset of a leaf in a block, or the greatest u64 where it is further; none where the type has no such leaf.
+    #[tactic(auto, unfolding(crate::specs::Places::place_of))]
+    pub fn place(&self, ty: u32, leaf: u64) -> Option<u64>
+        requires { leaf < 67108864 }
+        ensures { result ≡ option_map cut (place_of self.now ty leaf) }
+    {
+        place_among(self, self.len(), ty, leaf)
     }
 }

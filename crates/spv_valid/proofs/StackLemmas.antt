@@ -14,7 +14,7 @@ use Rattle.spv_cfg.proofs.Backwards.{drop_back}
 use Rattle.spv_cfg.proofs.Chains.{Within, most-le}
 use Rattle.spv_cfg.proofs.LongestChains.{long_is_refused, most-comes, most-ge}
 use Rattle.std.proofs.lemmas.Bool.{cases_lt}
-use Rattle.spv_valid.specs.Stack.{IsHeaviest, chain_cells, heaviest, kept, kept_by, kept_cells, kept_in, stack_cells, weight}
+use Rattle.spv_valid.specs.Stack.{IsHeaviest, cells_by_function, chain_cells, heaviest, kept_by, kept_cells, kept_in, stack_cells, weight}
 
 pub weight-nil : (f : ℕ) → weight [] f ≡ 0
 unfolding weight
@@ -124,14 +124,14 @@ read_below o k n is small = rw is at small
 
 pub stack_cells-some : (ts : Types) (insts : List Inst) (id k v : ℕ) (xs : List ℕ) (calls : Calls)
     → calls ≡ calls_in insts → reads id (numbered 0 calls.functions) ≡ Some k → k < length calls.functions → length xs ≡ length calls.functions
-    → ((f : ℕ) → f < length calls.functions → get_or xs f 0 ≡ cut (heaviest limit (weight (kept ts calls (stands_of insts))) calls.list f))
+    → ((f : ℕ) → f < length calls.functions → get_or xs f 0 ≡ cut (heaviest limit (weight (cells_by_function ts calls (stands_of insts))) calls.list f))
     → v ≡ get_or xs k v → v ≡ stack_cells ts insts id
 unfolding stack_cells
 stack_cells-some ts insts id k v xs calls calls_are read lt len heaviest_are is =
     let inside : k < length xs = rw len lt in
     let at : v ≡ get_or xs k 0 = get_or_read xs k v inside is 0 in
     let read_here : reads id (numbered 0 (functions_of insts)) ≡ Some k = rw calls_are at read in
-    let here : get_or xs k 0 ≡ cut (heaviest limit (weight (kept ts (calls_in insts) (stands_of insts))) (calls_of insts) k)
+    let here : get_or xs k 0 ≡ cut (heaviest limit (weight (cells_by_function ts (calls_in insts) (stands_of insts))) (calls_of insts) k)
     = heaviest_are k lt ∙ rw calls_are refl in
     at ∙ here ∙ rw read_here refl
 

@@ -45,8 +45,8 @@ kept_by (Some f) (Some n) = (f, n) ∷ []
 abbrev pub kept_in : Types → List (ℕ × ℕ) → Stand → List (ℕ × ℕ)
 kept_in ts numbers s = if in_function s.position.stage then kept_by (reads s.position.function numbers) (kept_cells ts s.inst) else []
 
-abbrev pub kept : Types → Calls → List Stand → List (ℕ × ℕ)
-kept ts calls stood = flat_map (kept_in ts (numbered 0 calls.functions)) stood
+abbrev pub cells_by_function : Types → Calls → List Stand → List (ℕ × ℕ)
+cells_by_function ts calls stood = flat_map (kept_in ts (numbered 0 calls.functions)) stood
 
 -- the cells of the function with a number
 unfoldable pub weight : List (ℕ × ℕ) → ℕ → ℕ
@@ -60,7 +60,7 @@ heaviest (suc k) weigh calls f = weigh f + most (λ g. heaviest k weigh calls g)
 
 -- the cells of each function of a module
 abbrev pub weights_of : Types → List Inst → ℕ → ℕ
-weights_of ts insts = weight (kept ts (calls_in insts) (stands_of insts))
+weights_of ts insts = weight (cells_by_function ts (calls_in insts) (stands_of insts))
 
 -- the most cells of a chain of calls from the function with an id; where a module is accepted no chain is longer than that
 unfoldable pub stack_cells : Types → List Inst → ℕ → ℕ

@@ -16,7 +16,7 @@ use spv_consts::ConstTable;
 use spv_index::Index;
 use spv_ops::DecodedModule;
 use spv_sections::{check_capabilities, check_ids, check_sections};
-use spv_types::TypeTable;
+use spv_types::{TypeTable, check_layout};
 use std::alloc::Global;
 
 /// A fact, with nothing to run: an index is of a decoded module.
@@ -46,7 +46,7 @@ fn read_types(
 {
     let types = TypeTable::build(alloc, index)?;
     let (types, consts) = ConstTable::build(alloc, types, index, over)?;
-    types.check_layout(alloc, index)?;
+    check_layout(alloc, &types, index)?;
     Ok((types, consts))
 }
 

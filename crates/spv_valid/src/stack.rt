@@ -59,13 +59,13 @@ pub fn kept_cells(types: &TypeTable, inst: &Inst) -> Option<u64>
 }
 
 /// The cells of each instruction in a function, with the number of the function.
-fn kept(
+fn cells_by_function(
     alloc: Global,
     types: &TypeTable,
     calls: &Calls,
     stands: &Stands,
 ) -> Result<Vec<(usize, u64)>, NoMemory>
-    ensures { IfOk result (λ kept. kept.items ≡ spec.kept types.now calls.now stands.now) }
+    ensures { IfOk result (λ kept. kept.items ≡ spec.cells_by_function types.now calls.now stands.now) }
 {
     let mut kept = Vec::new(alloc);
     for n in 0..stands.len() {
@@ -163,9 +163,9 @@ fn chains_of(
 ) -> Result<Vec<u64>, NoMemory>
     ensures len { IfOk result (λ heaviest. length heaviest.items ≡ length calls.now.functions) }
     ensures heaviest { IfOk result (λ heaviest. (f : ℕ) → f < length calls.now.functions
-        → slice_index heaviest.items f ≡ cut (spec.heaviest limit (spec.weight (spec.kept types.now calls.now stands.now)) calls.now.list f)) }
+        → slice_index heaviest.items f ≡ cut (spec.heaviest limit (spec.weight (spec.cells_by_function types.now calls.now stands.now)) calls.now.list f)) }
 {
-    let kept = kept(alloc, types, calls, stands)?;
+    let kept = cells_by_function(alloc, types, calls, stands)?;
     let weights = weights_of(alloc, kept.as_slice(), calls.count())?;
     heaviest_chains(alloc, calls.list(), weights.as_slice())
 }

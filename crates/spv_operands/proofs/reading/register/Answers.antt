@@ -13,8 +13,8 @@ plan_at-plan-requires c =
     = c.registers_stand_once.ensures.found a c.args.id c.args.found c.insts-insts.ensures.accepted (sym (ap (λ (ps : List Planned). reads c.args.id (registers_of ps)) c.requires.plans) ∙ c.requires.found) in
     found_below a c.args.plans.now c.args.id c.args.found c.requires.plans at
 
-pub held-requires : goal.held-requires
-held-requires c =
+pub operand_at-requires : goal.operand_at-requires
+operand_at-requires c =
     let a = c.args.accepted.now in
     let p = c.plan_at-plan.result.now in
     let at : IsAt a c.args.id c.args.found

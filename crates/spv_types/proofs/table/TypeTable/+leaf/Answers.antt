@@ -5,8 +5,8 @@ use Rattle.spv_types.proofs.LeafLemmas.{leaf_cut, leaf_no_part, leaf_not_within,
 use Rattle.spv_types.proofs.TypeLemmas.{number_lt, number_none}
 use Rattle.spv_types.proofs.table.TypeTable.+leaf.Goals as goal
 
-pub part-requires : goal.part-requires
-part-requires t c = number_lt c.args.self.now c.args.ty c.in_ok-number.field-0 (sym c.in_ok-number.ensures)
+pub part_at-requires : goal.part_at-requires
+part_at-requires t c = number_lt c.args.self.now c.args.ty c.in_ok-number.field-0 (sym c.in_ok-number.ensures)
 
 pub returns-in_err-number : goal.returns-in_err-number
 returns-in_err-number t c =

@@ -1,7 +1,0 @@
-use Rattle.std.proofs.Common.{◌≡◌, drop}
-use Rattle.spv_types.specs.Rules.{keep_members}
-use Rattle.spv_types.proofs.table.TypeTable.keep_members.Given as goal
-
--- the members so far keep the rules
-abbrev pub invariant-loop-n : goal.invariant-loop-n
-invariant-loop-n l = keep_members l.self l.block l.members ≡ keep_members l.self l.block (drop l.n l.members)
