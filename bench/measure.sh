@@ -4,7 +4,7 @@
 # bench/NAME.proofs, where there is one, has the files of its proofs, each behind a line '-- File PATH'.
 set -eu
 top=$(cd "$(dirname "$0")/.." && pwd)
-program=$top/bench/${1:?a name of bench/, as words, types, blocks, sections, bodies, records, setup, start or memory}.program
+program=$top/bench/${1:?a name of bench/, as words, records, setup, start or memory}.program
 scratch=$(mktemp -d)
 trap 'rm -rf "$scratch"' EXIT
 mkdir -p "$scratch/crates/measure/src"
