@@ -1,4 +1,3 @@
 pub mod EntryLemmas
-pub mod Firsts
 pub mod PartLemmas
 pub mod Writes

@@ -43,17 +43,6 @@ pub record State : Type 0 where
 abbrev pub frames_of : State → ℕ → List Frame
 frames_of s i = unwrap_or (slice_get s.stacks i) []
 
-abbrev pub reg_of : Frame → ℕ → Option Value
-reg_of f k = unwrap_or (reads k f.regs) None
-
-abbrev pub top_reg : List Frame → ℕ → Option Value
-top_reg [] k = None
-top_reg (f ∷ fs) k = reg_of f k
-
-abbrev pub top_pc : List Frame → Option ℕ
-top_pc [] = None
-top_pc (f ∷ fs) = Some f.pc
-
 -- the variables of each frame of an invocation
 abbrev pub locals_of : Memory → ℕ → List Roots
 locals_of m i = unwrap_or (slice_get m.locals i) []
@@ -98,14 +87,8 @@ on_stack i g s = record s { stacks = change i g s.stacks }
 abbrev pub on_top : ℕ → (Frame → Frame) → State → State
 on_top i g s = on_stack i (on_first g) s
 
-abbrev pub with_reg : ℕ → Option Value → Frame → Frame
-with_reg k v f = record f { regs = writes k v f.regs }
-
 abbrev pub with_pc : ℕ → Frame → Frame
 with_pc pc f = record f { pc = pc }
-
-abbrev pub set_reg : ℕ → ℕ → Option Value → State → State
-set_reg i k v s = on_top i (with_reg k v) s
 
 abbrev pub set_pc : ℕ → ℕ → State → State
 set_pc i pc s = on_top i (with_pc pc) s

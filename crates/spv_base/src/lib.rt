@@ -19,7 +19,7 @@ pub mod values;
 pub use causes::{CmdRefusal, Fail, Failed, FileErr, MemErr, NoMemory, Refusal, SetupRefusal};
 pub use cells::Cell;
 pub use counter::Steps;
-pub use entries::{find_entry, put_entry};
+pub use entries::find_entry;
 pub use files::{FailingFiles, MemoryFiles};
 pub use ghosts::Ghost;
 pub use happenings::{EndCause, Fault, Happening, Kind, Status4};
@@ -29,7 +29,7 @@ pub use outside::{Files, Sink, Source, write_all};
 pub use probes::Probe;
 pub use real::{FromRead, RealFiles, ToWrite};
 pub use streams::{FailingSink, FailingSource, MemorySink, MemorySource, SinkFault};
-pub use values::{PassedEvent, Pointer, Root, Value, copy_all};
+pub use values::{PassedEvent, Pointer, Root, Value};
 
 /// Bytes.
 pub type Bytes = Items<u8>;
@@ -40,9 +40,6 @@ pub type Text = Items<u8>;
 /// Words of a module.
 pub type Words = Items<u32>;
 
-/// Values.
-pub type Values = Items<Value>;
-
 /// Scalars.
 pub type Cells = Items<Cell>;
 
@@ -51,9 +48,6 @@ pub type Operands = Items<Operand>;
 
 /// Ids, or numbers of words.
 pub type Places = Items<u32>;
-
-/// Pointers.
-pub type Pointers = Items<Pointer>;
 
 /// Pairs of a SpecId and the value for it, from -2^63 to 2^64 - 1.
 pub type Overrides = Items<(u32, i128)>;
