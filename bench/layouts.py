@@ -1,7 +1,7 @@
 #!/usr/bin/env python3
 """Works out where the scalars of blocks lie in bytes, apart from the program.
 
-Reads the modules of crates/spv_layouts/data, and writes src/cases.rt and stdout of that crate. Each Offset and ArrayStride is
+Reads the modules of crates/spv_layouts/data, and writes data/cases and stdout of that crate. Each Offset and ArrayStride is
 compared with what the rules of std140, std430 and scalar give. The modules are of the shaders of examples/check, but for
 blocks.spv, which `glslangValidator -g0 --target-env vulkan1.2` made of
 
@@ -160,44 +160,34 @@ def block_lines(module, number, variable, size, before):
         cell += scalar
     outside = module.outside(ty, 0, size, [])
     lines += [f"{path}: out of bounds" for path in outside]
-    return lines, [path for path, _, _ in rows] + outside, f"Some({elements})" if array else "None", cells
+    return lines, [path for path, _, _ in rows] + outside, elements if array else None, cells
 
 
 def run_rows(name, blocks):
-    """The lines of a run, and the row of it in cases.rt."""
+    """The lines of a run, and what is asked of it, as data/cases has it."""
     module = Module(words_of(name))
-    lines, row, before = [f"{name}:"], ["    (", f'        "{name}",', "        &["], 0
+    lines, asked, before = [f"{name}:"], [f"== {name}"], 0
     for number, (variable, rules, size) in enumerate(blocks):
         module.layout(module.variables[variable], rules)
         more, paths, elements, cells = block_lines(module, number, variable, size, before)
         lines += more
-        row += ["            (", f"                {variable},", f"                {size},", f"                {elements},"]
-        row += ["                &["] + [f"                    &{path}," for path in paths] + ["                ],", "            ),"]
+        asked.append(f"block {variable} {size}" + (f" {elements}" if elements is not None else ""))
+        asked += [" ".join(map(str, path)) for path in paths]
         before += cells
-    return lines, row + ["        ],", "    ),"]
+    return lines, asked
 
 
 def main():
     lines, cases = [], []
     for name, blocks in RUNS:
-        more, row = run_rows(name, blocks)
+        more, asked = run_rows(name, blocks)
         lines += more
-        cases += row
+        cases += asked
     with open(os.path.join(CRATE, "stdout"), "w") as file:
         file.write("".join(line + "\n" for line in lines) + CALLS)
-    with open(os.path.join(CRATE, "src", "cases.rt"), "w") as file:
-        file.write(CASES + "".join(line + "\n" for line in cases) + "];\n")
+    with open(os.path.join(CRATE, "data", "cases"), "w") as file:
+        file.write("".join(line + "\n" for line in cases))
 
-
-CASES = """//! What is asked: written by bench/layouts.py.
-
-/// A block: its variable, the bytes of its buffer, how many elements its runtime array has, where there is one, and paths in
-/// it, of indexes of 32 bits.
-pub(crate) type Block = (u32, u64, Option<u32>, &'static [&'static [u32]]);
-
-/// Modules of data/, each with some of its blocks.
-pub(crate) const RUNS: &[(&str, &[Block])] = &[
-"""
 
 if __name__ == "__main__":
     main()

@@ -39,7 +39,7 @@ fn fill(
     alloc: Global,
     memory: &mut Memory,
     variable: u32,
-    paths: &[&[u32]],
+    paths: &[Vec<u32>],
     cells: &[Cell],
 ) -> Result<(), NoMemory> {
     let mut left = cells;
@@ -47,7 +47,7 @@ fn fill(
         let Some((cell, behind)) = left.split_first() else {
             return Ok(());
         };
-        let p = pointer(alloc, Root::Shared(variable), path)?;
+        let p = pointer(alloc, Root::Shared(variable), path.as_slice())?;
         if exchange_cell(alloc, memory, 0, &p, *cell)?.is_some() {
             left = behind;
         }
@@ -71,16 +71,22 @@ fn add_block(
     block: &Block,
     first: u8,
 ) -> Result<bool, NoMemory> {
-    let (variable, size, elements, paths) = *block;
+    let variable = block.variable;
     let Some(ty) = value_type(module, variable) else {
         return Ok(false);
     };
-    let bytes = bytes_from(alloc, first, size)?;
-    let cells = read(alloc, module.types(), bytes.as_slice(), size, ty)?;
-    if !add_shared(alloc, memory, variable, elements.unwrap_or(0))? {
+    let bytes = bytes_from(alloc, first, block.size)?;
+    let cells = read(alloc, module.types(), bytes.as_slice(), block.size, ty)?;
+    if !add_shared(alloc, memory, variable, block.elements.unwrap_or(0))? {
         return Ok(false);
     }
-    fill(alloc, memory, variable, paths, cells.as_slice())?;
+    fill(
+        alloc,
+        memory,
+        variable,
+        block.paths.as_slice(),
+        cells.as_slice(),
+    )?;
     Ok(has_cells(memory, variable, cells.as_slice()))
 }
 
@@ -131,11 +137,11 @@ fn answers_in(
     memory: &mut Memory,
     variables: &[u32],
     variable: u32,
-    paths: &[&[u32]],
+    paths: &[Vec<u32>],
 ) -> Result<Vec<Answer>, NoMemory> {
     let mut answers = Vec::new(alloc);
     for path in paths {
-        let p = pointer(alloc, Root::Shared(variable), path)?;
+        let p = pointer(alloc, Root::Shared(variable), path.as_slice())?;
         answers.push(answer_at(alloc, memory, variables, &p)?)?;
     }
     Ok(answers)
@@ -157,11 +163,11 @@ fn found_of(
     variables: &[u32],
     block: &Block,
 ) -> Result<Found, NoMemory> {
-    let (variable, _, _, paths) = *block;
+    let variable = block.variable;
     Ok(Found {
         cells: count_cells(memory, variable),
         elements: elements_of(alloc, memory, module, variable)?,
-        answers: answers_in(alloc, memory, variables, variable, paths)?,
+        answers: answers_in(alloc, memory, variables, variable, block.paths.as_slice())?,
     })
 }
 
@@ -169,7 +175,7 @@ fn found_of(
 fn variables_of(alloc: Global, blocks: &[Block]) -> Result<Vec<u32>, NoMemory> {
     let mut variables = Vec::new(alloc);
     for block in blocks {
-        variables.push(block.0)?;
+        variables.push(block.variable)?;
     }
     Ok(variables)
 }

@@ -15,7 +15,7 @@ mod memories;
 use crate::answers::Answer;
 use crate::blocks::{Found, found_in};
 use crate::calls::loads_on;
-use crate::cases::{Block, RUNS};
+use crate::cases::{Block, blocks_of};
 use spv_base::{Cell, Fail, Overrides, Refusal};
 use spv_ops::{DecodedModule, decode_all};
 use spv_valid::{Module, accept};
@@ -87,29 +87,28 @@ fn print_answer<R: Print>(rt: &R, answer: &Answer) -> io::Result<()> {
 
 /// Says what is found in a block.
 fn print_found<R: Print>(rt: &R, block: &Block, found: &Found) -> io::Result<()> {
-    let (variable, size, _, paths) = *block;
+    let Block { variable, size, .. } = block;
     let cells = found.cells;
     print!(rt; "variable {variable}: {size} bytes, {cells} cells")?;
     match found.elements {
         Some(elements) => println!(rt; ", {elements} elements")?,
         None => println!(rt; "")?,
     }
-    for (path, answer) in paths.iter().zip(found.answers.as_slice()) {
+    for (path, answer) in block.paths.iter().zip(found.answers.as_slice()) {
         print!(rt; "{path:?}: ")?;
         print_answer(rt, answer)?;
     }
     Ok(())
 }
 
-/// Says what is found in the blocks of a module.
-fn report<R: rt::Files + Print + AllocGlobal>(
-    rt: &R,
-    name: &str,
-    blocks: &[Block],
-) -> io::Result<()> {
+/// Says what is found in the blocks of a module that a text asks for.
+fn report<R: rt::Files + Print + AllocGlobal>(rt: &R, name: &str, asked: &str) -> io::Result<()> {
     let bytes = fs::read(rt, name)?;
+    let Ok(blocks) = blocks_of(rt.alloc(), asked) else {
+        return println!(rt; "out of memory");
+    };
     println!(rt; "{name}:")?;
-    let Ok(Some(all)) = found_by(rt.alloc(), bytes.as_slice(), blocks) else {
+    let Ok(Some(all)) = found_by(rt.alloc(), bytes.as_slice(), blocks.as_slice()) else {
         return println!(rt; "the blocks do not hold their bytes");
     };
     for (block, found) in blocks.iter().zip(all.as_slice()) {
@@ -141,8 +140,11 @@ fn report_calls<R: rt::Files + Print + AllocGlobal>(rt: &R) -> io::Result<()> {
 }
 
 fn main(rt: HostRuntime) -> io::Result<()> {
-    for (name, blocks) in RUNS {
-        report(&rt, name, blocks)?;
+    let cases = fs::read_to_string(&rt, "cases")?;
+    for run in cases.split("== ") {
+        if let Some((name, rest)) = run.split_once('\n') {
+            report(&rt, name, rest)?;
+        }
     }
     report_calls(&rt)
 }
