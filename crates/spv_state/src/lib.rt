@@ -7,6 +7,7 @@ pub mod captures;
 pub mod events;
 pub mod held;
 pub mod laws;
+mod lookups;
 mod plans;
 pub mod predecoded;
 pub mod registers;

@@ -7,9 +7,9 @@ ghost use Rattle.spv_state.specs.Predecoded.{IsPredecoded};
 ghost use Rattle.spv_state.specs.Program as program;
 ghost use Rattle.spv_state.specs.Variables.{variables_of};
 
-use crate::captures::{Capture, captures_of};
-use crate::predecoded::{Predecoded, predecode};
-use crate::variables::by_function;
+use crate::captures::Capture;
+use crate::lookups::Lookups;
+use crate::predecoded::Predecoded;
 use spv_base::NoMemory;
 use spv_dbg::Keyed;
 use spv_initial::Declared;
@@ -54,9 +54,11 @@ impl Runnable {
         requires fits { program.IsFitting accepted setup }
         ensures { IfOk result (λ program. program ≡ record { accepted = accepted; setup = setup }) }
     {
-        let variables = by_function(alloc, &accepted)?;
-        let captures = captures_of(alloc, &accepted)?;
-        let predecoded = predecode(alloc, &accepted, &captures)?;
+        let Lookups {
+            variables,
+            captures,
+            predecoded,
+        } = Lookups::of(alloc, &accepted)?;
         Ok(Runnable {
             accepted,
             setup,
