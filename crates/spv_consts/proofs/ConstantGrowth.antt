@@ -19,7 +19,7 @@ use Rattle.spv_consts.specs.State.{State, is_next}
 use Rattle.spv_consts.specs.Values.{leaf_widths}
 use Rattle.spv_consts.specs.Evaluation.{value_of}
 use Rattle.spv_consts.specs.Lengths.{is_unset, length_at, lengthened, with_array, with_length_if}
-use Rattle.spv_consts.specs.Steps.{entered, with_constant, with_type}
+use Rattle.spv_consts.specs.Steps.{with_entry, with_constant, with_type}
 use Rattle.spv_consts.proofs.LengthLemmas.{next_is}
 use Rattle.spv_consts.proofs.WalkIds.{Differs, each_left, each_right}
 use Rattle.spv_consts.proofs.WalkPlaces.{wider}
@@ -113,7 +113,7 @@ grows_constant m s i defined constant = record {
         subst (λ (j : Inst). is_constant j.op ≡ true) one constant
     by_id id r d none some is (inr apart) = no_row (reads id (s.values ++ (i.id, value_of m s i) ∷ [])) r (other_row s.values (i.id, value_of m s i) id none apart) some
 
-pub grows_entered : (m : Context) (s : State) (i : Inst) → (is_constant i.op ≡ true → defining m.all i.id ≡ Some i) → Grows m s (entered m s i)
+pub grows_entered : (m : Context) (s : State) (i : Inst) → (is_constant i.op ≡ true → defining m.all i.id ≡ Some i) → Grows m s (with_entry m s i)
 grows_entered m s i defined = by_tests (is_next s i.id) (is_constant i.op) refl
   where
     by_tests : (b c : Bool) → is_constant i.op ≡ c → Grows m s (if b then with_type s else (if c then with_constant m s i else s))
@@ -195,7 +195,7 @@ fresh_lengthened m front s u i h fresh = λ id apart. ap (λ (cs : Constants). r
     by_length None e = let same : s ≡ u = cc in ap (λ (v : State). v.values) same
     by_length (Some n) e = by_limit n (nat_lt 4194304 n) e
 
-pub fresh_entered : (m : Context) (front : List Inst) (s : State) (i : Inst) → (is_constant i.op ≡ true → 0 < i.id) → IsFresh front s → IsFresh (front ++ i ∷ []) (entered m s i)
+pub fresh_entered : (m : Context) (front : List Inst) (s : State) (i : Inst) → (is_constant i.op ≡ true → 0 < i.id) → IsFresh front s → IsFresh (front ++ i ∷ []) (with_entry m s i)
 fresh_entered m front s i positive fresh = λ id apart. by_tests id (each_left (Differs id) front (i ∷ []) apart) (each_right (Differs id) front (i ∷ []) apart).0 (is_next s i.id) (is_constant i.op) refl
   where
     by_own : (id : ℕ) → 0 < i.id → Differs id i → i.id ≢ id

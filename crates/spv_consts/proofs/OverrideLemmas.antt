@@ -3,7 +3,7 @@ use Rattle.std.proofs.Common.{◌≡◌, ◌∙◌, ℕ, ◌+◌, ◌<◌, ◌�
 use Rattle.std.specs.Prelude.{◌||◌, if◌then◌else◌}
 use Rattle.spv_base.specs.declared.instructions.Inst.{Inst}
 use Rattle.spv_types.specs.Types.{Types}
-use Rattle.spv_consts.specs.Overrides.{Numbers, has_misfit, has_spec_id, held_of, is_known, is_misfit}
+use Rattle.spv_consts.specs.Overrides.{Numbers, has_misfit, has_spec_id, fitting_overrides, is_known, is_misfit}
 
 pub misfit_at : (all : List Inst) (ts : Types) (over : Numbers) (insts : List Inst) (k : ℕ) (i : Inst) (id : ℕ) → k < length insts → i ≡ get_or insts k i
     → has_misfit all ts over (drop k insts) id ≡ (is_misfit all ts over id i || has_misfit all ts over (drop (k + 1) insts) id)
@@ -23,23 +23,23 @@ test_end true rest whole e f = e
 test_end false rest whole e f = sym f ∙ e
 
 held_at : (all : List Inst) (ts : Types) (over numbers : Numbers) (k : ℕ) (o : ℕ × ℤ) → k < length numbers
-    → held_of all ts over (drop k numbers) ≡ (if has_misfit all ts over all (get_or numbers k o).0 then held_of all ts over (drop (k + 1) numbers) else get_or numbers k o ∷ held_of all ts over (drop (k + 1) numbers))
-unfolding held_of
+    → fitting_overrides all ts over (drop k numbers) ≡ (if has_misfit all ts over all (get_or numbers k o).0 then fitting_overrides all ts over (drop (k + 1) numbers) else get_or numbers k o ∷ fitting_overrides all ts over (drop (k + 1) numbers))
+unfolding fitting_overrides
 held_at all ts over numbers k o l = rw (drop-cons numbers k o l, add-one) refl
 
 pub held_left : (all : List Inst) (ts : Types) (over numbers held : Numbers) (k : ℕ) (o : ℕ × ℤ) → k < length numbers → true ≡ has_misfit all ts over all (get_or numbers k o).0
-    → held ++ held_of all ts over (drop k numbers) ≡ held_of all ts over numbers → held ++ held_of all ts over (drop (k + 1) numbers) ≡ held_of all ts over numbers
+    → held ++ fitting_overrides all ts over (drop k numbers) ≡ fitting_overrides all ts over numbers → held ++ fitting_overrides all ts over (drop (k + 1) numbers) ≡ fitting_overrides all ts over numbers
 held_left all ts over numbers held k o l h g = ap (λ (rest : Numbers). held ++ rest) (sym (held_at all ts over numbers k o l ∙ rw (← h) refl)) ∙ g
 
 pub held_more : (all : List Inst) (ts : Types) (over numbers held now : Numbers) (k : ℕ) (o : ℕ × ℤ) → k < length numbers → false ≡ has_misfit all ts over all (get_or numbers k o).0 → now ≡ held ++ get_or numbers k o ∷ []
-    → held ++ held_of all ts over (drop k numbers) ≡ held_of all ts over numbers → now ++ held_of all ts over (drop (k + 1) numbers) ≡ held_of all ts over numbers
+    → held ++ fitting_overrides all ts over (drop k numbers) ≡ fitting_overrides all ts over numbers → now ++ fitting_overrides all ts over (drop (k + 1) numbers) ≡ fitting_overrides all ts over numbers
 held_more all ts over numbers held now k o l h e g =
     rw (e, append_assoc) (ap (λ (rest : Numbers). held ++ rest) (sym (held_at all ts over numbers k o l ∙ rw (← h) refl)) ∙ g)
 
-pub held_end : (all : List Inst) (ts : Types) (over numbers held : Numbers) (k : ℕ) → length numbers ≤ k → held ++ held_of all ts over (drop k numbers) ≡ held_of all ts over numbers → held ≡ held_of all ts over numbers
-unfolding held_of
+pub held_end : (all : List Inst) (ts : Types) (over numbers held : Numbers) (k : ℕ) → length numbers ≤ k → held ++ fitting_overrides all ts over (drop k numbers) ≡ fitting_overrides all ts over numbers → held ≡ fitting_overrides all ts over numbers
+unfolding fitting_overrides
 held_end all ts over numbers held k l g =
-    let none : held_of all ts over (drop k numbers) ≡ [] = rw (drop_of_length-le numbers l) refl in
+    let none : fitting_overrides all ts over (drop k numbers) ≡ [] = rw (drop_of_length-le numbers l) refl in
     sym (append-nil held) ∙ ap (λ (rest : Numbers). held ++ rest) (sym none) ∙ g
 
 pub known_at : (all insts : List Inst) (k : ℕ) (i : Inst) (id : ℕ) → k < length insts → i ≡ get_or insts k i

@@ -38,9 +38,6 @@ blank_is_lane defined width = record {
   zero = λ _. refl;
 }
 
-pub blank_is_scalar : (defined : Bool) (width : ℕ) → width ≤ 64 → IsScalar width (Scalar (blank_lane defined width))
-blank_is_scalar defined width narrow = is_scalar (blank_lane defined width) width (omega arith) (blank_is_lane defined width)
-
 -- the low-order bits of an integer fit their width
 low_bits_fit : (width : ℕ) (z : ℤ) → low_bits width z < 2 ^ width
 low_bits_fit width (pos n) = mod_below n (2 ^ width) (pow_pos width)

@@ -17,7 +17,7 @@ use Rattle.spv_types.proofs.TypeLemmas.{number_form}
 use Rattle.spv_consts.specs.Context.{Context}
 use Rattle.spv_consts.specs.State.{State}
 use Rattle.spv_types.specs.Build.{unless_refused}
-use Rattle.spv_consts.specs.Steps.{breaches_at, breaches_from, stepped, walked}
+use Rattle.spv_consts.specs.Steps.{breaches_at, breaches_from, after_one, after_all}
 
 -- the type that comes next has a form
 pub form_next : (ts : Types) (id n : ℕ) → number_of ts id ≡ Some n → None ≡ form_of ts id → ⊥
@@ -45,32 +45,32 @@ limits_more ts limits now limit id n f a same h e l more = rw more (record { lim
 module _ (m : Context) where
   -- what comes of some instructions: their state, or the first breach
   abbrev pub Outcome : State → List Inst → Result State Refusal
-  Outcome s is = unless_refused (walked m s is) (breaches_from m s is)
+  Outcome s is = unless_refused (after_all m s is) (breaches_from m s is)
 
   split : (s : State) (is : List Inst) (k : ℕ) (i : Inst) → k < length is → i ≡ get_or is k i
-      → Outcome s (drop k is) ≡ unless_refused (walked m (stepped m s i) (drop (k + 1) is)) (breaches_at m s i ++ breaches_from m (stepped m s i) (drop (k + 1) is))
-  unfolding walked breaches_from
+      → Outcome s (drop k is) ≡ unless_refused (after_all m (after_one m s i) (drop (k + 1) is)) (breaches_at m s i ++ breaches_from m (after_one m s i) (drop (k + 1) is))
+  unfolding after_all breaches_from
   split s is k i l e = rw (drop-cons is k i l, ← e, add-one) refl
 
   pub walked_more : (s t : State) (is : List Inst) (k : ℕ) (i : Inst) (whole : Result State Refusal) → k < length is → i ≡ get_or is k i
-      → unless_refused (stepped m s i) (breaches_at m s i) ≡ Ok t → whole ≡ Outcome s (drop k is) → whole ≡ Outcome t (drop (k + 1) is)
-  walked_more s t is k i whole l e h g = g ∙ split s is k i l e ∙ by_breaches (breaches_at m s i) (stepped m s i) h
+      → unless_refused (after_one m s i) (breaches_at m s i) ≡ Ok t → whole ≡ Outcome s (drop k is) → whole ≡ Outcome t (drop (k + 1) is)
+  walked_more s t is k i whole l e h g = g ∙ split s is k i l e ∙ by_breaches (breaches_at m s i) (after_one m s i) h
     where
       by_breaches : (rs : List Refusal) (u : State) → unless_refused u rs ≡ Ok t
-          → unless_refused (walked m u (drop (k + 1) is)) (rs ++ breaches_from m u (drop (k + 1) is)) ≡ Outcome t (drop (k + 1) is)
+          → unless_refused (after_all m u (drop (k + 1) is)) (rs ++ breaches_from m u (drop (k + 1) is)) ≡ Outcome t (drop (k + 1) is)
       by_breaches [] u h = let same : u ≡ t = cc in ap (λ v. Outcome v (drop (k + 1) is)) same
       by_breaches (r ∷ rs) u h = absurd (cc)
 
   pub walked_refused : (s : State) (is : List Inst) (k : ℕ) (i : Inst) (fail : Fail Refusal) (whole : Result State Refusal) → k < length is → i ≡ get_or is k i
-      → Answers (unless_refused (stepped m s i) (breaches_at m s i)) (Err fail) → whole ≡ Outcome s (drop k is) → Answers whole (Err fail)
-  walked_refused s is k i (Refused r) whole l e h g = g ∙ split s is k i l e ∙ by_breaches (breaches_at m s i) (stepped m s i) h
+      → Answers (unless_refused (after_one m s i) (breaches_at m s i)) (Err fail) → whole ≡ Outcome s (drop k is) → Answers whole (Err fail)
+  walked_refused s is k i (Refused r) whole l e h g = g ∙ split s is k i l e ∙ by_breaches (breaches_at m s i) (after_one m s i) h
     where
       by_breaches : (rs : List Refusal) (u : State) → unless_refused u rs ≡ Err r
-          → unless_refused (walked m u (drop (k + 1) is)) (rs ++ breaches_from m u (drop (k + 1) is)) ≡ Err r
+          → unless_refused (after_all m u (drop (k + 1) is)) (rs ++ breaches_from m u (drop (k + 1) is)) ≡ Err r
       by_breaches [] u h = absurd (cc)
       by_breaches (q ∷ rs) u h = h
   walked_refused s is k i NoMemory whole l e h g = tt
 
   pub walked_end : (s : State) (is : List Inst) (k : ℕ) (whole : Result State Refusal) → length is ≤ k → whole ≡ Outcome s (drop k is) → whole ≡ Ok s
-  unfolding walked breaches_from
+  unfolding after_all breaches_from
   walked_end s is k whole l g = g ∙ rw (drop_of_length-le is l) refl

@@ -21,15 +21,6 @@ place_lt (c ∷ cs) id n h = step (c.0 == id) (place_of cs id) n (length cs) h (
     step false None n k h ih = cc
     step false (Some m) n k h ih = let e : suc m ≡ n = cc in let l = ih m refl in omega arith
 
-pub place_value : (cs : Constants) (id n : ℕ) (d : ℕ × Row) → place_of cs id ≡ Some n → reads id cs ≡ Some (get_or cs n d).1
-place_value [] id n d h = cc
-place_value (c ∷ cs) id n d h = step (c.0 == id) c (place_of cs id) n cs (reads id cs) d h (λ m. place_value cs id m d)
-  where
-    step : (b : Bool) (c : ℕ × Row) (o : Option ℕ) (n : ℕ) (cs : Constants) (v : Option Row) (d : ℕ × Row) → (if b then Some 0 else option_map suc o) ≡ Some n → ((m : ℕ) → o ≡ Some m → v ≡ Some (get_or cs m d).1) → (if b then Some c.1 else v) ≡ Some (get_or (c ∷ cs) n d).1
-    step true c o n cs v d h ih = let e : 0 ≡ n = cc in rw (← e) refl
-    step false c None n cs v d h ih = cc
-    step false c (Some m) n cs v d h ih = let e : suc m ≡ n = cc in rw (← e) (ih m refl)
-
 pub place_none : (cs : Constants) (id : ℕ) → place_of cs id ≡ None → reads id cs ≡ None
 place_none [] id h = refl
 place_none (c ∷ cs) id h = step (c.0 == id) c (place_of cs id) (reads id cs) h (place_none cs id)
@@ -149,19 +140,9 @@ row_is cs id = row_there [] cs id (all_cells cs) refl
 
 -- ---- entries in one list of cells
 
-pub rows_at : (cells : List Lane) (es : List Entry) (n : ℕ) (e : Entry) (d : ℕ × Row) → n < length es → e ≡ get_or es n e → get_or (rows_of cells es) n d ≡ entry_row cells e
-rows_at cells [] n e d l h = absurd (omega arith)
-rows_at cells (x ∷ es) zero e d l h = ap (entry_row cells) (sym h)
-rows_at cells (x ∷ es) (suc n) e d l h = rows_at cells es n e d (omega arith) h
-
 pub rows_long : (cells : List Lane) (es : List Entry) → length (rows_of cells es) ≡ length es
 rows_long cells [] = refl
 rows_long cells (e ∷ es) = ap suc (rows_long cells es)
-
-pub within_at : (cells : List Lane) (es : List Entry) (n : ℕ) (e : Entry) → AllByRecursion (λ (e : Entry). e.start + e.len ≤ length cells) es → n < length es → e ≡ get_or es n e → e.start + e.len ≤ length cells
-within_at cells [] n e h l is = absurd (omega arith)
-within_at cells (x ∷ es) zero e h l is = rw is h.0
-within_at cells (x ∷ es) (suc n) e h l is = within_at cells es n e h.1 (omega arith) is
 
 -- ---- more cells
 

@@ -28,7 +28,7 @@ use Rattle.spv_consts.specs.SpecIds.{lowest_wrong}
 use Rattle.spv_consts.specs.Build.{constants_of, context_of, front_breaches, known_of, start_of, state_of, unless_earlier}
 use Rattle.spv_consts.specs.Lengths.{lengthened}
 use Rattle.spv_consts.specs.Rules.{keeps_kind, keeps_rules}
-use Rattle.spv_consts.specs.Steps.{breaches_at, breaches_from, entered, stepped, walked, with_constant, with_type}
+use Rattle.spv_consts.specs.Steps.{breaches_at, breaches_from, with_entry, after_one, after_all, with_constant, with_type}
 use Rattle.spv_types.proofs.TypeLemmas.{number_lt}
 use Rattle.spv_consts.proofs.TreeLemmas.{row_is}
 use Rattle.spv_consts.proofs.ValueFills.{blanks_fill, constants_fill}
@@ -108,13 +108,13 @@ pub not_next : (s : State) (id : ℕ) → number_of s.types id ≡ None → is_n
 not_next s id number = rw number refl
 
 -- what comes of an instruction by its kind
-type_entered : (m : Context) (s : State) (i : Inst) → is_next s i.id ≡ true → entered m s i ≡ with_type s
+type_entered : (m : Context) (s : State) (i : Inst) → is_next s i.id ≡ true → with_entry m s i ≡ with_type s
 type_entered m s i comes_next = rw comes_next refl
 
-pub constant_entered : (m : Context) (s : State) (i : Inst) → is_next s i.id ≡ false → is_constant i.op ≡ true → entered m s i ≡ with_constant m s i
+pub constant_entered : (m : Context) (s : State) (i : Inst) → is_next s i.id ≡ false → is_constant i.op ≡ true → with_entry m s i ≡ with_constant m s i
 constant_entered m s i other constant = rw (other, constant) refl
 
-other_entered : (m : Context) (s : State) (i : Inst) → is_next s i.id ≡ false → is_constant i.op ≡ false → entered m s i ≡ s
+other_entered : (m : Context) (s : State) (i : Inst) → is_next s i.id ≡ false → is_constant i.op ≡ false → with_entry m s i ≡ s
 other_entered m s i other no_constant = rw (other, no_constant) refl
 
 -- ---- the state at the end
@@ -151,7 +151,7 @@ module _
   where
     -- a type instruction
     type_passes : (m : Context) (front : List Inst) (i : Inst) (s u : State) (f : Form) → Follows m.all front s → IsPlaced m.all front i → defined_form m.all i ≡ Some f → keeps_rules m s i ≡ true → lengthened m s i ≡ Some u
-        → Follows m.all (front ++ i ∷ []) (entered m u i)
+        → Follows m.all (front ++ i ∷ []) (with_entry m u i)
     type_passes m front i s u f follows place form rules lengthens = by_array (cases_Bool (i.op == 28))
       where
         at : (number_of (declared m.all) i.id ≡ Some (length (types_in m.all front))) × (form_of (declared m.all) i.id ≡ Some f)
@@ -167,41 +167,41 @@ module _
         other : is_constant i.op ≡ false
         other = no_constant (is_constant i.op) refl
 
-        enters : (v : State) → Follows m.all front v → number_of v.types i.id ≡ Some v.known → (IsUnset (form_of v.types i.id) → ⊥) → Follows m.all (front ++ i ∷ []) (entered m v i)
+        enters : (v : State) → Follows m.all front v → number_of v.types i.id ≡ Some v.known → (IsUnset (form_of v.types i.id) → ⊥) → Follows m.all (front ++ i ∷ []) (with_entry m v i)
         enters v follows_v number_v is_set =
-            let is : entered m v i ≡ with_type v = type_entered m v i (next_is v i.id v.known number_v refl) in
+            let is : with_entry m v i ≡ with_type v = type_entered m v i (next_is v i.id v.known number_v refl) in
             subst (λ (t : State). Follows m.all (front ++ i ∷ []) t) (sym is) (type_follows m.all front i v f follows_v form other number_v is_set)
 
-        long : (n : ℕ) → u ≡ record s { types = with_length s.types i.id n } → Follows m.all (front ++ i ∷ []) (entered m u i)
+        long : (n : ℕ) → u ≡ record s { types = with_length s.types i.id n } → Follows m.all (front ++ i ∷ []) (with_entry m u i)
         long n same =
             let v : State = record s { types = with_length s.types i.id n } in
             let follows_v : Follows m.all front v = length_follows sound_kept number_kept other_kept own_set m.all front s i.id n follows number in
             let number_v : number_of v.types i.id ≡ Some v.known = number_kept s.types i.id n i.id ∙ number in
             let is_set : IsUnset (form_of v.types i.id) → ⊥ = length_sets sound_kept number_kept other_kept own_set s.types i.id n s.known number in
-            subst (λ (t : State). Follows m.all (front ++ i ∷ []) (entered m t i)) (sym same) (enters v follows_v number_v is_set)
+            subst (λ (t : State). Follows m.all (front ++ i ∷ []) (with_entry m t i)) (sym same) (enters v follows_v number_v is_set)
 
-        unchanged : u ≡ s → (IsUnset (form_of s.types i.id) → ⊥) → Follows m.all (front ++ i ∷ []) (entered m u i)
-        unchanged same is_set = subst (λ (t : State). Follows m.all (front ++ i ∷ []) (entered m t i)) (sym same) (enters s follows number is_set)
+        unchanged : u ≡ s → (IsUnset (form_of s.types i.id) → ⊥) → Follows m.all (front ++ i ∷ []) (with_entry m u i)
+        unchanged same is_set = subst (λ (t : State). Follows m.all (front ++ i ∷ []) (with_entry m t i)) (sym same) (enters s follows number is_set)
 
-        by_length : ((n : ℕ) × (u ≡ record s { types = with_length s.types i.id n })) ⊎ ((u ≡ s) × (IsUnset (form_of s.types i.id) → ⊥)) → Follows m.all (front ++ i ∷ []) (entered m u i)
+        by_length : ((n : ℕ) × (u ≡ record s { types = with_length s.types i.id n })) ⊎ ((u ≡ s) × (IsUnset (form_of s.types i.id) → ⊥)) → Follows m.all (front ++ i ∷ []) (with_entry m u i)
         by_length (inl (n, same)) = long n same
         by_length (inr (same, is_set)) = unchanged same is_set
 
-        by_array : ((i.op == 28) ≡ true) ⊎ ((i.op == 28) ≡ false) → Follows m.all (front ++ i ∷ []) (entered m u i)
+        by_array : ((i.op == 28) ≡ true) ⊎ ((i.op == 28) ≡ false) → Follows m.all (front ++ i ∷ []) (with_entry m u i)
         by_array (inl array) = by_length (array_length m s u i array rules (next_is s i.id s.known number refl) lengthens)
         by_array (inr no_array) = unchanged (no_length m s u i no_array lengthens)
             (λ unset. only_arrays_unset m.all i no_array (subst IsUnset (sym form) (subst IsUnset at.1 (follows.unset i.id unset))))
 
     -- any other instruction
     other_passes : (m : Context) (front : List Inst) (i : Inst) (s u : State) → Follows m.all front s → IsPlaced m.all front i → defined_form m.all i ≡ None → keeps_rules m s i ≡ true → lengthened m s i ≡ Some u
-        → Follows m.all (front ++ i ∷ []) (entered m u i)
+        → Follows m.all (front ++ i ∷ []) (with_entry m u i)
     other_passes m front i s u follows place form rules lengthens =
-        subst (λ (t : State). Follows m.all (front ++ i ∷ []) (entered m t i)) (sym (no_length m s u i (place.no_array form) lengthens)) (by_kind (cases_Bool (is_constant i.op)))
+        subst (λ (t : State). Follows m.all (front ++ i ∷ []) (with_entry m t i)) (sym (no_length m s u i (place.no_array form) lengthens)) (by_kind (cases_Bool (is_constant i.op)))
       where
         aside : is_next s i.id ≡ false
         aside = not_next s i.id (follows.numbers i.id ∙ place.no_type form)
 
-        by_kind : (is_constant i.op ≡ true) ⊎ (is_constant i.op ≡ false) → Follows m.all (front ++ i ∷ []) (entered m s i)
+        by_kind : (is_constant i.op ≡ true) ⊎ (is_constant i.op ≡ false) → Follows m.all (front ++ i ∷ []) (with_entry m s i)
         by_kind (inl constant) =
             let among : IsAmong s.types s.known i.ty = constant_among m front i s follows place constant rules in
             let fills : FillType s.types i.ty (cells_of m s i) = constants_fill m s i follows.sound (operands_fill m front i s follows) constant rules in
@@ -209,27 +209,27 @@ module _
             subst (λ (t : State). Follows m.all (front ++ i ∷ []) t) (sym (constant_entered m s i aside constant)) follows_t
         by_kind (inr no_constant) = subst (λ (t : State). Follows m.all (front ++ i ∷ []) t) (sym (other_entered m s i aside no_constant)) (other_follows m.all front i s follows form no_constant)
 
-    pub step_follows : (m : Context) (front : List Inst) (i : Inst) (s : State) → Follows m.all front s → IsPlaced m.all front i → breaches_at m s i ≡ [] → Follows m.all (front ++ i ∷ []) (stepped m s i)
+    pub step_follows : (m : Context) (front : List Inst) (i : Inst) (s : State) → Follows m.all front s → IsPlaced m.all front i → breaches_at m s i ≡ [] → Follows m.all (front ++ i ∷ []) (after_one m s i)
     step_follows m front i s follows place none = by_form (defined_form m.all i) refl
       where
-        passes : (keeps_rules m s i ≡ true) × ((u : State) × (lengthened m s i ≡ Some u) × (stepped m s i ≡ entered m u i))
+        passes : (keeps_rules m s i ≡ true) × ((u : State) × (lengthened m s i ≡ Some u) × (after_one m s i ≡ with_entry m u i))
         passes = passed m s i none
 
-        by_form : (o : Option Form) → defined_form m.all i ≡ o → Follows m.all (front ++ i ∷ []) (stepped m s i)
+        by_form : (o : Option Form) → defined_form m.all i ≡ o → Follows m.all (front ++ i ∷ []) (after_one m s i)
         by_form None e = subst (λ (v : State). Follows m.all (front ++ i ∷ []) v) (sym passes.1.2) (other_passes m front i s passes.1.0 follows place e passes.0 passes.1.1)
         by_form (Some f) e = subst (λ (v : State). Follows m.all (front ++ i ∷ []) v) (sym passes.1.2) (type_passes m front i s passes.1.0 f follows place e passes.0 passes.1.1)
 
     -- ---- all of them
 
     pub walk_follows : (m : Context) (front rest tail : List Inst) (s : State) → Ascend 0 m.all → AreNamed m.all → type_breaches m.all [] (before_functions m.all) ≡ [] → before_functions m.all ≡ front ++ rest → m.all ≡ front ++ (rest ++ tail)
-        → Follows m.all front s → breaches_from m s rest ≡ [] → Follows m.all (before_functions m.all) (walked m s rest)
-    unfolding walked breaches_from
+        → Follows m.all front s → breaches_from m s rest ≡ [] → Follows m.all (before_functions m.all) (after_all m s rest)
+    unfolding after_all breaches_from
     walk_follows m front [] tail s ascend named none place whole follows no_breaches =
         let all_of : front ≡ before_functions m.all = sym (place ∙ append-nil front) in
         subst (λ (is : List Inst). Follows m.all is s) all_of follows
     walk_follows m front (i ∷ rest) tail s ascend named none place whole follows no_breaches =
-        let both = none_of (breaches_at m s i) (breaches_from m (stepped m s i) rest) no_breaches in
-        walk_follows m (front ++ i ∷ []) rest tail (stepped m s i) ascend named none (place ∙ sym (append_assoc front (i ∷ []) rest)) (whole ∙ sym (append_assoc front (i ∷ []) (rest ++ tail)))
+        let both = none_of (breaches_at m s i) (breaches_from m (after_one m s i) rest) no_breaches in
+        walk_follows m (front ++ i ∷ []) rest tail (after_one m s i) ascend named none (place ∙ sym (append_assoc front (i ∷ []) rest)) (whole ∙ sym (append_assoc front (i ∷ []) (rest ++ tail)))
         (step_follows m front i s follows (placed m.all front rest tail i place whole ascend named none) both.0) both.1
 
     -- ---- the answer

@@ -30,7 +30,7 @@ use Rattle.spv_consts.specs.Lengths.{lengthened}
 use Rattle.spv_consts.specs.Limits.{IsWithin, KeepLimits, constant_cells}
 use Rattle.spv_consts.specs.Rules.{keeps_kind, keeps_rules}
 use Rattle.spv_consts.specs.Evaluation.{value_of}
-use Rattle.spv_consts.specs.Steps.{breaches_at, breaches_from, cells_with, entered, is_great, is_great_type, passes_limit, stepped, walked, with_constant, with_type}
+use Rattle.spv_consts.specs.Steps.{breaches_at, breaches_from, cells_with, with_entry, is_great, is_great_type, passes_limit, after_one, after_all, with_constant, with_type}
 use Rattle.spv_consts.proofs.LengthLemmas.{in_first_kept}
 use Rattle.spv_consts.proofs.WalkIds.{before_is_front, each_push, each_weaker}
 use Rattle.spv_consts.proofs.WalkTypes.{no_breach, number_of_form, same_number, types_joined}
@@ -175,13 +175,13 @@ limited_start insts ts types = record {
 
 -- one more type
 type_entered : (m : Context) (front : List Inst) (i : Inst) (s : State) (f : Form) → Limited m.all front s → defined_form m.all i ≡ Some f → number_of s.types i.id ≡ Some s.known → passes_limit s i ≡ false
-    → Limited m.all (front ++ i ∷ []) (entered m s i)
+    → Limited m.all (front ++ i ∷ []) (with_entry m s i)
 type_entered m front i s f limited form number none = subst (λ (t : State). Limited m.all (front ++ i ∷ []) t) (sym is) with_one
   where
     comes_next : is_next s i.id ≡ true
     comes_next = rw number (eq-eqb s.known s.known refl)
 
-    is : entered m s i ≡ with_type s
+    is : with_entry m s i ≡ with_type s
     is = rw comes_next refl
 
     by_number : (id : ℕ) (among : IsAmong s.types (s.known + 1) id) → (among.number < s.known) ⊎ (s.known ≤ among.number) → IsWithin (limit_of s.types id)
@@ -282,34 +282,34 @@ module _
     }
 
     type_passes : (m : Context) (front : List Inst) (i : Inst) (s u : State) (f : Form) → Limited m.all front s → IsPlaced m.all front i → defined_form m.all i ≡ Some f → keeps_rules m s i ≡ true → lengthened m s i ≡ Some u
-        → passes_limit u i ≡ false → Limited m.all (front ++ i ∷ []) (entered m u i)
+        → passes_limit u i ≡ false → Limited m.all (front ++ i ∷ []) (with_entry m u i)
     type_passes m front i s u f limited place form rules lengthens none = by_array (cases_Bool (i.op == 28))
       where
         number : number_of s.types i.id ≡ Some s.known
         number = limited.numbers i.id ∙ (place.type_at f form).0 ∙ ap Some (sym limited.known)
 
-        unchanged : u ≡ s → Limited m.all (front ++ i ∷ []) (entered m u i)
+        unchanged : u ≡ s → Limited m.all (front ++ i ∷ []) (with_entry m u i)
         unchanged same = type_entered m front i u f (subst (Limited m.all front) (sym same) limited) form (subst (λ (t : State). number_of t.types i.id ≡ Some t.known) (sym same) number) none
 
-        long : (n : ℕ) → u ≡ record s { types = with_length s.types i.id n } → Limited m.all (front ++ i ∷ []) (entered m u i)
+        long : (n : ℕ) → u ≡ record s { types = with_length s.types i.id n } → Limited m.all (front ++ i ∷ []) (with_entry m u i)
         long n same =
             let v : State = record s { types = with_length s.types i.id n } in
             let limited_v : Limited m.all front v = length_set m.all front s i.id n limited number in
             let number_v : number_of v.types i.id ≡ Some v.known = number_kept s.types i.id n i.id ∙ number in
             type_entered m front i u f (subst (Limited m.all front) (sym same) limited_v) form (subst (λ (t : State). number_of t.types i.id ≡ Some t.known) (sym same) number_v) none
 
-        by_length : ((n : ℕ) × (u ≡ record s { types = with_length s.types i.id n })) ⊎ ((u ≡ s) × (IsUnset (form_of s.types i.id) → ⊥)) → Limited m.all (front ++ i ∷ []) (entered m u i)
+        by_length : ((n : ℕ) × (u ≡ record s { types = with_length s.types i.id n })) ⊎ ((u ≡ s) × (IsUnset (form_of s.types i.id) → ⊥)) → Limited m.all (front ++ i ∷ []) (with_entry m u i)
         by_length (inl (n, same)) = long n same
         by_length (inr (same, set)) = unchanged same
 
-        by_array : ((i.op == 28) ≡ true) ⊎ ((i.op == 28) ≡ false) → Limited m.all (front ++ i ∷ []) (entered m u i)
+        by_array : ((i.op == 28) ≡ true) ⊎ ((i.op == 28) ≡ false) → Limited m.all (front ++ i ∷ []) (with_entry m u i)
         by_array (inl array) = by_length (array_length m s u i array rules (rw number (eq-eqb s.known s.known refl)) lengthens)
         by_array (inr no_array) = unchanged (no_length m s u i no_array lengthens)
 
     other_passes : (m : Context) (front : List Inst) (i : Inst) (s u : State) → Limited m.all front s → IsPlaced m.all front i → defined_form m.all i ≡ None → keeps_rules m s i ≡ true → lengthened m s i ≡ Some u
-        → passes_limit u i ≡ false → Limited m.all (front ++ i ∷ []) (entered m u i)
+        → passes_limit u i ≡ false → Limited m.all (front ++ i ∷ []) (with_entry m u i)
     other_passes m front i s u limited place form rules lengthens none =
-        subst (λ (t : State). Limited m.all (front ++ i ∷ []) (entered m t i)) (sym same) (by_kind (cases_Bool (is_constant i.op)))
+        subst (λ (t : State). Limited m.all (front ++ i ∷ []) (with_entry m t i)) (sym same) (by_kind (cases_Bool (is_constant i.op)))
       where
         same : u ≡ s
         same = no_length m s u i (place.no_array form) lengthens
@@ -320,36 +320,36 @@ module _
         aside : is_next s i.id ≡ false
         aside = rw (limited.numbers i.id ∙ place.no_type form) refl
 
-        by_kind : (is_constant i.op ≡ true) ⊎ (is_constant i.op ≡ false) → Limited m.all (front ++ i ∷ []) (entered m s i)
+        by_kind : (is_constant i.op ≡ true) ⊎ (is_constant i.op ≡ false) → Limited m.all (front ++ i ∷ []) (with_entry m s i)
         by_kind (inl constant) =
-            let is : entered m s i ≡ with_constant m s i = rw (aside, constant) refl in
+            let is : with_entry m s i ≡ with_constant m s i = rw (aside, constant) refl in
             subst (λ (t : State). Limited m.all (front ++ i ∷ []) t) (sym is) (constant_entered m front i s limited place form aside constant rules none_here)
         by_kind (inr no_constant) =
-            let is : entered m s i ≡ s = rw (aside, no_constant) refl in
+            let is : with_entry m s i ≡ s = rw (aside, no_constant) refl in
             subst (λ (t : State). Limited m.all (front ++ i ∷ []) t) (sym is) (other_entered m.all front i s limited form)
 
-    step_limited : (m : Context) (front : List Inst) (i : Inst) (s : State) → Limited m.all front s → IsPlaced m.all front i → breaches_at m s i ≡ [] → Limited m.all (front ++ i ∷ []) (stepped m s i)
+    step_limited : (m : Context) (front : List Inst) (i : Inst) (s : State) → Limited m.all front s → IsPlaced m.all front i → breaches_at m s i ≡ [] → Limited m.all (front ++ i ∷ []) (after_one m s i)
     step_limited m front i s limited place none = by_form (defined_form m.all i) refl
       where
-        passes : (keeps_rules m s i ≡ true) × ((u : State) × (lengthened m s i ≡ Some u) × (stepped m s i ≡ entered m u i))
+        passes : (keeps_rules m s i ≡ true) × ((u : State) × (lengthened m s i ≡ Some u) × (after_one m s i ≡ with_entry m u i))
         passes = passed m s i none
 
         small : passes_limit passes.1.0 i ≡ false
         small = no_limit_passed m s passes.1.0 i none passes.1.1
 
-        by_form : (o : Option Form) → defined_form m.all i ≡ o → Limited m.all (front ++ i ∷ []) (stepped m s i)
+        by_form : (o : Option Form) → defined_form m.all i ≡ o → Limited m.all (front ++ i ∷ []) (after_one m s i)
         by_form None e = subst (λ (v : State). Limited m.all (front ++ i ∷ []) v) (sym passes.1.2) (other_passes m front i s passes.1.0 limited place e passes.0 passes.1.1 small)
         by_form (Some f) e = subst (λ (v : State). Limited m.all (front ++ i ∷ []) v) (sym passes.1.2) (type_passes m front i s passes.1.0 f limited place e passes.0 passes.1.1 small)
 
     walk_limited : (m : Context) (front rest tail : List Inst) (s : State) → Ascend 0 m.all → AreNamed m.all → type_breaches m.all [] (before_functions m.all) ≡ [] → before_functions m.all ≡ front ++ rest → m.all ≡ front ++ (rest ++ tail)
-        → Limited m.all front s → breaches_from m s rest ≡ [] → Limited m.all (before_functions m.all) (walked m s rest)
-    unfolding walked breaches_from
+        → Limited m.all front s → breaches_from m s rest ≡ [] → Limited m.all (before_functions m.all) (after_all m s rest)
+    unfolding after_all breaches_from
     walk_limited m front [] tail s ascend named none place whole limited no_breaches =
         let all_of : front ≡ before_functions m.all = sym (place ∙ append-nil front) in
         subst (λ (is : List Inst). Limited m.all is s) all_of limited
     walk_limited m front (i ∷ rest) tail s ascend named none place whole limited no_breaches =
-        let both = none_of (breaches_at m s i) (breaches_from m (stepped m s i) rest) no_breaches in
-        walk_limited m (front ++ i ∷ []) rest tail (stepped m s i) ascend named none (place ∙ sym (append_assoc front (i ∷ []) rest)) (whole ∙ sym (append_assoc front (i ∷ []) (rest ++ tail)))
+        let both = none_of (breaches_at m s i) (breaches_from m (after_one m s i) rest) no_breaches in
+        walk_limited m (front ++ i ∷ []) rest tail (after_one m s i) ascend named none (place ∙ sym (append_assoc front (i ∷ []) rest)) (whole ∙ sym (append_assoc front (i ∷ []) (rest ++ tail)))
         (step_limited m front i s limited (placed m.all front rest tail i place whole ascend named none) both.0) both.1
 
     keeps : (insts : List Inst) (s : State) → Limited insts (before_functions insts) s → KeepLimits s.types s.values

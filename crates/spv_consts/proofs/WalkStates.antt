@@ -18,7 +18,7 @@ use Rattle.spv_consts.specs.Context.{Context}
 use Rattle.spv_consts.specs.State.{State, is_next}
 use Rattle.spv_consts.specs.Lengths.{constant_length, is_unset, lengthened, with_array, with_length_if}
 use Rattle.spv_consts.specs.Rules.{keeps_rules}
-use Rattle.spv_consts.specs.Steps.{breaches_at, entered, left_out, passes_limit, stepped}
+use Rattle.spv_consts.specs.Steps.{breaches_at, with_entry, left_out, passes_limit, after_one}
 
 -- ---- forms
 
@@ -136,19 +136,19 @@ constant_no_type all i h =
 -- ---- one instruction
 
 -- an instruction without a breach keeps the rules, and enters the state with the length that it sets
-pub passed : (m : Context) (s : State) (i : Inst) → breaches_at m s i ≡ [] → (keeps_rules m s i ≡ true) × ((u : State) × (lengthened m s i ≡ Some u) × (stepped m s i ≡ entered m u i))
-unfolding stepped breaches_at
+pub passed : (m : Context) (s : State) (i : Inst) → breaches_at m s i ≡ [] → (keeps_rules m s i ≡ true) × ((u : State) × (lengthened m s i ≡ Some u) × (after_one m s i ≡ with_entry m u i))
+unfolding after_one breaches_at
 passed m s i h = by_tests (keeps_rules m s i) (lengthened m s i) h
   where
     by_tests : (b : Bool) (o : Option State)
         → ◌++◌ {A = Refusal} (if b then [] else record { code = 14; word = i.word } ∷ []) (if option_map_or (λ t. passes_limit t i) o true then record { code = 18; word = i.word } ∷ [] else []) ≡ []
-        → (b ≡ true) × ((u : State) × (o ≡ Some u) × ((if b && not (option_map_or (λ t. passes_limit t i) o true) then entered m (unwrap_or o s) i else left_out s i) ≡ entered m u i))
+        → (b ≡ true) × ((u : State) × (o ≡ Some u) × ((if b && not (option_map_or (λ t. passes_limit t i) o true) then with_entry m (unwrap_or o s) i else left_out s i) ≡ with_entry m u i))
     by_tests false o e = absurd (cc)
     by_tests true None e = absurd (cc)
     by_tests true (Some u) e = by_limit (passes_limit u i) e
       where
         by_limit : (c : Bool) → ◌++◌ {A = Refusal} [] (if c then record { code = 18; word = i.word } ∷ [] else []) ≡ []
-            → (true ≡ true) × ((v : State) × (Some u ≡ Some v) × ((if true && not c then entered m u i else left_out s i) ≡ entered m v i))
+            → (true ≡ true) × ((v : State) × (Some u ≡ Some v) × ((if true && not c then with_entry m u i else left_out s i) ≡ with_entry m v i))
         by_limit true e = absurd (cc)
         by_limit false e = (refl, (u, refl, refl))
 

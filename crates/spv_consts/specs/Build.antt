@@ -8,14 +8,14 @@ use Rattle.spv_types.specs.Build.{unless_refused}
 use Rattle.spv_types.specs.Types.{Types}
 use Rattle.spv_index.specs.Definitions.{before_functions}
 use Rattle.spv_consts.specs.Table.{Constants}
-use Rattle.spv_consts.specs.Overrides.{Numbers, held_of}
+use Rattle.spv_consts.specs.Overrides.{Numbers, fitting_overrides}
 use Rattle.spv_consts.specs.Context.{Context}
 use Rattle.spv_consts.specs.State.{State}
 use Rattle.spv_consts.specs.SpecIds.{lowest_wrong, wrong_spec_id}
-use Rattle.spv_consts.specs.Steps.{breaches_from, walked}
+use Rattle.spv_consts.specs.Steps.{breaches_from, after_all}
 
 abbrev pub context_of : Types → List Inst → Numbers → Context
-context_of ts insts over = record { all = insts; held = held_of insts ts over over }
+context_of ts insts over = record { all = insts; held = fitting_overrides insts ts over over }
 
 -- before the first instruction
 abbrev pub start_of : Types → State
@@ -23,7 +23,7 @@ start_of ts = record { types = ts; values = []; known = 0; cells = 0 }
 
 -- the state behind the instructions before the functions
 abbrev pub state_of : Types → List Inst → Numbers → State
-state_of ts insts over = walked (context_of ts insts over) (start_of ts) (before_functions insts)
+state_of ts insts over = after_all (context_of ts insts over) (start_of ts) (before_functions insts)
 
 -- the types and the constants of a state
 abbrev pub known_of : State → Types × Constants

@@ -62,9 +62,9 @@ unfoldable pub is_known : List Inst → List Inst → ℕ → Bool
 is_known all insts id = list_any (has_spec_id all id) insts
 
 -- the overrides that hold: those that fit all the constants of their SpecId
-unfoldable pub held_of : List Inst → Types → Numbers → Numbers → Numbers
-held_of all ts over [] = []
-held_of all ts over (o ∷ os) = if has_misfit all ts over all o.0 then held_of all ts over os else o ∷ held_of all ts over os
+unfoldable pub fitting_overrides : List Inst → Types → Numbers → Numbers → Numbers
+fitting_overrides all ts over [] = []
+fitting_overrides all ts over (o ∷ os) = if has_misfit all ts over all o.0 then fitting_overrides all ts over os else o ∷ fitting_overrides all ts over os
 
 -- the number that overrides a constant, by the overrides that hold
 abbrev pub override_of : List Inst → Numbers → Inst → Option ℤ

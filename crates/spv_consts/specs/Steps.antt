@@ -47,8 +47,8 @@ abbrev pub with_constant : Context → State → Inst → State
 with_constant m s i = record s { values = s.values ++ (i.id, value_of m s i) ∷ []; cells = cells_with s i.ty }
 
 -- the state after an instruction that breaks nothing
-abbrev pub entered : Context → State → Inst → State
-entered m s i =
+abbrev pub with_entry : Context → State → Inst → State
+with_entry m s i =
     if is_next s i.id then with_type s
     else (if is_constant i.op then with_constant m s i
     else s)
@@ -58,10 +58,10 @@ abbrev pub left_out : State → Inst → State
 left_out s i = if is_next s i.id then with_type s else s
 
 -- the state after an instruction
-unfoldable pub stepped : Context → State → Inst → State
-stepped m s i =
+unfoldable pub after_one : Context → State → Inst → State
+after_one m s i =
     if keeps_rules m s i && not (breaks_limit m s i)
-    then entered m (unwrap_or (lengthened m s i) s) i
+    then with_entry m (unwrap_or (lengthened m s i) s) i
     else left_out s i
 
 -- the breaches of an instruction: of the rules, and of the limits
@@ -71,11 +71,11 @@ breaches_at m s i =
     ++ (if breaks_limit m s i then record { code = 18; word = i.word } ∷ [] else [])
 
 -- the state after some instructions
-unfoldable pub walked : Context → State → List Inst → State
-walked m s [] = s
-walked m s (i ∷ is) = walked m (stepped m s i) is
+unfoldable pub after_all : Context → State → List Inst → State
+after_all m s [] = s
+after_all m s (i ∷ is) = after_all m (after_one m s i) is
 
 -- the breaches of some instructions
 unfoldable pub breaches_from : Context → State → List Inst → List Refusal
 breaches_from m s [] = []
-breaches_from m s (i ∷ is) = breaches_at m s i ++ breaches_from m (stepped m s i) is
+breaches_from m s (i ∷ is) = breaches_at m s i ++ breaches_from m (after_one m s i) is

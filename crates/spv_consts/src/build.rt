@@ -6,7 +6,7 @@ ghost use Rattle.spv_types.specs.Types.{Types};
 ghost use Rattle.spv_base.specs.Answers.{Answers};
 ghost use Rattle.spv_consts.specs.Table.{Constants};
 ghost use Rattle.spv_consts.specs.Build.{constants_of, context_of, known_of, unless_earlier};
-ghost use Rattle.spv_consts.specs.Steps.{breaches_from, walked};
+ghost use Rattle.spv_consts.specs.Steps.{breaches_from, after_all};
 
 use crate::context::Context;
 use crate::numbers::RULES_CODE;
@@ -90,7 +90,7 @@ fn known_after(
     context: &Context,
     insts: &[Inst],
 ) -> Result<(TypeTable, ConstTable), Fail<Refusal>>
-    ensures { Answers (unless_refused (known_of (walked context.now walk insts.now)) (breaches_from context.now walk insts.now)) result }
+    ensures { Answers (unless_refused (known_of (after_all context.now walk insts.now)) (breaches_from context.now walk insts.now)) result }
 {
     let Walk {
         mut types,

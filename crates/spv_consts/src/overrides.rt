@@ -123,7 +123,7 @@ fn without(
     numbers: &[(u32, i128)],
 ) -> Result<Vec<(u32, i128)>, NoMemory>
     requires { (id : ℕ) → is_some (get nat_cmp set.now id) ≡ spec.has_misfit index.now.insts types.now over.now index.now.insts id }
-    ensures { IfOk result (λ held. held.items ≡ spec.held_of index.now.insts types.now over.now numbers.now) }
+    ensures { IfOk result (λ held. held.items ≡ spec.fitting_overrides index.now.insts types.now over.now numbers.now) }
 {
     let mut held = Vec::new(alloc);
     for number in numbers {
@@ -142,7 +142,7 @@ pub(crate) fn fitting_overrides(
     types: &TypeTable,
     over: &Items<(u32, i128)>,
 ) -> Result<Table<i128>, NoMemory>
-    ensures { IfOk result (λ held. held ≡ spec.held_of index.now.insts types.now over.now over.now) }
+    ensures { IfOk result (λ held. held ≡ spec.fitting_overrides index.now.insts types.now over.now over.now) }
 {
     let table = Table::new(alloc, over.copy(alloc)?.into_vec())?;
     let set = misfits(alloc, index, types, &table, index.insts())?;

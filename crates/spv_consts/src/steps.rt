@@ -71,7 +71,7 @@ fn with_constant(
 
 /// Passes an instruction that breaks nothing.
 fn with_entry(alloc: Global, walk: Walk, context: &Context, inst: &Inst) -> Result<Walk, NoMemory>
-    ensures { IfOk result (λ after. after ≡ spec.entered context.now walk inst.now) }
+    ensures { IfOk result (λ after. after ≡ spec.with_entry context.now walk inst.now) }
 {
     if walk.is_next(inst.id) {
         return walk.pass_type(inst.id);
@@ -83,14 +83,14 @@ fn with_entry(alloc: Global, walk: Walk, context: &Context, inst: &Inst) -> Resu
 }
 
 /// Passes an instruction, unless it breaks a rule or a limit.
-#[tactic(auto, unfolding(crate::specs::Steps::stepped, crate::specs::Steps::breaches_at))]
+#[tactic(auto, unfolding(crate::specs::Steps::after_one, crate::specs::Steps::breaches_at))]
 fn after_one(
     alloc: Global,
     walk: Walk,
     context: &Context,
     inst: &Inst,
 ) -> Result<Walk, Fail<Refusal>>
-    ensures { Answers (unless_refused (spec.stepped context.now walk inst.now) (spec.breaches_at context.now walk inst.now)) result }
+    ensures { Answers (unless_refused (spec.after_one context.now walk inst.now) (spec.breaches_at context.now walk inst.now)) result }
 {
     if !keeps_rules(&walk, context, inst) {
         return Err(Fail::Refused(breach(RULES_CODE, inst)));
@@ -111,7 +111,7 @@ pub(crate) fn after_all(
     context: &Context,
     insts: &[Inst],
 ) -> Result<Walk, Fail<Refusal>>
-    ensures { Answers (unless_refused (spec.walked context.now walk insts.now) (spec.breaches_from context.now walk insts.now)) result }
+    ensures { Answers (unless_refused (spec.after_all context.now walk insts.now) (spec.breaches_from context.now walk insts.now)) result }
 {
     let mut walk = walk;
     for inst in insts {

@@ -1,5 +1,5 @@
 //! The null value and the undefined value of a type.
-ghost use Rattle.std.specs.Prelude.{◌≡◌, ◌++◌, ◌+◌, ◌*◌, ◌≤◌, ◌-◌, IfOk, OnOk, length, map, take, drop};
+ghost use Rattle.std.specs.Prelude.{◌≡◌, ◌++◌, ◌+◌, ◌*◌, ◌≤◌, ◌-◌, OnOk, length, map, take, drop};
 ghost use Rattle.std.specs.List.{flat_map};
 ghost use Rattle.spv_types.specs.declared.forms.Member.{Member as Part};
 ghost use Rattle.spv_consts.specs.Copies.{copies};
@@ -7,7 +7,6 @@ ghost use Rattle.spv_consts.specs.Values.{blank_lane, blank_of, widths_among, wi
 
 use spv_base::{Cell, NoMemory};
 use spv_types::{Form, Member, TypeTable};
-use std::alloc::Global;
 
 /// A lane of zeros, defined or not.
 fn blank_lane(defined: bool, width: u32) -> Cell

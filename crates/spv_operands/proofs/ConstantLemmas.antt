@@ -27,7 +27,7 @@ use Rattle.spv_consts.specs.Lengths.{is_unset, length_at, lengthened, with_array
 use Rattle.spv_types.specs.Types.{form_of, with_length}
 use Rattle.spv_consts.specs.Rules.{keeps_rules}
 use Rattle.spv_consts.specs.State.{State, is_next}
-use Rattle.spv_consts.specs.Steps.{breaks_limit, entered, left_out, stepped, walked, with_constant, with_type}
+use Rattle.spv_consts.specs.Steps.{breaks_limit, with_entry, left_out, after_one, after_all, with_constant, with_type}
 use Rattle.spv_consts.specs.Table.{Constants, Row}
 use Rattle.spv_consts.proofs.WalkConstants.{ends}
 use Rattle.spv_valid.specs.Acceptance.{Accepted, IsAccepted, Passes}
@@ -62,7 +62,7 @@ read_push (d ∷ cs) c id r h = by_test (d.0 == id) h (read_push cs c id r)
     by_test true g rest = inl g
     by_test false g rest = rest g
 
-entered_defined : (insts : List Inst) (m : Context) (s : State) (i : Inst) → AreDefined insts s.values → Contains insts i → AreDefined insts (entered m s i).values
+entered_defined : (insts : List Inst) (m : Context) (s : State) (i : Inst) → AreDefined insts s.values → Contains insts i → AreDefined insts (with_entry m s i).values
 entered_defined insts m s i so_far there = by_tests (is_next s i.id) (is_constant i.op) refl
   where
     added : is_constant i.op ≡ true → AreDefined insts (s.values ++ (i.id, value_of m s i) ∷ [])
@@ -94,11 +94,11 @@ lengthened_values m s t i h = by_length (length_at m s i) h
     by_length None e = let same : s ≡ t = cc in sym (ap (λ (u : State). u.values) same)
     by_length (Some n) e = by_limit n (nat_lt 4194304 n) e
 
-stepped_defined : (insts : List Inst) (m : Context) (s : State) (i : Inst) → AreDefined insts s.values → Contains insts i → AreDefined insts (stepped m s i).values
-unfolding stepped
+stepped_defined : (insts : List Inst) (m : Context) (s : State) (i : Inst) → AreDefined insts s.values → Contains insts i → AreDefined insts (after_one m s i).values
+unfolding after_one
 stepped_defined insts m s i so_far there = by_test (keeps_rules m s i && not (breaks_limit m s i))
   where
-    by_length : (o : Option State) → lengthened m s i ≡ o → AreDefined insts (entered m (unwrap_or o s) i).values
+    by_length : (o : Option State) → lengthened m s i ≡ o → AreDefined insts (with_entry m (unwrap_or o s) i).values
     by_length None e = entered_defined insts m s i so_far there
     by_length (Some t) e = entered_defined insts m t i (subst (AreDefined insts) (sym (lengthened_values m s t i e)) so_far) there
 
@@ -106,14 +106,14 @@ stepped_defined insts m s i so_far there = by_test (keeps_rules m s i && not (br
     passed true = so_far
     passed false = so_far
 
-    by_test : (b : Bool) → AreDefined insts (if b then entered m (unwrap_or (lengthened m s i) s) i else left_out s i).values
+    by_test : (b : Bool) → AreDefined insts (if b then with_entry m (unwrap_or (lengthened m s i) s) i else left_out s i).values
     by_test true = by_length (lengthened m s i) refl
     by_test false = passed (is_next s i.id)
 
-walked_defined : (insts : List Inst) (m : Context) (s : State) (is : List Inst) → AreDefined insts s.values → AllByRecursion (Contains insts) is → AreDefined insts (walked m s is).values
-unfolding walked
+walked_defined : (insts : List Inst) (m : Context) (s : State) (is : List Inst) → AreDefined insts s.values → AllByRecursion (Contains insts) is → AreDefined insts (after_all m s is).values
+unfolding after_all
 walked_defined insts m s [] so_far there = so_far
-walked_defined insts m s (i ∷ is) so_far (first, rest) = walked_defined insts m (stepped m s i) is (stepped_defined insts m s i so_far first) rest
+walked_defined insts m s (i ∷ is) so_far (first, rest) = walked_defined insts m (after_one m s i) is (stepped_defined insts m s i so_far first) rest
 
 constants_defined : (a : Accepted) → IsAccepted a → AreDefined (before_functions a.insts) a.constants
 constants_defined a is =

@@ -17,7 +17,7 @@ use Rattle.spv_consts.specs.Context.{Context}
 use Rattle.spv_consts.specs.Lengths.{is_unset, length_at, lengthened, with_array, with_length_if}
 use Rattle.spv_consts.specs.Rules.{keeps_rules}
 use Rattle.spv_consts.specs.State.{State, is_next}
-use Rattle.spv_consts.specs.Steps.{breaks_limit, entered, left_out, stepped, walked, with_constant, with_type}
+use Rattle.spv_consts.specs.Steps.{breaks_limit, with_entry, left_out, after_one, after_all, with_constant, with_type}
 use Rattle.spv_consts.specs.Table.{Constants}
 use Rattle.spv_consts.proofs.WalkConstants.{ends}
 use Rattle.spv_consts.proofs.WalkPlaces.{declared}
@@ -99,7 +99,7 @@ lengthened_alike m s t i h = by_length (length_at m s i) h
     by_length None e = let same : s ≡ t = cc in subst (λ (u : State). AreAlike s.types u.types) same (alike_same s.types)
     by_length (Some n) e = by_limit n (nat_lt 4194304 n) e
 
-entered_types : (m : Context) (s : State) (i : Inst) → (entered m s i).types ≡ s.types
+entered_types : (m : Context) (s : State) (i : Inst) → (with_entry m s i).types ≡ s.types
 entered_types m s i = by_tests (is_next s i.id) (is_constant i.op)
   where
     by_tests : (b c : Bool) → (if b then with_type s else (if c then with_constant m s i else s)).types ≡ s.types
@@ -114,22 +114,22 @@ left_types s i = by_test (is_next s i.id)
     by_test true = refl
     by_test false = refl
 
-stepped_alike : (m : Context) (s : State) (i : Inst) → AreAlike s.types (stepped m s i).types
-unfolding stepped
+stepped_alike : (m : Context) (s : State) (i : Inst) → AreAlike s.types (after_one m s i).types
+unfolding after_one
 stepped_alike m s i = by_test (keeps_rules m s i && not (breaks_limit m s i))
   where
-    by_length : (o : Option State) → lengthened m s i ≡ o → AreAlike s.types (entered m (unwrap_or o s) i).types
+    by_length : (o : Option State) → lengthened m s i ≡ o → AreAlike s.types (with_entry m (unwrap_or o s) i).types
     by_length None e = subst (AreAlike s.types) (sym (entered_types m s i)) (alike_same s.types)
     by_length (Some t) e = subst (AreAlike s.types) (sym (entered_types m t i)) (lengthened_alike m s t i e)
 
-    by_test : (b : Bool) → AreAlike s.types (if b then entered m (unwrap_or (lengthened m s i) s) i else left_out s i).types
+    by_test : (b : Bool) → AreAlike s.types (if b then with_entry m (unwrap_or (lengthened m s i) s) i else left_out s i).types
     by_test true = by_length (lengthened m s i) refl
     by_test false = subst (AreAlike s.types) (sym (left_types s i)) (alike_same s.types)
 
-walked_alike : (m : Context) (s : State) (is : List Inst) → AreAlike s.types (walked m s is).types
-unfolding walked
+walked_alike : (m : Context) (s : State) (is : List Inst) → AreAlike s.types (after_all m s is).types
+unfolding after_all
 walked_alike m s [] = alike_same s.types
-walked_alike m s (i ∷ is) = alike_then s.types (stepped m s i).types (walked m (stepped m s i) is).types (stepped_alike m s i) (walked_alike m (stepped m s i) is)
+walked_alike m s (i ∷ is) = alike_then s.types (after_one m s i).types (after_all m (after_one m s i) is).types (stepped_alike m s i) (walked_alike m (after_one m s i) is)
 
 -- the types of an accepted module are those that it declares, but for the lengths of arrays
 pub types_alike : (a : Accepted) → IsAccepted a → AreAlike (declared a.insts) a.types

@@ -26,7 +26,7 @@ use Rattle.spv_bodies.specs.Places.{nowhere, place, placed, placed_from, within_
 use Rattle.spv_consts.specs.Context.{Context}
 use Rattle.spv_consts.specs.State.{State}
 use Rattle.spv_consts.specs.Rules.{keeps_rules as keeps_constant}
-use Rattle.spv_consts.specs.Steps.{breaches_at as constant_breaches_at, breaches_from, breaks_limit, stepped}
+use Rattle.spv_consts.specs.Steps.{breaches_at as constant_breaches_at, breaches_from, breaks_limit, after_one}
 use Rattle.spv_base.specs.Order.{Ascend}
 use Rattle.spv_valid.specs.Breaches.{IsBefore, layout_breaches}
 
@@ -145,7 +145,7 @@ types_in_order from insts ascend = types_in_order_from insts [] from (before_fun
 constants_in_order_from : (m : Context) (s : State) (from : ℕ) (insts : List Inst) → Ascend from insts → InOrder from (breaches_from m s insts)
 unfolding breaches_from constant_breaches_at
 constants_in_order_from m s from [] ascend = none_in_order from
-constants_in_order_from m s from (i ∷ is) (first, rest) = here (keeps_constant m s i) (breaks_limit m s i) (constants_in_order_from m (stepped m s i) (suc i.word) is rest)
+constants_in_order_from m s from (i ∷ is) (first, rest) = here (keeps_constant m s i) (breaks_limit m s i) (constants_in_order_from m (after_one m s i) (suc i.word) is rest)
   where
     rule : Refusal
     rule = record { code = 14; word = i.word }
@@ -153,8 +153,8 @@ constants_in_order_from m s from (i ∷ is) (first, rest) = here (keeps_constant
     limit : Refusal
     limit = record { code = 18; word = i.word }
 
-    here : (b c : Bool) → InOrder (suc i.word) (breaches_from m (stepped m s i) is)
-        → InOrder from ((cond b [] (rule ∷ []) ++ cond c (limit ∷ []) []) ++ breaches_from m (stepped m s i) is)
+    here : (b c : Bool) → InOrder (suc i.word) (breaches_from m (after_one m s i) is)
+        → InOrder from ((cond b [] (rule ∷ []) ++ cond c (limit ∷ []) []) ++ breaches_from m (after_one m s i) is)
     here true true behind = joined_in_order from i.word (limit ∷ []) _ first (refl, tt) tt behind
     here true false behind = joined_in_order from i.word [] _ first tt tt behind
     here false true behind = let codes : 14 ≤ 18 = omega arith in joined_in_order from i.word (rule ∷ limit ∷ []) _ first (refl, (refl, tt)) (inr (refl, codes), tt) behind

@@ -24,7 +24,7 @@ use Rattle.spv_consts.specs.Context.{Context}
 use Rattle.spv_consts.specs.State.{State}
 use Rattle.spv_consts.specs.Rules.{keeps_rules}
 use Rattle.spv_consts.specs.SpecIds.{lower, lowest_wrong, wrong_spec_id}
-use Rattle.spv_consts.specs.Steps.{breaches_at, breaches_from, breaks_limit, stepped}
+use Rattle.spv_consts.specs.Steps.{breaches_at, breaches_from, breaks_limit, after_one}
 use Rattle.spv_consts.specs.Build.{constant_breaches, constants_of, context_of, front_breaches, known_of as known_in, start_of, state_of, unless_earlier}
 use Rattle.spv_bodies.specs.Context.{known_of}
 use Rattle.spv_bodies.specs.Bodies.{bodies_of}
@@ -117,7 +117,7 @@ one_coded m s i = by_tests (keeps_rules m s i) (breaks_limit m s i)
 all_coded : (m : Context) (s : State) (insts : List Inst) → AreCoded (breaches_from m s insts)
 unfolding breaches_from
 all_coded m s [] = tt
-all_coded m s (i ∷ is) = joined_coded (breaches_at m s i) (breaches_from m (stepped m s i) is) (one_coded m s i) (all_coded m (stepped m s i) is)
+all_coded m s (i ∷ is) = joined_coded (breaches_at m s i) (breaches_from m (after_one m s i) is) (one_coded m s i) (all_coded m (after_one m s i) is)
 
 first_coded : {T : Type 0} (x : T) (rs : List Refusal) (r : Refusal) → AreCoded rs → result_err (unless_refused x rs) ≡ Some r → 14 ≤ r.code
 first_coded x [] r coded is = absurd (cc)
