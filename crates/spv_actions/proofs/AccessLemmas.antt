@@ -109,9 +109,6 @@ store_outside x at v cause is first second part =
     by_place (Ok q) e = ap (λ (r : Result Value Cause). r >>= (λ (_ : Value). Ok (stores q v))) e
     by_place (Err other) e = let same : other ≡ cause = cc in ap (λ (k : Cause). Err k) same
 
-pub store_nowhere : (x : Site) (at v : Value) (cause : Cause) → action_of x.inst ≡ Store → values x 0 ≡ Some at → values x 1 ≡ Some v → pointer at ≡ Err cause → due x ≡ Err cause
-store_nowhere x at v cause is first second place = store_outside x at v cause is first second (ap (λ (r : Result Reference Cause). r >>= loaded x.state x.inv) place)
-
 -- ---- what they fit
 
 -- where the pointer leads that an operand is

@@ -40,11 +40,6 @@ module _ {A B : Type 0} where
   pub err_then : (r : Result A Cause) (f : A → Result B Cause) (cause : Cause) → r ≡ Err cause → (r >>= f) ≡ Err cause
   err_then r f cause h = ap (λ (s : Result A Cause). s >>= f) h
 
--- an answer that isn't there is that of what comes after too
-pub fails_with : {T U : Type 0} (p : Result T Cause) (q : Result U Cause) (e : Fail Cause) → ((cause : Cause) → p ≡ Err cause → q ≡ Err cause) → Answers p (Err e) → Answers q (Err e)
-fails_with p q (Refused cause) each h = each cause h
-fails_with p q NoMemory each h = tt
-
 -- ---- the first of three operands
 
 module _ (x : Site) where

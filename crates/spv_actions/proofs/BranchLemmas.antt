@@ -13,7 +13,7 @@ use Rattle.spv_state.specs.State.{depth_of}
 use Rattle.spv_state.specs.declared.actions.Action.TheVariants.{Branch, BranchConditional, Switch}
 use Rattle.spv_actions.specs.Branches.{decided, jump_by, picked, switched}
 use Rattle.spv_actions.specs.Effects as spec
-use Rattle.spv_actions.specs.Effects.{◌>>=◌, Jump, goes}
+use Rattle.spv_actions.specs.Effects.{◌>>=◌}
 use Rattle.spv_actions.specs.Phis.{block_at, phi_values, phis_of}
 use Rattle.spv_actions.specs.Planned.{IsDue}
 use Rattle.spv_actions.specs.Sites.{Finds, Site, accepted, due, values}
@@ -30,15 +30,6 @@ jumps x label = jump_by x.program x.state x.inv x.frame x.inst label
 -- the phis of a block in the frame of a site
 abbrev pub taken : Site → ℕ → Option (List (ℕ × Value))
 taken x block = phi_values (accepted x) x.frame (depth_of x.state x.inv) (block_at (accepted x).insts x.inst.word) (phis_of (accepted x).insts block)
-
-pub nowhere_due : (x : Site) (label : Option ℕ) → label ≡ None → jumps x label ≡ Err NoValue
-nowhere_due x label none = ap (jumps x) none
-
-pub jump_missing : (x : Site) (label : Option ℕ) (block : ℕ) → label ≡ Some block → taken x block ≡ None → jumps x label ≡ Err NoValue
-jump_missing x label block is none = ap (jumps x) is ∙ ap (λ (o : Option (List (ℕ × Value))). ok_or o NoValue >>= (λ (phis : List (ℕ × Value)). Ok (goes (Jump block phis)))) none
-
-pub jump_gives : (x : Site) (label : Option ℕ) (block : ℕ) (phis : List (ℕ × Value)) → label ≡ Some block → taken x block ≡ Some phis → jumps x label ≡ Ok (goes (Jump block phis))
-jump_gives x label block phis is values = ap (jumps x) is ∙ ap (λ (o : Option (List (ℕ × Value))). ok_or o NoValue >>= (λ (rs : List (ℕ × Value)). Ok (goes (Jump block rs)))) values
 
 -- ---- by a value
 
@@ -75,9 +66,6 @@ switch_due x is = due_by x Switch is
 -- what is due under another name
 pub due_as : (a b : Result spec.Effect Cause) (v : Value) (r : Result Effect (Fail Cause)) → a ≡ b → IsDue b v r → IsDue a v r
 due_as a b v r same h = subst (λ (c : Result spec.Effect Cause). IsDue c v r) (sym same) h
-
-pub fault_due : (a : Result spec.Effect Cause) (v : Value) (cause : Cause) (r : Result Effect (Fail Cause)) → a ≡ Err cause → r ≡ Err (Refused cause) → IsDue a v r
-fault_due a v cause r is same = subst (λ (s : Result Effect (Fail Cause)). IsDue a v s) (sym same) is
 
 -- an answer that something has no value, or that memory ran out
 pub found_due : {T : Type 0} (a : Result spec.Effect Cause) (v : Value) (o : Option T) (e : Fail Cause) (r : Result Effect (Fail Cause)) → (o ≡ None → a ≡ Err NoValue) → Finds {T = T} o (Err e) → r ≡ Err e → IsDue a v r

@@ -1,5 +1,5 @@
 -- The values of all operands of an instruction, read one after another.
-use Rattle.std.proofs.Common.{◌≡◌, ◌∙◌, ◌⊎◌, inl, inr, ℕ, zero, suc, ◌+◌, ◌-◌, ◌<◌, ◌≤◌, List, [], ◌∷◌, ◌++◌, length, slice_get, append_assoc, append-nil, Option, Some, None, refl, sym, ap, subst, arith}
+use Rattle.std.proofs.Common.{◌≡◌, ◌∙◌, ◌⊎◌, inl, inr, ℕ, zero, suc, ◌+◌, ◌-◌, ◌<◌, List, [], ◌∷◌, ◌++◌, length, slice_get, append_assoc, Option, Some, None, refl, sym, ap, subst, arith}
 use Rattle.std.specs.List.{range_with_len}
 use Rattle.std.specs.Option.{option_and_then, option_map}
 use Rattle.spv_base.specs.declared.values.Value.{Value}
@@ -12,19 +12,6 @@ pub record Gathers (x : Site) (vs : List Value) (n : ℕ) : Type 0 where
   pub many : length vs ≡ n
   pub rest : all_of (values x) (range_with_len 0 (length x.inst.operands)) ≡ option_map (λ (us : List Value). vs ++ us) (all_of (values x) (range_with_len n (length x.inst.operands - n)))
   pub shapes : (k : ℕ) (v : Value) → slice_get vs k ≡ Some v → IsOperand (accepted x) x.inst k v
-
-map_same : (o : Option (List Value)) → o ≡ option_map (λ (us : List Value). [] ++ us) o
-map_same None = refl
-map_same (Some us) = refl
-
-pub none_gathered : (x : Site) → Gathers x [] 0
-none_gathered x = record {
-  many = refl;
-  rest =
-      let all : length x.inst.operands ≡ length x.inst.operands - 0 = omega arith in
-      ap (λ (n : ℕ). all_of (values x) (range_with_len 0 n)) all ∙ map_same (all_of (values x) (range_with_len 0 (length x.inst.operands - 0)));
-  shapes = λ k v at. absurd (cc);
-}
 
 -- the next operand, and those behind it
 next_of : (x : Site) (n : ℕ) → n < length x.inst.operands
@@ -69,8 +56,3 @@ pub one_missing : (x : Site) (vs : List Value) (n : ℕ) → n < length x.inst.o
 one_missing x vs n lt so_far none =
     so_far.rest ∙ ap (option_map (λ (us : List Value). vs ++ us)) (next_of x n lt
     ∙ ap (option_and_then (λ (v : Value). option_map (λ (us : List Value). v ∷ us) (all_of (values x) (range_with_len (n + 1) (length x.inst.operands - (n + 1)))))) none)
-
-pub all_gathered : (x : Site) (vs : List Value) (n : ℕ) → length x.inst.operands ≤ n → Gathers x vs n → all_of (values x) (range_with_len 0 (length x.inst.operands)) ≡ Some vs
-all_gathered x vs n past so_far =
-    let none : length x.inst.operands - n ≡ 0 = omega arith in
-    so_far.rest ∙ ap (λ (k : ℕ). option_map (λ (us : List Value). vs ++ us) (all_of (values x) (range_with_len n k))) none ∙ ap (λ (ws : List Value). Some ws) (append-nil vs)

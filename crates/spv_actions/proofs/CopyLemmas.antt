@@ -88,9 +88,6 @@ copy_outside x to from u cause is first second part outside =
     let there = found x to u part in
     copy_there x to from u there.place is first second there.is part ∙ ap (λ (r : Result Value Cause). r >>= (λ (v : Value). Ok (stores there.place v))) outside
 
-pub copy_nothing : (x : Site) (to : Value) (u : Value) (cause : Cause) → part_of x to ≡ Ok u → pointer to ≡ Err cause → ⊥
-copy_nothing x to u cause part none = let there = found x to u part in let is = there.is in absurd (cc)
-
 pub copy_gives : (x : Site) (to from u v : Value) (q : Reference) → action_of x.inst ≡ CopyMemory → values x 0 ≡ Some to → values x 1 ≡ Some from → part_of x to ≡ Ok u → part_of x from ≡ Ok v → pointer to ≡ Ok q → due x ≡ Ok (stores q v)
 copy_gives x to from u v q is first second part source place =
     copy_there x to from u q is first second place part ∙ ap (λ (r : Result Value Cause). r >>= (λ (v : Value). Ok (stores q v))) source

@@ -33,7 +33,7 @@ use spv_operands::Operand;
 use spv_plans::laws::{
     functions_have_their_plans, registers_are_apart, registers_have_types, results_have_registers,
 };
-use spv_state::{Action, plan_in};
+use spv_state::Action;
 use spv_types::rows::rows_fill_types;
 use spv_values::Row;
 use std::alloc::Global;

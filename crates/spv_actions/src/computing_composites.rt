@@ -1,6 +1,6 @@
 //! The instructions that make, take apart and copy composites: their operands, in order, and the result (SPIR-V 1.6 sections 3.42.1 and
 //! 3.42.12).
-ghost use Rattle.std.specs.Prelude.{◌≡◌, ◌⊎◌, ℕ, ◌<◌, IfOk, None, Some, false, length, slice_get, true};
+ghost use Rattle.std.specs.Prelude.{◌≡◌, ℕ, ◌<◌, IfOk, None, Some, false, length, slice_get, true};
 ghost use Rattle.std.specs.List.{range_with_len};
 ghost use Rattle.std.specs.Result.{result_map_both};
 ghost use Rattle.spv_base.specs.declared.values.Value.{Value};
@@ -8,7 +8,6 @@ ghost use Rattle.spv_bodies.specs.Composites.{KeepsCopyObject};
 ghost use Rattle.spv_actions.specs.Kept.{Keeps};
 ghost use Rattle.spv_actions.specs.Sites as spec;
 ghost use Rattle.spv_actions.specs.Sites.{Computes, Finds};
-ghost use Rattle.spv_operands.specs.Operands.{pointer_of};
 ghost use Rattle.spv_results.specs.Operands.{IsOperand, known};
 ghost use Rattle.spv_results.specs.Results.{all_of};
 ghost use Rattle.spv_types.specs.Rules.{has_runtime};

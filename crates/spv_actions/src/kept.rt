@@ -1,5 +1,5 @@
 //! What acceptance gives of an instruction where a run has come to it.
-ghost use Rattle.std.specs.Prelude.{◌≡◌, Some, false, true};
+ghost use Rattle.std.specs.Prelude.{◌≡◌, Some, false};
 ghost use Rattle.spv_bodies.specs.Chains.{KeepsChain};
 ghost use Rattle.spv_bodies.specs.Memory.{KeepsArrayLength, KeepsCopyMemory, KeepsLoad, KeepsStore};
 ghost use Rattle.spv_state.specs.Actions.{action_of};

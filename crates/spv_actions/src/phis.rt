@@ -1,6 +1,5 @@
 //! The phis of a block, and the values that they take where control comes from another block (SPIR-V 1.6 section 3.42.17, OpPhi).
-ghost use Rattle.std.specs.Prelude.{◌≡◌, ℕ, Some, filter, map, option_map, slice_get, true};
-ghost use Rattle.std.specs.Option.{is_some};
+ghost use Rattle.std.specs.Prelude.{◌≡◌, ℕ, Some, filter, map, slice_get, true};
 ghost use Rattle.std.specs.Result.{result_map_both};
 ghost use Rattle.spv_base.specs.declared.instructions.Inst.{Inst};
 ghost use Rattle.spv_bodies.specs.Control.{KeepsPhi};

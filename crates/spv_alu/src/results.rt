@@ -1,5 +1,5 @@
 //! What an operation gives on one lane.
-ghost use Rattle.std.specs.Prelude.{◌≡◌, ◌%◌, ◌^◌, ◌<◌, ◌≤◌, pos};
+ghost use Rattle.std.specs.Prelude.{◌≡◌, ◌≤◌, pos};
 ghost use Rattle.spv_base.specs.Lane.{undefined_lane};
 ghost use Rattle.spv_alu.specs.Integers.{IsWidth};
 ghost use Rattle.spv_alu.specs.Results.{integer, truth, defined_if};

@@ -1,6 +1,5 @@
 //! The operations on all lanes of a vector of Booleans.
 ghost use Rattle.std.specs.Prelude.{◌≡◌};
-ghost use Rattle.std.specs.List.{list_all};
 ghost use Rattle.spv_alu.specs.Vectors.{vector_row, vector_lane, vector_op};
 
 use crate::results::{defined_if, truth};

@@ -54,9 +54,6 @@ reaches_one s t line view same limit kept go later =
     = windows_rise s.limit s.view.group.program (entries_in s.view.group) (highest t.view later) (highest s.view (line ∷ later)) (omega arith) in
     omega arith
 
-pub reaches_none : (s t : Viewing) → t ≡ s → Reaches s t []
-reaches_none s t e later = subst (λ (u : Viewing). reach u later ≤ reach s later) (sym e) (omega arith)
-
 pub reaches_more : (s t u : Viewing) (xs ys : List (List ℕ)) → Reaches s t xs → Reaches t u ys → Reaches s u (xs ++ ys)
 reaches_more s t u xs ys r q later =
     let one = q later in
@@ -124,9 +121,6 @@ pub record IsSpending (start at : Viewing) (all rest : List (List ℕ)) (before 
   pub reaches : (later : List (List ℕ)) → reach at (rest ++ later) ≤ reach start (all ++ later)
   pub spends : (kept : ℕ) → reach start all ≤ kept → now + transcript_cost kept at.view rest ≤ before + transcript_cost kept start.view all
 
-pub spending_all : (start : Viewing) (all : List (List ℕ)) (now : ℕ) → IsSpending start start all all now now
-spending_all start all now = record { reaches = λ later. omega arith; spends = λ kept l. omega arith }
-
 reaches_rest : (start at : Viewing) (all rest : List (List ℕ)) (before now : ℕ) → IsSpending start at all rest before now → reach at rest ≤ reach start all
 reaches_rest start at all rest before now is =
     subst (λ (l : List (List ℕ)). reach at l ≤ reach start all) (append-nil rest)
@@ -160,10 +154,3 @@ spending_more start at next all rest xs ys before now after is e go view reaches
       let all_of = is.spends kept l in
       omega arith);
 }
-
--- none is left
-pub spending_done : (start at : Viewing) (all rest : List (List ℕ)) (before now : ℕ) → IsSpending start at all rest before now → rest ≡ [] → Reaches start at all × Spends start all before now
-spending_done start at all rest before now is none = (
-  λ later. subst (λ (l : List (List ℕ)). reach at (l ++ later) ≤ reach start (all ++ later)) none (is.reaches later),
-  λ kept l. (let all_of = is.spends kept l in omega arith),
-)

@@ -39,16 +39,6 @@ transcript_goes v xs ys h = transcript-append v xs ys ∙ ap (λ b. transcript v
 pub transcript_quits : (v : View) (xs ys : List (List ℕ)) → has_quit xs ≡ true → transcript v (xs ++ ys) ≡ transcript v xs
 transcript_quits v xs ys h = transcript-append v xs ys ∙ ap (λ b. transcript v xs ++ cond b [] (transcript (view_after v xs) ys)) h ∙ append-nil (transcript v xs)
 
--- the replies to one line
-pub transcript_one : (v : View) (x : List ℕ) → transcript v (x ∷ []) ≡ text_of v x
-transcript_one v x = elim (is_quit x) as (λ q. text_of v x ++ cond q [] [] ≡ text_of v x) [ true ↦ append-nil (text_of v x) | false ↦ append-nil (text_of v x) ]
-
-pub view_one : (v : View) (x : List ℕ) → view_after v (x ∷ []) ≡ view_of v x
-view_one v x = elim (is_quit x) as (λ q. cond q (view_of v x) (view_of v x) ≡ view_of v x) [ true ↦ refl | false ↦ refl ]
-
-pub quit_one : (x : List ℕ) → has_quit (x ∷ []) ≡ is_quit x
-quit_one x = elim (is_quit x) as (λ q. (q || false) ≡ q) [ true ↦ refl | false ↦ refl ]
-
 -- what is due of the first lines is a front of what is due of all
 pub transcript_front : (v : View) (xs ys : List (List ℕ)) → IsPrefixOf (transcript v xs) (transcript v (xs ++ ys))
 transcript_front v xs ys = (cond (has_quit xs) [] (transcript (view_after v xs) ys), sym (transcript-append v xs ys))

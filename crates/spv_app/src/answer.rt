@@ -1,5 +1,5 @@
 //! The answers to one line, and to the lines that end in one piece of input.
-ghost use Rattle.std.specs.Prelude.{◌≡◌, ◌<◌, ◌≤◌, ◌+◌, ◌-◌, ◌^◌, ◌∷◌, [], List, ℕ, Ok, IfOk, IfErr, OnOk, MatchResult};
+ghost use Rattle.std.specs.Prelude.{◌≡◌, ◌<◌, ◌≤◌, ◌-◌, ◌^◌, ◌∷◌, [], List, ℕ, Ok, IfOk, IfErr, OnOk, MatchResult};
 ghost use Rattle.std.specs.Io.KnownBytes.{Appends};
 ghost use Rattle.spv_session.specs.Reply.{is_quit};
 ghost use Rattle.spv_app.specs.Lines.{complete_from, rest_from, ended_by, line_after};

@@ -1,9 +1,8 @@
 //! The opening of a pair of a module and a setup.
-ghost use Rattle.std.specs.Prelude.{◌≡◌, ◌≤◌, ◌<◌, IfOk, OnOk, length};
+ghost use Rattle.std.specs.Prelude.{◌≡◌, ◌≤◌, ◌<◌, IfOk, length};
 ghost use Rattle.spv_base.specs.Answers.{Answers};
 ghost use Rattle.spv_setup.specs.Settings.{settings_of};
 ghost use Rattle.spv_valid.specs.Validity.{IsValid};
-ghost use Rattle.spv_state.specs.Program.{IsFitting};
 ghost use Rattle.spv_app.specs.Limits.{setup_limit};
 ghost use Rattle.spv_app.specs.Opening.{opening, accepted_in, invocations_of, journaled, schedule_for, started, of_setup, of_module};
 

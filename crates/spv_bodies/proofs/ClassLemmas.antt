@@ -1,5 +1,5 @@
 -- The classes of types, each by those of its parts.
-use Rattle.std.proofs.Common.{◌≡◌, ◌≢◌, ◌∙◌, ℕ, zero, suc, ◌+◌, ◌<◌, ◌≤◌, ◌==◌, Bool, true, false, ltb, List, [], ◌∷◌, ◌++◌, length, get_or, drop, drop_of_length-le, Option, Some, None, refl, sym, ap, subst, arith}
+use Rattle.std.proofs.Common.{◌≡◌, ◌≢◌, ℕ, zero, suc, ◌+◌, ◌<◌, ◌≤◌, ◌==◌, Bool, true, false, List, [], ◌∷◌, ◌++◌, length, get_or, drop, drop_of_length-le, Option, Some, None, refl, sym, ap, subst, arith}
 use Rattle.std.specs.Prelude.{if◌then◌else◌, slice_get, slice_index_or, nat_lt}
 use Rattle.spv_types.specs.declared.forms.Form.TheVariants.{Void}
 use Rattle.std.specs.Option.{option_and_then, option_map, option_map_or}
@@ -7,10 +7,10 @@ use Rattle.spv_types.specs.declared.forms.Form.{Form}
 use Rattle.spv_types.specs.declared.forms.Member.{Member}
 use Rattle.spv_types.specs.Queries.{member_type}
 use Rattle.spv_types.specs.Types.{Types, form_at, form_of, found_among, in_first, number_of}
-use Rattle.spv_types.proofs.TypeLemmas.{in_first-is, number_form, number_lt}
+use Rattle.spv_types.proofs.TypeLemmas.{in_first-is, number_form}
 use Rattle.spv_bodies.specs.declared.terms.Node.{Node}
 use Rattle.spv_bodies.specs.declared.terms.Node.TheVariants.{Number as Single, Pair as Double}
-use Rattle.spv_bodies.specs.Matching.{Number, Pair, Term, form_term, members_term, repeated, same_terms, term_among, term_of}
+use Rattle.spv_bodies.specs.Matching.{Number, Pair, Term, form_term, members_term, repeated, term_among}
 use Rattle.spv_bodies.specs.Terms.{AreDistinct, Grows, IsClass, Makes}
 use Rattle.spv_bodies.specs.Classes.{AreClasses, HaveClasses, class_among}
 use Rattle.spv_bodies.proofs.TermLemmas.{class_still, classes_tell, makes_still}
@@ -32,26 +32,11 @@ repeated_is a b c d e part count rest opcode whole op n f g h i there pair kind 
     let m : Makes e whole (repeated op n is.0) = (opcode, rest, top, i opcode (Single op) kind, (part, count, k rest (Double part count) pair, makes_still a e l is.0 part is.2, j count (Single n) there)) in
     rw (is.1) (repeated op n is.0, refl, m)
 
-pub repeated_not : (a : List Node) (op n : ℕ) (t : Option Term) → IsClass a None t → IsClass a None (option_map (repeated op n) t)
-repeated_not a op n t is = rw is refl
-
 pub struct_is : (a b c : List Node) (members opcode whole : ℕ) → Grows a b → Grows b c → slice_get b opcode ≡ Some (Single 30) → slice_get c whole ≡ Some (Double opcode members)
     → (t : Option Term) → IsClass a (Some members) t → IsClass c (Some whole) (option_map (Pair (Number 30)) t)
 struct_is a b c members opcode whole f g kind top t is =
     let m : Makes c whole (Pair (Number 30) is.0) = (opcode, members, top, g opcode (Single 30) kind, makes_still a c (grows_on a b c f g) is.0 members is.2) in
     rw (is.1) (Pair (Number 30) is.0, refl, m)
-
-pub struct_not : (a : List Node) (t : Option Term) → IsClass a None t → IsClass a None (option_map (Pair (Number 30)) t)
-struct_not a t is = rw is refl
-
-pub int_is : (b c d e f : List Node) (width sign rest opcode whole w s : ℕ) → Grows b c → Grows c d → Grows d e → Grows e f
-    → slice_get b width ≡ Some (Single w) → slice_get c sign ≡ Some (Single s) → slice_get d rest ≡ Some (Double width sign) → slice_get e opcode ≡ Some (Single 21) → slice_get f whole ≡ Some (Double opcode rest)
-    → Makes f whole (Pair (Number 21) (Pair (Number w) (Number s)))
-int_is b c d e f width sign rest opcode whole w s g h i j at_width at_sign at_rest at_opcode at_whole =
-    let l = grows_on d e f i j in
-    let k = grows_on c d f h l in
-    let m = grows_on b c f g k in
-    (opcode, rest, at_whole, j opcode (Single 21) at_opcode, (width, sign, l rest (Double width sign) at_rest, m width (Single w) at_width, k sign (Single s) at_sign))
 
 -- ---- types
 
@@ -90,9 +75,6 @@ class_has nodes ts classes n id have = rw (term_is ts n id) (go (found_among ts 
     go (Some f) at =
         let is = found_at ts n id f.0 f.1 at in
         subst (λ (g : Form). IsClass nodes (slice_index_or classes f.0 None) (form_term (term_among ts f.0) g)) is.1 (have f.0 is.0)
-
-pub none_have : (nodes : List Node) (ts : Types) (classes : List (Option ℕ)) → HaveClasses nodes ts classes 0
-none_have nodes ts classes = λ m l. absurd (omega arith)
 
 at_end : (classes : List (Option ℕ)) (c : Option ℕ) → slice_index_or (classes ++ c ∷ []) (length classes) None ≡ c
 at_end [] c = refl

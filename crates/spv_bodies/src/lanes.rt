@@ -1,5 +1,5 @@
 //! The rules of lane-wise operations, and of the instructions of an imported set.
-ghost use Rattle.std.specs.Prelude.{◌≡◌, ◌≤◌};
+ghost use Rattle.std.specs.Prelude.{◌≡◌};
 ghost use Rattle.spv_index.specs.Classes.{is_debug};
 ghost use Rattle.spv_typing.specs.Operands.{types_by};
 ghost use Rattle.spv_bodies.specs.Lanes as spec;

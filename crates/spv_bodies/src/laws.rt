@@ -1,5 +1,5 @@
 //! What the bodies of an accepted module give.
-ghost use Rattle.std.specs.Prelude.{◌≡◌, ◌↔◌, ℕ, List, Ok};
+ghost use Rattle.std.specs.Prelude.{◌≡◌, ◌↔◌, List, Ok};
 ghost use Rattle.std.specs.Bool.{Decides};
 ghost use Rattle.spv_base.specs.declared.instructions.Inst.{Inst};
 ghost use Rattle.spv_consts.specs.Table.{Constants};

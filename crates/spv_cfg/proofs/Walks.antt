@@ -1,6 +1,6 @@
 -- Walks over instructions with where they stand, as loops go.
-use Rattle.std.proofs.Common.{◌≡◌, ℕ, ◌+◌, ◌≤◌, Bool, List, [], ◌∷◌, ◌++◌, length, drop, Option, None, refl, sym, ap, ◌∙◌, append_assoc}
-use Rattle.std.proofs.lemmas.List.{append-nil, drop_all}
+use Rattle.std.proofs.Common.{◌≡◌, ℕ, ◌+◌, ◌≤◌, Bool, List, [], ◌∷◌, ◌++◌, length, drop, Option, None, refl, sym, ap, ◌∙◌}
+use Rattle.std.proofs.lemmas.List.{drop_all}
 use Rattle.std.specs.List.{flat_map}
 use Rattle.spv_base.specs.declared.instructions.Inst.{Inst}
 use Rattle.spv_index.specs.declared.positions.Position.{Position}
@@ -13,18 +13,6 @@ use Rattle.spv_cfg.proofs.LowestLemmas.{sooner_assoc, lowest-append, sooner-none
 -- the stand of an instruction
 abbrev pub stand : List (ℕ × Bool) → Position → Inst → Stand
 stand sets position inst = record { position = position; class = class_of sets inst; inst = inst }
-
--- one more step of a loop that collects
-pub collected_more : {X : Type 0} (f : Stand → List X) (front total : List X) (stood : List Stand) (n : ℕ) (s : Stand) → drop n stood ≡ s ∷ drop (n + 1) stood
-    → front ++ flat_map f (drop n stood) ≡ total → (front ++ f s) ++ flat_map f (drop (n + 1) stood) ≡ total
-collected_more f front total stood n s is so_far =
-    append_assoc front _ _ ∙ sym (ap (λ (rest : List Stand). front ++ flat_map f rest) is) ∙ so_far
-
--- behind the last one
-pub collected_all : {X : Type 0} (f : Stand → List X) (front total : List X) (stood : List Stand) (n : ℕ) → length stood ≤ n
-    → front ++ flat_map f (drop n stood) ≡ total → front ≡ total
-collected_all f front total stood n le so_far =
-    sym (append-nil front) ∙ sym (ap (λ (rest : List Stand). front ++ flat_map f rest) (drop_all n stood le)) ∙ so_far
 
 -- one more step of a loop that keeps the lowest word
 pub lowest_more : (f : Stand → List ℕ) (least next more total : Option ℕ) (stood : List Stand) (n : ℕ) (s : Stand) → drop n stood ≡ s ∷ drop (n + 1) stood

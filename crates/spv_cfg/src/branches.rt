@@ -1,5 +1,5 @@
 //! Branches (SPIR-V 1.6 section 2.16.1): their targets, and the literals of switches.
-ghost use Rattle.std.specs.Prelude.{◌≡◌, ◌==◌, ◌++◌, IfOk, Bool, true, if◌then◌else◌};
+ghost use Rattle.std.specs.Prelude.{◌≡◌, ◌==◌, ◌++◌, IfOk, true, if◌then◌else◌};
 ghost use Rattle.std.specs.List.{flat_map, list_all};
 ghost use Rattle.std.specs.Option.{option_to_list};
 ghost use Rattle.spv_cfg.specs.Lowest.{lowest};

@@ -1,5 +1,5 @@
 -- A line is one command at most, and one answer is due to it.
-use Rattle.std.proofs.Common.{◌≡◌, ℕ, ◌+◌, ◌≤◌, inl, inr, List, [], ◌∷◌, ◌++◌, length, drop, Option, Some, None, Ok, Err, Result, refl, sym, ap, ◌∙◌, subst, arith}
+use Rattle.std.proofs.Common.{◌≡◌, ℕ, ◌+◌, inl, inr, List, [], ◌∷◌, ◌++◌, drop, Option, Some, None, Ok, Err, Result, refl, sym, ap, ◌∙◌, subst, arith}
 use Rattle.std.specs.List.{position_or_len, list_all}
 use Rattle.spv_base.specs.Answers.{Answers}
 use Rattle.spv_base.specs.declared.causes.Fail.{Fail}
@@ -10,14 +10,13 @@ use Rattle.spv_cmd.specs.declared.command.PathPart.{PathPart}
 use Rattle.spv_cmd.specs.declared.command.PathText.{PathText}
 use Rattle.spv_cmd.specs.declared.command.PathText.TheVariants.{Name, Id}
 use Rattle.spv_cmd.specs.declared.command.Command.{Command}
-use Rattle.spv_cmd.specs.declared.command.Command.TheVariants.{Empty}
-use Rattle.spv_line.specs.Words.{words_in, HasFirstWord}
+use Rattle.spv_line.specs.Words.{words_in}
 use Rattle.spv_cmd.specs.Numbers.{number_of}
 use Rattle.spv_cmd.specs.Paths.{is_mark, IsPart, AreParts, IsPath}
 use Rattle.spv_cmd.specs.Places.{IsPlace, is_no_colon}
 use Rattle.spv_cmd.specs.Grammar.{Arguments, row, spelling, IsOne, IsCount, Means, AreWords, IsLine}
 use Rattle.spv_cmd.specs.Grammar.Arguments.{none, number, count, path, place}
-use Rattle.spv_cmd.specs.Answers.{Reads, IsNoKeyword, AreRefused, IsRefused, IsDue, IsAnswer, IsFirstRefused, BeginsWith, IsSplit}
+use Rattle.spv_cmd.specs.Answers.{Reads, AreRefused, IsRefused, IsDue, IsAnswer, IsFirstRefused, IsSplit}
 use Rattle.spv_cmd.proofs.Bool_lemmas.{first_are}
 use Rattle.spv_cmd.proofs.Part_lemmas.{part_some, first_part_is, one_part, name_is, name_begins}
 use Rattle.spv_cmd.proofs.Place_lemmas.{one_cut, number_no_colon, no_colon_in}
@@ -149,29 +148,11 @@ due_answered line (Ok c) h due k = one_due line due (Ok c) k h
 due_answered line (Err (Refused r)) h due k = one_due line due (Err r) k h
 due_answered line (Err NoMemory) h due k = tt
 
--- ---- what a line begins with
-
-pub split_line : (line word rest : List ℕ) (keyword : Keyword) → length line ≤ 4096 → HasFirstWord line word rest → word ≡ spelling keyword → IsSplit line keyword rest
-split_line line word rest keyword short h spelled = record {
-  words = h.words ∙ ap (λ w. w ∷ words_in rest) spelled;
-  short = short;
-  apart = λ some. let same = ap length spelled in let apart = h.apart some in omega (arith, same, apart, short);
-}
-
-pub unknown_first : (line word rest : List ℕ) → length line ≤ 4096 → words_in line ≡ word ∷ words_in rest → IsNoKeyword word → IsFirstRefused line 1
-unknown_first line word rest short e lacks = inr (refl, short, word, words_in rest, e, lacks)
-
-pub split_begins : (line rest : List ℕ) (keyword : Keyword) → IsSplit line keyword rest → BeginsWith line (Some keyword)
-split_begins line rest keyword h = (h.short, words_in rest, h.words)
-
 -- ---- what is answered is due
 
 pub first_refused : (line : List ℕ) (code : ℕ) → IsFirstRefused line code → IsRefused line code
 first_refused line code (inl h) = inl h
 first_refused line code (inr h) = inr (h.1, subst (λ words. AreRefused words code) (sym h.4) (inl (h.0, h.5)))
-
-pub blank_line : (line : List ℕ) → BeginsWith line None → IsLine line Empty
-blank_line line h = (h.0, subst (λ words. AreWords words Empty) (sym h.1) refl)
 
 pub known_line : (line rest : List ℕ) (keyword : Keyword) (result : Result Command (Fail CmdRefusal)) → IsSplit line keyword rest → Reads (Means (row keyword).1 (words_in rest)) result → IsAnswer line result
 known_line line rest keyword (Ok c) s h = (s.short, subst (λ words. AreWords words c) (sym s.words) (keyword, refl, h))

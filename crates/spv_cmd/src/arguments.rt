@@ -1,5 +1,5 @@
 //! What stands after a command's word.
-ghost use Rattle.std.specs.Prelude.{◌≡◌, ◌≤◌, length};
+ghost use Rattle.std.specs.Prelude.{◌≤◌, length};
 ghost use Rattle.spv_line.specs.Words.{words_in};
 ghost use Rattle.spv_cmd.specs.Paths.{IsPath};
 ghost use Rattle.spv_cmd.specs.Places.{IsPlace};

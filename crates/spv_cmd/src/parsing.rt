@@ -1,5 +1,5 @@
 //! The command that a line is.
-ghost use Rattle.std.specs.Prelude.{◌≡◌, ◌<◌, ◌≤◌, ◌+◌, List, length, Result, None, MatchOption, MatchResult};
+ghost use Rattle.std.specs.Prelude.{◌<◌, ◌+◌, List, length, Result, None, MatchOption, MatchResult};
 ghost use Rattle.spv_base.specs.Answers.{Answers};
 ghost use Rattle.spv_base.specs.declared.causes.CmdRefusal.{CmdRefusal};
 ghost use Rattle.spv_cmd.specs.declared.command.Command.{Command};

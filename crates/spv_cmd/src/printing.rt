@@ -4,7 +4,7 @@ ghost use Rattle.spv_base.specs.Answers.{Answers};
 ghost use Rattle.spv_cmd.specs.Paths.{is_path, path_text, part_text, parts_text};
 ghost use Rattle.spv_cmd.specs.Places.{is_place, place_text};
 ghost use Rattle.spv_cmd.specs.Grammar.{spelling, IsLine};
-ghost use Rattle.spv_cmd.specs.Lines.{written, text_of, HasForm, line_of};
+ghost use Rattle.spv_cmd.specs.Lines.{written, HasForm, line_of};
 
 use crate::command::{BreakPlace, Command, Count, PathPart, PathParts, PathText, ValuePath};
 use crate::keywords::{Keyword, spelling};

@@ -54,17 +54,6 @@ none (Some n) h = absurd (cc)
 abbrev pub with_name : Strings → ℕ → ℕ → List ℕ → Option ℕ
 with_name strings id n file = if has_name strings file id then Some n else None
 
-pub put_none : (strings : Strings) (id n : ℕ) (file : List ℕ) (old : Option ℕ) → reads id strings ≡ None → old ≡ option_or old (with_name strings id n file)
-put_none strings id n file old h = rw h (or_none old)
-
-pub put_taken : (strings : Strings) (id n : ℕ) (name file : List ℕ) (names : Names) → reads id strings ≡ Some name → is_some (number_under names name) ≡ true
-    → number_under names file ≡ option_or (number_under names file) (with_name strings id n file)
-put_taken strings id n name file names h t =
-    elim (cases_Bool (bytes_eq name file)) [
-      | inl y ↦ or_some (number_under names file) _ (subst (λ (l : List ℕ). is_some (number_under names l) ≡ true) ((bytes_decides name file).0 y) t)
-      | inr e ↦ rw (h, e) (or_none (number_under names file))
-    ]
-
 pub put_new : (strings : Strings) (id n : ℕ) (name file : List ℕ) (old new : Names) → reads id strings ≡ Some name → is_some (number_under old name) ≡ false
     → number_under new file ≡ cond (bytes_eq name file) (Some n) (number_under old file) → number_under new file ≡ option_or (number_under old file) (with_name strings id n file)
 put_new strings id n name file old new h t e =

@@ -1,5 +1,5 @@
 -- Texts that are joined, and the text that a number leads to.
-use Rattle.std.proofs.Common.{◌≡◌, ◌∙◌, Bool, true, false, nat_le, ℕ, ◌+◌, ◌≤◌, cond, List, [], ◌∷◌, ◌++◌, map, length, slice_get, Option, Some, refl, ap, arith}
+use Rattle.std.proofs.Common.{◌≡◌, ◌∙◌, Bool, true, false, ℕ, ◌+◌, ◌≤◌, cond, List, [], ◌∷◌, ◌++◌, map, length, slice_get, Option, Some, refl, ap, arith}
 use Rattle.std.proofs.lemmas.List.{length-append}
 use Rattle.std.specs.Prelude.{find}
 use Rattle.std.specs.Option.{option_and_then, option_map}
@@ -18,9 +18,6 @@ longer len more rest = rw (length-append more rest) (sums len (length more) (len
   where
     sums : (a b c : ℕ) → cut (cut (a + b) + c) ≡ cut (a + (b + c))
     sums a b c = omega arith
-
-pub uncut_le : (n room : ℕ) → room ≤ 4194304 → nat_le (cut n) room ≡ nat_le n room
-uncut_le n room le = grind arith
 
 pub uncut : (n room : ℕ) → room ≤ 4194304 → cut n ≤ room → cut n ≡ n
 uncut n room le h = omega arith

@@ -1,9 +1,6 @@
 //! Which debug instructions are well-formed: by the table of kinds, where they stand, and the limits on types.
-ghost use Rattle.std.specs.Prelude.{◌≡◌, drop, length};
-ghost use Rattle.spv_types.specs.Cuts.{cut};
+ghost use Rattle.std.specs.Prelude.{◌≡◌};
 ghost use Rattle.spv_dbg.specs.Forming as spec;
-ghost use Rattle.spv_dbg.specs.Marks as marks_spec;
-ghost use Rattle.spv_dbg.specs.Cuts.{cut_measure};
 
 use crate::insts::DebugInst;
 use crate::kinds::{FRAGMENT, More, Role, is_in_blocks_alone, kind_of, operands_of};

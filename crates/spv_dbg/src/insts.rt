@@ -1,5 +1,5 @@
 //! Debug instructions.
-ghost use Rattle.std.specs.Prelude.{◌≡◌, ◌≤◌, drop, slice_index, IfOk};
+ghost use Rattle.std.specs.Prelude.{◌≡◌, ◌≤◌, slice_index, IfOk};
 ghost use Rattle.std.specs.Prelude.{option_copied};
 ghost use Rattle.std.specs.Option.{option_and_then};
 ghost use Rattle.spv_index.specs.Definitions.{defining};

@@ -1,5 +1,5 @@
 //! Laws of debug records.
-ghost use Rattle.std.specs.Prelude.{◌≡◌, ◌↔◌, Bool, List, Option, true};
+ghost use Rattle.std.specs.Prelude.{◌≡◌, ◌↔◌, Bool, true};
 ghost use Rattle.spv_valid.specs.Acceptance.{Accepted};
 ghost use Rattle.spv_dbg.specs.Forming.{is_formed};
 ghost use Rattle.spv_dbg.specs.Marks.{Marks};

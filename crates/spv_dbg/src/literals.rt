@@ -1,6 +1,5 @@
 //! The numbers and strings that operands of debug instructions name.
-ghost use Rattle.std.specs.Prelude.{◌≡◌, ◌<◌, ◌^◌, IfSome, option_copied, option_map};
-ghost use Rattle.std.specs.Option.{option_and_then};
+ghost use Rattle.std.specs.Prelude.{◌≡◌, ◌<◌, option_copied};
 ghost use Rattle.spv_consts.specs.Table.{only};
 ghost use Rattle.spv_dbg.specs.Literals as spec;
 

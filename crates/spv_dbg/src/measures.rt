@@ -1,5 +1,5 @@
 //! How many bits the values of debug types have, and how deep the types are nested. Numbers stop at the greatest u64.
-ghost use Rattle.std.specs.Prelude.{◌≡◌, ◌+◌, ◌*◌, ◌<◌, drop, length};
+ghost use Rattle.std.specs.Prelude.{◌≡◌, ◌*◌, ◌<◌, drop, length};
 ghost use Rattle.spv_types.specs.Cuts.{cut};
 ghost use Rattle.spv_dbg.specs.Cuts.{cut_measure};
 ghost use Rattle.spv_dbg.specs.Marks as spec;

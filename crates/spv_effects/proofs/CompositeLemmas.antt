@@ -1,19 +1,10 @@
 -- The rows of values one behind the other.
-use Rattle.std.proofs.Common.{◌≡◌, ◌∙◌, ℕ, ◌+◌, ◌<◌, ◌≤◌, List, [], ◌∷◌, ◌++◌, length, append-nil, sym, ap, subst, take, get_or}
-use Rattle.std.proofs.lemmas.Grind.{flat_map-append}
-use Rattle.std.proofs.lemmas.List.{take_more}
+use Rattle.std.proofs.Common.{◌≡◌, ℕ, ◌+◌, ◌<◌, ◌≤◌, List, length, sym, ap, subst, take, get_or}
 use Rattle.std.proofs.lemmas.List.Folds.{length-flat_map-take}
 use Rattle.std.specs.List.{flat_map}
-use Rattle.spv_base.specs.Lane.{Lane}
 use Rattle.spv_base.specs.declared.values.Value.{Value}
 use Rattle.spv_types.specs.Rows.{leaves}
 use Rattle.spv_effects.specs.Composites.{leaves_in}
-
-pub joined_more : (vs : List Value) (k : ℕ) (v : Value) → k < length vs → v ≡ get_or vs k v → flat_map leaves (take (k + 1) vs) ≡ flat_map leaves (take k vs) ++ leaves v
-joined_more vs k v h e =
-    ap (flat_map leaves) (take_more vs k v h)
-    ∙ flat_map-append leaves (take k vs) (get_or vs k v ∷ [])
-    ∙ ap (λ (t : List Lane). flat_map leaves (take k vs) ++ t) (append-nil (leaves (get_or vs k v)) ∙ ap leaves (sym e))
 
 pub joined_within : (vs : List Value) (k : ℕ) (v : Value) → k < length vs → v ≡ get_or vs k v → leaves_in (take k vs) + length (leaves v) ≤ leaves_in vs
 joined_within vs k v h e = subst (λ (u : Value). leaves_in (take k vs) + length (leaves u) ≤ leaves_in vs) (sym e) (length-flat_map-take leaves vs k v h)

@@ -1,5 +1,5 @@
 //! Calls: the frame of a function with the arguments of a call (SPIR-V 1.6 section 3.42.9, OpFunctionCall).
-ghost use Rattle.std.specs.Prelude.{◌≡◌, IfOk, OnOk, OnErr};
+ghost use Rattle.std.specs.Prelude.{◌≡◌, IfOk, OnOk};
 ghost use Rattle.spv_frame.specs.Calls.{AreArguments, IsArgument, entered, with_argument};
 
 use crate::contents::Argument;

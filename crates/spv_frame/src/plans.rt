@@ -1,5 +1,5 @@
 //! What the frames of a function have: their registers, and where these lie.
-ghost use Rattle.std.specs.Prelude.{◌≡◌, ◌+◌, ◌<◌, ◌≤◌, [], IfOk, IfSome, Some, drop, length, map, slice_get, take};
+ghost use Rattle.std.specs.Prelude.{◌≡◌, ◌+◌, ◌<◌, ◌≤◌, IfOk, IfSome, Some, drop, length, map, slice_get, take};
 ghost use Rattle.std.specs.List.{AllByRecursion, range_with_len};
 ghost use Rattle.spv_frame.specs.Contents.{Differ};
 ghost use Rattle.spv_frame.specs.Plans.{AreApart, blank_of, slots_of, total};

@@ -5,7 +5,6 @@ ghost use Rattle.std.specs.Option.{IsSomeAnd};
 ghost use Rattle.spv_base.specs.Entries.{reads, writes};
 ghost use Rattle.spv_frame.specs.Calls.{AreArguments, entered};
 ghost use Rattle.spv_frame.specs.Contents.{AllSuit, Differ, content, held, puts};
-ghost use Rattle.spv_frame.specs.Frames.{Held};
 ghost use Rattle.spv_frame.specs.Phis.{IsPhi, given};
 ghost use Rattle.spv_frame.specs.Registers.{IsPointerSlotOf, IsSlotOf, marked};
 ghost use Rattle.spv_frame.specs.Stacks.{Stacked, on_top, top};

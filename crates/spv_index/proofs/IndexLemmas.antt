@@ -9,7 +9,7 @@ use Rattle.std.proofs.lemmas.Grind.{common_steps}
 use Rattle.spv_base.specs.Order.{Ascend}
 use Rattle.spv_base.specs.declared.instructions.Inst.{Inst}
 use Rattle.spv_ops.specs.Module.{Decoded, IsDecoded}
-use Rattle.spv_index.specs.Operands.{id_operand, text_operand}
+use Rattle.spv_index.specs.Operands.{id_operand}
 use Rattle.spv_index.specs.Contents.{named}
 use Rattle.spv_index.specs.Definitions.{defining, has_result, holds, is_id, name_of, names_it, number_from, number_of, stands_at}
 use Rattle.spv_index.specs.Firsts.{AreFirsts, slot}
@@ -82,10 +82,6 @@ some_definition insts id h = rw h refl
 pub no_name : (insts : List Inst) (id : ℕ) → is_id id ≡ false → None ≡ name_of insts id
 unfolding name_of
 no_name insts id h = rw h refl
-
-pub some_name : (insts : List Inst) (id : ℕ) → is_id id ≡ true → option_and_then (λ i. text_operand i 1) (find (names_it id) insts) ≡ name_of insts id
-unfolding name_of
-some_name insts id h = rw h refl
 
 later : (k n : ℕ) (o : Option ℕ) → IfSome o (λ m. m < suc k + n) → IfSome o (λ m. m < k + suc n)
 later k n None h = tt

@@ -6,12 +6,10 @@ use Rattle.std.specs.Option.{option_and_then}
 use Rattle.std.specs.Ordering.{is_eq}
 use Rattle.std.proofs.lemmas.List.{drop_more}
 use Rattle.std.proofs.lemmas.Option.{slice_get_read}
-use Rattle.spv_base.specs.declared.instructions.Inst.{Inst}
-use Rattle.spv_index.specs.Definitions.{decoration}
 use Rattle.spv_index.specs.Keys.{pair_cmp}
 use Rattle.spv_setup.specs.declared.settings.Buffer.{Buffer}
 use Rattle.spv_fit.specs.Given.{is_bound}
-use Rattle.spv_initial.specs.Values.{bound, buffer_of}
+use Rattle.spv_initial.specs.Values.{bound}
 
 same_pair : (a b c d : ℕ) → is_eq (pair_cmp (a, b) (c, d)) ≡ (a == c && b == d)
 same_pair a b c d = search (tests, rules)
@@ -42,16 +40,3 @@ back_number bs n b set binding new old some le is put before =
         → option_and_then (slice_get bs) (cond t (Some (n - 1)) old) ≡ cond t (Some b) (find (is_bound set binding) (drop n bs))
     by_test true at before = at
     by_test false at before = before
-
--- ---- what is found in it
-
-pub no_set : (all : List Inst) (bs : List Buffer) (id : ℕ) → None ≡ decoration all id 34 → None ≡ buffer_of all bs id
-no_set all bs id s = ap (λ (o : Option ℕ). bound bs o (decoration all id 33)) s
-
-pub no_binding : (all : List Inst) (bs : List Buffer) (id set : ℕ) → Some set ≡ decoration all id 34 → None ≡ decoration all id 33 → None ≡ buffer_of all bs id
-no_binding all bs id set s b = ap (λ (o : Option ℕ). bound bs o None) s ∙ ap (bound bs (decoration all id 34)) b
-
-pub found_buffer : (all : List Inst) (bs : List Buffer) (id set binding : ℕ) (o got : Option ℕ) (r : Option Buffer) → Some set ≡ decoration all id 34 → Some binding ≡ decoration all id 33
-    → option_and_then (slice_get bs) got ≡ find (is_bound set binding) bs → o ≡ got → r ≡ option_and_then (slice_get bs) o → r ≡ buffer_of all bs id
-found_buffer all bs id set binding o got r s b are is read =
-    read ∙ ap (option_and_then (slice_get bs)) is ∙ are ∙ ap (λ (x : Option ℕ). bound bs x (Some binding)) s ∙ ap (bound bs (decoration all id 34)) b

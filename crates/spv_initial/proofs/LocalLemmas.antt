@@ -1,5 +1,5 @@
 -- The variables that a frame begins with.
-use Rattle.std.proofs.Common.{◌≡◌, ◌∙◌, ℕ, ◌+◌, ◌<◌, ◌==◌, Bool, true, false, List, [], ◌∷◌, ◌++◌, length, take, get_or, append-nil, Option, Some, None, refl, sym, ap, subst}
+use Rattle.std.proofs.Common.{◌≡◌, ◌∙◌, ℕ, ◌+◌, ◌<◌, ◌==◌, Bool, true, false, List, [], ◌∷◌, ◌++◌, length, take, get_or, Option, Some, None, refl, sym, ap, subst}
 use Rattle.std.specs.Prelude.{if◌then◌else◌}
 use Rattle.std.specs.List.{AllByRecursion, cons_option}
 use Rattle.std.specs.Option.{option_map_or}
@@ -28,12 +28,6 @@ use Rattle.spv_initial.proofs.VariableLemmas.{data_of, filter_map_next, root_und
 
 abbrev pub local_of : Accepted → Declared → Option (ℕ × Value)
 local_of a d = root d (local_value a d)
-
-pub local_more : (old new : Roots) (d : Declared) (v : Value) (o : Option Value) → Some v ≡ o → new ≡ old ++ (d.id, v) ∷ [] → new ≡ old ++ cons_option (root d o) []
-local_more old new d v o same is = is ∙ ap (λ (x : Option Value). old ++ cons_option (root d x) []) same
-
-pub local_same : (old new : Roots) (d : Declared) (o : Option Value) → None ≡ o → new ≡ old → new ≡ old ++ cons_option (root d o) []
-local_same old new d o none is = is ∙ sym (append-nil old) ∙ ap (λ (x : Option Value). old ++ cons_option (root d x) []) none
 
 pub local_fresh : (a : Accepted) (ds : List Declared) (k : ℕ) (d : Declared) (es : Roots) → ∥ AreDeclared a.types ds ∥₁ → k < length ds → d ≡ get_or ds k d → es ≡ local_roots a (take k ds)
     → reads d.id es ≡ None

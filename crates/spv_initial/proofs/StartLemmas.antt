@@ -22,7 +22,7 @@ use Rattle.spv_valid.specs.Acceptance.{Accepted}
 use Rattle.spv_valid.specs.Entry.{Size, is_size}
 use Rattle.spv_valid.specs.Validity.{IsValid}
 use Rattle.spv_setup.specs.declared.settings.Settings.{Settings}
-use Rattle.spv_mem.specs.Memory.{AreTargets, Held, IsVariable, empty, with_private, with_shared}
+use Rattle.spv_mem.specs.Memory.{AreTargets, Held, IsVariable, empty}
 use Rattle.spv_initial.specs.Start.{invocations, own_roots, root, shared_roots, starting, starting_with, variables}
 use Rattle.spv_initial.specs.Values.{Suits, own_value, shared_value}
 use Rattle.spv_initial.specs.Variables.{AreDeclared, Holds, declared_in, targets_of}
@@ -94,13 +94,6 @@ pub on_ok : {P Q : Type 0} (result : Result (Unit {0}) NoMemory) → (P → Q) �
 on_ok (Ok u) f h = f h
 on_ok (Err e) f h = h
 
-pub shared_more : (m new : Held) (d : Declared) (v : Value) (o : Option Value) → Some v ≡ o → new ≡ with_shared d.id v m → new ≡ record m { shared = m.shared ++ cons_option (root d o) [] }
-shared_more m new d v o same is = is ∙ ap (λ (x : Option Value). record m { shared = m.shared ++ cons_option (root d x) [] }) same
-
-pub shared_same : (m new : Held) (d : Declared) (o : Option Value) → None ≡ o → new ≡ m → new ≡ record m { shared = m.shared ++ cons_option (root d o) [] }
-shared_same m new d o none is =
-    is ∙ ap (λ (es : Roots). record m { shared = es }) (sym (append-nil m.shared)) ∙ ap (λ (x : Option Value). record m { shared = m.shared ++ cons_option (root d x) [] }) none
-
 change_same : {A : Type 0} (i : ℕ) (f : A → A) (xs : List A) → ((x : A) → f x ≡ x) → change i f xs ≡ xs
 change_same i f [] same = refl
 change_same zero f (x ∷ xs) same = ap (λ y. y ∷ xs) (same x)
@@ -109,9 +102,6 @@ change_same (suc i) f (x ∷ xs) same = ap (λ ys. x ∷ ys) (change_same i f xs
 -- a memory with more in the list of an invocation
 abbrev pub more_own : ℕ → Declared → Held → Option Value → Held
 more_own i d m o = record m { privates = change i (λ (es : Roots). es ++ cons_option (root d o) []) m.privates }
-
-pub own_more : (m new : Held) (i : ℕ) (d : Declared) (v : Value) (o : Option Value) → Some v ≡ o → new ≡ with_private i d.id v m → new ≡ more_own i d m o
-own_more m new i d v o same is = is ∙ ap (more_own i d m) same
 
 pub own_same : (m new : Held) (i : ℕ) (d : Declared) (o : Option Value) → None ≡ o → new ≡ m → new ≡ more_own i d m o
 own_same m new i d o none is =
@@ -258,7 +248,3 @@ variables_read a ts insts ds types all is = is ∙ ap (λ (x : Types). declared_
 
 pub read_are : (a : Accepted) (ds : List Declared) → ∥ IsValid a ∥₁ → ds ≡ variables a → ∥ AreDeclared a.types ds ∥₁
 read_are a ds valid is = subst (λ (list : List Declared). ∥ AreDeclared a.types list ∥₁) (sym is) (variables_are a valid)
-
-pub starting_read : (a : Accepted) (s : Settings) (ds : List Declared) (m : Held) → ds ≡ variables a → m ≡ starting_with a s ds → m ≡ starting a s
-unfolding starting
-starting_read a s ds m are is = is ∙ ap (starting_with a s) are

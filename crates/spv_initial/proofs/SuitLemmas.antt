@@ -2,7 +2,7 @@
 use Rattle.std.proofs.Common.{◌≡◌, ◌∙◌, ℕ, ◌==◌, Bool, true, false, List, [], ◌∷◌, Option, Some, None, Result, Ok, Err, IfOk, refl, sym, ap, subst}
 use Rattle.std.specs.Prelude.{if◌then◌else◌}
 use Rattle.std.specs.List.{AllByRecursion}
-use Rattle.std.specs.Option.{option_and_then, option_map_or}
+use Rattle.std.specs.Option.{option_and_then}
 use Rattle.std.specs.Coded.{codes}
 use Rattle.std.proofs.Math.Logic.{∥∥₁_elim, ∥∥₁_map}
 use Rattle.std.proofs.Props.{props}
@@ -22,7 +22,7 @@ use Rattle.spv_valid.specs.Validity.{IsValid}
 use Rattle.spv_start.specs.Blocks.{value_in}
 use Rattle.spv_mem.specs.Blanks.{blank_of}
 use Rattle.spv_mem.proofs.BlankLemmas.{blank_shape}
-use Rattle.spv_initial.specs.Values.{Suits, if_of_type, initialized, initializer_of}
+use Rattle.spv_initial.specs.Values.{Suits, if_of_type, initializer_of}
 use Rattle.spv_initial.specs.declared.variables.Declared.{Declared}
 use Rattle.spv_initial.proofs.ShapeLemmas.{AreBytes, read_shape}
 use Rattle.spv_initial.proofs.VariableLemmas.{data_of, target_of}
@@ -77,12 +77,6 @@ constant_row a d r valid h =
 
 pub initializer_leaves : (a : Accepted) (d : Declared) (r : Row) → ∥ IsValid a ∥₁ → Some r ≡ initializer_of a d → leaves (tree_of a.types r) ≡ r.cells
 initializer_leaves a d r valid h = ∥∥₁_elim valid (hlevel (props, codes)) (λ (v : IsValid a). (constant_row a d r v (sym h)).leaves_are)
-
-pub initialized_is : (a : Accepted) (d : Declared) (r : Row) (v : Value) → Some r ≡ initializer_of a d → v ≡ tree_of a.types r → v ≡ initialized a d
-initialized_is a d r v h is = is ∙ ap (λ (o : Option Row). option_map_or (tree_of a.types) o (blank_of a.types 0 d.target)) h
-
-pub not_initialized_is : (a : Accepted) (d : Declared) (v : Value) → None ≡ initializer_of a d → v ≡ blank_of a.types 0 d.target → v ≡ initialized a d
-not_initialized_is a d v h is = is ∙ ap (λ (o : Option Row). option_map_or (tree_of a.types) o (blank_of a.types 0 d.target)) h
 
 pub constant_shape : (a : Accepted) (d : Declared) (r : Row) → IsValid a → initializer_of a d ≡ Some r → HasShape a.types no_roots d.target (tree_of a.types r)
 constant_shape a d r valid h = subst (λ (ty : ℕ). HasShape a.types no_roots ty (tree_of a.types r)) (initializer_read a d r h).2 (constant_row a d r valid h).shape

@@ -1,5 +1,5 @@
 //! The memory that a run starts with.
-ghost use Rattle.std.specs.Prelude.{◌≡◌, ◌<◌, ◌++◌, ◌*◌, ℕ, [], IfOk, None, OnOk, Some, length, map, replicate, slice_get};
+ghost use Rattle.std.specs.Prelude.{◌≡◌, ◌<◌, ◌++◌, ◌*◌, [], IfOk, None, OnOk, Some, length, map, replicate, slice_get};
 ghost use Rattle.std.specs.BTreeMap.{get};
 ghost use Rattle.std.specs.List.{cons_option, range_with_len};
 ghost use Rattle.spv_base.specs.Entries.{change, reads};

@@ -1,5 +1,5 @@
 //! What each variable of a module begins with, by its storage class (SPIR-V 1.6 sections 3.7 and 3.42.8).
-ghost use Rattle.std.specs.Prelude.{◌≡◌, ◌≤◌, ℕ, IfOk, IfSome, Some, option_copied};
+ghost use Rattle.std.specs.Prelude.{◌≡◌, ◌≤◌, IfOk, IfSome, Some, option_copied};
 ghost use Rattle.std.specs.BTreeMap.{get};
 ghost use Rattle.spv_index.specs.Keys.{pair_cmp};
 ghost use Rattle.spv_types.specs.Rules.{is_input};

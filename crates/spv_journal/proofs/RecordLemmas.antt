@@ -9,10 +9,6 @@ use Rattle.spv_journal.specs.Undo.{CanUndo, CanUndoAll, CanUnwind, Undoes, past,
 use Rattle.spv_journal.specs.declared.entries.Entry.{Entry}
 use Rattle.spv_journal.proofs.UndoLemmas.{fitting_unwinds}
 
-pub making_some : (g : Option Event) (i : ℕ) → IsMaking g i → IsSome g
-making_some None i h = absurd h
-making_some (Some v) i h = refl
-
 -- a state beside what a journal keeps
 abbrev pub held_of : State → Kept → Held
 held_of s k = record { state = s; ring = k.ring; gathered = k.gathered; limit = k.limit }

@@ -1,14 +1,12 @@
 -- Events that can be undone, one after the other.
 use Rattle.std.proofs.Common.{◌≡◌, ◌∙◌, ap, ℕ, ◌-◌, Bool, true, false, nat_le, if◌then◌else◌, List, [], ◌∷◌, ◌++◌, Option, Some, None, refl, sym, subst}
-use Rattle.std.specs.Option.{MatchOption, option_map, option_map_or}
-use Rattle.spv_base.specs.declared.happenings.Happening.{Happening}
+use Rattle.std.specs.Option.{option_map, option_map_or}
 use Rattle.spv_base.specs.declared.values.Root.{Root}
 use Rattle.spv_base.specs.declared.values.Value.{Value}
 use Rattle.spv_journal.specs.Events.{Event, Kept, fitting, newest, older, opened, size_of}
-use Rattle.spv_journal.specs.Held.{Held, past_of, unwound}
 use Rattle.spv_journal.specs.Marks.{Marked, items_of, moved, variable_item}
 use Rattle.spv_journal.specs.Rings.{event_of, made}
-use Rattle.spv_journal.specs.Undo.{CanUndo, CanUndoAll, CanUnwind, before, past, undo, undo_all}
+use Rattle.spv_journal.specs.Undo.{CanUndo, CanUndoAll, CanUnwind, before, undo, undo_all}
 use Rattle.spv_journal.specs.declared.entries.Entry.{Entry}
 use Rattle.spv_journal.specs.declared.marks.Change.{Change}
 use Rattle.spv_journal.specs.declared.marks.Change.TheVariants.{Variable}
@@ -27,21 +25,6 @@ fitting_unwinds n (v ∷ vs) s can = by_room (fitting_unwinds (n - size_of v) vs
 pub older_unwind : (vs : List Event) (s : State) → CanUnwind vs s → CanUnwind (older vs) (option_map_or (λ v. before v s) (newest vs) s)
 older_unwind [] s can = tt
 older_unwind (v ∷ vs) s can = can.1
-
--- what the newest leads back to
-pub newest_undone : (w new : Held) (o : Option Happening) → new ≡ unwound w → o ≡ option_map (λ (v : Event). v.happening) (newest (opened w.gathered w.ring))
-    → MatchOption o ((opened w.gathered w.ring ≡ []) × (new ≡ w)) (λ h. past_of w ≡ record { happening = h; state = new.state } ∷ past_of new)
-newest_undone w new o is happened =
-    subst (λ (n : Held). MatchOption o ((opened w.gathered w.ring ≡ []) × (n ≡ w)) (λ h. past_of w ≡ record { happening = h; state = n.state } ∷ past_of n)) (sym is)
-    (subst (λ (x : Option Happening). MatchOption x ((opened w.gathered w.ring ≡ []) × (unwound w ≡ w)) (λ h. past_of w ≡ record { happening = h; state = (unwound w).state } ∷ past_of (unwound w))) (sym happened)
-    (each w.state w.ring w.gathered w.limit))
-  where
-    each : (s : State) (vs : List Event) (g : Option Event) (n : ℕ)
-        → MatchOption (option_map (λ (v : Event). v.happening) (newest (opened g vs))) ((opened g vs ≡ []) × (unwound (record { state = s; ring = vs; gathered = g; limit = n }) ≡ record { state = s; ring = vs; gathered = g; limit = n }))
-        (λ h. past (opened g vs) s ≡ record { happening = h; state = (unwound (record { state = s; ring = vs; gathered = g; limit = n })).state } ∷ past_of (unwound (record { state = s; ring = vs; gathered = g; limit = n })))
-    each s [] None n = (refl, refl)
-    each s (v ∷ vs) None n = refl
-    each s vs (Some v) n = refl
 
 -- ---- changes before others
 

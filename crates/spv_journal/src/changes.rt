@@ -1,5 +1,5 @@
 //! The primitive changes of a state, each recorded. Where memory runs out nothing changes.
-ghost use Rattle.std.specs.Prelude.{◌≡◌, ◌<◌, ◌+◌, ℕ, IfSome, IsSome, None, OnErr, OnOk, Some, length, option_map, slice_get, true};
+ghost use Rattle.std.specs.Prelude.{◌≡◌, ◌<◌, ◌+◌, ℕ, IfSome, IsSome, None, OnErr, OnOk, Some, length, slice_get, true};
 ghost use Rattle.std.specs.Option.{IsSomeAnd};
 ghost use Rattle.spv_base.specs.declared.values.Value.{Ptr, out-Value};
 ghost use Rattle.spv_frame.specs.Numbers.{HasPointer, with_pointer};

@@ -1,5 +1,5 @@
 //! Bytes that pairs of hexadecimal digits spell.
-ghost use Rattle.std.specs.Prelude.{◌≡◌, ◌++◌, ◌<◌, true, false, ℕ, List, OnOk, IfOk, [], MatchOption};
+ghost use Rattle.std.specs.Prelude.{◌≡◌, ◌++◌, ◌<◌, true, OnOk, IfOk, [], MatchOption};
 ghost use Rattle.std.specs.List.{list_all};
 ghost use Rattle.spv_line.specs.Words.{words_in};
 ghost use Rattle.spv_line.specs.Hex.{is_hex_digit, hex_digit, is_hex_word, pairs_of, bytes_of, HasFirstPair};

@@ -31,7 +31,7 @@ use Rattle.spv_machine.specs.declared.execution.Did.TheVariants.{Moved}
 use Rattle.spv_machine.proofs.EventLemmas.{happening_inv}
 use Rattle.spv_machine.proofs.Recording.{effect_fits}
 use Rattle.spv_machine.proofs.Outcomes.{moved_is, reached_inside, reached_step}
-use Rattle.spv_machine.proofs.PassedLemmas.{none_due, none_passed, stacks_stay}
+use Rattle.spv_machine.proofs.PassedLemmas.{none_due, none_passed}
 use Rattle.spv_machine.proofs.ReachedLemmas.{frame_changed, word_is}
 use Rattle.spv_machine.proofs.WeightLemmas.{reached_weight}
 
@@ -56,10 +56,6 @@ goes_on (Sets root v) = refl
 put_top : (e : CellEffect) (s : State) (i id : ℕ) (f : Frame) → top_of s i ≡ Some f → (g : Frame) × (top_of (put i id (full e) s) i ≡ Some g) × (g.pc ≡ f.pc)
 put_top (Gives slot v) s i id f is = (with_register id v f, frame_changed s i (with_register id v) f is, (register_stays f id v).1)
 put_top (Sets root v) s i id f is = (f, is, refl)
-
-put_inside : (e : CellEffect) (s : State) (i id : ℕ) → i < length s.stacks → i < length (put i id (full e) s).stacks
-put_inside (Gives slot v) s i id inside = stacks_stay i (with_register id v) s inside
-put_inside (Sets root v) s i id inside = inside
 
 some_frame : (o : Option Frame) (f : Frame) → o ≡ Some f → IsSome o
 some_frame o f is = subst (λ (x : Option Frame). IsSome x) (sym is) refl

@@ -1,5 +1,5 @@
 -- An event that is being made, step by step, and what becomes of it.
-use Rattle.std.proofs.Common.{◌≡◌, ◌∙◌, ℕ, suc, ◌+◌, ◌≤◌, List, ◌∷◌, Option, Some, None, Result, Ok, Err, OnOk, OnErr, IsSome, length, refl, sym, ap, subst, arith}
+use Rattle.std.proofs.Common.{◌≡◌, ◌∙◌, ℕ, suc, ◌+◌, ◌≤◌, List, ◌∷◌, Option, Some, None, Result, Ok, Err, OnOk, OnErr, length, refl, sym, ap, subst, arith}
 use Rattle.std.specs.Prelude.{option_map}
 use Rattle.std.specs.Option.{option_map_or}
 use Rattle.spv_base.specs.declared.happenings.Happening.{Happening}
@@ -44,10 +44,6 @@ records_more n m a b few one = record {
   changes = let x = one.changes in omega (arith, few, x);
 }
 
--- where nothing changed
-pub records_same : (n : ℕ) (a b : Recorded) → b ≡ a → Records n a b
-records_same n a b same = subst (λ (x : Recorded). Records n a x) (sym same) (records_more 0 n a a (omega arith) (records_still a))
-
 making_as : (i : ℕ) (a b : Option Event) → option_map (λ (v : Event). v.happening) b ≡ option_map (λ (v : Event). v.happening) a → IsMaking a i → IsMaking b i
 making_as i None b same h = absurd h
 making_as i (Some v) None same h = absurd (cc)
@@ -55,13 +51,6 @@ making_as i (Some v) (Some w) same h = let is : w.happening ≡ v.happening = cc
 
 pub making_on : (n i : ℕ) (a b : Recorded) → IsMaking a.gathered i → Records n a b → IsMaking b.gathered i
 making_on n i a b making one = making_as i a.gathered b.gathered one.happening making
-
-some_as : (i : ℕ) (o : Option Event) → IsMaking o i → IsSome o
-some_as i None h = absurd h
-some_as i (Some v) h = refl
-
-pub making_some : (i : ℕ) (w : Recorded) → IsMaking w.gathered i → IsSome w.gathered
-making_some i w making = some_as i w.gathered making
 
 -- an event that has begun is one of its invocation
 pub marked_making : (h : Happening) (a b : Recorded) → b ≡ marked h a → IsMaking b.gathered h.inv

@@ -193,13 +193,6 @@ fits m i r es ty id h at named v is =
 pub fits_in : (m : Held) (i : ℕ) (r : Root) (es : Roots) (ty id : ℕ) → ∥ IsMemory m ∥₁ → roots_in m i r ≡ Some es → reads id m.targets ≡ Some ty → ∥ AreFit m.types ty id es ∥₁
 fits_in m i r es ty id is at named = ∥∥₁_map is (λ (h : IsMemory m). fits m i r es ty id h at named)
 
-pub puts_in : (m : Held) (i : ℕ) (p : Pointer) (u : Value) (es : Roots) (ty : ℕ) → ∥ MayStore m i p u ∥₁ → roots_in m i p.root ≡ Some es → reads (id_in p.root) m.targets ≡ Some ty
-    → ∥ MayBePutIn m.types ty (id_in p.root) es p.path u ∥₁
-puts_in m i p u es ty may at named = ∥∥₁_map may (λ (h : MayStore m i p u). put h)
-  where
-    put : MayStore m i p u → MayBePutIn m.types ty (id_in p.root) es p.path u
-    put h v is = h ty v named (rw at is)
-
 -- a memory with another part in a variable keeps it too
 stored_keeps : (m : Held) (i : ℕ) (p : Pointer) (u w : Value) → IsMemory m → MayStore m i p u → load_of m i p ≡ Some w → IsMemory (stored i p u m)
 stored_keeps m i p u w h may is =

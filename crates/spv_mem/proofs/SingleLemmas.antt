@@ -90,6 +90,3 @@ local_leaf m i depth id k leaf n path u e f t =
 
 pub lies_at : (id k : ℕ) (es : Roots) (path : List ℕ) (start len : ℕ) (v : Value) (a : IsAt id k es) → v ≡ a.value → IsRowAt v path start len → LiesIn id es path start len
 lies_at id k es path start len v a same row = record { value = v; is = a.is ∙ ap Some (sym same); row = row }
-
-pub names_row : (m : Held) (i : ℕ) (r : Root) (es : Roots) (path : List ℕ) (start len : ℕ) → roots_in m i r ≡ Some es → LiesIn (id_in r) es path start len → NamesRow m i (record { root = r; path = path }) start len
-names_row m i r es path start len at h = record { value = h.value; is = rw at h.is; row = h.row }

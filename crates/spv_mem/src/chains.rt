@@ -1,5 +1,5 @@
 //! Access chains: pointers with further indexes (SPIR-V 1.6 section 3.42.8, OpAccessChain).
-ghost use Rattle.std.specs.Prelude.{◌≡◌, ◌-◌, ◌^◌, ◌≤◌, ◌++◌, IfOk, map};
+ghost use Rattle.std.specs.Prelude.{◌≡◌, ◌-◌, ◌^◌, ◌≤◌, IfOk};
 ghost use Rattle.spv_mem.specs.Chains.{Chains, all_defined, extended, extend};
 
 use spv_base::{Cell, MemErr, NoMemory, Pointer};

@@ -23,7 +23,7 @@ pub struct Roots {
 }
 
 impl Model for Roots {
-    ghost use Rattle.std.specs.Prelude.{◌≡◌, ℕ, List, true};
+    ghost use Rattle.std.specs.Prelude.{◌≡◌, true};
     ghost use Rattle.std.specs.Coded.{codes};
     ghost use Rattle.spv_base.specs.contracts.values.Value as value;
     ghost use Rattle.spv_base.specs.State.{Roots as Entries};

@@ -5,7 +5,6 @@ ghost use Rattle.spv_types.specs.Shapes.{part_type, reached};
 ghost use Rattle.std.specs.Option.{option_and_then};
 ghost use Rattle.std.specs.Prelude.{option_copied};
 ghost use Rattle.spv_types.specs.Rules.{is_runtime};
-ghost use Rattle.spv_types.specs.Types.{form_of};
 
 use spv_types::queries::member_type;
 use spv_types::{Form, TypeTable};

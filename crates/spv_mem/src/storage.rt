@@ -1,5 +1,5 @@
 //! Memory: loads and stores of parts of variables.
-ghost use Rattle.std.specs.Prelude.{◌≡◌, IfOk, [], Err, Ok, length, option_copied, replicate, if◌then◌else◌};
+ghost use Rattle.std.specs.Prelude.{◌≡◌, IfOk, [], Err, Ok, option_copied, replicate, if◌then◌else◌};
 ghost use Rattle.spv_base.specs.declared.causes.MemErr.TheVariants.{OutOfBounds as Outside};
 ghost use Rattle.spv_mem.specs.Memory.{AreTargets, IsMemory, Loads, MayStore, Stores, empty, id_in, load_of, root_value, roots_in};
 

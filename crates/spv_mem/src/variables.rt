@@ -1,7 +1,7 @@
 //! Variables: a row of cells, and the number of elements of the runtime array at its end.
-ghost use Rattle.std.specs.Prelude.{◌≡◌, IfOk, ◌≤◌, ◌+◌, ◌-◌, true, false, length, Option, Some, None};
+ghost use Rattle.std.specs.Prelude.{◌≡◌, IfOk, ◌-◌, true, false, Option, Some, None};
 ghost use Rattle.std.specs.Option.{MatchOption, option_map_or};
-ghost use Rattle.spv_base.specs.Parts.{part_at, with_part};
+ghost use Rattle.spv_base.specs.Parts.{part_at};
 ghost use Rattle.spv_mem.specs.Targets.{Exchanges, Fits, MayBePut, elements_in, is_past};
 ghost use Rattle.spv_types.specs.Cells.{cells_of};
 ghost use Rattle.spv_types.specs.Cuts.{cut};

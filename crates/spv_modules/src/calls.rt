@@ -1,5 +1,5 @@
 //! One call of the program, on a counter of its own.
-ghost use Rattle.std.specs.Prelude.{◌≡◌, ◌<◌, ◌-◌, ◌^◌};
+ghost use Rattle.std.specs.Prelude.{◌≡◌, ◌<◌, ◌-◌};
 
 use spv_app::{Status, debug_main};
 use spv_base::{Files, MemoryFiles, MemorySink, MemorySource, Probe, Steps};

@@ -152,9 +152,6 @@ no_register ts i is q h lists =
     let none : register_in ts i ≡ [] = rw h refl in
     subst (λ (js : List Inst). HasRegisters ts (is ++ js) q) (sym none) (subst (λ (js : List Inst). HasRegisters ts js q) (sym (append-nil is)) lists)
 
-pub nothing_added : (ts : Types) (i : Inst) (p : Planned) → is_register ts i ≡ false → Grows ts i p p
-nothing_added ts i p h = record { function = refl; first = refl; registers = λ is lists. no_register ts i is p h lists }
-
 pub pointer_added : (ts : Types) (i : Inst) (p q : Planned) → is_register ts i ≡ true → is_pointer (form_of ts i.ty) ≡ true → q ≡ with_pointer p i → Grows ts i p q
 pointer_added ts i p q h pointer is =
     subst (Grows ts i p) (sym is)

@@ -1,39 +1,14 @@
 -- Walks over the instructions of a function, a step at a time.
-use Rattle.std.proofs.Common.{◌≡◌, ◌∙◌, ℕ, zero, suc, ◌+◌, ◌-◌, ◌≤◌, true, false, List, [], ◌∷◌, ◌++◌, length, drop, append_assoc, append-nil, Some, None, refl, sym, ap, subst, slice_get, arith}
-use Rattle.std.proofs.lemmas.List.{drop_all}
-use Rattle.std.proofs.lemmas.Bool.{both_ways}
-use Rattle.std.specs.Prelude.{find}
+use Rattle.std.proofs.Common.{◌≡◌, ◌∙◌, ℕ, zero, suc, ◌+◌, ◌-◌, ◌≤◌, true, false, List, [], ◌∷◌, ◌++◌, drop, Some, None, refl, sym, ap, slice_get, arith}
 use Rattle.std.specs.List.{flat_map}
-use Rattle.std.specs.Option.{is_some}
 use Rattle.spv_base.specs.declared.instructions.Inst.{Inst}
 use Rattle.spv_index.specs.Positions.{Stand}
 use Rattle.spv_types.specs.Types.{Types}
 use Rattle.spv_frame.specs.Registers.{Planned}
-use Rattle.spv_plans.specs.Drafts.{Grows}
-use Rattle.spv_plans.specs.Members.{first_stop, is_stop, leading, stands_in}
+use Rattle.spv_plans.specs.Members.{leading, stands_in}
 use Rattle.spv_plans.specs.Plans.{HasRegisters}
 use Rattle.spv_plans.specs.Registers.{AreCounted, is_counted, is_register, register_of}
 use Rattle.spv_plans.proofs.DraftLemmas.{none_listed}
-
--- ---- the first stop
-
-pub stop_here : (ss : List Stand) (start n : ℕ) (s : Stand) → drop n ss ≡ s ∷ drop (n + 1) ss → is_stop s ≡ true → find is_stop (drop n ss) ≡ find is_stop (drop start ss)
-    → first_stop (drop start ss) ≡ Some s.inst.word
-stop_here ss start n s at stops so_far =
-    let found : find is_stop (s ∷ drop (n + 1) ss) ≡ Some s = rw stops refl in
-    let first : find is_stop (drop start ss) ≡ Some s = sym so_far ∙ ap (find is_stop) at ∙ found in
-    rw first refl
-
-pub stop_later : (ss : List Stand) (start n : ℕ) (s : Stand) → drop n ss ≡ s ∷ drop (n + 1) ss → is_stop s ≡ false → find is_stop (drop n ss) ≡ find is_stop (drop start ss)
-    → find is_stop (drop (n + 1) ss) ≡ find is_stop (drop start ss)
-stop_later ss start n s at goes_on so_far =
-    let passed : find is_stop (s ∷ drop (n + 1) ss) ≡ find is_stop (drop (n + 1) ss) = rw goes_on refl in
-    sym passed ∙ sym (ap (find is_stop) at) ∙ so_far
-
-pub stop_never : (ss : List Stand) (start n : ℕ) → length ss ≤ n → find is_stop (drop n ss) ≡ find is_stop (drop start ss) → is_some (find is_stop (drop start ss)) ≡ true → ⊥
-stop_never ss start n past so_far stops =
-    let none : find is_stop (drop start ss) ≡ None = sym so_far ∙ ap (find is_stop) (drop_all n ss past) in
-    both_ways (is_some (find is_stop (drop start ss))) (ap is_some none) stops
 
 -- ---- the registers
 
@@ -58,40 +33,6 @@ begun ts ss start function first p is = record {
   lists = none_listed ts p function first is;
   rest = refl;
 }
-
-in_leading : (function : ℕ) (ss : List Stand) (n : ℕ) (s : Stand) → drop n ss ≡ s ∷ drop (n + 1) ss → stands_in function s ≡ true
-    → leading (stands_in function) (drop n ss) ≡ s ∷ leading (stands_in function) (drop (n + 1) ss)
-in_leading function ss n s at inside =
-    let own : leading (stands_in function) (s ∷ drop (n + 1) ss) ≡ s ∷ leading (stands_in function) (drop (n + 1) ss) = rw inside refl in
-    ap (leading (stands_in function)) at ∙ own
-
-pub walked_on : (ts : Types) (ss : List Stand) (start function first : ℕ) (p q : Planned) (n : ℕ) (s : Stand) → Walking ts ss start function first p n → drop n ss ≡ s ∷ drop (n + 1) ss
-    → stands_in function s ≡ true → Grows ts s.inst p q → Walking ts ss start function first q (n + 1)
-walked_on ts ss start function first p q n s walking at inside grows =
-    let more : left ts ss function n ≡ register_of ts s ++ left ts ss function (n + 1) = ap (flat_map (register_of ts)) (in_leading function ss n s at inside) in
-    record {
-      function_is = grows.function ∙ walking.function_is;
-      first_is = grows.first ∙ walking.first_is;
-      so_far = walking.so_far ++ register_of ts s;
-      lists = grows.registers walking.so_far walking.lists;
-      rest = append_assoc walking.so_far (register_of ts s) (left ts ss function (n + 1)) ∙ ap (λ (is : List Inst). walking.so_far ++ is) (sym more) ∙ walking.rest;
-    }
-
-nothing_left : (ts : Types) (ss : List Stand) (start function first : ℕ) (p : Planned) (n : ℕ) → Walking ts ss start function first p n → left ts ss function n ≡ [] → HasRegisters ts (left ts ss function start) p
-nothing_left ts ss start function first p n walking none =
-    let all : walking.so_far ≡ left ts ss function start = sym (append-nil walking.so_far) ∙ ap (λ (is : List Inst). walking.so_far ++ is) (sym none) ∙ walking.rest in
-    subst (λ (is : List Inst). HasRegisters ts is p) all walking.lists
-
--- an instruction stands outside of the function
-pub walked_out : (ts : Types) (ss : List Stand) (start function first : ℕ) (p : Planned) (n : ℕ) (s : Stand) → Walking ts ss start function first p n → drop n ss ≡ s ∷ drop (n + 1) ss
-    → stands_in function s ≡ false → HasRegisters ts (left ts ss function start) p
-walked_out ts ss start function first p n s walking at outside =
-    let own : leading (stands_in function) (s ∷ drop (n + 1) ss) ≡ [] = rw outside refl in
-    nothing_left ts ss start function first p n walking (ap (flat_map (register_of ts)) (ap (leading (stands_in function)) at ∙ own))
-
-pub walked_all : (ts : Types) (ss : List Stand) (start function first : ℕ) (p : Planned) (n : ℕ) → Walking ts ss start function first p n → length ss ≤ n → HasRegisters ts (left ts ss function start) p
-walked_all ts ss start function first p n walking past =
-    nothing_left ts ss start function first p n walking (ap (λ (xs : List Stand). flat_map (register_of ts) (leading (stands_in function) xs)) (drop_all n ss past))
 
 -- ---- the types of the registers that are left have numbers of cells
 

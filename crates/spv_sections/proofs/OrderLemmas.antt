@@ -76,9 +76,6 @@ pub record IsOrdered (stood : List Stand) (n reached : ℕ) : Type 0 where
   pub reached_is : reached ≡ reached_by before
   pub rest : order_breaches_behind [] stood ≡ order_breaches_behind before (drop n stood)
 
-pub order_begun : (stood : List Stand) (reached : ℕ) → reached ≡ 0 → IsOrdered stood 0 reached
-order_begun stood reached e = record { before = []; reached_is = e; rest = refl }
-
 behind_one : (before more : List Stand) (s : Stand) → order_breaches_behind before (s ∷ more)
     ≡ cond (may_stand before s) [] (order_breach s.inst ∷ []) ++ order_breaches_behind (before ++ s ∷ []) more
 unfolding order_breaches_behind

@@ -1,5 +1,5 @@
 -- The texts of a frame's registers, one after another.
-use Rattle.std.proofs.Common.{◌≡◌, ◌∙◌, ◌++◌, ℕ, zero, suc, ◌+◌, ◌<◌, List, [], ◌∷◌, fold, take, length, Option, Some, None, refl, sym, ap, subst, arith, slice_get, add-one}
+use Rattle.std.proofs.Common.{◌≡◌, ◌∙◌, ℕ, zero, suc, ◌+◌, ◌<◌, List, [], ◌∷◌, fold, take, length, Option, Some, None, refl, sym, ap, subst, arith, slice_get, add-one}
 use Rattle.std.specs.List.{filter_map}
 use Rattle.std.specs.Option.{option_map_or}
 use Rattle.std.specs.Prelude.{IsSome, unwrap_or}
@@ -43,11 +43,6 @@ with_suc g (x ∷ xs) (suc n) held h =
 pub with_next : {X : Type 0} (g : X → Option (ℕ × Text)) (xs : List X) (n : ℕ) (held : List (ℕ × Text)) → n < length xs
     → with_any (fold with_shown held (filter_map g (take n xs))) g (slice_get xs n) ≡ fold with_shown held (filter_map g (take (n + 1) xs))
 with_next g xs n held h = rw add-one (with_suc g xs n held h)
-
--- all of them, behind others
-pub with_others : (shown more held : List (ℕ × Text)) → fold with_shown held (shown ++ more) ≡ fold with_shown (fold with_shown held shown) more
-with_others [] more held = refl
-with_others (s ∷ shown) more held = with_others shown more (with_shown held s)
 
 -- ---- what is known of a register
 

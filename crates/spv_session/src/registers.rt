@@ -4,7 +4,6 @@ ghost use Rattle.std.specs.List.{Contains, filter_map, flat_map};
 ghost use Rattle.std.specs.List.Sorted.{IsStrictlyIncreasing};
 ghost use Rattle.std.specs.Map.{keys_of};
 ghost use Rattle.spv_base.specs.declared.values.Value.{Ptr};
-ghost use Rattle.spv_index.specs.Definitions.{result_type};
 ghost use Rattle.spv_operands.specs.Shapes.{target_in};
 ghost use Rattle.spv_types.specs.Rows.{leaves};
 ghost use Rattle.spv_types.specs.Shapes.{HasShape};

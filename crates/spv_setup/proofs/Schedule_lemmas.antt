@@ -6,7 +6,6 @@ use Rattle.spv_setup.specs.Pieces.{piece_entries, pieces_entries, StartFrom, Exi
 use Rattle.std.specs.List.{repeat, range_with_len}
 use Rattle.std.proofs.Math.Nat.{mod-eq_of_lt, add-mod_left, mod-one}
 use Rattle.std.proofs.lemmas.Bool.{cases_lt}
-use Rattle.std.proofs.lemmas.List.{take_all}
 use Rattle.std.proofs.lemmas.List.FromFn.{length-range_with_len, get_or-range_with_len}
 use Rattle.std.proofs.lemmas.Option.{slice_get-get_or}
 
@@ -44,9 +43,6 @@ round_at (suc r) k m h =
 
 pub length_each : (r k : ℕ) → length (repeat r (range_with_len 0 k)) ≡ r * k
 length_each r k = length_repeat r (range_with_len 0 k) ∙ ap (λ n. r * n) (length-range_with_len 0 k)
-
-pub length_one : (r i : ℕ) → length (repeat r (i ∷ [])) ≡ r
-length_one r i = let e = length_repeat r (i ∷ []) in omega arith
 
 -- the entry of one invocation's turns
 pub one_at : (r i m : ℕ) → m < length (repeat r (i ∷ [])) → slice_get (repeat r (i ∷ [])) m ≡ Some i
@@ -105,13 +101,6 @@ pieces_grow k len sum ps new p h start exists is sum_is most =
       whole = omega (arith, sum_is, most, h.whole, ap length (entries_push k ps p), length-append (pieces_entries k ps) (piece_entries k p), ap (λ l. length (pieces_entries k l)) is);
       most = most;
     }
-
-pub first_starts : (k len n : ℕ) (ps : List Piece) → ArePieces k ps len → n < len → 0 < length ps
-first_starts k len n [] h l = absurd (omega (arith, h.whole, l))
-first_starts k len n (p ∷ ps) h l = omega arith
-
-pub all_pieces : (k len n : ℕ) (ps : List Piece) → ArePieces k ps len → n < len → n < length (pieces_entries k (take (length ps) ps))
-all_pieces k len n ps h l = subst (λ qs. n < length (pieces_entries k qs)) (sym (take_all (length ps) ps (omega arith))) (omega (arith, h.whole, l))
 
 pub is_piece : (k len n i : ℕ) (ps : List Piece) (p : Piece) → ArePieces k ps len → slice_get ps i ≡ Some p → length (pieces_entries k (take i ps)) ≤ n → n < length (pieces_entries k (take (suc i) ps)) → IsPieceAt k ps n p
 is_piece k len n i ps p h e from to =

@@ -1,5 +1,5 @@
 //! What the words of a line say.
-ghost use Rattle.std.specs.Prelude.{◌≡◌, ◌≤◌, ◌<◌, ◌≢◌, ◌∷◌, [], length, List, ℕ, MatchOption, IfSome};
+ghost use Rattle.std.specs.Prelude.{◌≡◌, ◌≤◌, ◌<◌, ◌≢◌, ◌∷◌, [], length, MatchOption, IfSome};
 ghost use Rattle.spv_base.specs.Answers.{Answers};
 ghost use Rattle.spv_line.specs.Words.{words_in};
 ghost use Rattle.spv_setup.specs.Rows as spec;

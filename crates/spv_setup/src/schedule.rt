@@ -1,12 +1,12 @@
 //! The schedule of a run.
-ghost use Rattle.std.specs.Prelude.{◌≡◌, ◌≤◌, ◌<◌, ◌+◌, ◌++◌, ◌∷◌, [], IfSome, IfOk, None, OnOk, take, length, slice_get, nat_le, if◌then◌else◌, Ok, Err};
+ghost use Rattle.std.specs.Prelude.{◌≡◌, ◌≤◌, ◌<◌, ◌+◌, ◌∷◌, [], IfSome, None, OnOk, length, slice_get, Ok, Err};
 ghost use Rattle.spv_base.specs.Answers.{Answers};
-ghost use Rattle.spv_setup.specs.Schedule.{check_moves, entries_in, entries_of, schedule_of, stray_line};
+ghost use Rattle.spv_setup.specs.Schedule.{check_moves, entries_in, schedule_of, stray_line};
 ghost use Rattle.spv_setup.specs.Pieces.{ArePieces, Grows, IsPieceAt};
 
 use crate::pieces::Piece;
 use crate::settings::Run;
-use spv_base::{Fail, NoMemory, SetupRefusal};
+use spv_base::{Fail, SetupRefusal};
 use std::alloc::Global;
 use std::marker::Model;
 

@@ -10,7 +10,7 @@ use crate::lines::next_line;
 use crate::reading::Reader;
 use crate::rows::two_words;
 use crate::schedule::{Schedule, check_moves};
-use crate::settings::{Buffer, Push, Run, Settings};
+use crate::settings::{Buffer, Push, Settings};
 use spv_base::{Fail, Items, Overrides, Places, SetupRefusal};
 use std::alloc::Global;
 use std::marker::Model;

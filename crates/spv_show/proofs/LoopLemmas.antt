@@ -32,11 +32,6 @@ row_rest c count number s whole below full before =
     let long = length-replicate count c in
     sym (rest_is (replicate count c) number s (omega (arith, long, below)) full) ∙ before
 
-pub row_done : (c : Change) (count number : ℕ) (s whole : Written) → count ≤ number → put_elements number (drop number (replicate count c)) s ≡ whole → s ≡ whole
-row_done c count number s whole all before =
-    let long = length-replicate count c in
-    sym (done (replicate count c) number s (omega (arith, long, all))) ∙ before
-
 -- ---- members
 
 members_long : (change : ℕ → Change) (number : ℕ) (ms : List Member) → length (put_members change number ms) ≡ length ms

@@ -16,9 +16,6 @@ use Rattle.spv_initial.specs.declared.variables.Declared.{Declared}
 abbrev pub changed_to : {A : Type 0} → (A → A) → ℕ → List A → List A
 changed_to f k xs = map f (take k xs) ++ drop k xs
 
-pub none_changed : {A : Type 0} (f : A → A) (xs : List A) → changed_to f 0 xs ≡ xs
-none_changed f xs = refl
-
 next_changed : {A : Type 0} (f : A → A) (k : ℕ) (xs : List A) → k < length xs → change k f (changed_to f k xs) ≡ changed_to f (suc k) xs
 next_changed f k [] inside = absurd (omega (arith, inside))
 next_changed f zero (x ∷ xs) inside = refl

@@ -1,5 +1,5 @@
 -- The debug events that a run passes.
-use Rattle.std.proofs.Common.{◌≡◌, ◌∙◌, ℕ, zero, suc, ◌-◌, ◌<◌, ◌==◌, Bool, true, false, cond, List, [], ◌∷◌, ◌++◌, append-nil, append_assoc, drop, length, ◌≤◌, map, Option, Some, None, Result, Ok, Err, OnOk, OnErr, Vec, get_or, refl, sym, ap, subst, arith, slice_get, slice_set}
+use Rattle.std.proofs.Common.{◌≡◌, ◌∙◌, ℕ, zero, suc, ◌-◌, ◌==◌, Bool, true, false, cond, List, [], ◌∷◌, ◌++◌, append-nil, drop, length, ◌≤◌, map, Option, Some, None, Result, Ok, Err, OnOk, OnErr, Vec, refl, sym, ap, subst, arith, slice_get}
 use Rattle.std.specs.Prelude.{unwrap_or}
 use Rattle.std.specs.Option.{option_map_or}
 use Rattle.std.specs.declared.alloc.Global.{Global}
@@ -12,16 +12,14 @@ use Rattle.spv_frame.specs.Frames.{Held as Frame, fresh}
 use Rattle.spv_frame.specs.Registers.{Planned}
 use Rattle.spv_plans.specs.Plans.{plan_of}
 use Rattle.spv_frame.specs.Stacks.{Stacked, top}
-use Rattle.spv_mem.specs.Memory.{Held as Memory}
-use Rattle.spv_statuses.specs.Group.{Held as Statuses}
 use Rattle.spv_base.specs.declared.values.PassedEvent.{PassedEvent}
 use Rattle.spv_state.specs.Events.{IsReadable, behind, captures_before, due, due_at, entries, entry, listed, pass, passed, since, under}
 use Rattle.spv_state.specs.Rooms.{IsBounded}
 use Rattle.spv_state.specs.Sound.{IsSoundFrame}
 use Rattle.spv_state.specs.State.{State, depth_of, on_frame, on_frames, top_of}
 use Rattle.spv_state.specs.declared.captures.Capture.{Capture}
-use Rattle.spv_state.proofs.ChangeLemmas.{put_is, seen, top_bounded}
-use Rattle.spv_state.proofs.Lists.{change_none, change_same}
+use Rattle.spv_state.proofs.ChangeLemmas.{top_bounded}
+use Rattle.spv_state.proofs.Lists.{change_same}
 use Rattle.spv_state.proofs.StartSound.{HavePlans, entry_frame}
 use Rattle.spv_state.proofs.TopLemmas.{of_function}
 
@@ -35,13 +33,6 @@ carried insts before (s ∷ ss) = entry s before ++ carried insts (behind insts 
 pub entries-carried : (insts : List Inst) (before ss : List Stand) → entries insts before ss ≡ carried insts (since insts before) ss
 entries-carried insts before [] = refl
 entries-carried insts before (s ∷ ss) = ap (λ (es : List (ℕ × List Capture)). entry s (since insts before) ++ es) (entries-carried insts (s ∷ before) ss)
-
--- one instruction further
-pub entries_next : (insts : List Inst) (s : Stand) (ss rest : List Stand) (before now : List Capture) (es new all : List (ℕ × List Capture)) → rest ≡ s ∷ ss → now ≡ behind insts s before → new ≡ es ++ entry s before
-    → es ++ carried insts before rest ≡ all → new ++ carried insts now ss ≡ all
-entries_next insts s ss rest before now es new all here passed made e =
-    ap (λ (xs : List (ℕ × List Capture)). xs ++ carried insts now ss) made ∙ append_assoc es (entry s before) (carried insts now ss)
-    ∙ ap (λ (cs : List Capture). es ++ (entry s before ++ carried insts cs ss)) passed ∙ sym (ap (λ (xs : List Stand). es ++ carried insts before xs) here) ∙ e
 
 -- behind the last one
 pub entries_all : (insts : List Inst) (before : List Capture) (es : List (ℕ × List Capture)) (rest all : List Stand) → rest ≡ [] → es ++ carried insts before rest ≡ carried insts [] all → es ≡ entries insts [] all
@@ -76,9 +67,6 @@ captures_kept a insts es same are pc =
 pub due_top : (a : Accepted) (s : State) (i depth : ℕ) (f : Frame) → Some f ≡ top_of s i → depth ≡ depth_of s i → due a depth f ≡ due_at a s i
 due_top a s i depth f is same = ap (λ (n : ℕ). due a n f) same ∙ ap (λ (o : Option Frame). option_map_or (due a (depth_of s i)) o []) is
 
-pub due_none : (a : Accepted) (s : State) (i : ℕ) → None ≡ top_of s i → [] ≡ due_at a s i
-due_none a s i is = ap (λ (o : Option Frame). option_map_or (due a (depth_of s i)) o []) is
-
 top_at : (s : State) (i : ℕ) (k : Stacked) (f : Frame) → slice_get s.stacks i ≡ Some k → top k.frames ≡ Some f → top_of s i ≡ Some f
 top_at s i k f at here = rw at here
 
@@ -97,12 +85,6 @@ passed_is a s i es is =
 pub appended_bounded : {T E : Type 0} (g : Frame → Frame) (k new : Stacked) (r : Result T E) → OnOk r (new ≡ on_frames g k) → OnErr r (new ≡ k) → IsBounded k → IsBounded new
 appended_bounded g k new (Ok x) ok err bounded = top_bounded g k new ok bounded
 appended_bounded g k new (Err e) ok err bounded = subst IsBounded (sym err) bounded
-
--- a stack that is put back as it was
-pub kept_stack : (ps : List Planned) (m : Memory) (ks : List Stacked) (ts : Statuses) (s : State) (i : ℕ) (k new : Stacked) → seen ps m ks ts ≡ s → i < length ks → k ≡ get_or ks i k → new ≡ k
-    → seen ps m (slice_set ks i new) ts ≡ s
-kept_stack ps m ks ts s i k new view inside here made =
-    ap (λ (xs : List Stacked). seen ps m xs ts) (put_is ks i k new (λ x. x) inside here made ∙ change_none i ks) ∙ view
 
 -- ---- frames
 

@@ -41,10 +41,6 @@ change_same (suc i) f g (x ∷ xs) same = ap (λ l. x ∷ l) (change_same i f g 
 pub change_still : {A : Type 0} (i : ℕ) (g : A → A) (xs : List A) → ((x : A) → slice_get xs i ≡ Some x → g x ≡ x) → change i g xs ≡ xs
 change_still i g xs still = change_same i g (λ x. x) xs still ∙ change_none i xs
 
--- a change is a write of what it makes of the element
-pub set_changed : {A : Type 0} (i : ℕ) (g : A → A) (xs : List A) (x y : A) → slice_get xs i ≡ Some x → y ≡ g x → slice_set xs i y ≡ change i g xs
-set_changed i g xs x y at is = set_is_change i y xs ∙ change_same i (λ _. y) g xs (λ z here. let same : x ≡ z = cc in is ∙ ap g same)
-
 -- the element after a change
 pub changed_at : {A : Type 0} (i : ℕ) (g : A → A) (xs : List A) (x : A) → slice_get xs i ≡ Some x → slice_get (change i g xs) i ≡ Some (g x)
 changed_at i g xs x at = change_here i g xs ∙ ap (option_map g) at

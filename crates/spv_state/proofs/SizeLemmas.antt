@@ -2,8 +2,7 @@
 use Rattle.std.proofs.Common.{◌≡◌, ◌∙◌, inl, inr, ℕ, ◌+◌, ◌<◌, ◌≤◌, List, Some, sym, ap, subst, arith, slice_get}
 use Rattle.std.proofs.lemmas.Bool.{cases_lt}
 use Rattle.std.specs.Prelude.{max}
-use Rattle.spv_frame.specs.declared.slots.Slot.{Slot}
-use Rattle.spv_frame.specs.Registers.{IsSlotOf, Planned, Rooms}
+use Rattle.spv_frame.specs.Registers.{Planned, Rooms}
 
 -- none of the first n registers has more cells
 abbrev pub AreWithin : Rooms → ℕ → ℕ → Type 0
@@ -12,18 +11,6 @@ AreWithin rs n most = (k : ℕ) (r : ℕ × ℕ) → k < n → slice_get rs k �
 -- none of the registers of the first n plans has more cells
 abbrev pub PlansAreWithin : List Planned → ℕ → ℕ → Type 0
 PlansAreWithin ps n most = (m k : ℕ) (p : Planned) (r : ℕ × ℕ) → m < n → slice_get ps m ≡ Some p → slice_get p.values k ≡ Some r → r.1 ≤ most
-
-pub register_next : (rs : Rooms) (n most new : ℕ) (s : Slot) → AreWithin rs n most → IsSlotOf rs s → s.number ≡ n → new ≡ max most s.len → AreWithin rs (n + 1) new
-register_next rs n most new s so_far slot number is k r inside at =
-    elim (cases_lt k n) [
-      | inl before ↦ (let old : r.1 ≤ most = so_far k r before at in omega (arith, is, old))
-      | inr here ↦ (
-          let same : k ≡ s.number = omega (arith, inside, here, number) in
-          let own : Some r ≡ Some (s.id, s.len) = sym at ∙ ap (slice_get rs) same ∙ slot.long in
-          let pair : r ≡ (s.id, s.len) = cc in
-          let len : r.1 ≡ s.len = ap (λ (x : ℕ × ℕ). x.1) pair in
-          omega (arith, is, len))
-    ]
 
 pub plan_next : (ps : List Planned) (n most own new : ℕ) (p : Planned) → PlansAreWithin ps n most → slice_get ps n ≡ Some p → ((k : ℕ) (r : ℕ × ℕ) → slice_get p.values k ≡ Some r → r.1 ≤ own) → new ≡ max most own
     → PlansAreWithin ps (n + 1) new

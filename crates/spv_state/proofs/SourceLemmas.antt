@@ -87,9 +87,6 @@ pub record SoFar (a : Accepted) (ps : List (Option Predecoded)) (n : ℕ) : Type
   pub count : length ps ≡ n
   pub are : ArePredecoded a ps
 
-pub none_so_far : (a : Accepted) → SoFar a [] 0
-none_so_far a = record { count = refl; are = λ n d p stands entry. absurd (cc) }
-
 last_of : {X : Type 0} (xs : List X) (x : X) (n : ℕ) → slice_get (xs ++ x ∷ []) (length xs) ≡ Some x
 last_of [] x n = refl
 last_of (y ∷ xs) x n = last_of xs x n

@@ -1,9 +1,7 @@
 -- The variables of a function, among those of the module.
-use Rattle.std.proofs.Common.{◌≡◌, ◌≢◌, ◌∙◌, ℕ, ◌+◌, ◌<◌, ◌==◌, Bool, true, false, cond, List, [], ◌∷◌, ◌++◌, length, take, get_or, Some, refl, sym, ap}
+use Rattle.std.proofs.Common.{◌≡◌, ◌≢◌, ℕ, ◌==◌, Bool, true, false, cond, List, [], ◌∷◌, Some, refl, sym, ap}
 use Rattle.std.proofs.Math.Logic.{∥∥₁_map}
 use Rattle.std.proofs.lemmas.Bool.{eq-eqb, ne_eqb}
-use Rattle.std.proofs.lemmas.List.{take_more}
-use Rattle.std.proofs.lemmas.List.Elements.{filter-append}
 use Rattle.std.specs.List.{AllByRecursion, filter}
 use Rattle.spv_base.specs.Entries.{reads}
 use Rattle.spv_valid.specs.Acceptance.{Accepted}
@@ -14,10 +12,6 @@ use Rattle.spv_initial.specs.declared.variables.Declared.{Declared}
 use Rattle.spv_initial.proofs.StartLemmas.{variables_are}
 
 -- ---- those that a test keeps
-
-pub kept_next : {X : Type 0} (p : X → Bool) (xs : List X) (k : ℕ) (x : X) → k < length xs → x ≡ get_or xs k x → filter p (take (k + 1) xs) ≡ filter p (take k xs) ++ filter p (x ∷ [])
-kept_next {X} p xs k x inside is =
-    ap (filter p) (take_more xs k x inside) ∙ filter-append p (take k xs) (get_or xs k x ∷ []) ∙ ap (λ (y : X). filter p (take k xs) ++ filter p (y ∷ [])) (sym is)
 
 kept_each : {X : Type 0} (P : X → Type 0) (p : X → Bool) (xs : List X) → AllByRecursion P xs → AllByRecursion P (filter p xs)
 kept_each P p [] h = tt

@@ -4,7 +4,7 @@ use Rattle.std.specs.Prelude.{filter, remove}
 use Rattle.std.specs.List.{list_any, position, position_or_len}
 use Rattle.std.proofs.lemmas.List.{map-append, length-append}
 use Rattle.std.proofs.lemmas.Bool.Decides.{nat_tests}
-use Rattle.spv_stops.specs.Stops.{Stops, number_of, has_number, is_full, next_number, with_stop, without_stop, Ascend, AreStops}
+use Rattle.spv_stops.specs.Stops.{Stops, number_of, has_number, with_stop, without_stop, Ascend, AreStops}
 
 -- ---- one stop more
 
@@ -18,16 +18,6 @@ stops_push limit stops x h room left = (
   subst (λ ks. Ascend 0 ks (stops.1 + 1)) (sym (map-append number_of stops.0 ((stops.1 + 1, x) ∷ []))) (ascend_push 0 stops.1 (map number_of stops.0) h.1),
   omega (arith, left),
 )
-
-full_length : (a b : Bool) → a ≡ true → (a || b) ≡ true
-full_length a b h = ap (λ x. x || b) h
-
--- what is due to a new stop, as the tests say
-pub number_full : {T : Type 0} (limit : ℕ) (stops : Stops T) → is_full limit stops ≡ true → next_number limit stops ≡ Err (record { code = 9 })
-number_full limit stops h = ap (λ b. cond b (Err (record { code = 9 })) (Ok (stops.1 + 1))) h
-
-pub number_next : {T : Type 0} (limit : ℕ) (stops : Stops T) → is_full limit stops ≡ false → next_number limit stops ≡ Ok (stops.1 + 1)
-number_next limit stops h = ap (λ b. cond b (Err (record { code = 9 })) (Ok (stops.1 + 1))) h
 
 -- ---- one stop less
 

@@ -1,5 +1,5 @@
 //! What breaks and watches have in common: stops under numbers.
-ghost use Rattle.std.specs.Prelude.{◌≡◌, ℕ};
+ghost use Rattle.std.specs.Prelude.{◌≡◌};
 ghost use Rattle.std.specs.List.{position};
 ghost use Rattle.spv_stops.specs.Stops.{has_number};
 

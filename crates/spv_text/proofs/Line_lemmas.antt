@@ -29,9 +29,6 @@ after_name named parted r name line h e f is g =
 
 -- ---- no line stands at the front
 
-pub none_of_number : (text : List ℕ) → Lacks decimal IsNumber HasNoDigit text → Lacks line_text IsLine Any text
-none_of_number text none line r is e follows = none line.word (Behind line r) is.0 (e ∙ line_split line r) refl
-
 pub none_of_colon : (text behind : List ℕ) (w : ℕ) → IsNumber w → text ≡ decimal w ++ behind → HasNoDigit behind → ((s : List ℕ) → behind ≡ codes ": " ++ s → ⊥) → Lacks line_text IsLine Any text
 none_of_colon text behind w h e f none line r is g follows = none _ (after_number text behind r w line h e f is g).1
 
@@ -48,11 +45,6 @@ none_of_parts text front named name parted w h e f g j k l none line r is i foll
     none line.parts r is.2 (named_is.1 ∙ sym (append_assoc (parts_text line.parts) (10 ∷ []) r)) tt
 
 -- ---- the line that stands there
-
-pub line_stands : (text behind named parted rest : List ℕ) (line : Line) → text ≡ decimal line.word ++ behind → behind ≡ codes ": " ++ named → named ≡ line.name ++ parted → parted ≡ ended line.parts ++ rest
-    → text ≡ line_text line ++ rest
-line_stands text front named parted rest line e f g h =
-    e ∙ ap (λ t. decimal line.word ++ t) (f ∙ ap (λ t. 58 ∷ 32 ∷ t) (g ∙ ap (λ t. line.name ++ t) (h ∙ append_assoc (parts_text line.parts) (10 ∷ []) rest))) ∙ sym (line_split line rest)
 
 same_line : (k l : Line) → k.word ≡ l.word → k.name ≡ l.name → k.parts ≡ l.parts → k ≡ l
 same_line k l p q s =

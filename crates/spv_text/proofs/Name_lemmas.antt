@@ -1,5 +1,5 @@
 -- The names of the opcodes are apart, and of letters and digits.
-use Rattle.std.proofs.Common.{Bor, ◌≡◌, ◌≢◌, ℕ, nat_eq, Bool, true, false, not, cond, ◌&&◌, List, [], ◌∷◌, ◌++◌, Option, Some, None, unwrap_or, codes, zero, suc, ◌+◌, add-one, get_or, length, map, take, drop, ◌<◌, ◌≤◌, refl, sym, ap, ◌∙◌, subst, inl, inr, arith}
+use Rattle.std.proofs.Common.{Bor, ◌≡◌, ◌≢◌, ℕ, nat_eq, Bool, true, false, not, cond, ◌&&◌, List, [], ◌∷◌, ◌++◌, Option, Some, None, unwrap_or, codes, zero, suc, ◌+◌, get_or, length, map, take, drop, ◌<◌, ◌≤◌, refl, sym, ap, ◌∙◌, subst, inl, inr, arith}
 use Rattle.std.specs.Prelude.{IsSome, MatchOption}
 use Rattle.spv_ops.specs.declared.forms.Head.{Head}
 use Rattle.spv_ops.specs.declared.forms.Part.{Part}
@@ -188,16 +188,6 @@ pub among_at : (entries : List Entry) (i : ℕ) (d : Entry) → i < length entri
 among_at [] i d h = absurd (omega arith)
 among_at (first ∷ entries) zero d h = inl refl
 among_at (first ∷ entries) (suc i) d h = inr (among_at entries i d (omega arith))
-
-none_next : (entries : List Entry) (i : ℕ) (entry : Entry) (name : List ℕ) → i < length entries → entry ≡ get_or entries i entry → (entry.1.now ≡ name → ⊥)
-    → AllByRecursion (λ (row : Row). row.1 ≢ name) (map row_at (take i entries)) → AllByRecursion (λ (row : Row). row.1 ≢ name) (map row_at (take (suc i) entries))
-none_next [] i entry name h e k all = absurd (omega arith)
-none_next (first ∷ entries) zero entry name h e k all = ((λ f. k (ap (λ (x : Entry). x.1.now) e ∙ f)), tt)
-none_next (first ∷ entries) (suc i) entry name h e k all = (all.0, none_next entries i entry name (omega arith) e k all.1)
-
-pub none_more : (entries : List Entry) (i : ℕ) (entry : Entry) (name : List ℕ) → i < length entries → entry ≡ get_or entries i entry → (entry.1.now ≡ name → ⊥)
-    → AllByRecursion (λ (row : Row). row.1 ≢ name) (map row_at (take i entries)) → AllByRecursion (λ (row : Row). row.1 ≢ name) (map row_at (take (i + 1) entries))
-none_more entries i entry name h e k all = rw add-one (none_next entries i entry name h e k all)
 
 pub none_left : (entries : List Entry) (i : ℕ) (name : List ℕ) → length entries ≤ i → AllByRecursion (λ (row : Row). row.1 ≢ name) (map row_at (take i entries))
     → AllByRecursion (λ (row : Row). row.1 ≢ name) (map row_at entries)

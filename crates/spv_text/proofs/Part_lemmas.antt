@@ -39,17 +39,6 @@ one_mark mark.Literal mark.ResultId r s h g e = absurd (no_digit _ _ r refl h (s
 one_mark mark.Literal mark.Id r s h g e = absurd (no_digit _ _ r refl h (sym e))
 one_mark mark.Literal mark.Literal r s h g e = (refl, e)
 
--- what mark_at finds
-pub mark_only : (k m : Mark) (text r s : List ℕ) → MayFollow k r → text ≡ mark_text k ++ r → MayFollow m s → text ≡ mark_text m ++ s → (m ≡ k) × (s ≡ r)
-mark_only k m text r s h e g f = one_mark m k s r g h (sym f ∙ e)
-
-pub literal_only : (m : Mark) (text s : List ℕ) → ((r : List ℕ) → text ≡ codes "type=%" ++ r → ⊥) → ((r : List ℕ) → text ≡ codes "id=%" ++ r → ⊥) → ((r : List ℕ) → text ≡ codes "%" ++ r → ⊥)
-    → text ≡ mark_text m ++ s → (m ≡ mark.Literal) × (s ≡ text)
-literal_only mark.ResultType text s a b c e = absurd (a s e)
-literal_only mark.ResultId text s a b c e = absurd (b s e)
-literal_only mark.Id text s a b c e = absurd (c s e)
-literal_only mark.Literal text s a b c e = (refl, sym e)
-
 -- ---- parts with a number
 
 pub numbered_text : (k : Mark) (n : ℕ) → part_text (numbered k n) ≡ mark_text k ++ decimal n
@@ -58,23 +47,11 @@ numbered_text mark.ResultId n = refl
 numbered_text mark.Id n = refl
 numbered_text mark.Literal n = refl
 
-pub numbered_is : (k : Mark) (n : ℕ) → IsNumber n → IsPart (numbered k n)
-numbered_is mark.ResultType n h = h
-numbered_is mark.ResultId n h = h
-numbered_is mark.Id n h = h
-numbered_is mark.Literal n h = h
-
 pub numbered_number : (k : Mark) (n : ℕ) → IsPart (numbered k n) → IsNumber n
 numbered_number mark.ResultType n h = h
 numbered_number mark.ResultId n h = h
 numbered_number mark.Id n h = h
 numbered_number mark.Literal n h = h
-
-pub numbered_ends : (k : Mark) (n : ℕ) (r : List ℕ) → HasNoDigit r → EndsBefore (numbered k n) r
-numbered_ends mark.ResultType n r h = h
-numbered_ends mark.ResultId n r h = h
-numbered_ends mark.Id n r h = h
-numbered_ends mark.Literal n r h = h
 
 pub ends_numbered : (k : Mark) (n : ℕ) (r : List ℕ) → EndsBefore (numbered k n) r → HasNoDigit r
 ends_numbered mark.ResultType n r h = h
@@ -88,10 +65,6 @@ number_follows mark.ResultType n r h = tt
 number_follows mark.ResultId n r h = tt
 number_follows mark.Id n r h = tt
 number_follows mark.Literal n r h = decimal_leads n r h
-
-pub numbered_stands : (k : Mark) (n : ℕ) (text digits rest : List ℕ) → text ≡ mark_text k ++ digits → digits ≡ decimal n ++ rest → text ≡ part_text (numbered k n) ++ rest
-numbered_stands k n text digits rest e f =
-    e ∙ ap (λ d. mark_text k ++ d) f ∙ sym (append_assoc (mark_text k) (decimal n) rest) ∙ ap (λ t. t ++ rest) (sym (numbered_text k n))
 
 -- a text begins with one such part at most
 pub one_numbered : (k m : Mark) (a b : ℕ) (r s : List ℕ) → IsNumber a → IsNumber b → HasNoDigit r → HasNoDigit s → part_text (numbered k a) ++ r ≡ part_text (numbered m b) ++ s → (numbered k a ≡ numbered m b) × (r ≡ s)
@@ -147,9 +120,6 @@ in_string p text bytes rest (string bs e) h f g none =
 
 pub no_string_part : (text bytes : List ℕ) → text ≡ codes "\"" ++ bytes → Lacks quoted (AllByRecursion IsByte) Any bytes → Lacks part_text IsPart HasNoDigit text
 no_string_part text bytes f none p rest h e g = in_string p text bytes rest (view p) h f e none
-
-string_text : (bs r : List ℕ) → part_text (part.Operand (Text bs)) ++ r ≡ 34 ∷ (quoted bs ++ r)
-string_text bs r = refl
 
 by_views : (p q : Part) (r s : List ℕ) → View p → View q → IsPart p → IsPart q → EndsBefore p r → HasNoDigit s → part_text p ++ r ≡ part_text q ++ s → (p ≡ q) × (r ≡ s)
 by_views p q r s (number k a e) (number m b f) h g c d i =

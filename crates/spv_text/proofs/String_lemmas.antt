@@ -10,12 +10,6 @@ use Rattle.spv_text.specs.Lines.{IsByte, Lacks, Any}
 
 -- ---- digits of base 16
 
-pub hex_low : (n : ℕ) → n < 10 → hex_digit n ≡ 48 + n
-hex_low n h = grind (arith, nat_tests)
-
-pub hex_high : (n : ℕ) → 10 ≤ n → hex_digit n ≡ 87 + n
-hex_high n h = grind (arith, nat_tests)
-
 pub one_digit : (m n : ℕ) → m < 16 → n < 16 → hex_digit m ≡ hex_digit n → m ≡ n
 one_digit m n h k e = grind (arith, nat_tests)
 
@@ -126,9 +120,6 @@ some_by b (quote k p) = omega (arith, ap length p)
 some_by b (backslash k p) = omega (arith, ap length p)
 some_by b (itself l h m n p) = omega (arith, ap length p)
 some_by b (hex o p) = omega (arith, ap length p)
-
-pub byte_some : (b : ℕ) → 0 < length (byte_text b)
-byte_some b = some_by b (form b)
 
 -- ---- strings behind their first quote
 

@@ -1,9 +1,8 @@
 //! The instruction of a line.
-ghost use Rattle.std.specs.Prelude.{◌≡◌, ◌≢◌, ◌∷◌, ◌++◌, ◌+◌, ◌<◌, ℕ, List, length, map, ◌≤◌, Err, IfOk, IfErr, MatchOption};
+ghost use Rattle.std.specs.Prelude.{◌≡◌, ◌≢◌, ◌++◌, ◌+◌, ◌<◌, ℕ, List, length, map, ◌≤◌, Err, IfOk, MatchOption};
 ghost use Rattle.spv_base.specs.declared.instructions.Inst.{Inst};
 ghost use Rattle.spv_base.specs.declared.instructions.Operand.{Operand};
-ghost use Rattle.spv_ops.specs.Encoding.{encoding, head_of, HasHead, IsInst};
-ghost use Rattle.spv_ops.specs.Forms.{row_of};
+ghost use Rattle.spv_ops.specs.Encoding.{encoding, HasHead, IsInst};
 ghost use Rattle.spv_text.specs.declared.lines.Part.TheVariants as part;
 ghost use Rattle.spv_base.specs.declared.causes.Fail.TheVariants.{Refused};
 ghost use Rattle.spv_text.specs.declared.lines.Wrong.{Wrong};

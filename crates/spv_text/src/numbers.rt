@@ -1,5 +1,5 @@
 //! Reading numbers and names.
-ghost use Rattle.std.specs.Prelude.{◌≡◌, ◌≢◌, ℕ, ◌≤◌, ◌^◌, ◌++◌, min, true, not, decimal, slice_index, MatchOption, IsTrue, ◌↔◌};
+ghost use Rattle.std.specs.Prelude.{◌≡◌, ◌≢◌, ℕ, ◌^◌, ◌++◌, min, true, not, decimal, MatchOption, IsTrue, ◌↔◌};
 ghost use Rattle.std.specs.List.{list_all, position};
 ghost use Rattle.spv_text.specs.Lines.{value_of, is_digit, LeadsWell, is_name_byte, HasNoDigit, HasNoNameByte, IsName, IsNumber, Lacks, Stands};
 

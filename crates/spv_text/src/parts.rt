@@ -1,7 +1,7 @@
 //! Reading the parts of a line.
-ghost use Rattle.std.specs.Prelude.{◌≡◌, ◌≢◌, ℕ, List, [], ◌∷◌, ◌++◌, IfOk, MatchOption};
+ghost use Rattle.std.specs.Prelude.{◌≡◌, ◌≢◌, ℕ, List, ◌∷◌, ◌++◌, IfOk, MatchOption};
 ghost use Rattle.std.specs.List.{AllByRecursion};
-ghost use Rattle.spv_text.specs.Spelling.{ended, part_text, parts_text};
+ghost use Rattle.spv_text.specs.Spelling.{ended, part_text};
 ghost use Rattle.spv_text.specs.Lines.{Any, HasNoDigit, IsPart, Lacks, Stands};
 ghost use Rattle.spv_text.specs.Marks.{mark_text, numbered, EndsBefore, MayFollow};
 

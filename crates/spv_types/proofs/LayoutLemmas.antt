@@ -2,14 +2,13 @@
 use Rattle.std.proofs.Common.{◌≡◌, ◌∙◌, ℕ, zero, suc, ◌+◌, ◌<◌, ◌≤◌, ◌-◌, Bool, true, false, List, [], ◌∷◌, ◌++◌, length, length-drop, append-nil, take-append-drop, map, get_or, take, drop, drop-cons, drop_of_length-le, add-one, Some, None, refl, sym, ap, arith}
 use Rattle.std.specs.Prelude.{◌&&◌, max, unwrap_or}
 use Rattle.std.specs.Option.{is_some}
-use Rattle.std.specs.List.{list_all}
 use Rattle.spv_types.specs.declared.forms.Form.{Form}
 use Rattle.spv_types.specs.declared.forms.Form.TheVariants.{Void}
 use Rattle.spv_types.specs.declared.forms.Member.{Member}
 use Rattle.spv_types.specs.declared.spans.Span.{Span}
 use Rattle.spv_types.specs.Types.{Types, form_at, in_first, number_of}
 use Rattle.spv_types.specs.Cuts.{cut}
-use Rattle.spv_types.specs.Layout.{are_apart, greatest_end, laid_among, laid_step, members_laid, none_overlap, size_among, size_step}
+use Rattle.spv_types.specs.Layout.{greatest_end, laid_among, laid_step, members_laid, size_among, size_step}
 use Rattle.spv_types.specs.Measured.{AreLaid, AreSizes}
 use Rattle.spv_types.proofs.TypeLemmas.{in_first-found, in_first-missing, in_first-unknown, number_form}
 
@@ -53,14 +52,6 @@ greatest_next size (m ∷ ms) zero d l = omega arith
 greatest_next size (m ∷ ms) (suc k) d l =
     let z : suc k + 1 ≡ suc (k + 1) = omega arith in
     rw (z, ← greatest_next size ms k d (omega arith)) (omega arith)
-
-pub overlap_none : true ≡ none_overlap []
-unfolding none_overlap
-overlap_none = refl
-
-pub overlap_at : (ss : List Span) (n : ℕ) (d : Span) → n < length ss → none_overlap (drop n ss) ≡ (list_all (are_apart (get_or ss n d)) (drop (n + 1) ss) && none_overlap (drop (n + 1) ss))
-unfolding none_overlap
-overlap_at ss n d l = rw (drop-cons ss n d l, add-one) refl
 
 pub no_members_laid : (laid : ℕ → Bool) → true ≡ members_laid laid []
 unfolding members_laid

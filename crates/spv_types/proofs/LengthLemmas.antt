@@ -21,9 +21,6 @@ use Rattle.spv_types.proofs.SoundLemmas.{CountAlike, form_carried}
 not_same : (a b : ℕ) → a ≢ b → (a == b) ≡ false
 not_same a b h = grind arith
 
-same_itself : (a : ℕ) → (a == a) ≡ true
-same_itself a = grind arith
-
 number_written : (ts : Types) (id q : ℕ) (f : Form) → number_of (writes id f ts) q ≡ number_of ts q
 number_written [] id q f = refl
 number_written (t ∷ ts) id q f = step (t.0 == id) (number_written ts id q f)

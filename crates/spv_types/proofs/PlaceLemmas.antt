@@ -107,10 +107,6 @@ elements_at ts place element count stride leaf k w l h e = row (cells_of ts elem
         above_zero zero = refl
         above_zero (suc c) = less 0 (cut (suc c)) (omega arith) ∙ sym (less 0 (suc c) (omega arith))
 
-pub none_of_cut : (o : Option ℕ) → None ≡ option_map cut o → o ≡ None
-none_of_cut None h = refl
-none_of_cut (Some n) h = cc
-
 -- ---- the member in which a leaf lies
 
 pub some_and : {A : Type 0} (o : Option A) (P : A → Type 0) → IsSomeAnd o P → (x : A) × (o ≡ Some x) × P x
@@ -120,10 +116,6 @@ some_and (Some x) P h = (x, refl, h)
 pub begins_first : (cells : ℕ → Option ℕ) (ms : List Member) (leaf : ℕ) → BeginsBy cells ms 0 leaf
 unfolding members_cells
 begins_first cells ms leaf = omega arith
-
-pub begins_cut : (o : Option ℕ) (first leaf : ℕ) → leaf < 67108864 → Some first ≡ option_map cut o → (first ≤ leaf → IsSomeAnd o (λ n. n ≤ leaf)) × (IsSomeAnd o (λ n. n ≤ leaf) → first ≤ leaf)
-begins_cut None first leaf l h = cc
-begins_cut (Some n) first leaf l h = let e : first ≡ cut n = cc in (λ k. omega arith, λ k. omega arith)
 
 begins_none : (o : Option ℕ) (leaf : ℕ) → None ≡ option_map cut o → IsSomeAnd o (λ n. n ≤ leaf) → ⊥
 begins_none None leaf h k = k

@@ -1,5 +1,5 @@
 -- A type added at the end, and a form written under an id.
-use Rattle.std.proofs.Common.{◌≡◌, ◌∙◌, ℕ, zero, suc, ◌<◌, ◌==◌, Bool, true, false, cond, eqb, nat_cmp, List, [], ◌∷◌, ◌++◌, length, length-append, get_or, set, take, take_at, ◌-◌, Option, Some, None, Result, Ok, Err, refl, sym, ap, subst, arith, rules, tests}
+use Rattle.std.proofs.Common.{◌≡◌, ◌∙◌, ℕ, zero, suc, ◌<◌, ◌==◌, Bool, true, false, eqb, nat_cmp, List, [], ◌∷◌, ◌++◌, length, length-append, get_or, set, take, take_at, ◌-◌, Option, Some, None, Result, Ok, Err, refl, sym, ap, subst, arith, rules, tests}
 use Rattle.std.specs.Prelude.{if◌then◌else◌}
 use Rattle.std.specs.Ordering.{is_eq}
 use Rattle.std.specs.Option.{option_map, option_or, is_some}
@@ -19,15 +19,6 @@ push_known ts id f q h = number_push ts (id, f) q ∙ go (eqb id q) refl (number
     go : (b : Bool) → eqb id q ≡ b → (o : Option ℕ) → number_of ts q ≡ o → option_or o (if b then Some (length ts) else None) ≡ o
     go true e None k = let s : id ≡ q = grind arith in let m : is_some (number_of ts id) ≡ false = rw (s, k) refl in cc
     go true e (Some n) k = refl
-    go false e None k = refl
-    go false e (Some n) k = refl
-
-pub push_new : (ts : Types) (id : ℕ) (f : Form) (q : ℕ) → is_some (number_of ts id) ≡ false → number_of (ts ++ (id, f) ∷ []) q ≡ cond (is_eq (nat_cmp id q)) (Some (length ts)) (number_of ts q)
-push_new ts id f q h = number_push ts (id, f) q ∙ rw (same_key id q) (go (eqb id q) refl (number_of ts q) refl)
-  where
-    go : (b : Bool) → eqb id q ≡ b → (o : Option ℕ) → number_of ts q ≡ o → option_or o (if b then Some (length ts) else None) ≡ cond b (Some (length ts)) o
-    go true e None k = refl
-    go true e (Some n) k = let s : id ≡ q = grind arith in let m : is_some (number_of ts id) ≡ true = rw (s, k) refl in cc
     go false e None k = refl
     go false e (Some n) k = refl
 

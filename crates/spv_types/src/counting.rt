@@ -18,7 +18,7 @@ use std::alloc::Global;
 #[derive(Drop)]
 pub struct Count {
     pub cells: Option<u64>,
-    pub firsts: Items<Option<u64>>,
+    pub(crate) firsts: Items<Option<u64>>,
 }
 
 /// The members of a struct, and none of any other type.

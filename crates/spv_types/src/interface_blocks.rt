@@ -1,5 +1,5 @@
 //! The rules of decorations and of the blocks that variables point to.
-ghost use Rattle.std.specs.Prelude.{◌≡◌, ◌||◌, ◌&&◌, ◌==◌, ◌∷◌, [], ℕ, List, false, IfOk, OnOk, drop, length};
+ghost use Rattle.std.specs.Prelude.{◌≡◌, ◌||◌, ◌&&◌, ◌==◌, [], ℕ, List, false, OnOk, length};
 ghost use Rattle.std.specs.Option.{is_some, option_and_then, option_map_or};
 ghost use Rattle.std.specs.BTreeSet.{contains};
 ghost use Rattle.spv_base.specs.Answers.{Answers};
@@ -8,23 +8,8 @@ ghost use Rattle.spv_index.specs.Definitions.{defining};
 ghost use Rattle.spv_index.specs.Keys.{pair_cmp};
 ghost use Rattle.spv_types.specs.Types.{form_of};
 ghost use Rattle.spv_types.specs.Build.{unless_refused};
-ghost use Rattle.spv_types.specs.Layout.{is_laid};
 ghost use Rattle.spv_types.specs.Measured.{AreLaid};
-ghost use Rattle.spv_types.specs.InterfaceBlocks.{
-  ArePlaces,
-  is_at,
-  is_block_class,
-  is_block_variable,
-  is_buffer_class,
-  is_taken,
-  keeps_block,
-  keeps_decoration,
-  keeps_layout,
-  keeps_pair,
-  module_breaches,
-  layout_of,
-  points_to_laid,
-};
+ghost use Rattle.spv_types.specs.InterfaceBlocks.{ArePlaces, is_at, is_block_class, is_block_variable, is_buffer_class, keeps_block, keeps_decoration, keeps_layout, keeps_pair, module_breaches, layout_of, points_to_laid};
 
 use crate::forms::Form;
 use crate::layout::{are_laid, sizes, whole_laid};

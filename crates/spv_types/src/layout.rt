@@ -1,5 +1,5 @@
 //! How blocks are laid out.
-ghost use Rattle.std.specs.Prelude.{◌≡◌, ◌<◌, ◌∷◌, [], ◌++◌, ◌&&◌, map, length, unwrap_or, IfOk};
+ghost use Rattle.std.specs.Prelude.{◌≡◌, ◌<◌, ◌&&◌, map, length, unwrap_or, IfOk};
 ghost use Rattle.std.specs.List.{All};
 ghost use Rattle.std.specs.Option.{is_some};
 ghost use Rattle.spv_types.specs.Layout.{IsForward, greatest_end, is_laid, keeps_stride, laid_among, laid_step, members_laid, none_overlap, size_among, size_of, size_step, span_of};

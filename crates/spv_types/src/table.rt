@@ -1,5 +1,5 @@
 //! The table of the types of a module.
-ghost use Rattle.std.specs.Prelude.{◌≡◌, ◌↔◌, ◌<◌, ◌≤◌, ℕ, List, [], ◌∷◌, ◌++◌, length, Some, None, false, IfOk, IfSome, OnOk, OnErr, MatchOption, IsTrue, slice_get, option_map, option_copied};
+ghost use Rattle.std.specs.Prelude.{◌≡◌, ◌↔◌, ◌<◌, ◌≤◌, ℕ, [], ◌∷◌, ◌++◌, length, Some, None, false, IfOk, IfSome, OnOk, OnErr, IsTrue, option_map, option_copied};
 ghost use Rattle.std.specs.Option.{option_map_or};
 ghost use Rattle.spv_base.specs.Answers.{Answers};
 ghost use Rattle.spv_types.specs.Build.{types_of};
@@ -31,15 +31,15 @@ const TYPE_CODE: u8 = 12;
 /// The types of a module, in its order. Contracts see a list of ids, each with its form.
 #[derive(Drop)]
 pub struct TypeTable {
-    pub(crate) entries: Vec<(u32, Form)>,
+    entries: Vec<(u32, Form)>,
     /// By ids, as `number_in` reads them.
     numbers: Vec<u32>,
     /// Of the types before the first that was not counted.
-    pub(crate) counts: Vec<Count>,
+    counts: Vec<Count>,
 }
 
 impl Model for TypeTable {
-    ghost use Rattle.std.specs.Prelude.{◌≡◌, ℕ, List};
+    ghost use Rattle.std.specs.Prelude.{◌≡◌, ℕ};
     ghost use Rattle.spv_types.specs.Types.{Types, number_of};
     ghost use Rattle.spv_types.specs.Counted.{AreCounted, number_in};
 

@@ -34,10 +34,6 @@ either : (p q : Bool) → (p || q) ≡ true → (p ≡ true) ⊎ (q ≡ true)
 either true q h = inl refl
 either false q h = inr h
 
-first_of_two : (p q : Bool) → p ≡ true → (p || q) ≡ true
-first_of_two true q e = refl
-first_of_two false q e = cc
-
 second_of_two : (p q : Bool) → q ≡ true → (p || q) ≡ true
 second_of_two true q e = refl
 second_of_two false q e = e

@@ -1,5 +1,5 @@
 //! The lanes of a type: its components, each a Boolean or an integer of a width.
-ghost use Rattle.std.specs.Prelude.{◌≡◌, ◌*◌, ◌<◌, ◌^◌};
+ghost use Rattle.std.specs.Prelude.{◌≡◌, ◌*◌, ◌<◌};
 ghost use Rattle.spv_types.specs.Types.{form_of};
 ghost use Rattle.spv_typing.specs.Lanes as spec;
 

@@ -139,15 +139,3 @@ pub passed_accepted : (a : Accepted) (name : Option (List ℕ)) (over : List (�
 unfolding acceptance
 passed_accepted a name over passes =
     rw (passes.sections, passes.ids, passes.capabilities, passes.types, passes.constants, passes.layout, passes.flow, passes.bodies, passes.entry, ← passes.cells) refl
-
--- an accepted module is the one that was given
-pub accepted_module : (m : Decoded) (name : Option (List ℕ)) (over : List (ℕ × ℤ)) (a : Accepted) → acceptance m name over ≡ Ok a → m ≡ decoded_in a
-accepted_module m name over a is =
-    let front = after_ok (front_of m) _ a (rw in_parts at is) in
-    let known = after_ok (known_of m.insts over) _ a front.2 in
-    let flow = after_ok (flow_with_bodies known.0 m.insts) _ a known.2 in
-    let entry = after_ok (entry_of known.0.0 known.0.1 flow.0 m.insts name) _ a flow.2 in
-    module_is (accepted m known.0 flow.0 entry.0) a entry.2
-  where
-    module_is : (x y : Accepted) → Path (Result Accepted Refusal) (Ok x) (Ok y) → decoded_in x ≡ decoded_in y
-    module_is x y same = cc

@@ -9,7 +9,7 @@ use crate::entry::entry_of;
 use crate::modules::Module;
 use crate::stack::stack_cells;
 use crate::validity::accepted_modules_are_valid;
-use spv_base::{Fail, Inst, Overrides, Refusal};
+use spv_base::{Fail, Overrides, Refusal};
 use spv_bodies::check_bodies;
 use spv_cfg::Flow;
 use spv_consts::ConstTable;

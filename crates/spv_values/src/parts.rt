@@ -1,5 +1,5 @@
 //! Lent rows: a part of a value, where its cells lie.
-ghost use Rattle.std.specs.Prelude.{◌≡◌, ◌+◌, ◌≤◌, Some, length};
+ghost use Rattle.std.specs.Prelude.{◌≡◌, ◌+◌, Some};
 ghost use Rattle.spv_base.specs.Parts.{part_at};
 ghost use Rattle.spv_base.specs.declared.values.Value.{Value};
 ghost use Rattle.spv_types.specs.Rows.{leaves};

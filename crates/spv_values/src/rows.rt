@@ -1,5 +1,5 @@
 //! Rows that own their cells: variables, and the results of instructions.
-ghost use Rattle.std.specs.Prelude.{◌≡◌, ◌+◌, ◌≤◌, [], IfOk, IsSome, Some, length};
+ghost use Rattle.std.specs.Prelude.{◌≡◌, ◌+◌, [], IfOk, IsSome, Some, length};
 ghost use Rattle.spv_base.specs.Parts.{part_at, with_part};
 ghost use Rattle.spv_base.specs.declared.values.Value.{Value, Scalar, List as Many, out-Value};
 ghost use Rattle.spv_types.specs.Rows.{leaves};

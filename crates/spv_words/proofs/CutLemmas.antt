@@ -1,5 +1,5 @@
 -- The cuts of a module's words, one after the other.
-use Rattle.std.proofs.Common.{◌≡◌, ℕ, zero, suc, ◌+◌, ◌-◌, ◌<◌, ◌≤◌, ◌==◌, nat_lt, ◌||◌, false, true, List, [], ◌∷◌, ◌++◌, length, take, drop, slice_index, refl, sym, ap, ◌⊎◌, inl, inr, arith, Result, Ok, Err, length-drop, append_assoc}
+use Rattle.std.proofs.Common.{◌≡◌, ℕ, zero, suc, ◌+◌, ◌-◌, ◌<◌, ◌≤◌, ◌==◌, nat_lt, ◌||◌, false, true, List, [], ◌∷◌, ◌++◌, length, take, drop, slice_index, refl, sym, ap, inl, inr, arith, Result, Ok, Err, length-drop, append_assoc}
 use Rattle.std.proofs.Math.Seq.{drop-cons}
 use Rattle.std.proofs.lemmas.List.{append-nil, drop-drop}
 use Rattle.std.specs.Result.{result_map_both}
@@ -22,12 +22,6 @@ cut-cons place first words some inside =
     let kept : ((count_of first == 0) || nat_lt (suc (length words)) (count_of first)) ≡ false = grind arith in
     rw kept refl
 
-pub cut-cons_refused : (place first : ℕ) (words : List ℕ) → (count_of first ≡ 0) ⊎ (suc (length words) < count_of first)
-    → cut place 0 (first ∷ words) ≡ Err (record { code = 5; word = place })
-cut-cons_refused place first words broken =
-    let refused : ((count_of first == 0) || nat_lt (suc (length words)) (count_of first)) ≡ true = grind arith in
-    rw refused refl
-
 -- the instruction at a place, and the cuts behind it
 pub cut-step : (words : List ℕ) (place count : ℕ) → place < length words → count ≡ count_of (slice_index words place) → 1 ≤ count → place + count ≤ length words
     → cut place 0 (drop place words) ≡ before (record { word = place; op = opcode_of (slice_index words place); rest = take (count - 1) (drop (suc place) words) }) (cut (place + count) 0 (drop (place + count) words))
@@ -40,15 +34,6 @@ cut-step words place count within is some inside =
     let at : suc place + (count - 1) ≡ place + count = omega arith in
     let from : drop (count - 1) behind ≡ drop (suc place + (count - 1)) words = drop-drop (count - 1) (suc place) words in
     rw (drop-cons words place 0 within, head, ← is, left, from, at) refl
-
--- the refusal at a place
-pub cut-refused : (words : List ℕ) (place : ℕ) → place < length words → (count_of (slice_index words place) ≡ 0) ⊎ (length words - place < count_of (slice_index words place))
-    → cut place 0 (drop place words) ≡ Err (record { code = 5; word = place })
-cut-refused words place within broken =
-    let behind = drop (suc place) words in
-    let long : length behind ≡ length words - suc place = length-drop (suc place) words in
-    rw (drop-cons words place 0 within)
-    (cut-cons_refused place (slice_index words place) behind (elim broken [ inl none ↦ inl none | inr past ↦ inr (omega (arith, past, long, within)) ]))
 
 -- what was cut before, in front of the cuts behind it
 abbrev pub behind : List RawInst → Result (List RawInst) Refusal → Result (List RawInst) Refusal

@@ -3,7 +3,7 @@ use Rattle.std.proofs.lemmas.List.{drop_more}
 use Rattle.std.proofs.KnownBytes.{Appends-trans}
 use Rattle.spv_app.specs.Lines.{complete_from, rest_from, ended_by, line_after}
 use Rattle.spv_app.specs.Transcript.{transcript, view_after, has_quit}
-use Rattle.spv_app.proofs.Spending.{IsSpending, spending_more, spending_stops, spending_done}
+use Rattle.spv_app.proofs.Spending.{IsSpending, spending_more, spending_stops}
 use Rattle.spv_app.proofs.Pieces.{hands_on, goes, due_more, view_more, quit_more, stop_first}
 use Rattle.spv_app.proofs.answer.answer_piece.Goals as goal
 
