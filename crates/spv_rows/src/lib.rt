@@ -5,8 +5,6 @@
 #[cfg(test)]
 mod calls;
 #[cfg(test)]
-mod edge;
-#[cfg(test)]
 mod faults;
 #[cfg(test)]
 mod limits;
