@@ -1,19 +1,28 @@
--- Groups that are opened, with their journals.
-use Rattle.std.proofs.Common.{◌≡◌, ℕ, Result, Ok, Err, refl, ap, subst}
+-- Sessions that are opened over a pair.
+use Rattle.std.proofs.Common.{◌≡◌, ◌∙◌, ℕ, Result, Ok, Err, refl, ap, sym, subst}
 use Rattle.spv_group.specs.Group.{Held as Group, Undoing}
 use Rattle.spv_app.specs.declared.opening.OpeningRefusal.{OpeningRefusal}
 use Rattle.spv_app.specs.declared.status.Status.{Status}
 use Rattle.spv_app.specs.Command_loop.{Ran}
-use Rattle.spv_app.specs.Opening.{journaled, with_journal}
+use Rattle.spv_app.specs.Opening.{journaled, viewed, with_journal}
 use Rattle.spv_app.specs.Outside.{Streams}
-use Rattle.spv_session.specs.View.{Viewing}
+use Rattle.spv_session.specs.View.{Viewing, first_viewing}
 
--- what a pair is opened as
-pub opened_is : (n : ℕ) (r : Result Group OpeningRefusal) (u : Undoing) → journaled n r ≡ Ok u → (g : Group) × (r ≡ Ok g) × (u ≡ with_journal n g)
-opened_is n (Ok g) u e = (g, refl, cc)
-opened_is n (Err x) u e = absurd (cc)
+-- the first view of what a pair is opened as
+pub viewed_as : (n : ℕ) (r : Result Group OpeningRefusal) (u : Undoing) (v : Viewing) → journaled n r ≡ Ok u → v ≡ first_viewing u → viewed n r ≡ Ok v
+viewed_as n (Ok g) u v e f = let same : with_journal n g ≡ u = cc in ap Ok (ap first_viewing same ∙ sym f)
+viewed_as n (Err x) u v e f = absurd (cc)
 
-pub refused_is : (n : ℕ) (r : Result Group OpeningRefusal) (x : OpeningRefusal) → journaled n r ≡ Err x → r ≡ Err x
+pub unviewed_as : (n : ℕ) (r : Result Group OpeningRefusal) (x : OpeningRefusal) → journaled n r ≡ Err x → viewed n r ≡ Err x
+unviewed_as n (Ok g) x e = absurd (cc)
+unviewed_as n (Err y) x e = let same : y ≡ x = cc in ap Err same
+
+-- the group that a view is of
+pub viewed_is : (n : ℕ) (r : Result Group OpeningRefusal) (v : Viewing) → viewed n r ≡ Ok v → (g : Group) × (r ≡ Ok g) × (v ≡ first_viewing (with_journal n g))
+viewed_is n (Ok g) v e = (g, refl, cc)
+viewed_is n (Err x) v e = absurd (cc)
+
+pub refused_is : (n : ℕ) (r : Result Group OpeningRefusal) (x : OpeningRefusal) → viewed n r ≡ Err x → r ≡ Err x
 refused_is n (Ok g) x e = absurd (cc)
 refused_is n (Err y) x e = let same : y ≡ x = cc in ap Err same
 

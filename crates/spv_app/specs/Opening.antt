@@ -10,6 +10,7 @@ use Rattle.spv_setup.specs.Settings.{settings_of}
 use Rattle.spv_setup.specs.Schedule.{Entries}
 use Rattle.spv_fit.specs.Fit.{fitted}
 use Rattle.spv_group.specs.Group.{Held as Group, Undoing, first_group}
+use Rattle.spv_session.specs.View.{Viewing, first_viewing}
 use Rattle.spv_app.specs.declared.opening.OpeningRefusal.{OpeningRefusal}
 use Rattle.spv_app.specs.declared.opening.OpeningRefusal.TheVariants.{Module, Setup}
 use Rattle.spv_app.specs.Acceptance.{accepted_as}
@@ -45,6 +46,10 @@ with_journal limit group = record { group = group; kept = 0; limit = limit }
 
 abbrev pub journaled : ℕ → Result Group OpeningRefusal → Result Undoing OpeningRefusal
 journaled limit due = after due (λ group. Ok (with_journal limit group))
+
+-- the first view of it, for a session
+abbrev pub viewed : ℕ → Result Group OpeningRefusal → Result Viewing OpeningRefusal
+viewed limit due = after due (λ group. Ok (first_viewing (with_journal limit group)))
 
 -- The setup's text is looked at first, then the module, and then whether the setup fits it.
 unfoldable pub opening : List ℕ → List ℕ → Result Group OpeningRefusal

@@ -2,7 +2,8 @@
 ghost use Rattle.std.specs.Prelude.{◌≡◌, ◌≢◌, ◌↔◌, ◌⊎◌, ◌<◌, ◌≤◌, ◌-◌, ◌^◌, [], ◌∷◌, ◌++◌, List, ℕ, Option, Some, None, All, vec_len, length, IfOk, IfErr, IsOk, IsErrOf};
 ghost use Rattle.std.specs.Io.KnownBytes.{Appends};
 ghost use Rattle.spv_app.specs.Command_line.{Names, debug_names, check_name, text_name, usage_line};
-ghost use Rattle.spv_app.specs.Opening.{opening, refusal_line};
+ghost use Rattle.spv_base.specs.Answers.{Answers};
+ghost use Rattle.spv_app.specs.Opening.{opening, refusal_line, viewed};
 ghost use Rattle.spv_app.specs.Debug.{Debugged, IsPair, IsOneOf, SaysLine, SaysUnopened, status_of_refusal, due_text, due_status};
 ghost use Rattle.spv_base.specs.Outside.{AsksFor};
 ghost use Rattle.spv_app.specs.File_status.{status_of_file};
@@ -81,6 +82,23 @@ fn read_pair<F: Files>(
     Ok((binary, setup))
 }
 
+/// A session over a pair, at its first view. The probes are dropped at once.
+#[tactic(auto, using(crate::proofs::Openings::viewed_as, crate::proofs::Openings::unviewed_as))]
+fn open_session(
+    alloc: Global,
+    binary: Vec<u8>,
+    setup: Vec<u8>,
+    kit: Vec<Box<dyn Probe>>,
+) -> Result<Session, Fail<OpeningRefusal>>
+    requires fits { length setup.items ≤ setup_limit }
+    requires few { vec_len kit ≤ 16 }
+    requires unused { All (λ p. tally p ≡ 0) kit.items }
+    ensures { Answers (viewed 1048576 (opening binary.items setup.items)) result }
+{
+    let group = open(alloc, binary, setup)?;
+    Ok(Session::open(alloc, group, kit)?)
+}
+
 /// Reads a module and a setup, and answers the input's lines about them.
 fn debug<F: Files, I: Source, K: Sink, L: Ledger>(
     alloc: Global,
@@ -110,16 +128,11 @@ fn debug<F: Files, I: Source, K: Sink, L: Ledger>(
         Ok(pair) => pair,
         Err(error) => return Status::from(error),
     };
-    let group = match open(alloc, binary, setup) {
-        Ok(group) => group,
-        Err(Fail::Refused(refusal)) => return tell_refusal(alloc, refusal, out),
-        Err(Fail::NoMemory) => return Status::NoMemory,
-    };
-    let mut session = match Session::open(alloc, group, kit) {
-        Ok(session) => session,
-        Err(_) => return Status::NoMemory,
-    };
-    run(alloc, &mut session, input, out, steps)
+    match open_session(alloc, binary, setup, kit) {
+        Ok(mut session) => run(alloc, &mut session, input, out, steps),
+        Err(Fail::Refused(refusal)) => tell_refusal(alloc, refusal, out),
+        Err(Fail::NoMemory) => Status::NoMemory,
+    }
 }
 
 /// Writes the line that tells how much an accepted module holds.

@@ -2,7 +2,7 @@
 use spv_base::{EndCause, Happening};
 
 /// What a motion forth did.
-#[derive(Clone, Copy, Debug, PartialEq, Eq)]
+#[derive(Clone, Copy)]
 pub enum Forth {
     /// This event was made.
     Went(Happening),
@@ -11,7 +11,7 @@ pub enum Forth {
 }
 
 /// What a motion back did.
-#[derive(Clone, Copy, Debug, PartialEq, Eq)]
+#[derive(Clone, Copy)]
 pub enum Back {
     /// This event was taken back.
     Went(Happening),

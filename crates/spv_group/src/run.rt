@@ -190,6 +190,27 @@ impl Run {
         Ok(())
     }
 
+    /// Makes the next event, which no end keeps from happening, with one step.
+    fn make_next<L: Ledger>(
+        &mut self,
+        alloc: Global,
+        m: &Runnable,
+        schedule: &Schedule,
+        steps: &mut Steps<L>,
+    ) -> Result<Happening, NoMemory>
+        requires run { IsRun m.now schedule.now self.old.world.limit self.old.world self.old.position }
+        requires before { self.old.position < end_of m.now schedule.now.list }
+        ensures event { IfOk result (λ h. happening_at m.now schedule.now.list self.old.position ≡ Some h) }
+        ensures counted { steps.old ≤ steps.new }
+        ensures cost { steps.new ≤ steps.old + 1 }
+        ensures exact { IsOk result → steps.new ≡ steps.old + 1 }
+    {
+        match self.forth(alloc, m, schedule, steps)? {
+            Forth::Went(happening) => Ok(happening),
+            Forth::AtEnd(_) => unreachable!(),
+        }
+    }
+
     /// What happens next, which no end keeps from happening; found on a copy, with one step.
     pub fn next_happening<L: Ledger>(
         &self,
@@ -206,9 +227,6 @@ impl Run {
         ensures exact { IsOk result → steps.new ≡ steps.old + 1 }
     {
         let mut copy = self.copy(alloc, m, schedule, 1)?;
-        match copy.forth(alloc, m, schedule, steps)? {
-            Forth::Went(happening) => Ok(happening),
-            Forth::AtEnd(_) => unreachable!(),
-        }
+        copy.make_next(alloc, m, schedule, steps)
     }
 }

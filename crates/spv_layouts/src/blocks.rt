@@ -180,6 +180,25 @@ fn variables_of(alloc: Global, blocks: &[Block]) -> Result<Vec<u32>, NoMemory> {
     Ok(variables)
 }
 
+/// What is found in some blocks of a module, in a memory of their variables; none where one does not hold its bytes.
+fn found_among(
+    alloc: Global,
+    memory: &mut Memory,
+    module: &Module,
+    variables: &[u32],
+    blocks: &[Block],
+) -> Result<Option<Vec<Found>>, NoMemory> {
+    if !add_blocks(alloc, memory, module, blocks)? {
+        return Ok(None);
+    }
+    let mut all = Vec::new(alloc);
+    for block in blocks {
+        let found = found_of(alloc, memory, module, variables, block)?;
+        all.push(found)?;
+    }
+    Ok(Some(all))
+}
+
 /// What is found in some blocks of a module, in a memory of them all; none where one does not hold its bytes.
 pub(crate) fn found_in(
     alloc: Global,
@@ -187,16 +206,10 @@ pub(crate) fn found_in(
     blocks: &[Block],
 ) -> Result<Option<Vec<Found>>, NoMemory> {
     let variables = variables_of(alloc, blocks)?;
-    let Some(mut memory) = memory_of(alloc, module, variables.as_slice())? else {
-        return Ok(None);
-    };
-    if !add_blocks(alloc, &mut memory, module, blocks)? {
-        return Ok(None);
+    match memory_of(alloc, module, variables.as_slice())? {
+        Some(mut memory) => {
+            found_among(alloc, &mut memory, module, variables.as_slice(), blocks)
+        }
+        None => Ok(None),
     }
-    let mut all = Vec::new(alloc);
-    for block in blocks {
-        let found = found_of(alloc, &mut memory, module, variables.as_slice(), block)?;
-        all.push(found)?;
-    }
-    Ok(Some(all))
 }

@@ -103,28 +103,32 @@ fn add_left(
     Ok(true)
 }
 
-/// What loads give after calls on the variables of the invocations of a module, in the order that the program names; none where a
-/// call is not made.
-pub(crate) fn loads_on(
-    alloc: Global,
-    module: &Module,
-) -> Result<Option<Vec<Option<Cell>>>, NoMemory> {
-    let Some(mut memory) = memory_of(alloc, module, &[INPUT, LOCAL])? else {
-        return Ok(None);
-    };
+/// What loads give after calls on the variables of invocations, in the order that the program names; none where a call is not made.
+fn loads_in(alloc: Global, memory: &mut Memory) -> Result<Option<Vec<Option<Cell>>>, NoMemory> {
     let root = Root::Local {
         depth: 0,
         id: LOCAL,
     };
     let p = pointer(alloc, root, &[0, 1, 1, 2])?;
     let mut loads = Vec::new(alloc);
-    let private = add_privates(alloc, &mut memory, &mut loads)?;
-    let local = add_locals(alloc, &mut memory, &p, &mut loads)?;
-    add_copied(alloc, &memory, &p, &mut loads)?;
-    let left = add_left(&mut memory, &p, &mut loads)?;
+    let private = add_privates(alloc, memory, &mut loads)?;
+    let local = add_locals(alloc, memory, &p, &mut loads)?;
+    add_copied(alloc, memory, &p, &mut loads)?;
+    let left = add_left(memory, &p, &mut loads)?;
     if private && local && left {
         Ok(Some(loads))
     } else {
         Ok(None)
+    }
+}
+
+/// The same on the variables of a module.
+pub(crate) fn loads_on(
+    alloc: Global,
+    module: &Module,
+) -> Result<Option<Vec<Option<Cell>>>, NoMemory> {
+    match memory_of(alloc, module, &[INPUT, LOCAL])? {
+        Some(mut memory) => loads_in(alloc, &mut memory),
+        None => Ok(None),
     }
 }

@@ -38,34 +38,35 @@ const LOADED: &[&str] = &[
     "the local variable of a frame that is given back",
 ];
 
-/// The module with these bytes.
-fn module_of(alloc: Global, bytes: &[u8]) -> Result<Option<Module>, Fail<Refusal>> {
+/// The instructions of the module with these bytes, and its Bound; none where they are no decoded module.
+fn decoded_of(alloc: Global, bytes: &[u8]) -> Result<Option<DecodedModule>, Fail<Refusal>> {
     let list = words(alloc, bytes)?;
     let raws = raw(alloc, &list)?;
     let insts = decode_all(alloc, raws.as_slice())?;
-    match DecodedModule::of(insts, list.bound()) {
+    Ok(DecodedModule::of(insts, list.bound()))
+}
+
+/// The module with these bytes.
+fn module_of(alloc: Global, bytes: &[u8]) -> Result<Option<Module>, Fail<Refusal>> {
+    match decoded_of(alloc, bytes)? {
         Some(decoded) => Ok(Some(accept(alloc, decoded, None, &Overrides::new(alloc))?)),
         None => Ok(None),
     }
 }
 
-/// What is found in the blocks of the module with these bytes; none where it is refused.
-fn found_by(
-    alloc: Global,
-    bytes: &[u8],
-    blocks: &[Block],
-) -> Result<Option<Vec<Found>>, Fail<Refusal>> {
-    match module_of(alloc, bytes)? {
-        Some(module) => Ok(found_in(alloc, &module, blocks)?),
-        None => Ok(None),
+/// What is found in the blocks of the module with these bytes; none where it is refused, or memory ran out.
+fn found_by(alloc: Global, bytes: &[u8], blocks: &[Block]) -> Option<Vec<Found>> {
+    match module_of(alloc, bytes) {
+        Ok(Some(module)) => found_in(alloc, &module, blocks).unwrap_or(None),
+        _ => None,
     }
 }
 
-/// What the loads give after calls on the module with these bytes; none where it is refused.
-fn loads_by(alloc: Global, bytes: &[u8]) -> Result<Option<Vec<Option<Cell>>>, Fail<Refusal>> {
-    match module_of(alloc, bytes)? {
-        Some(module) => Ok(loads_on(alloc, &module)?),
-        None => Ok(None),
+/// What the loads give after calls on the module with these bytes; none where it is refused, or memory ran out.
+fn loads_by(alloc: Global, bytes: &[u8]) -> Option<Vec<Option<Cell>>> {
+    match module_of(alloc, bytes) {
+        Ok(Some(module)) => loads_on(alloc, &module).unwrap_or(None),
+        _ => None,
     }
 }
 
@@ -108,7 +109,7 @@ fn report<R: rt::Files + Print + AllocGlobal>(rt: &R, name: &str, asked: &str) -
         return println!(rt; "out of memory");
     };
     println!(rt; "{name}:")?;
-    let Ok(Some(all)) = found_by(rt.alloc(), bytes.as_slice(), blocks.as_slice()) else {
+    let Some(all) = found_by(rt.alloc(), bytes.as_slice(), blocks.as_slice()) else {
         return println!(rt; "the blocks do not hold their bytes");
     };
     for (block, found) in blocks.iter().zip(all.as_slice()) {
@@ -130,7 +131,7 @@ fn print_load<R: Print>(rt: &R, name: &str, cell: &Option<Cell>) -> io::Result<(
 fn report_calls<R: rt::Files + Print + AllocGlobal>(rt: &R) -> io::Result<()> {
     let bytes = fs::read(rt, CALLED)?;
     println!(rt; "calls on {CALLED}, by 0x5 and 0x7 in invocation 1, and 0x9 in a copy:")?;
-    let Ok(Some(loads)) = loads_by(rt.alloc(), bytes.as_slice()) else {
+    let Some(loads) = loads_by(rt.alloc(), bytes.as_slice()) else {
         return println!(rt; "the variables cannot be added");
     };
     for (name, cell) in LOADED.iter().zip(loads.as_slice()) {

@@ -40,9 +40,9 @@ fn decoded(alloc: Global, bytes: &[u8]) -> Result<Option<DecodedModule>, Fail<Re
 }
 
 /// What the debug records of a module hold and give.
-fn counts_in(alloc: Global, module: &Module) -> Result<Counts, Fail<Refusal>> {
+fn counts_in(alloc: Global, module: &Module) -> Result<Option<Counts>, Fail<Refusal>> {
     let tables = DebugTables::build(alloc, module)?;
-    Ok(Counts::of(&tables, module.insts()))
+    Ok(Some(Counts::of(&tables, module.insts())))
 }
 
 /// What the debug records of the module with these bytes hold and give, where it is accepted.
@@ -51,7 +51,7 @@ fn counts_of(alloc: Global, bytes: &[u8]) -> Result<Option<Counts>, Fail<Refusal
         return Ok(None);
     };
     let module = accept(alloc, decoded, None, &Overrides::new(alloc))?;
-    Ok(Some(counts_in(alloc, &module)?))
+    counts_in(alloc, &module)
 }
 
 /// Says what is counted.

@@ -32,12 +32,6 @@ fn stand_of(group: &Group) -> Stand {
     }
 }
 
-/// The group of a module.
-fn group_of(alloc: Global, module: Vec<u8>) -> Option<Group> {
-    let setup = Vec::from_slice(alloc, SETUP.as_bytes()).ok()?;
-    open_limited(alloc, module, setup, LIMIT).ok()
-}
-
 /// Makes events.
 fn go_forth<L: Ledger>(group: &mut Group, steps: &mut Steps<L>) -> Result<(), NoMemory> {
     for _event in 0..EVENTS {
@@ -69,8 +63,11 @@ fn stands<L: Ledger>(group: &mut Group, blank: Blank) -> Result<(Stand, Stand), 
 
 /// The same of the group of a module.
 fn stands_of(alloc: Global, module: Vec<u8>) -> Option<(Stand, Stand)> {
-    let mut group = group_of(alloc, module)?;
-    stands::<Brand>(&mut group, Blank::new(1)).ok()
+    let setup = Vec::from_slice(alloc, SETUP.as_bytes()).ok()?;
+    match open_limited(alloc, module, setup, LIMIT) {
+        Ok(mut group) => stands::<Brand>(&mut group, Blank::new(1)).ok(),
+        Err(_) => None,
+    }
 }
 
 /// Says where a group stands, and what it keeps.

@@ -11,12 +11,10 @@ use crate::captures::Capture;
 use crate::lookups::Lookups;
 use crate::predecoded::Predecoded;
 use spv_base::NoMemory;
-use spv_dbg::Keyed;
 use spv_initial::Declared;
 use spv_setup::Setup;
 use spv_valid::Module;
 use std::alloc::Global;
-use std::collections::BTreeMap;
 use std::marker::Model;
 
 /// An accepted module, and a setup that fits it.
@@ -24,12 +22,7 @@ use std::marker::Model;
 pub struct Runnable {
     accepted: Module,
     setup: Setup,
-    /// The variables of each function, by its id.
-    variables: BTreeMap<u32, Vec<Declared>>,
-    /// The debug instructions that a run passes, by the executables before which they stand.
-    captures: Keyed<Vec<Capture>>,
-    /// The instructions on values of one cell, by their numbers in the module.
-    predecoded: Vec<Option<Predecoded>>,
+    lookups: Lookups,
 }
 
 impl Model for Runnable {
@@ -43,9 +36,9 @@ impl Model for Runnable {
 
     ghost view = { λ r. record { accepted = r.accepted; setup = r.setup } };
 
-    ghost invariant = { λ r. IsFitting r.accepted r.setup × ((function : ℕ) → under r.variables function ≡ variables_of r.accepted function)
-        × ((pc : ℕ) → events.under r.captures pc ≡ events.captures_before r.accepted pc)
-        × ArePredecoded r.accepted r.predecoded.items };
+    ghost invariant = { λ r. IsFitting r.accepted r.setup × ((function : ℕ) → under r.lookups.variables function ≡ variables_of r.accepted function)
+        × ((pc : ℕ) → events.under r.lookups.captures pc ≡ events.captures_before r.accepted pc)
+        × ArePredecoded r.accepted r.lookups.predecoded.items };
 }
 
 impl Runnable {
@@ -54,17 +47,11 @@ impl Runnable {
         requires fits { program.IsFitting accepted setup }
         ensures { IfOk result (λ program. program ≡ record { accepted = accepted; setup = setup }) }
     {
-        let Lookups {
-            variables,
-            captures,
-            predecoded,
-        } = Lookups::of(alloc, &accepted)?;
+        let lookups = Lookups::of(alloc, &accepted)?;
         Ok(Runnable {
             accepted,
             setup,
-            variables,
-            captures,
-            predecoded,
+            lookups,
         })
     }
 
@@ -79,7 +66,7 @@ impl Runnable {
     pub fn variables(&self, function: u32) -> &[Declared]
         ensures { result.now ≡ variables_of self.now.accepted function }
     {
-        match self.variables.get(&function) {
+        match self.lookups.variables.get(&function) {
             Some(list) => list.as_slice(),
             None => &[],
         }
@@ -89,7 +76,7 @@ impl Runnable {
     pub fn captures(&self, pc: u32) -> &[Capture]
         ensures { result.now ≡ captures_before self.now.accepted pc }
     {
-        match self.captures.get(pc) {
+        match self.lookups.captures.get(pc) {
             Some(list) => list.as_slice(),
             None => &[],
         }
@@ -101,7 +88,7 @@ impl Runnable {
         ensures { IfSome (option_copied result) (λ p. (d : Inst) → at self.now.accepted.insts pc ≡ Some d → ∥ IsPredecoded self.now.accepted d p ∥₁) }
     {
         let number = self.accepted.index().number_at(pc)?;
-        match self.predecoded.get(number)? {
+        match self.lookups.predecoded.get(number)? {
             Some(predecoded) => Some(predecoded),
             None => None,
         }

@@ -1,28 +1,25 @@
-use Rattle.std.proofs.Common.{refl, inr, ap, ◌∙◌}
+use Rattle.std.proofs.Common.{refl, inr}
 use Rattle.std.proofs.KnownBytes.{Keeps-refl}
 use Rattle.spv_app.specs.Debug.{Unopened, Refused, Opened}
 use Rattle.spv_app.specs.File_status.{status_of_file}
 use Rattle.spv_app.specs.Opening.{opening, with_journal}
 use Rattle.spv_session.specs.View.{first_viewing}
-use Rattle.spv_app.proofs.Openings.{opened_is, refused_is, ran_as}
+use Rattle.spv_app.proofs.Openings.{viewed_is, refused_is, ran_as}
 use Rattle.spv_app.proofs.debug.debug.Goals as goal
 
 pub returns-in-Err-clause-debugged : goal.returns-in-Err-clause-debugged
 returns-in-Err-clause-debugged g c = rw c.from.ensures (Unopened (status_of_file c.in-Err.error) c.in-Err.ensures.says refl (Keeps-refl _) refl)
 
+pub returns-in-Ok-open_session-clause-debugged : goal.returns-in-Ok-open_session-clause-debugged
+returns-in-Ok-open_session-clause-debugged g c =
+    let opened = viewed_is 1048576 (opening c.in-Ok.pair.0.items c.in-Ok.pair.1.items) c.in-Ok-open_session.session c.in-Ok-open_session.ensures in
+    Opened _ c.in-Ok.pair.0.items c.in-Ok.pair.1.items opened.0 (c.in-Ok.ensures.asked refl) c.in-Ok.ensures.pair opened.1
+    (ran_as (first_viewing (with_journal 1048576 opened.0)) _ _ _ _ opened.2 c.run.ensures.ran)
+
 pub returns-in-Err-Refused-clause-debugged : goal.returns-in-Err-Refused-clause-debugged
 returns-in-Err-Refused-clause-debugged g c =
     let s = c.tell_refusal.ensures.says in
-    Refused _ c.in-Ok.pair.0.items c.in-Ok.pair.1.items c.in-Err-Refused.refusal s.0 (c.in-Ok.ensures.asked refl) c.in-Ok.ensures.pair (refused_is 1048576 (opening c.in-Ok.pair.0.items c.in-Ok.pair.1.items) c.in-Err-Refused.refusal (rw c.in-Err-Refused.field-0-is at c.in-Err-Refused.ensures.opening)) refl s.1 s.2 refl
+    Refused _ c.in-Ok.pair.0.items c.in-Ok.pair.1.items c.in-Err-Refused.refusal s.0 (c.in-Ok.ensures.asked refl) c.in-Ok.ensures.pair (refused_is 1048576 (opening c.in-Ok.pair.0.items c.in-Ok.pair.1.items) c.in-Err-Refused.refusal (rw c.in-Err-Refused.field-0-is at c.in-Err-Refused.ensures)) refl s.1 s.2 refl
 
 pub returns-in-Err-NoMemory-clause-debugged : goal.returns-in-Err-NoMemory-clause-debugged
 returns-in-Err-NoMemory-clause-debugged g c = Unopened _ (inr (inr (refl, inr (inr (c.in-Ok.ensures.asked refl))))) refl (Keeps-refl _) refl
-
-pub returns-in-Err-open-clause-debugged : goal.returns-in-Err-open-clause-debugged
-returns-in-Err-open-clause-debugged g c = Unopened _ (inr (inr (refl, inr (inr (c.in-Ok.ensures.asked refl))))) refl (Keeps-refl _) refl
-
-pub returns-clause-debugged : goal.returns-clause-debugged
-returns-clause-debugged g c =
-    let opened = opened_is 1048576 (opening c.in-Ok.pair.0.items c.in-Ok.pair.1.items) c.in-Ok-open.group c.in-Ok-open.ensures.opening in
-    Opened _ c.in-Ok.pair.0.items c.in-Ok.pair.1.items opened.0 (c.in-Ok.ensures.asked refl) c.in-Ok.ensures.pair opened.1
-    (ran_as (first_viewing (with_journal 1048576 opened.0)) _ _ _ _ (c.in-Ok-open-2.ensures ∙ ap first_viewing opened.2) c.run.ensures.ran)

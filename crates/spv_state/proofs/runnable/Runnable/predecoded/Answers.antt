@@ -11,7 +11,7 @@ use Rattle.spv_state.proofs.runnable.Runnable.predecoded.Goals as goal
 pub returns-in-Some : goal.returns-in-Some
 returns-in-Some c =
     let a = c.self.inside.accepted in
-    let ps = c.self.inside.predecoded.items in
+    let ps = c.self.inside.lookups.predecoded.items in
     let found : Some c.in_ok-number.number ≡ number_at a.insts c.args.pc
     = sym c.in_ok-number.was ∙ c.number_at.ensures.number ∙ ap (λ (is : List Inst). number_at is c.args.pc) c.index.ensures.insts in
     let item : slice_get c.deref.result.now c.in_ok-number.number ≡ Some c.in_ok-predecoded.field-0.now
