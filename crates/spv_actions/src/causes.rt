@@ -3,7 +3,7 @@ ghost use Rattle.std.specs.Prelude.{◌≡◌};
 ghost use Rattle.spv_actions.specs.Effects.{code_of};
 
 /// Why an instruction faults. A fault changes nothing, and the run ends before it.
-#[derive(Clone, Copy, Debug, PartialEq, Eq)]
+#[derive(Clone, Copy)]
 pub enum Cause {
     /// F1: a branch or a switch by a value that is not defined.
     UndefinedBranch,

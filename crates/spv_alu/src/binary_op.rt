@@ -9,7 +9,7 @@ use spv_base::Cell;
 use spv_ops::op;
 
 /// A binary operation on lanes.
-#[derive(Clone, Copy, Debug, PartialEq, Eq)]
+#[derive(Clone, Copy)]
 pub enum BinaryOp {
     IAdd,
     ISub,

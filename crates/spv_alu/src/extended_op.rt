@@ -9,7 +9,7 @@ use spv_base::Cell;
 use spv_ops::op;
 
 /// An operation that gives two integers.
-#[derive(Clone, Copy, Debug, PartialEq, Eq)]
+#[derive(Clone, Copy)]
 pub enum ExtendedOp {
     IAddCarry,
     ISubBorrow,

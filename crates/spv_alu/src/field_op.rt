@@ -10,7 +10,7 @@ use spv_base::Cell;
 use spv_ops::op;
 
 /// An operation on a field of bits.
-#[derive(Clone, Copy, Debug, PartialEq, Eq)]
+#[derive(Clone, Copy)]
 pub enum FieldOp {
     BitFieldInsert,
     BitFieldSExtract,

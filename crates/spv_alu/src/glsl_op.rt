@@ -11,7 +11,7 @@ use spv_base::Cell;
 use spv_ops::glsl;
 
 /// An extended instruction on integers.
-#[derive(Clone, Copy, Debug, PartialEq, Eq)]
+#[derive(Clone, Copy)]
 pub enum GlslOp {
     SAbs,
     SSign,

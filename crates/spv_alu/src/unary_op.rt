@@ -8,7 +8,7 @@ use spv_base::Cell;
 use spv_ops::op;
 
 /// A unary operation on lanes.
-#[derive(Clone, Copy, Debug, PartialEq, Eq)]
+#[derive(Clone, Copy)]
 pub enum UnaryOp {
     UConvert,
     SConvert,

@@ -7,7 +7,7 @@ use spv_base::Cell;
 use spv_ops::op;
 
 /// An operation on all lanes of a vector.
-#[derive(Clone, Copy, Debug, PartialEq, Eq)]
+#[derive(Clone, Copy)]
 pub enum VectorOp {
     Any,
     All,

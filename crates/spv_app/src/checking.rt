@@ -9,7 +9,7 @@ use std::alloc::Global;
 use std::fmt;
 
 /// How much an accepted module holds.
-#[derive(Clone, Copy, Debug, PartialEq, Eq)]
+#[derive(Clone, Copy)]
 pub struct Report {
     /// The number of its words, with the header's.
     pub words: usize,

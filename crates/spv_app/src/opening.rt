@@ -18,7 +18,7 @@ use std::alloc::Global;
 use std::fmt;
 
 /// Why a pair of a module and a setup is refused.
-#[derive(Clone, Copy, Debug, PartialEq, Eq)]
+#[derive(Clone, Copy)]
 pub enum OpeningRefusal {
     /// A rule of modules is broken.
     Module(Refusal),

@@ -4,7 +4,7 @@ use std::marker::Model;
 /// A scalar of `width` bits, or an undefined one, whose bits are 0.
 ///
 /// The width is 8, 16, 32 or 64 for an integer and 1 for a Boolean; the bits are below 2 ^ width.
-#[derive(Clone, Copy, Debug, PartialEq, Eq)]
+#[derive(Clone, Copy, PartialEq, Eq)]
 pub struct Cell {
     pub bits: u64,
     pub width: u8,

@@ -1,7 +1,7 @@
 //! Events, and why a run ends.
 
 /// What kind of event happened.
-#[derive(Clone, Copy, Debug, PartialEq, Eq)]
+#[derive(Clone, Copy)]
 pub enum Kind {
     /// The invocation waits or is finished: nothing changed.
     Idle,
@@ -17,7 +17,7 @@ pub enum Kind {
 
 /// One event: its invocation, its kind, the word number of its instruction, the id of the shared variable
 /// that was written (0 if none), and the source line of a line head (else 0).
-#[derive(Clone, Copy, Debug, PartialEq, Eq)]
+#[derive(Clone, Copy)]
 pub struct Happening {
     pub inv: u32,
     pub kind: Kind,
@@ -27,7 +27,7 @@ pub struct Happening {
 }
 
 /// How far an invocation is.
-#[derive(Clone, Copy, Debug, PartialEq, Eq)]
+#[derive(Clone, Copy)]
 pub enum Status4 {
     Ready,
     /// It waits at a barrier.
@@ -38,7 +38,7 @@ pub enum Status4 {
 }
 
 /// A fault of an invocation at the instruction with this word number.
-#[derive(Clone, Copy, Debug, PartialEq, Eq)]
+#[derive(Clone, Copy)]
 pub struct Fault {
     pub code: u8,
     pub inv: u32,
@@ -46,7 +46,7 @@ pub struct Fault {
 }
 
 /// Why a run is at its end.
-#[derive(Clone, Copy, Debug, PartialEq, Eq)]
+#[derive(Clone, Copy)]
 pub enum EndCause {
     /// All invocations are finished.
     Finished,

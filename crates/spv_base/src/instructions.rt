@@ -2,7 +2,7 @@
 use crate::lists::Items;
 
 /// One operand of an instruction: an id, a literal word, or the bytes of a string.
-#[derive(Debug, PartialEq, Drop)]
+#[derive(Drop)]
 pub enum Operand {
     Id(u32),
     Lit(u32),
@@ -10,7 +10,7 @@ pub enum Operand {
 }
 
 /// An instruction as words: the number of its first word, its opcode, and the words after the first.
-#[derive(Debug, PartialEq, Drop)]
+#[derive(Drop)]
 pub struct RawInst {
     pub word: u32,
     pub op: u16,
@@ -19,7 +19,7 @@ pub struct RawInst {
 
 /// An instruction: the number of its first word, its opcode, its result type and result id
 /// (0 where it has none), and its other operands.
-#[derive(Debug, PartialEq, Drop)]
+#[derive(Drop)]
 pub struct Inst {
     pub word: u32,
     pub op: u16,

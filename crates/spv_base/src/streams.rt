@@ -109,7 +109,7 @@ impl Source for FailingSource {
 }
 
 /// Why a call of a sink in memory failed.
-#[derive(Clone, Copy, Debug, PartialEq, Eq)]
+#[derive(Clone, Copy)]
 pub enum SinkFault {
     /// The call's number is listed.
     Listed,

@@ -5,7 +5,7 @@ ghost use Rattle.spv_bodies.specs.Rules as spec;
 use spv_ops::op;
 
 /// A rule of function bodies.
-#[derive(Clone, Copy, Debug, PartialEq, Eq)]
+#[derive(Clone, Copy)]
 pub enum Rule {
     /// It is kept wherever the instruction stands.
     Free,
@@ -20,7 +20,7 @@ pub enum Rule {
 }
 
 /// A rule of variables, loads, stores and chains.
-#[derive(Clone, Copy, Debug, PartialEq, Eq)]
+#[derive(Clone, Copy)]
 pub enum MemoryRule {
     Undef,
     Variable,
@@ -32,7 +32,7 @@ pub enum MemoryRule {
 }
 
 /// A rule of atomics and barriers.
-#[derive(Clone, Copy, Debug, PartialEq, Eq)]
+#[derive(Clone, Copy)]
 pub enum AtomicRule {
     /// A load, an increment or a decrement: it has no value.
     Read,
@@ -45,7 +45,7 @@ pub enum AtomicRule {
 }
 
 /// A rule of composite operations and copies.
-#[derive(Clone, Copy, Debug, PartialEq, Eq)]
+#[derive(Clone, Copy)]
 pub enum CompositeRule {
     ExtractDynamic,
     InsertDynamic,
@@ -58,7 +58,7 @@ pub enum CompositeRule {
 }
 
 /// A rule of functions, calls, phis and ends of blocks.
-#[derive(Clone, Copy, Debug, PartialEq, Eq)]
+#[derive(Clone, Copy)]
 pub enum ControlRule {
     Phi,
     Branch,

@@ -7,7 +7,7 @@ use spv_index::id_operand;
 use spv_ops::op;
 
 /// The function at hand: the type that it returns, its function type, and how many of its parameters came.
-#[derive(Clone, Copy, Debug, PartialEq, Eq)]
+#[derive(Clone, Copy)]
 pub struct Within {
     pub returns: Option<u32>,
     pub ty: Option<u32>,

@@ -6,7 +6,7 @@ use std::alloc::Global;
 use std::marker::Model;
 
 /// A number of at least 1.
-#[derive(Clone, Copy, Debug, PartialEq, Eq)]
+#[derive(Clone, Copy)]
 pub struct Count {
     number: u32,
 }
@@ -44,7 +44,7 @@ impl Count {
 }
 
 /// A part of a path: `.member` or `[index]`.
-#[derive(Debug, PartialEq, Drop)]
+#[derive(Drop)]
 pub enum PathPart {
     /// `.member`: the name of a member.
     Member(Bytes),
@@ -56,7 +56,7 @@ pub enum PathPart {
 pub type PathParts = Items<PathPart>;
 
 /// What a path names: a variable or a part of it, or the result with this id.
-#[derive(Debug, PartialEq, Drop)]
+#[derive(Drop)]
 pub enum PathText {
     /// A name, and the parts behind it.
     Name { name: Bytes, parts: PathParts },
@@ -66,7 +66,7 @@ pub enum PathText {
 
 /// A path as a command can have it: its names are names, and its text has at most 4,090 bytes, so that a line of 4,096
 /// has room for the word before it.
-#[derive(Debug, Drop)]
+#[derive(Drop)]
 pub struct ValuePath {
     text: PathText,
 }
@@ -111,7 +111,7 @@ impl ValuePath {
 
 /// A line of a source file, as a command can have it: a file that is named has a name of at least one byte and no space,
 /// and the text has at most 4,090 bytes.
-#[derive(Debug, Drop)]
+#[derive(Drop)]
 pub struct BreakPlace {
     file: Option<Bytes>,
     line: u32,
@@ -165,7 +165,7 @@ impl BreakPlace {
 }
 
 /// A command. Numbers are of 32 bits.
-#[derive(Debug, Drop)]
+#[derive(Drop)]
 pub enum Command {
     /// A line without words.
     Empty,

@@ -4,7 +4,7 @@ ghost use Rattle.spv_cmd.specs.declared.keywords.Keyword.{Keyword as AnyKeyword}
 ghost use Rattle.spv_cmd.specs.Grammar.{spelling};
 
 /// The word that a command begins with: the variant's name in small letters.
-#[derive(Clone, Copy, Debug, PartialEq, Eq)]
+#[derive(Clone, Copy)]
 pub enum Keyword {
     /// `goto`
     Goto,

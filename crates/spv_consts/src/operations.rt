@@ -10,7 +10,7 @@ use spv_types::{Form, TypeTable};
 use std::alloc::Global;
 
 /// An operation on two lanes.
-#[derive(Clone, Copy, Debug, PartialEq)]
+#[derive(Clone, Copy)]
 pub(crate) enum PairOp {
     Binary { op: u16 },
     Select { condition: Cell },

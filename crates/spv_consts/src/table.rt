@@ -11,7 +11,7 @@ use std::alloc::Global;
 use std::marker::Model;
 
 /// A constant: its id, its type, and where its cells lie.
-#[derive(Clone, Copy, Debug, PartialEq)]
+#[derive(Clone, Copy)]
 pub(crate) struct Entry {
     pub(crate) id: u32,
     pub(crate) ty: u32,
@@ -20,7 +20,7 @@ pub(crate) struct Entry {
 }
 
 /// The place of a constant's row: the type, and where the cells begin among those of all constants and how many they are.
-#[derive(Clone, Copy, Debug, PartialEq, Eq)]
+#[derive(Clone, Copy)]
 pub struct RowPlace {
     pub ty: u32,
     pub start: usize,
@@ -28,7 +28,7 @@ pub struct RowPlace {
 }
 
 /// The type of a constant, and the leaves of its value in order.
-#[derive(Clone, Copy, Debug)]
+#[derive(Clone, Copy)]
 pub struct Row<'a> {
     pub ty: u32,
     pub cells: &'a [Cell],

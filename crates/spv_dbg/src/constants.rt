@@ -10,7 +10,7 @@ use spv_valid::Module;
 use std::alloc::Global;
 
 /// A constant: its type, the leaves of its value in order, and its number where it is an integer of 32 bits.
-#[derive(Debug, Drop)]
+#[derive(Drop)]
 pub struct Constant {
     pub ty: u32,
     pub cells: Cells,

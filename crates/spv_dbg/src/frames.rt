@@ -3,7 +3,7 @@ use spv_base::Bytes;
 
 /// A frame as it is shown: the depth and the id of the function of the real frame, the debug scope, the InlinedAt, the
 /// names of function and file, the line, and the word of the real frame's next instruction. What is missing is 0 or empty.
-#[derive(Debug, PartialEq, Drop)]
+#[derive(Drop)]
 pub struct ShownFrame {
     pub depth: u32,
     pub function: u32,
@@ -16,7 +16,7 @@ pub struct ShownFrame {
 }
 
 /// A bit of a shown value: whether the value has it, whether it is defined, and whether it is one.
-#[derive(Clone, Copy, Debug, PartialEq, Eq)]
+#[derive(Clone, Copy)]
 pub struct Bit {
     pub bound: bool,
     pub defined: bool,

@@ -13,7 +13,7 @@ use std::alloc::Global;
 
 /// An instruction of the set NonSemantic.Shader.DebugInfo.100: the number of its first word, its number in the set, its
 /// result, and the ids behind set and number.
-#[derive(Debug, PartialEq, Drop)]
+#[derive(Drop)]
 pub struct DebugInst {
     pub word: u32,
     pub number: u32,

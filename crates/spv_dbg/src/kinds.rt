@@ -12,7 +12,7 @@ use crate::kinds::Role::{
 use crate::number::*;
 
 /// What an operand has to be.
-#[derive(Clone, Copy, Debug, PartialEq, Eq)]
+#[derive(Clone, Copy)]
 pub enum Role {
     /// It is only counted.
     Any,
@@ -39,7 +39,7 @@ pub enum Role {
 }
 
 /// What the operands behind those that are asked for have to be.
-#[derive(Clone, Copy, Debug, PartialEq, Eq)]
+#[derive(Clone, Copy)]
 pub enum More {
     /// They are not looked at.
     Nothing,

@@ -6,7 +6,7 @@ use spv_valid::Module;
 
 /// The number of a well-formed debug instruction, and the bits and the nesting of the type that it is or that it has as a
 /// member. They are 0 where it is no type.
-#[derive(Clone, Copy, Debug, PartialEq, Eq)]
+#[derive(Clone, Copy)]
 pub struct Mark {
     pub number: u32,
     pub bits: u64,

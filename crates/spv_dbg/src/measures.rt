@@ -11,7 +11,7 @@ use crate::number::*;
 use spv_valid::Module;
 
 /// The bits of the values of a type, and its nesting.
-#[derive(Clone, Copy, Debug, PartialEq, Eq)]
+#[derive(Clone, Copy)]
 pub struct Measure {
     pub bits: u64,
     pub nesting: u64,

@@ -12,7 +12,7 @@ use spv_base::{Bytes, Inst, NoMemory};
 use std::alloc::Global;
 
 /// A text of a source file. Many Sources may name one long OpString, so it isn't copied where nothing continues it.
-#[derive(Debug, Drop)]
+#[derive(Drop)]
 pub(crate) enum SourceText {
     /// That of the OpString with an id.
     Whole(u32),

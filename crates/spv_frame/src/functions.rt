@@ -14,7 +14,7 @@ use std::marker::Model;
 use std::rc::Rc;
 
 /// Where the register of an id lies: the number of its function's plan, and its place in the frames of this function.
-#[derive(Clone, Copy, Debug, PartialEq, Eq)]
+#[derive(Clone, Copy)]
 pub struct Register {
     pub plan: usize,
     pub place: Place,

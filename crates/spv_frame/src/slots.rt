@@ -9,7 +9,7 @@ use spv_values::{Part, Row};
 
 /// Where a register of a value lies in the row of a frame: its number among the registers of values, the cells before it, and its
 /// own cells.
-#[derive(Clone, Copy, Debug, PartialEq, Eq)]
+#[derive(Clone, Copy)]
 pub struct Slot {
     pub id: u32,
     pub number: usize,
@@ -18,14 +18,14 @@ pub struct Slot {
 }
 
 /// Where a register of a pointer lies: its number among the registers of pointers.
-#[derive(Clone, Copy, Debug, PartialEq, Eq)]
+#[derive(Clone, Copy)]
 pub struct PointerSlot {
     pub id: u32,
     pub number: usize,
 }
 
 /// Where a register lies: its number among the registers of values, or among those of pointers.
-#[derive(Clone, Copy, Debug, PartialEq, Eq)]
+#[derive(Clone, Copy)]
 pub enum Place {
     Value(usize),
     Pointer(usize),

@@ -11,7 +11,7 @@ use spv_ops::{op, storage_class};
 use std::alloc::Global;
 
 /// What an instruction is to its function.
-#[derive(Clone, Copy, Debug, PartialEq, Eq)]
+#[derive(Clone, Copy)]
 pub enum Class {
     Function,
     Parameter,

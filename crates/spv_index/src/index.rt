@@ -335,13 +335,6 @@ impl Index {
         )
     }
 
-    /// Whether a member of a structure type has a decoration. In logarithmic time.
-    pub fn is_member_decorated(&self, id: u32, member: u32, kind: u32) -> bool
-        ensures { result ≡ is_some (spec.member_decorating self.now.insts id member kind) }
-    {
-        self.member_decorating(id, member, kind).is_some()
-    }
-
     /// The first literal behind a decoration of a member of a structure type. In logarithmic time.
     pub fn member_decoration(&self, id: u32, member: u32, kind: u32) -> Option<u32>
         ensures { result ≡ spec.member_decoration self.now.insts id member kind }

@@ -8,7 +8,7 @@ use spv_base::{Inst, NoMemory};
 use std::alloc::Global;
 
 /// How far a function and its block have come.
-#[derive(Clone, Copy, Debug, PartialEq, Eq)]
+#[derive(Clone, Copy)]
 pub enum Stage {
     /// In no function.
     Outside,
@@ -26,7 +26,7 @@ pub enum Stage {
 
 /// The stage of an instruction, the id of its function and the word of the OpFunction, the label of its block and the
 /// word of the OpLabel, and whether this block is the first one.
-#[derive(Clone, Copy, Debug, PartialEq, Eq)]
+#[derive(Clone, Copy)]
 pub struct Position {
     pub stage: Stage,
     pub function: u32,
@@ -37,7 +37,7 @@ pub struct Position {
 }
 
 /// Where an instruction stands, and what it is there.
-#[derive(Clone, Copy, Debug, PartialEq, Eq)]
+#[derive(Clone, Copy)]
 pub struct Standing {
     pub position: Position,
     pub class: Class,

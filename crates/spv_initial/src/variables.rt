@@ -13,7 +13,7 @@ use std::alloc::Global;
 
 /// A variable: the id of the pointer to it, its storage class, the type of its value, and the id of its initializer, where it has
 /// one.
-#[derive(Clone, Copy, Debug, PartialEq, Eq)]
+#[derive(Clone, Copy)]
 pub struct Declared {
     pub id: u32,
     pub class: u32,

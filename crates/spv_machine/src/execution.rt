@@ -31,7 +31,7 @@ use std::alloc::Global;
 use std::sync::ledger::Ledger;
 
 /// What a step did.
-#[derive(Clone, Copy, Debug, PartialEq, Eq)]
+#[derive(Clone, Copy)]
 pub enum Did {
     /// The invocation waits or is finished: nothing changed.
     Idle,
@@ -39,7 +39,7 @@ pub enum Did {
 }
 
 /// Why a step was not made. The world is as before.
-#[derive(Clone, Copy, Debug, PartialEq, Eq)]
+#[derive(Clone, Copy)]
 pub enum StepErr {
     Fault(Fault),
     NoMemory,

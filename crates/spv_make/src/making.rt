@@ -16,7 +16,7 @@ use std::alloc::Global;
 const HEADER: [u32; 5] = [0x0723_0203, 0x0001_0600, 0, 68, 0];
 
 /// The inputs of a run: the bytes of a module, of a setup and of commands.
-#[derive(Debug, Drop)]
+#[derive(Drop)]
 pub struct Made {
     pub module: Bytes,
     pub setup: Bytes,

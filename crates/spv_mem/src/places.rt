@@ -10,7 +10,7 @@ use spv_types::queries::member_type;
 use spv_types::{Form, TypeTable};
 
 /// Where a part of a variable lies: the number of cells before it, and its own.
-#[derive(Clone, Copy, Debug, PartialEq, Eq)]
+#[derive(Clone, Copy)]
 pub struct Place {
     pub start: usize,
     pub len: usize,

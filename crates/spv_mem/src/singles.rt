@@ -17,7 +17,7 @@ use spv_types::TypeTable;
 use spv_values::Single;
 
 /// A leaf of a variable: its id, where it stood last in its list, and how many leaves are before this one.
-#[derive(Clone, Copy, Debug, PartialEq, Eq)]
+#[derive(Clone, Copy)]
 pub(crate) struct Spot {
     id: u32,
     place: usize,

@@ -8,7 +8,7 @@ use std::alloc::Global;
 use std::marker::Model;
 
 /// The type of a variable's value, and where in its list the variable stood last.
-#[derive(Clone, Copy, Debug, PartialEq, Eq)]
+#[derive(Clone, Copy)]
 pub(crate) struct Target {
     pub(crate) ty: u32,
     pub(crate) place: usize,

@@ -1,7 +1,7 @@
 //! What the form of an opcode is made of.
 
 /// What stands before the operands: the result type and the result id.
-#[derive(Clone, Copy, Debug, PartialEq, Eq)]
+#[derive(Clone, Copy)]
 pub enum Head {
     /// Neither.
     Plain,
@@ -12,7 +12,7 @@ pub enum Head {
 }
 
 /// A part of a form.
-#[derive(Clone, Copy, Debug, PartialEq, Eq)]
+#[derive(Clone, Copy)]
 pub enum Part {
     /// An id.
     Id,
@@ -27,7 +27,7 @@ pub enum Part {
 }
 
 /// What stands after the parts of a form, up to the end of the instruction.
-#[derive(Clone, Copy, Debug, PartialEq, Eq)]
+#[derive(Clone, Copy)]
 pub enum Rest {
     /// Nothing.
     Nothing,

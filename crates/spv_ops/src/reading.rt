@@ -12,7 +12,7 @@ use spv_base::{Fail, Operand, Operands, Text};
 use std::alloc::Global;
 
 /// The words are not of the form.
-#[derive(Clone, Copy, Debug, PartialEq, Eq)]
+#[derive(Clone, Copy)]
 pub struct WrongForm;
 
 impl From<WrongForm> for Fail<WrongForm> {

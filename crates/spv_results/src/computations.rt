@@ -12,7 +12,7 @@ use spv_index::literal_operand;
 use spv_ops::op;
 
 /// What an instruction computes (SPIR-V 1.6 sections 3.42.11 to 3.42.15, and GLSL.std.450).
-#[derive(Clone, Copy, Debug, PartialEq, Eq)]
+#[derive(Clone, Copy)]
 pub enum Computation {
     /// OpUndef: a value of which nothing is defined.
     Undef,

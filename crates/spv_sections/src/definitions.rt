@@ -9,7 +9,7 @@ use spv_index::positions::{Position, Standing};
 use spv_ops::op;
 
 /// From where an id can be named, and which ids an instruction can name.
-#[derive(Clone, Copy, Debug, PartialEq, Eq)]
+#[derive(Clone, Copy)]
 pub enum Home {
     /// Of an instruction: it can name each id, also one of a function that it doesn't stand in.
     Anywhere,
@@ -20,7 +20,7 @@ pub enum Home {
 }
 
 /// What an id stands for, from where it can be named, and the word of the instruction that defines it.
-#[derive(Clone, Copy, Debug, PartialEq, Eq)]
+#[derive(Clone, Copy)]
 pub struct Definition {
     pub kind: Kind,
     pub home: Home,

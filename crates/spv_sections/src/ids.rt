@@ -20,7 +20,7 @@ const NUMBER_CODE: u8 = 8;
 const NAMING_CODE: u8 = 9;
 
 /// From where an instruction names ids.
-#[derive(Clone, Copy, Debug, PartialEq, Eq)]
+#[derive(Clone, Copy)]
 pub struct Scope {
     /// The function that it stands in, if any.
     pub home: Home,

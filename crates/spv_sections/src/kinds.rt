@@ -5,7 +5,7 @@ ghost use Rattle.spv_sections.specs.Kinds as spec;
 use spv_ops::op;
 
 /// What an id stands for.
-#[derive(Clone, Copy, Debug, PartialEq, Eq)]
+#[derive(Clone, Copy)]
 pub enum Kind {
     DeclaredType,
     Constant,
@@ -19,7 +19,7 @@ pub enum Kind {
 }
 
 /// What the id in an operand has to stand for.
-#[derive(Clone, Copy, Debug, PartialEq, Eq)]
+#[derive(Clone, Copy)]
 pub enum Wanted {
     DeclaredType,
     /// A constant, a variable, a parameter or another result.
@@ -37,7 +37,7 @@ pub enum Wanted {
 }
 
 /// What the ids in the operands of an instruction have to stand for, in their order.
-#[derive(Clone, Copy, Debug, PartialEq, Eq)]
+#[derive(Clone, Copy)]
 pub enum Uses {
     /// Each of them.
     Each(Wanted),

@@ -14,7 +14,7 @@ use spv_ops::op;
 const ORDER_CODE: u8 = 10;
 
 /// What an instruction is to the order of sections.
-#[derive(Clone, Copy, Debug, PartialEq, Eq)]
+#[derive(Clone, Copy)]
 enum Part {
     Capability,
     Extension,

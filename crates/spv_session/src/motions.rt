@@ -9,7 +9,7 @@ use spv_group::{Forth, Group};
 use std::sync::ledger::Ledger;
 
 /// Where a motion is asked to lead.
-#[derive(Clone, Copy, Debug, PartialEq, Eq)]
+#[derive(Clone, Copy)]
 pub struct Aim {
     /// The position. Past the end it stands for the end.
     pub position: u64,

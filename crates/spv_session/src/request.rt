@@ -11,7 +11,7 @@ use spv_cmd::{Command, Keyword, first_keyword, keywords_differ, parse};
 use std::alloc::Global;
 
 /// What the session can be asked for, of the commands of the grammar.
-#[derive(Clone, Copy, Debug, PartialEq, Eq)]
+#[derive(Clone, Copy)]
 pub enum Request {
     /// A line without words.
     Nothing,

@@ -27,7 +27,7 @@ const NO_SUCH_INVOCATION: CmdRefusal = CmdRefusal { code: 3 };
 const FOCUS_FINISHED: CmdRefusal = CmdRefusal { code: 12 };
 
 /// Whether the session goes on after a line.
-#[derive(Clone, Copy, Debug, PartialEq, Eq)]
+#[derive(Clone, Copy)]
 pub enum Next {
     Go,
     Quit,

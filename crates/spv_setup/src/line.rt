@@ -5,7 +5,7 @@ ghost use Rattle.spv_setup.specs.Codes.{code_of};
 use spv_base::Bytes;
 
 /// The bytes of a buffer.
-#[derive(Debug, Drop)]
+#[derive(Drop)]
 pub enum Content {
     /// These bytes.
     Hex(Bytes),
@@ -14,7 +14,7 @@ pub enum Content {
 }
 
 /// The numbers of a workgroup, and how many workgroups there are, each by x, y and z.
-#[derive(Clone, Copy, Debug, PartialEq, Eq)]
+#[derive(Clone, Copy)]
 pub struct Workgroup {
     /// WorkgroupId, each number below that of `number`.
     pub place: (u32, u32, u32),
@@ -23,7 +23,7 @@ pub struct Workgroup {
 }
 
 /// What a line of a setup after the first says.
-#[derive(Debug, Drop)]
+#[derive(Drop)]
 pub enum Line {
     /// `entry NAME`: the name of the entry point.
     Entry(Bytes),
@@ -52,7 +52,7 @@ pub enum Line {
 }
 
 /// Why a line is refused.
-#[derive(Clone, Copy, Debug, PartialEq, Eq)]
+#[derive(Clone, Copy)]
 pub enum LineFault {
     /// A word is unknown, or the number of words is wrong.
     Words,

@@ -6,7 +6,7 @@ ghost use Rattle.spv_setup.specs.Schedule.{entries_in, stray_line};
 use crate::settings::Run;
 
 /// Whose turn it is.
-#[derive(Clone, Copy, Debug)]
+#[derive(Clone, Copy)]
 pub enum Turn {
     /// One invocation's.
     Of(u32),
@@ -15,7 +15,7 @@ pub enum Turn {
 }
 
 /// A part of a schedule: from a place on, so many times the same turns.
-#[derive(Clone, Copy, Debug)]
+#[derive(Clone, Copy)]
 pub struct Piece {
     pub start: u32,
     pub count: u32,

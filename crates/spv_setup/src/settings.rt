@@ -3,7 +3,7 @@ use crate::line::{Content, Workgroup};
 use spv_base::{Bytes, Items, Overrides, Places};
 
 /// A buffer's bytes, and the line that gives them.
-#[derive(Debug, Drop)]
+#[derive(Drop)]
 pub struct Buffer {
     pub line: u32,
     pub set: u32,
@@ -12,14 +12,14 @@ pub struct Buffer {
 }
 
 /// The bytes of the push constants, and the line that gives them.
-#[derive(Debug, Drop)]
+#[derive(Drop)]
 pub struct Push {
     pub line: u32,
     pub bytes: Bytes,
 }
 
 /// A part of the schedule.
-#[derive(Clone, Copy, Debug, PartialEq, Eq)]
+#[derive(Clone, Copy)]
 pub enum Run {
     /// So many entries of one invocation, and the line that names it.
     Move {
@@ -32,7 +32,7 @@ pub enum Run {
 }
 
 /// What the lines of a setup set, each list in the order of the lines.
-#[derive(Debug, Drop)]
+#[derive(Drop)]
 pub struct Settings {
     /// The name of the entry point, where one is given.
     pub entry: Option<Bytes>,

@@ -36,7 +36,7 @@ fn is_head(line: &[u8]) -> bool
 }
 
 /// What a setup's text sets, each list in the order of the lines.
-#[derive(Debug, Drop)]
+#[derive(Drop)]
 pub struct Setup {
     settings: Settings,
 }

@@ -9,7 +9,7 @@ use spv_base::{Cell, NoMemory};
 use std::alloc::Global;
 
 /// How the bits of a scalar are read, by its type.
-#[derive(Clone, Copy, Debug, PartialEq, Eq)]
+#[derive(Clone, Copy)]
 pub enum Reading {
     Boolean,
     Unsigned,

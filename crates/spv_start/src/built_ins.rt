@@ -12,7 +12,7 @@ use std::alloc::Global;
 
 /// An invocation: its number, counted from 0, the size of its workgroup by x, y and z, each at least 1, and the numbers of the
 /// workgroup.
-#[derive(Clone, Copy, Debug)]
+#[derive(Clone, Copy)]
 pub struct Invocation {
     pub index: u32,
     pub size: (u32, u32, u32),

@@ -6,7 +6,7 @@ use spv_base::Inst;
 use spv_ops::op;
 
 /// What an atomic does to the integer at its pointer (SPIR-V 1.6 section 3.42.18).
-#[derive(Clone, Copy, Debug, PartialEq, Eq)]
+#[derive(Clone, Copy)]
 pub enum AtomicOp {
     Load,
     Store,
@@ -53,7 +53,7 @@ impl AtomicOp {
 }
 
 /// What an instruction does.
-#[derive(Clone, Copy, Debug, PartialEq, Eq)]
+#[derive(Clone, Copy)]
 pub enum Action {
     /// It computes a value.
     Compute,

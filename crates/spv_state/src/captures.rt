@@ -17,7 +17,7 @@ use std::alloc::Global;
 use std::mem;
 
 /// A debug instruction that captures a value: its word number, and the id whose value it captures.
-#[derive(Clone, Copy, Debug, PartialEq, Eq)]
+#[derive(Clone, Copy)]
 pub struct Capture {
     pub word: u32,
     pub id: Option<u32>,

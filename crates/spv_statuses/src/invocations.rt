@@ -5,7 +5,7 @@ ghost use Rattle.spv_statuses.specs.Invocations as spec;
 use spv_base::Status4;
 
 /// How far an invocation is. A barrier is named by the word number of its OpControlBarrier (SPIR-V 1.6 section 3.42.20).
-#[derive(Clone, Copy, Debug, PartialEq, Eq)]
+#[derive(Clone, Copy)]
 pub enum Status {
     /// Its next instruction is due.
     Ready,

@@ -9,7 +9,7 @@ use std::alloc::Global;
 use std::marker::Model;
 
 /// A line of a source file, and the words of its heads: the instructions at which a break there hits.
-#[derive(Debug, PartialEq, Drop)]
+#[derive(Drop)]
 pub struct Breakpoint {
     pub file: Bytes,
     pub line: u32,

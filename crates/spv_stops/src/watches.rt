@@ -8,7 +8,7 @@ use std::marker::Model;
 ///
 /// `local` is false for a global, and then `depth`, `function` and `inlined` are 0. A local is one of the invocation `inv`,
 /// in the real frame at this depth if it is one of this function, under this InlinedAt.
-#[derive(Clone, Copy, Debug, PartialEq, Eq)]
+#[derive(Clone, Copy)]
 pub struct WatchKey {
     pub local: bool,
     pub inv: u32,

@@ -2,7 +2,7 @@
 use spv_base::{Items, Operand, Text};
 
 /// A part of a line, after the name of the opcode.
-#[derive(Debug, PartialEq, Drop)]
+#[derive(Drop)]
 pub enum Part {
     /// The result type: `type=%` and its id.
     ResultType(u32),
@@ -13,7 +13,7 @@ pub enum Part {
 }
 
 /// A line: the number of the instruction's first word, the name of its opcode with `Op` before it, and the parts.
-#[derive(Debug, PartialEq, Drop)]
+#[derive(Drop)]
 pub struct Line {
     pub word: u32,
     pub name: Text,
@@ -21,7 +21,7 @@ pub struct Line {
 }
 
 /// What is wrong with a line of a text that is no listing, in this order.
-#[derive(Clone, Copy, Debug, PartialEq, Eq)]
+#[derive(Clone, Copy)]
 pub enum Wrong {
     /// No line: it has no LF, or isn't made of a word, a colon, a name and parts.
     NoLine,

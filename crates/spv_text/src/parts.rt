@@ -13,7 +13,7 @@ use spv_base::{Items, NoMemory, Operand};
 use std::alloc::Global;
 
 /// What stands before the number of a part.
-#[derive(Clone, Copy, Debug, PartialEq, Eq)]
+#[derive(Clone, Copy)]
 enum Mark {
     /// `type=%`
     ResultType,

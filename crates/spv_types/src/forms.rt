@@ -5,7 +5,7 @@ use spv_base::{Items, NoMemory};
 use std::alloc::Global;
 
 /// A member of a struct: the id of its type, and its Offset in bytes where it has one.
-#[derive(Clone, Copy, Debug, PartialEq, Eq)]
+#[derive(Clone, Copy)]
 pub struct Member {
     pub ty: u32,
     pub offset: Option<u32>,
@@ -15,7 +15,7 @@ pub struct Member {
 ///
 /// `sign` is 1 for a signed integer and 0 for an unsigned one, a `stride` is an ArrayStride in bytes, and `block` says
 /// that a struct is decorated Block. The length of an array is set once it is known.
-#[derive(Debug, PartialEq, Drop)]
+#[derive(Drop)]
 pub enum Form {
     Void,
     Bool,

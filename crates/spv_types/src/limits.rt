@@ -6,7 +6,7 @@ use crate::forms::{Form, Member};
 use crate::table::TypeTable;
 
 /// How deep a type is nested, and how many cells it counts as. Both stop at the greatest u64.
-#[derive(Clone, Copy, Debug, PartialEq, Eq)]
+#[derive(Clone, Copy)]
 pub struct Limit {
     pub nesting: u64,
     pub cells: u64,

@@ -5,14 +5,14 @@ ghost use Rattle.spv_types.specs.Queries as spec;
 use crate::forms::{Form, Member};
 
 /// The storage class and the target of a pointer type.
-#[derive(Clone, Copy, Debug, PartialEq, Eq)]
+#[derive(Clone, Copy)]
 pub struct Pointed {
     pub class: u32,
     pub target: u32,
 }
 
 /// The type of the components of a vector type, and how many there are.
-#[derive(Clone, Copy, Debug, PartialEq, Eq)]
+#[derive(Clone, Copy)]
 pub struct Components {
     pub ty: u32,
     pub count: u32,

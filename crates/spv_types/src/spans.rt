@@ -4,7 +4,7 @@ ghost use Rattle.std.specs.List.{All};
 ghost use Rattle.spv_types.specs.Layout.{EachEndsBeforeNext, IsForward, ends_before, is_empty, none_overlap};
 
 /// The bytes of a member in a block, from `start` to before `end`, or without an end.
-#[derive(Clone, Copy, Debug, PartialEq, Eq)]
+#[derive(Clone, Copy)]
 pub struct Span {
     pub start: u64,
     pub end: u64,

@@ -6,14 +6,14 @@ ghost use Rattle.spv_typing.specs.Lanes as spec;
 use spv_types::{Form, TypeTable};
 
 /// What one lane is. A width is a number of bits.
-#[derive(Clone, Copy, Debug, PartialEq, Eq)]
+#[derive(Clone, Copy)]
 pub enum Element {
     Bool,
     Int { width: u32 },
 }
 
 /// Some lanes of one kind: one of a scalar, and as many as components of a vector.
-#[derive(Clone, Copy, Debug, PartialEq, Eq)]
+#[derive(Clone, Copy)]
 pub struct Lanes {
     pub count: u32,
     pub element: Element,

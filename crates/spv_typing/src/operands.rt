@@ -1,7 +1,7 @@
 //! The operands of an operation, by their types.
 
 /// The types of the operands of an operation, which has at most four; none where there is no such operand, or it has no type.
-#[derive(Clone, Copy, Debug, PartialEq, Eq)]
+#[derive(Clone, Copy)]
 pub struct OperandTypes {
     pub first: Option<u32>,
     pub second: Option<u32>,

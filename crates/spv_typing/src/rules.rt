@@ -5,7 +5,7 @@ ghost use Rattle.spv_typing.specs.Rules as spec;
 use spv_ops::op;
 
 /// How the types of the operands and of the result belong together.
-#[derive(Clone, Copy, Debug, PartialEq, Eq)]
+#[derive(Clone, Copy)]
 pub enum Rule {
     /// An integer of any width gives an integer.
     Convert,

@@ -20,7 +20,7 @@ const ENTRY_BREACH: Refusal = Refusal { code: 17, word: 0 };
 
 /// The function of an entry point, the size of its workgroup, and how many functions the longest chain of calls from it
 /// has.
-#[derive(Clone, Copy, Debug, PartialEq, Eq)]
+#[derive(Clone, Copy)]
 pub struct Entry {
     pub function: u32,
     pub size: (u32, u32, u32),

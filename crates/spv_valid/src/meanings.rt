@@ -9,7 +9,7 @@ use spv_index::positions::Standing;
 use spv_ops::op;
 
 /// What an id stands for.
-#[derive(Clone, Copy, Debug, PartialEq, Eq)]
+#[derive(Clone, Copy)]
 pub enum Meaning {
     /// A type.
     TypeDefinition,

@@ -34,7 +34,7 @@ const WRONG_VERSION: Refusal = Refusal { code: 3, word: 1 };
 const WRONG_BOUND: Refusal = Refusal { code: 4, word: 3 };
 
 /// A module's words, in which no rule of its size and header is broken.
-#[derive(Debug, Drop)]
+#[derive(Drop)]
 pub struct WordList {
     big: bool,
     items: Vec<u32>,
