@@ -1,5 +1,5 @@
 -- The steps of the replies to two lists of lines, one after the other, and how far back events are kept after them.
-use Rattle.std.proofs.Common.{◌≡◌, ◌≤◌, ℕ, ◌+◌, Bool, true, false, cond, max, arith, ◌||◌, List, [], ◌∷◌, ◌++◌, refl, sym, ap, ap₂, ◌∙◌, subst, append_assoc, append-nil}
+use Rattle.std.proofs.Common.{◌≡◌, ◌≤◌, ℕ, ◌+◌, true, false, cond, max, arith, ◌||◌, List, [], ◌∷◌, ◌++◌, sym, ap, ap₂, ◌∙◌, subst, append_assoc, append-nil}
 use Rattle.spv_group.specs.Group.{Held as Group, entries_in, group_at, window_in}
 use Rattle.spv_group.specs.History.{window}
 use Rattle.spv_group.proofs.Window_lemmas.{windows_rise}

@@ -1,5 +1,5 @@
 -- The breaches of bodies, one instruction after another.
-use Rattle.std.proofs.Common.{◌≡◌, ◌∙◌, ℕ, ◌+◌, ◌-◌, ◌<◌, ◌≤◌, suc, Bool, true, false, List, [], ◌∷◌, ◌++◌, length, get_or, take, drop, drop-cons, drop_of_length-le, add-one, Result, Ok, Err, Option, Some, refl, sym, ap, subst, length-take-le, arith}
+use Rattle.std.proofs.Common.{◌≡◌, ◌∙◌, ℕ, ◌+◌, ◌-◌, ◌<◌, ◌≤◌, suc, Bool, true, false, List, [], ◌∷◌, ◌++◌, length, get_or, take, drop, drop-cons, drop_of_length-le, add-one, Result, Ok, Err, Some, refl, sym, ap, subst, length-take-le, arith}
 use Rattle.std.specs.Prelude.{if◌then◌else◌, ◌==◌}
 use Rattle.spv_base.specs.Answers.{Answers}
 use Rattle.spv_base.specs.declared.causes.Fail.{Fail}
@@ -14,7 +14,7 @@ use Rattle.spv_types.specs.InterfaceBlocks.{nothing}
 use Rattle.spv_bodies.specs.declared.within.Within.{Within}
 use Rattle.spv_bodies.specs.Context.{Known, known_of}
 use Rattle.spv_index.specs.Operands.{id_operand}
-use Rattle.spv_bodies.specs.Places.{nowhere, place, placed, placed_from, within_after}
+use Rattle.spv_bodies.specs.Places.{nowhere, place, placed_from, within_after}
 use Rattle.spv_bodies.specs.Bodies.{bodies_of, body_breaches, breach, keeps_body}
 
 -- the breaches of some instructions, of which the first stands in a function

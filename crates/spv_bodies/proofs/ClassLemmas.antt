@@ -6,7 +6,7 @@ use Rattle.std.specs.Option.{option_and_then, option_map, option_map_or}
 use Rattle.spv_types.specs.declared.forms.Form.{Form}
 use Rattle.spv_types.specs.declared.forms.Member.{Member}
 use Rattle.spv_types.specs.Queries.{member_type}
-use Rattle.spv_types.specs.Types.{Types, form_at, form_of, found_among, in_first, number_of}
+use Rattle.spv_types.specs.Types.{Types, form_at, form_of, found_among, number_of}
 use Rattle.spv_types.proofs.TypeLemmas.{in_first-is, number_form}
 use Rattle.spv_bodies.specs.declared.terms.Node.{Node}
 use Rattle.spv_bodies.specs.declared.terms.Node.TheVariants.{Number as Single, Pair as Double}

@@ -1,28 +1,26 @@
 -- The tests of the rules of bodies against what the rules say.
-use Rattle.std.proofs.Common.{◌≡◌, ◌↔◌, ◌⊎◌, ℕ, ◌+◌, ◌<◌, ◌==◌, Bool, true, false, List, [], ◌∷◌, ◌++◌, length, drop, Option, Some, None, Ok, refl}
+use Rattle.std.proofs.Common.{◌≡◌, ◌↔◌, ℕ, ◌+◌, ◌==◌, Bool, true, false, List, [], ◌∷◌, ◌++◌, length, drop, Option, Some, Ok, refl}
 use Rattle.std.proofs.lemmas.Bool.Decides.{Decides-and, Decides-not, Decides-or}
 use Rattle.std.proofs.lemmas.List.Elements.{All-nil}
 use Rattle.std.specs.Bool.{Decides}
 use Rattle.std.specs.List.{All, AllZip, list_all, sum_by}
-use Rattle.std.specs.Option.{option_map_or}
 use Rattle.std.specs.Prelude.{◌&&◌, ◌||◌, if◌then◌else◌, not, nat_le, nat_lt}
 use Rattle.spv_base.specs.declared.causes.Refusal.{Refusal}
 use Rattle.spv_base.specs.declared.instructions.Inst.{Inst}
 use Rattle.spv_base.specs.declared.instructions.Operand.{Operand}
 use Rattle.spv_consts.specs.Table.{Constants}
 use Rattle.spv_types.specs.declared.forms.Form.{Form}
-use Rattle.spv_types.specs.declared.forms.Form.TheVariants.{Void, Bool as Boolean, Int, Vector, Array, Runtime, Struct, Pointer, Function as FunctionForm}
+use Rattle.spv_types.specs.declared.forms.Form.TheVariants.{Vector, Array, Struct, Pointer}
 use Rattle.spv_types.specs.declared.forms.Member.{Member}
 use Rattle.spv_types.specs.declared.queries.Components.{Components}
 use Rattle.spv_types.specs.declared.queries.Pointed.{Pointed}
 use Rattle.spv_types.specs.InterfaceBlocks.{nothing}
 use Rattle.spv_types.specs.Build.{unless_refused}
-use Rattle.spv_types.specs.Rules.{has_runtime, is_runtime, is_sized_data, is_word}
+use Rattle.spv_types.specs.Rules.{has_runtime, is_sized_data, is_word}
 use Rattle.spv_types.specs.Types.{Types, form_of}
-use Rattle.spv_types.specs.Queries.{is_integer, is_pointer, is_void, parameters_in, pointee}
+use Rattle.spv_types.specs.Queries.{is_integer, is_pointer}
 use Rattle.spv_index.specs.Classes.{is_debug}
 use Rattle.spv_typing.specs.Fitting.{is_selectable}
-use Rattle.spv_typing.specs.Glsl.{fits_glsl}
 use Rattle.spv_typing.proofs.LawLemmas.{glsl_rule_is, rule_is}
 use Rattle.spv_bodies.specs.declared.rules.Rule.{Rule}
 use Rattle.spv_bodies.specs.declared.rules.Rule.TheVariants.{Free, Lanes, Extended, Memory, Atomic, Composite, Control}
@@ -34,12 +32,12 @@ use Rattle.spv_bodies.specs.declared.rules.CompositeRule.{CompositeRule}
 use Rattle.spv_bodies.specs.declared.rules.CompositeRule.TheVariants.{ExtractDynamic, InsertDynamic, Shuffle, Construct, Extract, Insert, CopyObject, CopyLogical}
 use Rattle.spv_bodies.specs.declared.rules.ControlRule.{ControlRule}
 use Rattle.spv_bodies.specs.declared.rules.ControlRule.TheVariants.{Phi, Branch, Switch, Return, ReturnValue, Function, Parameter, Call}
-use Rattle.spv_bodies.specs.Atomics.{IsOrdered, IsShared, KeepsAtomicCompare, is_ordered, is_shared, number_at, on_shared}
-use Rattle.spv_bodies.specs.Bodies.{KeepsAtomic, KeepsBody, KeepsComposite, KeepsControl, KeepsMemory, KeepsRule, bodies_of, body_breach, body_breaches, breach, keeps, keeps_atomic, keeps_body, keeps_composite, keeps_control, keeps_memory}
+use Rattle.spv_bodies.specs.Atomics.{IsOrdered, IsShared, is_ordered, is_shared, number_at, on_shared}
+use Rattle.spv_bodies.specs.Bodies.{KeepsAtomic, KeepsBody, KeepsComposite, KeepsControl, KeepsMemory, KeepsRule, bodies_of, body_breaches, breach, keeps, keeps_atomic, keeps_body, keeps_composite, keeps_control, keeps_memory}
 use Rattle.spv_bodies.specs.Calls.{are_of, called_form, function_form, parameter_type, parameters_ahead}
 use Rattle.spv_bodies.specs.Chains.{reached}
 use Rattle.spv_bodies.specs.Composites.{AreParts, Fill, IsChoice, IsPart, IsShuffle, are_elements, are_members, are_parts, fill, given, is_choice, is_part, is_shuffle, named}
-use Rattle.spv_bodies.specs.Context.{HasType, IsConstantAt, Known, constant_at, form_at, has, is_constant_at, is_integer_at, known_of, type_at, type_in}
+use Rattle.spv_bodies.specs.Context.{IsConstantAt, Known, constant_at, form_at, has, is_constant_at, is_integer_at, known_of, type_at, type_in}
 use Rattle.spv_bodies.specs.Control.{are_values, firsts}
 use Rattle.spv_bodies.specs.Lanes.{count_of, types_after}
 use Rattle.spv_bodies.specs.Laws.{KeepRules}

@@ -1,17 +1,14 @@
 -- Terms that nodes make.
-use Rattle.std.proofs.Common.{◌≡◌, ◌≢◌, ◌↔◌, ◌⊎◌, ◌∙◌, inl, inr, ℕ, zero, suc, ◌<◌, ◌≤◌, ◌==◌, Bool, true, false, cond, nat_cmp, List, [], ◌∷◌, ◌++◌, length, get_or, drop, Option, Some, None, refl, sym, ap, subst, arith, rules, tests}
+use Rattle.std.proofs.Common.{◌≡◌, ◌↔◌, ◌⊎◌, ◌∙◌, inl, inr, ℕ, zero, suc, ◌==◌, Bool, true, false, cond, nat_cmp, List, [], ◌∷◌, ◌++◌, length, Option, Some, None, refl, sym, ap, arith, rules, tests}
 use Rattle.std.specs.Prelude.{◌&&◌, slice_get}
 use Rattle.std.proofs.lemmas.Bool.Decides.{Decides-and, Decides-like}
 use Rattle.std.specs.Bool.{Decides}
-use Rattle.std.specs.Option.{option_and_then, option_map}
 use Rattle.std.specs.Ordering.{is_eq}
-use Rattle.std.proofs.lemmas.Option.{slice_get_within}
 use Rattle.spv_index.specs.Keys.{pair_cmp}
-use Rattle.spv_types.specs.declared.forms.Member.{Member}
 use Rattle.spv_types.proofs.TableLemmas.{same_key}
 use Rattle.spv_bodies.specs.declared.terms.Node.{Node}
 use Rattle.spv_bodies.specs.declared.terms.Node.TheVariants.{Number as Single, Pair as Double}
-use Rattle.spv_bodies.specs.Matching.{Number, Pair, Term, members_term, repeated, same_term, same_terms}
+use Rattle.spv_bodies.specs.Matching.{Number, Pair, Term, same_term, same_terms}
 use Rattle.spv_bodies.specs.Terms.{AreDistinct, Grows, IsClass, Makes}
 use Rattle.spv_bodies.specs.Classes.{same_class}
 use Rattle.spv_bodies.proofs.TestLemmas.{equal, impossible}

@@ -1,6 +1,6 @@
 -- The typing rules of function bodies, and the first instruction that breaks one. The instructions from the first OpFunction on
 -- are looked at (SPIR-V 1.6 sections 2.4 and 2.16.1).
-use Rattle.std.specs.Prelude.{◌≡◌, ℕ, ◌&&◌, not, Bool, true, false, if◌then◌else◌, List, [], ◌∷◌, Result}
+use Rattle.std.specs.Prelude.{◌≡◌, ◌&&◌, not, Bool, true, false, if◌then◌else◌, List, [], ◌∷◌, Result}
 use Rattle.std.specs.List.{flat_map}
 use Rattle.spv_base.specs.declared.causes.Refusal.{Refusal}
 use Rattle.spv_base.specs.declared.instructions.Inst.{Inst}

@@ -5,7 +5,7 @@ use Rattle.spv_base.specs.Lane.{Lane}
 use Rattle.spv_base.specs.declared.instructions.Inst.{Inst}
 use Rattle.spv_base.specs.declared.instructions.Operand.{Operand}
 use Rattle.spv_types.specs.declared.forms.Form.{Form}
-use Rattle.spv_types.specs.declared.forms.Form.TheVariants.{Void, Bool as Boolean, Int, Vector, Array, Runtime, Struct, Pointer, Function}
+use Rattle.spv_types.specs.declared.forms.Form.TheVariants.{Vector, Array, Runtime, Struct}
 use Rattle.spv_types.specs.Types.{form_of}
 use Rattle.spv_index.specs.Definitions.{defining}
 use Rattle.spv_types.specs.declared.queries.Pointed.{Pointed}

@@ -1,6 +1,6 @@
 -- Where each instruction of the functions of a module stands: in which function, behind how many of its parameters, and before
 -- which instructions (SPIR-V 1.6 section 2.4).
-use Rattle.std.specs.Prelude.{ℕ, suc, ◌==◌, if◌then◌else◌, List, [], ◌∷◌, length, drop, Some, None}
+use Rattle.std.specs.Prelude.{suc, ◌==◌, if◌then◌else◌, List, [], ◌∷◌, length, drop, Some, None}
 use Rattle.spv_base.specs.declared.instructions.Inst.{Inst}
 use Rattle.spv_index.specs.Definitions.{before_functions}
 use Rattle.spv_index.specs.Operands.{id_operand}

@@ -7,7 +7,7 @@ use Rattle.spv_base.specs.declared.instructions.Inst.{Inst}
 use Rattle.spv_alu.specs.declared.unary_op.UnaryOp.{UnaryOp}
 use Rattle.spv_alu.specs.declared.binary_op.BinaryOp.{BinaryOp}
 use Rattle.spv_alu.specs.Unary.{UnaryRow, conversion, arithmetic, logical, unary_op, unary_row}
-use Rattle.spv_alu.specs.Binary.{BinaryRow, binary_op, binary_row, binary_width}
+use Rattle.spv_alu.specs.Binary.{BinaryRow, binary_op, binary_row}
 use Rattle.spv_alu.specs.Binary as binary
 use Rattle.spv_typing.specs.declared.rules.Rule.{Rule}
 use Rattle.spv_typing.specs.declared.rules.Rule.TheVariants.{Convert, Bitcast, Integer, Integers, Clamp, Shift, Boolean, Booleans, Reduce, Compare, Extended, Select, InsertField, ExtractField}

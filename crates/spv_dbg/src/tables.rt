@@ -1,8 +1,11 @@
 //! The tables of a module's debug instructions.
-ghost use Rattle.std.specs.Prelude.{◌≡◌, IfOk, map, option_copied, option_map, slice_get};
+ghost use Rattle.std.specs.Prelude.{◌≡◌, ◌++◌, ℕ, List, IfOk, map, option_copied, option_map, slice_get};
 ghost use Rattle.std.specs.Option.{option_and_then};
 ghost use Rattle.spv_base.specs.Entries.{reads};
-ghost use Rattle.spv_dbg.specs.Places.{places_from};
+ghost use Rattle.spv_dbg.specs.Names.{number_under};
+ghost use Rattle.spv_dbg.specs.Places.{keys_of, number_from, places_from};
+ghost use Rattle.spv_dbg.specs.Seen.{seen};
+ghost use Rattle.spv_dbg.specs.Sources.{debug_sources, has_name, op_sources_in};
 ghost use Rattle.spv_dbg.specs.Tables as spec;
 
 use crate::constants::{Constant, constants_of};
@@ -13,7 +16,7 @@ use crate::names::{Names, names_of, text_with};
 use crate::records::{Records, records_of};
 use crate::sources::{Source, sources_of};
 use crate::strings::strings_of;
-use spv_base::{Bytes, NoMemory};
+use spv_base::{Bytes, Inst, NoMemory};
 use spv_consts::table::Row;
 use spv_index::Table;
 use spv_valid::Module;
@@ -59,18 +62,32 @@ fn words_of(alloc: Global, insts: &[DebugInst]) -> Result<Vec<u32>, NoMemory>
     Ok(insts.iter().map(|debug| debug.word).collect(alloc)?)
 }
 
-/// The numbers of these debug instructions by their ids.
-fn numbers_by_id(alloc: Global, insts: &[DebugInst]) -> Result<Table<usize>, NoMemory>
-    ensures { IfOk result (λ table. table ≡ places_from 0 (map (λ d. d.id) insts.now)) }
+/// The numbers of these debug instructions by their ids, and by their words.
+fn numbers_of(alloc: Global, insts: &[DebugInst]) -> Result<(Table<usize>, Table<usize>), NoMemory>
+    ensures by_id { IfOk result (λ tables. tables.0 ≡ places_from 0 (map (λ d. d.id) insts.now)) }
+    ensures by_word { IfOk result (λ tables. tables.1 ≡ places_from 0 (map (λ d. d.word) insts.now)) }
 {
-    places_of(alloc, ids_of(alloc, insts)?.as_slice())
+    let ids = ids_of(alloc, insts)?;
+    let by_id = places_of(alloc, ids.as_slice())?;
+    let words = words_of(alloc, insts)?;
+    let by_word = places_of(alloc, words.as_slice())?;
+    Ok((by_id, by_word))
 }
 
-/// The numbers of these debug instructions by their words.
-fn numbers_by_word(alloc: Global, insts: &[DebugInst]) -> Result<Table<usize>, NoMemory>
-    ensures { IfOk result (λ table. table ≡ places_from 0 (map (λ d. d.word) insts.now)) }
+/// The strings of a module, the texts of its source files, and their numbers by the names of the files.
+fn texts_of(
+    alloc: Global,
+    debug: &[DebugInst],
+    insts: &[Inst],
+) -> Result<(Keyed<Bytes>, Vec<Source>, Names), NoMemory>
+    ensures strings { IfOk result (λ texts. texts.0 ≡ spec.strings_of insts.now) }
+    ensures sources { IfOk result (λ texts. map (seen texts.0) texts.1.items ≡ debug_sources texts.0 debug.now ++ op_sources_in insts.now) }
+    ensures names { IfOk result (λ texts. (file : List ℕ) → number_under texts.2 file ≡ number_from 0 (has_name texts.0 file) (keys_of texts.1.items)) }
 {
-    places_of(alloc, words_of(alloc, insts)?.as_slice())
+    let strings = strings_of(alloc, insts)?;
+    let sources = sources_of(alloc, &strings, debug, insts)?;
+    let names = names_of(alloc, &strings, sources.as_slice())?;
+    Ok((strings, sources, names))
 }
 
 /// The debug instruction with a number.
@@ -92,12 +109,9 @@ impl DebugTables {
             ignored,
         } = records_of(alloc, module)?;
         let inlined = inlined_of(alloc, module, marks.as_slice())?;
-        let by_id = numbers_by_id(alloc, insts.as_slice())?;
-        let by_word = numbers_by_word(alloc, insts.as_slice())?;
-        let strings = strings_of(alloc, module.insts())?;
+        let (by_id, by_word) = numbers_of(alloc, insts.as_slice())?;
         let constants = constants_of(alloc, module)?;
-        let sources = sources_of(alloc, &strings, insts.as_slice(), module.insts())?;
-        let names = names_of(alloc, &strings, sources.as_slice())?;
+        let (strings, sources, names) = texts_of(alloc, insts.as_slice(), module.insts())?;
         Ok(DebugTables {
             insts,
             by_id,

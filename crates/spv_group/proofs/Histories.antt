@@ -1,15 +1,14 @@
 -- What undoing leads to: an event more, and an event less.
-use Rattle.std.proofs.Common.{◌≡◌, ℕ, zero, suc, ◌+◌, ◌-◌, ◌<◌, ◌≤◌, Bool, true, false, cond, List, [], ◌∷◌, length, take, refl, sym, ap, ap₂, ◌∙◌, subst, arith, Some, None, Option, get_or}
-use Rattle.std.specs.Prelude.{slice_get, slice_index, nat_le, option_map}
+use Rattle.std.proofs.Common.{◌≡◌, ℕ, zero, suc, ◌-◌, ◌≤◌, List, [], ◌∷◌, length, take, refl, sym, ap, ◌∙◌, arith, Some, get_or}
+use Rattle.std.specs.Prelude.{slice_get, slice_index, option_map}
 use Rattle.std.proofs.lemmas.Option.{slice_get_within, slice_get-get_or}
-use Rattle.spv_base.specs.declared.happenings.Happening.{Happening}
-use Rattle.spv_journal.specs.Events.{Event, size_of, fitting}
+use Rattle.spv_journal.specs.Events.{Event, fitting}
 use Rattle.spv_journal.specs.Undo.{Moment, before, past}
 use Rattle.spv_state.specs.Program.{Program}
 use Rattle.spv_state.specs.State.{State}
 use Rattle.spv_machine.specs.Step.{step_of}
-use Rattle.spv_group.specs.History.{moment_at, moments_below, weight}
-use Rattle.spv_group.specs.Run.{run, happening_in, happening_at, happening_before}
+use Rattle.spv_group.specs.History.{moment_at, moments_below}
+use Rattle.spv_group.specs.Run.{run, happening_in, happening_at}
 use Rattle.spv_group.proofs.Window_lemmas.{fitting_take}
 
 -- ---- lists

@@ -1,5 +1,5 @@
 -- The events before a position of a run, and how many of them a journal keeps.
-use Rattle.std.specs.Prelude.{ℕ, zero, suc, ◌+◌, ◌-◌, ◌≤◌, nat_le, List, [], ◌∷◌, slice_index, ⊤}
+use Rattle.std.specs.Prelude.{ℕ, zero, suc, ◌-◌, ◌≤◌, nat_le, List, [], ◌∷◌, slice_index, ⊤}
 use Rattle.std.specs.List.{range_with_len, sum_by}
 use Rattle.spv_journal.specs.Events.{Event, size_of}
 use Rattle.spv_journal.specs.Undo.{Moment}

@@ -3,9 +3,10 @@ ghost use Rattle.std.specs.Prelude.{◌≡◌, ◌≤◌, ◌<◌, ◌-◌, ◌+
 ghost use Rattle.spv_initial.specs.Start.{invocations};
 ghost use Rattle.spv_journal.specs.Events.{size};
 ghost use Rattle.spv_state.specs.Sound.{IsSound};
+ghost use Rattle.spv_state.specs.Start.{start_of};
 ghost use Rattle.spv_group.specs.Costs.{ForthCounts, ForthKeeps, BackCounts, BackKeeps};
 ghost use Rattle.spv_group.specs.Group.{first_undoing, group_at, entries_in, invocations_in, state_in, status_of, end_in, end_cause_in, window_in};
-ghost use Rattle.spv_group.specs.Motion.{Goes, Returns};
+ghost use Rattle.spv_group.specs.Motion.{Goes, IsOpened, Returns, kept_in};
 ghost use Rattle.spv_group.specs.Run.{happening_before};
 
 use crate::ends::cause_here;
@@ -50,6 +51,24 @@ impl Model for Group {
     ghost invariant = { λ g. IsOpened g.module g.schedule g.limit g.start.world g.start.position g.run.world g.run.position };
 }
 
+/// The run at its start with the least journal, and once more with one that keeps at most so many marks and entries.
+fn runs_of(
+    alloc: Global,
+    m: &Runnable,
+    schedule: &Schedule,
+    limit: usize,
+) -> Result<(Run, Run), NoMemory>
+    requires fits { schedule.now.invocations ≡ length (start_of m.now).statuses.list }
+    requires limit { 1 ≤ limit }
+    ensures opened { IfOk result (λ runs. IsOpened m.now schedule.now limit runs.0.world runs.0.position runs.1.world runs.1.position) }
+    ensures position { IfOk result (λ runs. runs.1.position ≡ 0) }
+    ensures kept { IfOk result (λ runs. kept_in runs.1.world runs.1.position ≡ 0) }
+{
+    let start = Run::start(alloc, m, schedule, 1)?;
+    let run = start.copy(alloc, m, schedule, limit)?;
+    Ok((start, run))
+}
+
 impl Group {
     /// The run of a module by a schedule of as many invocations, at its start, with a journal that keeps at most 1,048,576 marks and
     /// entries of events.
@@ -72,8 +91,7 @@ impl Group {
         ensures { IfOk result (λ g. g ≡ first_undoing m schedule limit) }
     {
         runs_start_with_all();
-        let start = Run::start(alloc, &m, &schedule, 1)?;
-        let run = start.copy(alloc, &m, &schedule, limit)?;
+        let (start, run) = runs_of(alloc, &m, &schedule, limit)?;
         Ok(Group {
             alloc,
             module: m,

@@ -1,5 +1,4 @@
 pub mod ListLemmas
-mod TableLemmas
 pub mod FirstLemmas
 pub mod KeyLemmas
 pub mod IndexLemmas

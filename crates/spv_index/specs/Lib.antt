@@ -5,3 +5,4 @@ pub mod Operands
 pub mod Firsts
 pub mod Keys
 pub mod Contents
+pub mod Tables

@@ -1,6 +1,9 @@
 //! Lists of entries under numbers, with look-ups in constant time for ids and words of a module.
-ghost use Rattle.std.specs.Prelude.{◌≡◌, IfOk};
+ghost use Rattle.std.specs.Prelude.{◌≡◌, ℕ, None, IfOk, OnOk};
+ghost use Rattle.std.specs.BTreeMap as tree;
+ghost use Rattle.std.specs.Ordering.{nat_cmp};
 ghost use Rattle.spv_base.specs.Entries.{reads};
+ghost use Rattle.spv_index.specs.Tables.{found};
 
 use spv_base::NoMemory;
 use std::alloc::Global;
@@ -21,16 +24,17 @@ pub struct Table<V> {
 }
 
 impl<V> Model for Table<V> {
-    ghost use Rattle.std.specs.Prelude.{◌≡◌, ℕ, List, length, nat_lt, if◌then◌else◌, slice_index_or, None};
+    ghost use Rattle.std.specs.Prelude.{◌≡◌, ℕ, List};
     ghost use Rattle.std.specs.Ordering.{nat_cmp};
     ghost use Rattle.std.specs.BTreeMap as tree;
     ghost use Rattle.spv_base.specs.Entries.{reads};
+    ghost use Rattle.spv_index.specs.Tables.{found};
 
     ghost Value = { List (ℕ × V) };
 
     ghost view = { λ t. t.entries.items };
 
-    ghost invariant = { λ t. (k : ℕ) → (if nat_lt k (length t.low.items) then slice_index_or t.low.items k None else tree.get nat_cmp t.high k) ≡ reads k t.entries.items };
+    ghost invariant = { λ t. (k : ℕ) → found t.low.items (tree.get nat_cmp t.high) k ≡ reads k t.entries.items };
 }
 
 /// A number that is above each of these that is an id or a word.
@@ -44,6 +48,28 @@ fn above<V>(entries: &[(u32, V)]) -> usize {
     above
 }
 
+/// Puts each entry under its number, where nothing stands yet: of several under one number the first.
+fn put_all<V: Copy>(
+    entries: &[(u32, V)],
+    low: &mut [Option<V>],
+    high: &mut BTreeMap<u32, V>,
+) -> Result<(), NoMemory>
+    requires { (k : ℕ) → found low.old (tree.get nat_cmp high.old) k ≡ None }
+    ensures { OnOk result ((k : ℕ) → found low.new (tree.get nat_cmp high.new) k ≡ reads k entries.now) }
+{
+    let mut i = entries.len();
+    'back: while i > 0 {
+        i -= 1;
+        let (key, value) = entries[i];
+        if (key as usize) < low.len() {
+            low[key as usize] = Some(value);
+        } else {
+            high.insert(key, value)?;
+        }
+    }
+    Ok(())
+}
+
 impl<V: Copy> Table<V> {
     /// The table of these entries.
     pub fn new(alloc: Global, entries: Vec<(u32, V)>) -> Result<Table<V>, NoMemory>
@@ -51,17 +77,7 @@ impl<V: Copy> Table<V> {
     {
         let mut low = vec![in alloc; None; above(entries.as_slice())]?;
         let mut high = BTreeMap::new(alloc);
-        let mut i = entries.len();
-        'back: while i > 0 {
-            i -= 1;
-            let key = entries[i].0;
-            let value = entries[i].1;
-            if (key as usize) < low.len() {
-                low[key as usize] = Some(value);
-            } else {
-                high.insert(key, value)?;
-            }
-        }
+        put_all(entries.as_slice(), &mut low, &mut high)?;
         Ok(Table { entries, low, high })
     }
 

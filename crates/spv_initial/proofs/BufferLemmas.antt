@@ -9,7 +9,6 @@ use Rattle.std.proofs.lemmas.Option.{slice_get_read}
 use Rattle.spv_index.specs.Keys.{pair_cmp}
 use Rattle.spv_setup.specs.declared.settings.Buffer.{Buffer}
 use Rattle.spv_fit.specs.Given.{is_bound}
-use Rattle.spv_initial.specs.Values.{bound}
 
 same_pair : (a b c d : ℕ) → is_eq (pair_cmp (a, b) (c, d)) ≡ (a == c && b == d)
 same_pair a b c d = search (tests, rules)

@@ -23,7 +23,7 @@ use Rattle.spv_valid.specs.Entry.{Size, is_size}
 use Rattle.spv_valid.specs.Validity.{IsValid}
 use Rattle.spv_setup.specs.declared.settings.Settings.{Settings}
 use Rattle.spv_mem.specs.Memory.{AreTargets, Held, IsVariable, empty}
-use Rattle.spv_initial.specs.Start.{invocations, own_roots, root, shared_roots, starting, starting_with, variables}
+use Rattle.spv_initial.specs.Start.{invocations, own_roots, root, shared_roots, starting_with, variables}
 use Rattle.spv_initial.specs.Values.{Suits, own_value, shared_value}
 use Rattle.spv_initial.specs.Variables.{AreDeclared, Holds, declared_in, targets_of}
 use Rattle.spv_initial.specs.declared.variables.Declared.{Declared}

@@ -2,7 +2,7 @@
 use Rattle.std.proofs.Common.{◌≡◌, ℕ, subst, sym}
 use Rattle.std.proofs.Math.Logic.{∥∥₁_map}
 use Rattle.spv_base.specs.State.{Roots}
-use Rattle.spv_mem.specs.Memory.{AreTargets, AreVariables, Held, entered}
+use Rattle.spv_mem.specs.Memory.{AreVariables, Held, entered}
 use Rattle.spv_types.specs.Laws.{AreSound}
 use Rattle.spv_types.specs.Types.{Types}
 use Rattle.spv_valid.specs.Acceptance.{Accepted}

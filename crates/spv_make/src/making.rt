@@ -6,7 +6,7 @@ ghost use Rattle.spv_words.specs.Words.{words_of};
 ghost use Rattle.spv_make.specs.Inputs.{words_for, module_for, made_for};
 
 use crate::encoding::push_rows;
-use crate::rows::ROWS;
+use crate::rows::all_rows;
 use crate::texts::{commands_for, setup_for};
 use byteorder::{ByteOrder, LittleEndian};
 use spv_base::{Bytes, NoMemory, Words};
@@ -29,7 +29,7 @@ fn words_for(alloc: Global, n: u32) -> Result<Words, NoMemory>
     ensures { IfOk result (λ words. words ≡ words_for n) }
 {
     let mut words = Words::from_slice(alloc, &HEADER)?;
-    push_rows(alloc, &mut words, &ROWS, 4 * n)?;
+    push_rows(alloc, &mut words, all_rows(), 4 * n)?;
     Ok(words)
 }
 

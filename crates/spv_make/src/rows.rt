@@ -1,4 +1,8 @@
 //! The instructions of the module, as a table.
+ghost use Rattle.std.specs.Prelude.{◌≡◌, ℕ, map};
+ghost use Rattle.spv_make.specs.Instructions.{instructions};
+ghost use Rattle.spv_make.specs.Rows.{inst_of};
+
 use crate::debug_set;
 use crate::ids::*;
 use crate::rows::Part::{Id, Literal, Text, Turns};
@@ -24,7 +28,7 @@ pub enum Part {
 pub type Row = (u16, u32, u32, &'static [Part]);
 
 /// The instructions, in their order.
-pub const ROWS: [Row; 89] = [
+const ROWS: [Row; 89] = [
     (op::CAPABILITY, 0, 0, &[Literal(capability::SHADER)]),
     (op::EXTENSION, 0, 0, &[Text("SPV_KHR_non_semantic_info")]),
     (
@@ -460,3 +464,10 @@ pub const ROWS: [Row; 89] = [
     (op::RETURN, 0, 0, &[]),
     (op::FUNCTION_END, 0, 0, &[]),
 ];
+
+/// The instructions, in their order.
+pub fn all_rows() -> &'static [Row]
+    ensures { (turns : ℕ) → map (λ row. inst_of turns row.0 row.1 row.2 row.3.now) result.now ≡ instructions turns }
+{
+    &ROWS
+}

@@ -1,6 +1,6 @@
 -- Where the variables of an accepted module live: those before the functions by the rules of their storage classes, and those of functions
 -- in the class Function.
-use Rattle.std.proofs.Common.{◌≡◌, ◌⊎◌, ◌∙◌, inl, inr, ℕ, zero, suc, ◌<◌, ◌≤◌, ◌==◌, ◌&&◌, ◌||◌, Bool, true, false, cond, List, [], ◌∷◌, ◌++◌, drop, length, Option, Some, None, Ok, Err, refl, sym, ap, subst, arith}
+use Rattle.std.proofs.Common.{◌≡◌, ◌⊎◌, ◌∙◌, inl, inr, ℕ, zero, suc, ◌<◌, ◌==◌, ◌&&◌, ◌||◌, Bool, true, false, cond, List, [], ◌∷◌, ◌++◌, drop, length, Option, Some, None, Ok, refl, sym, ap, subst, arith}
 use Rattle.std.proofs.lemmas.Bool.{and_parts, both_ways, eq-eqb, eqb-true, not-true, or_cases, or_left, or_right}
 use Rattle.std.specs.Prelude.{find, if◌then◌else◌, nat_le, not, unwrap_or}
 use Rattle.std.specs.List.{Contains, list_all}
@@ -28,7 +28,7 @@ use Rattle.spv_consts.proofs.WalkPlaces.{declared}
 use Rattle.spv_consts.proofs.WalkTypes.{kept_at}
 use Rattle.spv_bodies.specs.Context.{Known, known_of}
 use Rattle.spv_bodies.specs.Memory.{KeepsVariable}
-use Rattle.spv_valid.specs.Acceptance.{Accepted, IsAccepted, Passes}
+use Rattle.spv_valid.specs.Acceptance.{Accepted, IsAccepted}
 use Rattle.spv_valid.specs.Meanings.{inside_meanings, meaning_at, meaning_of, outside_meanings}
 use Rattle.spv_valid.specs.Validity.{IsValid}
 use Rattle.spv_valid.specs.declared.meanings.Meaning.{Meaning}
@@ -36,7 +36,7 @@ use Rattle.spv_valid.specs.declared.meanings.Meaning.TheVariants.{TypeDefinition
 use Rattle.spv_valid.proofs.AcceptedLemmas.{accepted_passes}
 use Rattle.spv_plans.proofs.TypeLemmas.{each_behind}
 use Rattle.spv_operands.proofs.ConstantLemmas.{variable_outside}
-use Rattle.spv_operands.proofs.FormLemmas.{AreAlike, erased, erased_form, pointer_alike, types_alike}
+use Rattle.spv_operands.proofs.FormLemmas.{AreAlike, erased_form, pointer_alike, types_alike}
 use Rattle.spv_operands.proofs.ListLemmas.{each_contained}
 use Rattle.spv_operands.proofs.MeaningLemmas.{beginning_opcode, key_unless, local_opcode, module_opcode, stand_defines}
 use Rattle.spv_operands.proofs.VariableLemmas.{form_later, local_kept, variable_kept}

@@ -27,4 +27,4 @@ pub use decoding::{
 pub use encoding::{encode, is_formed, try_encode};
 pub use forms::{Head, Opcode, Part, Rest};
 pub use module::{DecodedModule, GREATEST_BOUND, WORD_LIMIT};
-pub use opcodes::{OPCODES, opcode_of};
+pub use opcodes::{all_opcodes, opcode_of};

@@ -3,6 +3,7 @@
 ghost use Rattle.std.specs.Prelude.{◌≡◌, map};
 ghost use Rattle.std.specs.Option.{option_map};
 ghost use Rattle.spv_ops.specs.Forms.{row_with, row_of};
+ghost use Rattle.spv_ops.specs.Opcodes.{table};
 
 use crate::forms::Head::{Plain, Result, TypedResult as Typed};
 use crate::forms::Opcode;
@@ -13,7 +14,7 @@ use crate::forms::Rest::{
 use crate::op::*;
 
 /// Each opcode that is read, with its form.
-pub const OPCODES: [Opcode; 135] = [
+const OPCODES: [Opcode; 135] = [
     (NOP, "Nop", Plain, &[], Nothing),
     (FUNCTION_END, "FunctionEnd", Plain, &[], Nothing),
     (NO_LINE, "NoLine", Plain, &[], Nothing),
@@ -434,9 +435,16 @@ fn found_in(mut table: &'static [Opcode], number: u16) -> Option<Opcode>
     None
 }
 
+/// Each opcode that is read, with its form.
+pub fn all_opcodes() -> &'static [Opcode]
+    ensures { map (λ o. (o.0, o.1.now, o.2, o.3.now, o.4)) result.now ≡ table }
+{
+    &OPCODES
+}
+
 /// The opcode with this number.
 pub fn opcode_of(number: u16) -> Option<Opcode>
     ensures { option_map (λ o. (o.0, o.1.now, o.2, o.3.now, o.4)) result ≡ row_of number }
 {
-    found_in(&OPCODES, number)
+    found_in(all_opcodes(), number)
 }

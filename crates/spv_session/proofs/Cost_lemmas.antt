@@ -1,5 +1,5 @@
 -- The steps of a line, by how many events are kept.
-use Rattle.std.proofs.Common.{◌≤◌, ℕ, ◌<◌, ◌≡◌, ◌+◌, ◌-◌, Bool, true, false, cond, List, Result, Ok, Err, refl, arith}
+use Rattle.std.proofs.Common.{◌≤◌, ℕ, ◌≡◌, ◌+◌, ◌-◌, Bool, true, false, cond, List, Result, Ok, Err, refl, arith}
 use Rattle.std.specs.Prelude.{nat_lt}
 use Rattle.std.proofs.lemmas.Bool.{ltb-true, ltb-false}
 use Rattle.spv_base.specs.declared.causes.CmdRefusal.{CmdRefusal}

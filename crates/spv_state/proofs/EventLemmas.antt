@@ -1,5 +1,5 @@
 -- The debug events that a run passes.
-use Rattle.std.proofs.Common.{◌≡◌, ◌∙◌, ℕ, zero, suc, ◌-◌, ◌==◌, Bool, true, false, cond, List, [], ◌∷◌, ◌++◌, append-nil, drop, length, ◌≤◌, map, Option, Some, None, Result, Ok, Err, OnOk, OnErr, Vec, refl, sym, ap, subst, arith, slice_get}
+use Rattle.std.proofs.Common.{◌≡◌, ◌∙◌, ℕ, zero, suc, ◌-◌, ◌==◌, Bool, true, false, cond, List, [], ◌∷◌, ◌++◌, append-nil, drop, length, ◌≤◌, map, Option, Some, Result, Ok, Err, OnOk, OnErr, Vec, refl, sym, ap, subst, arith, slice_get}
 use Rattle.std.specs.Prelude.{unwrap_or}
 use Rattle.std.specs.Option.{option_map_or}
 use Rattle.std.specs.declared.alloc.Global.{Global}

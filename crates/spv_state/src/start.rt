@@ -144,9 +144,10 @@ fn whole(alloc: Global, m: &Runnable) -> Result<Whole, NoMemory>
     let stacks = stacks(alloc, m, &plans, plan, accepted.depth(), count)?;
     Ok(Whole {
         plans,
-        memory: memory(alloc, m)?,
         stacks,
         statuses: Statuses::new(alloc, count, words_of(accepted))?,
+        // The last, since it is what takes most to drop.
+        memory: memory(alloc, m)?,
     })
 }
 

@@ -47,9 +47,10 @@ impl Whole {
     {
         Ok(Whole {
             plans: plans_copied(alloc, &self.plans)?,
-            memory: self.memory.copy(alloc)?,
             stacks: stacks_copied(alloc, self.stacks.as_slice())?,
             statuses: self.statuses.copy(alloc)?,
+            // The last, since it is what takes most to drop.
+            memory: self.memory.copy(alloc)?,
         })
     }
 

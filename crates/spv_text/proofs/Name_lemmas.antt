@@ -1,5 +1,5 @@
 -- The names of the opcodes are apart, and of letters and digits.
-use Rattle.std.proofs.Common.{Bor, ◌≡◌, ◌≢◌, ℕ, nat_eq, Bool, true, false, not, cond, ◌&&◌, List, [], ◌∷◌, ◌++◌, Option, Some, None, unwrap_or, codes, zero, suc, ◌+◌, get_or, length, map, take, drop, ◌<◌, ◌≤◌, refl, sym, ap, ◌∙◌, subst, inl, inr, arith}
+use Rattle.std.proofs.Common.{Bor, ◌≡◌, ◌≢◌, ℕ, nat_eq, Bool, true, false, not, cond, ◌&&◌, List, [], ◌∷◌, ◌++◌, Option, Some, None, unwrap_or, codes, zero, suc, get_or, length, map, take, drop, ◌<◌, ◌≤◌, refl, sym, ap, ◌∙◌, subst, inl, inr, arith}
 use Rattle.std.specs.Prelude.{IsSome, MatchOption}
 use Rattle.spv_ops.specs.declared.forms.Head.{Head}
 use Rattle.spv_ops.specs.declared.forms.Part.{Part}
@@ -8,7 +8,6 @@ use Rattle.std.specs.Option.{option_map}
 use Rattle.std.specs.List.{list_all, AllByRecursion}
 use Rattle.std.proofs.lemmas.Bool.Decides.{nat_tests}
 use Rattle.std.proofs.lemmas.List.{take_all}
-use Rattle.spv_ops.specs.declared.opcodes.TheConstants.{OPCODES}
 use Rattle.spv_ops.specs.Opcodes.{Row, table}
 use Rattle.spv_ops.specs.Forms.{row_with, row_of}
 use Rattle.spv_text.specs.Lines.{is_name_byte, IsName}
@@ -40,11 +39,6 @@ table_apart = refl
 table_named : named table ≡ true
 unfolding table
 table_named = refl
-
--- the program's table is the table of the definition
-pub same_table : map (λ o. (o.0, o.1.now, o.2, o.3.now, o.4)) OPCODES ≡ table
-unfolding table
-same_table = refl
 
 same_self : (xs : List ℕ) → same xs xs ≡ true
 unfolding same

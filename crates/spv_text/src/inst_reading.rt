@@ -86,15 +86,15 @@ fn named_inst(alloc: Global, line: &Line) -> Result<Inst, Fail<Wrong>>
     })
 }
 
-/// The instruction of a line, which is to stand at this word, and the number of its words.
-pub fn inst_of(alloc: Global, line: &Line, word: u64) -> Result<(Inst, u64), Fail<Wrong>>
-    ensures ok { IfOk result (λ it. IsInst it.0 × (it.0.word ≡ word) × (line.now ≡ line_of it.0) × (it.1 ≡ length (encoding it.0))) }
-    ensures few { IfOk result (λ it. it.1 ≤ 65535) }
-    ensures err { (wrong : Wrong) → result ≡ Err (Refused wrong) → IsWrongLine wrong word line.now }
+/// The number of the words of an instruction, which is to stand at this word.
+fn count_of(alloc: Global, inst: &Inst, word: u64) -> Result<u64, Fail<Wrong>>
+    requires { HasPlace inst.now }
+    ensures ok { IfOk result (λ count. IsInst inst.now × (inst.now.word ≡ word) × (count ≡ length (encoding inst.now))) }
+    ensures few { IfOk result (λ count. count ≤ 65535) }
+    ensures err { (wrong : Wrong) → result ≡ Err (Refused wrong) → IsWrongLine wrong word (line_of inst.now) }
 {
-    let inst = named_inst(alloc, line)?;
-    let Some(raw) = try_encode(alloc, &inst)? else {
-        if is_formed(alloc, &inst)? {
+    let Some(raw) = try_encode(alloc, inst)? else {
+        if is_formed(alloc, inst)? {
             return Err(Fail::Refused(Wrong::Misplaced));
         }
         return Err(Fail::Refused(Wrong::WrongForm));
@@ -102,5 +102,16 @@ pub fn inst_of(alloc: Global, line: &Line, word: u64) -> Result<(Inst, u64), Fai
     if u64::from(inst.word) != word {
         return Err(Fail::Refused(Wrong::Misplaced));
     }
-    Ok((inst, raw.rest.len() as u64 + 1))
+    Ok(raw.rest.len() as u64 + 1)
+}
+
+/// The instruction of a line, which is to stand at this word, and the number of its words.
+pub fn inst_of(alloc: Global, line: &Line, word: u64) -> Result<(Inst, u64), Fail<Wrong>>
+    ensures ok { IfOk result (λ it. IsInst it.0 × (it.0.word ≡ word) × (line.now ≡ line_of it.0) × (it.1 ≡ length (encoding it.0))) }
+    ensures few { IfOk result (λ it. it.1 ≤ 65535) }
+    ensures err { (wrong : Wrong) → result ≡ Err (Refused wrong) → IsWrongLine wrong word line.now }
+{
+    let inst = named_inst(alloc, line)?;
+    let count = count_of(alloc, &inst, word)?;
+    Ok((inst, count))
 }

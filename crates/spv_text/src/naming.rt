@@ -7,7 +7,7 @@ ghost use Rattle.spv_text.specs.Names.{IsAmong};
 ghost use Rattle.spv_text.specs.Reading.{IsOpcode};
 
 use crate::fronts::after;
-use spv_ops::{OPCODES, Opcode};
+use spv_ops::{Opcode, all_opcodes};
 
 /// Whether an opcode has this name, which is without `Op`.
 fn is_named(opcode: &Opcode, name: &[u8]) -> bool
@@ -37,5 +37,5 @@ pub fn opcode_named(name: &[u8]) -> Option<Opcode>
         (λ o. (row_of o.0 ≡ Some (o.0, o.1.now, o.2, o.3.now, o.4)) × IsOpcode o.0 name.now) }
 {
     let short = after(name, b"Op")?;
-    found_in(&OPCODES, short)
+    found_in(all_opcodes(), short)
 }

@@ -4,7 +4,7 @@ use Rattle.std.proofs.lemmas.Option.{option_and_then_some}
 use Rattle.spv_base.specs.Entries.{reads}
 use Rattle.spv_base.specs.declared.causes.Refusal.{Refusal}
 use Rattle.spv_base.specs.declared.instructions.Inst.{Inst}
-use Rattle.spv_ops.specs.Module.{Decoded}
+use Rattle.spv_ops.specs.Module.{Decoded, IsDecoded}
 use Rattle.spv_index.specs.Operands.{id_operand}
 use Rattle.spv_types.specs.Types.{Types}
 use Rattle.spv_types.specs.Build.{types_of}
@@ -17,11 +17,12 @@ use Rattle.spv_sections.specs.Capabilities.{capabilities_of}
 use Rattle.spv_consts.specs.Build.{constants_of}
 use Rattle.spv_bodies.specs.Bodies.{bodies_of}
 use Rattle.spv_consts.specs.Table.{Constants}
+use Rattle.spv_valid.specs.declared.acceptance.Parts.{Parts}
 use Rattle.spv_valid.specs.declared.entry.Entry.{Entry}
 use Rattle.spv_valid.specs.Entry.{Size, entry_in, entry_of, entry_point, entry_with, required, size_of}
 use Rattle.spv_valid.specs.Stack.{stack_cells}
 use Rattle.spv_base.specs.Answers.{after}
-use Rattle.spv_valid.specs.Acceptance.{Accepted, IsAccepted, Passes, acceptance, accepted, flow_with_bodies, decoded_in, front_of, known_of}
+use Rattle.spv_valid.specs.Acceptance.{Accepted, IsAccepted, Passes, acceptance, accepted, flow_with_bodies, decoded_in, front_of, known_of, parts_in}
 use Rattle.spv_valid.proofs.PassLemmas.{flow_is}
 
 after-after : {T U V : Type 0} (due : Result T Refusal) (next : T → Result U Refusal) (last : U → Result V Refusal)
@@ -52,11 +53,19 @@ flow_calls known insts flow is =
     ok_same : (x y : Flow) → Path (Result Flow Refusal) (Ok x) (Ok y) → x ≡ y
     ok_same x y same = cc
 
-pub none_refused : (m : Decoded) (name : Option (List ℕ)) (over : List (ℕ × ℤ)) (known : Types × Constants) (flow : Flow) (entry : Entry) (cells : ℕ)
-    → front_of m ≡ Ok tt → known_of m.insts over ≡ Ok known → flow_with_bodies known m.insts ≡ Ok flow → entry_of known.0 known.1 flow m.insts name ≡ Ok entry
-    → cells ≡ stack_cells known.0 m.insts entry.function
-    → acceptance m name over ≡ Ok (record (accepted m known flow entry) { stack_cells = cells })
-none_refused m name over known flow entry cells front known_is code entry_is cells_are = rw (in_parts, front, known_is, code, entry_is, cells_are) refl
+-- what is read off a module of these parts
+abbrev pub seen : Decoded → Parts → Accepted
+seen m p = record (accepted m (p.types, p.consts) p.start.flow p.start.entry) { stack_cells = p.start.stack_cells }
+
+pub is_of_parts : (m : Decoded) (name : Option (List ℕ)) (over : List (ℕ × ℤ)) → acceptance m name over ≡ after (parts_in m name over) (λ p. Ok (seen m p))
+unfolding acceptance
+is_of_parts m name over = simp after-after
+
+made_accepted : (m : Decoded) (name : Option (List ℕ)) (over : List (ℕ × ℤ)) (p : Parts) → parts_in m name over ≡ Ok p → acceptance m name over ≡ Ok (seen m p)
+made_accepted m name over p is = rw (is_of_parts, is) refl
+
+pub accepted_of : (m : Decoded) (name : Option (List ℕ)) (over : List (ℕ × ℤ)) (p : Parts) → IsDecoded m → parts_in m name over ≡ Ok p → IsAccepted (seen m p)
+accepted_of m name over p decoded is = record { decoded = decoded; name = name; over = over; is = made_accepted m name over p is }
 
 -- ---- what the pass of the entry point says
 

@@ -1,5 +1,5 @@
 -- Cells of functions, and of chains of calls, one more at a time.
-use Rattle.std.proofs.Common.{⊎_elim, ◌≡◌, ◌<◌, ◌≤◌, ◌+◌, ◌-◌, ◌^◌, ℕ, zero, suc, List, [], ◌∷◌, length, get_or, drop, set, max, min, eqb, cond, add-one, refl, ◌∙◌, arith, rules, Bool, true, false, IfSome, Option, Some, None}
+use Rattle.std.proofs.Common.{⊎_elim, ◌≡◌, ◌<◌, ◌≤◌, ◌+◌, ◌-◌, ◌^◌, ℕ, zero, suc, List, [], ◌∷◌, length, get_or, drop, set, max, min, eqb, cond, add-one, refl, ◌∙◌, arith, rules, true, false, IfSome, Option, Some, None}
 use Rattle.std.specs.List.{All, flat_map}
 use Rattle.std.proofs.lemmas.Grind.{common_steps}
 use Rattle.std.proofs.lemmas.List.Elements.{All-nil, All-append, All-head, All-tail}

@@ -15,6 +15,8 @@ use Rattle.spv_sections.specs.Capabilities.{capabilities_of}
 use Rattle.spv_consts.specs.Table.{Constants}
 use Rattle.spv_consts.specs.Build.{constants_of}
 use Rattle.spv_bodies.specs.Bodies.{bodies_of}
+use Rattle.spv_valid.specs.declared.acceptance.Parts.{Parts}
+use Rattle.spv_valid.specs.declared.acceptance.Start.{Start}
 use Rattle.spv_valid.specs.declared.entry.Entry.{Entry}
 use Rattle.spv_valid.specs.Entry.{Size, entry_of}
 use Rattle.spv_valid.specs.Stack.{stack_cells}
@@ -99,3 +101,18 @@ known_of insts over = after (types_of insts) (λ types. after (constants_of type
 -- the control flow, where the bodies keep the rules
 abbrev pub flow_with_bodies : Types × Constants → List Inst → Result Flow Refusal
 flow_with_bodies known insts = after (flow_of insts) (λ flow. after (bodies_of known.0 known.1 insts) (λ _. Ok flow))
+
+-- the control flow, the entry point and the depth of the stack
+abbrev pub start_in : Types × Constants → List Inst → Option (List ℕ) → Result Start Refusal
+start_in known insts name =
+    after (flow_with_bodies known insts) (λ flow.
+    after (entry_of known.0 known.1 flow insts name) (λ entry.
+    Ok (record { flow = flow; entry = entry; stack_cells = stack_cells known.0 insts entry.function })))
+
+-- all that is read off a module in which no pass has a breach
+abbrev pub parts_in : Decoded → Option (List ℕ) → List (ℕ × ℤ) → Result Parts Refusal
+parts_in m name over =
+    after (front_of m) (λ _.
+    after (known_of m.insts over) (λ known.
+    after (start_in known m.insts name) (λ start.
+    Ok (record { types = known.0; consts = known.1; start = start }))))

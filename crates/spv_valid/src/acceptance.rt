@@ -2,10 +2,10 @@
 ghost use Rattle.std.specs.Prelude.{◌≡◌, ◌↔◌, ℕ, ℤ, IfOk, List, Option, Ok, option_copied};
 ghost use Rattle.spv_base.specs.Answers.{Answers};
 ghost use Rattle.spv_ops.specs.Module.{IsDecoded};
-ghost use Rattle.spv_valid.specs.Acceptance.{Accepted, Passes, acceptance, decoded_in, flow_with_bodies, front_of, known_of};
+ghost use Rattle.spv_valid.specs.Acceptance.{Accepted, Passes, acceptance, decoded_in, flow_with_bodies, front_of, known_of, parts_in, start_in};
 ghost use Rattle.spv_valid.specs.Validity.{IsValid};
 
-use crate::entry::entry_of;
+use crate::entry::{Entry, entry_of};
 use crate::modules::Module;
 use crate::stack::stack_cells;
 use crate::validity::accepted_modules_are_valid;
@@ -64,12 +64,68 @@ fn read_flow(
     Ok(flow)
 }
 
+/// What a run begins with.
+#[derive(Drop)]
+struct Start {
+    flow: Flow,
+    entry: Entry,
+    /// The most cells that the frames of an invocation have together.
+    stack_cells: u64,
+}
+
+/// The control flow, the entry point and the depth of the stack.
+fn read_start(
+    alloc: Global,
+    types: &TypeTable,
+    consts: &ConstTable,
+    index: &Index,
+    name: Option<&[u8]>,
+) -> Result<Start, Fail<Refusal>>
+    ensures { Answers (start_in (types.now, consts.now) index.now.insts (option_copied name.entry)) result }
+{
+    let flow = read_flow(alloc, types, consts, index)?;
+    let entry = entry_of(types, consts, &flow, index, name)?;
+    let stack_cells = stack_cells(alloc, types, flow.calls(), index, entry.function)?;
+    Ok(Start {
+        flow,
+        entry,
+        stack_cells,
+    })
+}
+
+/// What is read off the index of a module.
+#[derive(Drop)]
+struct Parts {
+    types: TypeTable,
+    consts: ConstTable,
+    start: Start,
+}
+
+/// All that is read off a module in which no rule is broken.
+fn read_parts(
+    alloc: Global,
+    index: &Index,
+    name: Option<&[u8]>,
+    over: &Overrides,
+) -> Result<Parts, Fail<Refusal>>
+    ensures { Answers (parts_in index.now (option_copied name.entry) over.now) result }
+{
+    check_front(index)?;
+    let (types, consts) = read_types(alloc, index, over)?;
+    let start = read_start(alloc, &types, &consts, index, name)?;
+    Ok(Parts {
+        types,
+        consts,
+        start,
+    })
+}
+
 /// A module, where no rule is broken.
 ///
 /// `name` is that of its entry point, where it isn't to be the first one, and `over` has values for its SpecIds.
 ///
 /// Refuses the breach of the first pass that has one: of those at the lowest word the one with the lowest code.
-#[tactic(auto, using(crate::proofs::AcceptedLemmas::in_parts))]
+#[tactic(auto, using(crate::proofs::AcceptedLemmas::is_of_parts))]
 pub fn accept(
     alloc: Global,
     decoded: DecodedModule,
@@ -83,11 +139,17 @@ pub fn accept(
     accepted_modules_are_valid();
     let index = Index::of(alloc, decoded)?;
     is_decoded(&index);
-    check_front(&index)?;
-    let (types, consts) = read_types(alloc, &index, over)?;
-    let flow = read_flow(alloc, &types, &consts, &index)?;
-    let entry = entry_of(&types, &consts, &flow, &index, name)?;
-    let stack_cells = stack_cells(alloc, &types, flow.calls(), &index, entry.function)?;
+    let parts = read_parts(alloc, &index, name, over)?;
+    let Parts {
+        types,
+        consts,
+        start,
+    } = parts;
+    let Start {
+        flow,
+        entry,
+        stack_cells,
+    } = start;
     Ok(Module {
         index,
         types,

@@ -1,5 +1,5 @@
 -- The cuts of a module's words, one after the other.
-use Rattle.std.proofs.Common.{◌≡◌, ℕ, zero, suc, ◌+◌, ◌-◌, ◌<◌, ◌≤◌, ◌==◌, nat_lt, ◌||◌, false, true, List, [], ◌∷◌, ◌++◌, length, take, drop, slice_index, refl, sym, ap, inl, inr, arith, Result, Ok, Err, length-drop, append_assoc}
+use Rattle.std.proofs.Common.{◌≡◌, ℕ, zero, suc, ◌+◌, ◌-◌, ◌<◌, ◌≤◌, ◌==◌, nat_lt, ◌||◌, false, List, [], ◌∷◌, ◌++◌, length, take, drop, slice_index, refl, sym, ap, arith, Result, Ok, Err, length-drop, append_assoc}
 use Rattle.std.proofs.Math.Seq.{drop-cons}
 use Rattle.std.proofs.lemmas.List.{append-nil, drop-drop}
 use Rattle.std.specs.Result.{result_map_both}

@@ -1,4 +1,4 @@
-use Rattle.std.proofs.Common.{◌≡◌, ℕ, Ok, List, ◌∷◌, ◌++◌, drop, get_or, ◌+◌, false, ap, sym, subst, ◌∙◌, refl, arith}
+use Rattle.std.proofs.Common.{◌≡◌, ℕ, Ok, List, ◌∷◌, ◌++◌, drop, get_or, ◌+◌, false, ap, sym, subst, ◌∙◌, arith}
 use Rattle.std.proofs.lemmas.List.{drop_more}
 use Rattle.std.proofs.KnownBytes.{Appends-trans}
 use Rattle.spv_app.specs.Lines.{complete_from, rest_from, ended_by, line_after}

@@ -1,4 +1,4 @@
-use Rattle.std.proofs.Common.{◌≡◌, suc, ◌-◌, sym, arith}
+use Rattle.std.proofs.Common.{◌-◌, arith}
 use Rattle.spv_bodies.specs.Matching.{term_among}
 use Rattle.spv_bodies.proofs.ClassLemmas.{grows_on, have_still, member_more, member_none, no_members}
 use Rattle.spv_bodies.proofs.classes.members_class.Goals as goal

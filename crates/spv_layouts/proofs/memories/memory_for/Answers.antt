@@ -1,4 +1,4 @@
-use Rattle.std.proofs.Common.{◌≡◌, ◌∙◌, subst, sym}
+use Rattle.std.proofs.Common.{◌∙◌, subst, sym}
 use Rattle.spv_mem.specs.Memory.{AreTargets}
 use Rattle.spv_types.specs.Laws.{AreSound}
 use Rattle.spv_types.specs.Types.{Types}

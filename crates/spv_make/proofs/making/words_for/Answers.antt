@@ -7,10 +7,9 @@ use Rattle.spv_make.proofs.Insts.{instructions_are}
 use Rattle.spv_make.proofs.making.words_for.Goals as goal
 
 pub push_rows-requires : goal.push_rows-requires
-unfolding instructions
-push_rows-requires c = instructions_are (4 * c.args.n) (omega arith)
+push_rows-requires c = rw (c.all_rows.ensures (4 * c.args.n)) (instructions_are (4 * c.args.n) (omega arith))
 
 pub returns : goal.returns
-unfolding words_for instructions
+unfolding words_for
 returns c =
-    c.in_ok-push_rows.ensures ∙ ap (λ (words : List ℕ). words ++ flat_map encoding (instructions (4 * c.args.n))) c.in_ok-words.ensures
+    (rw (c.all_rows.ensures (4 * c.args.n)) at c.in_ok-push_rows.ensures) ∙ ap (λ (words : List ℕ). words ++ flat_map encoding (instructions (4 * c.args.n))) c.in_ok-words.ensures

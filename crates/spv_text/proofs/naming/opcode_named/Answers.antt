@@ -1,5 +1,5 @@
-use Rattle.spv_text.proofs.Name_lemmas.{found, same_table}
+use Rattle.spv_text.proofs.Name_lemmas.{found}
 use Rattle.spv_text.proofs.naming.opcode_named.Goals as goal
 
 pub returns : goal.returns
-returns c = found c.args.name.now c.in_ok-short.short.now _ c.found_in.result same_table c.in_ok-short.ensures c.found_in.ensures
+returns c = found c.args.name.now c.in_ok-short.short.now _ c.found_in.result c.all_opcodes.ensures c.in_ok-short.ensures c.found_in.ensures

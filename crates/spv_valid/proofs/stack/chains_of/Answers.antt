@@ -1,4 +1,3 @@
-use Rattle.std.proofs.Common.{List}
 use Rattle.spv_cfg.specs.Calls.{numbered}
 use Rattle.spv_valid.proofs.StackLemmas.{kept_within}
 use Rattle.spv_valid.proofs.stack.chains_of.Goals as goal

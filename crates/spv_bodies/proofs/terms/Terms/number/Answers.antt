@@ -1,4 +1,4 @@
-use Rattle.std.proofs.Common.{◌≡◌, Some, None, length, nat_cmp, sym, arith}
+use Rattle.std.proofs.Common.{◌≡◌, None, length, nat_cmp, sym, arith}
 use Rattle.std.specs.BTreeMap.{get}
 use Rattle.std.specs.Ordering.{is_eq}
 use Rattle.spv_index.specs.Keys.{pair_cmp}

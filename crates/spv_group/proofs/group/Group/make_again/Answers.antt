@@ -1,4 +1,4 @@
-use Rattle.std.proofs.Common.{◌≡◌, ◌≤◌, ◌<◌, ◌+◌, ◌-◌, ℕ, Some, max, ap, refl, sym, subst, arith}
+use Rattle.std.proofs.Common.{◌≡◌, ◌≤◌, ◌<◌, ◌+◌, ◌-◌, ℕ, Some, max, ap, refl, subst, arith}
 use Rattle.spv_group.specs.Group.{Undoing, window_in}
 use Rattle.spv_group.specs.History.{window}
 use Rattle.spv_group.specs.Motion.{kept_in}

@@ -1,4 +1,4 @@
-use Rattle.std.proofs.Common.{◌≡◌, ℕ, ◌+◌, ◌-◌, arith}
+use Rattle.std.proofs.Common.{◌-◌, arith}
 use Rattle.spv_group.proofs.Runs.{went_back, WentBack}
 use Rattle.spv_group.proofs.run.Run.back.Goals as goal
 

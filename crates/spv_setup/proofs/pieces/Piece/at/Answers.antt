@@ -1,4 +1,4 @@
-use Rattle.std.proofs.Common.{◌≡◌, ◌<◌, ◌%◌, ℕ, Some, ap, ◌∙◌, subst, sym, arith, length}
+use Rattle.std.proofs.Common.{◌<◌, ℕ, Some, ap, ◌∙◌, subst, sym, arith, length}
 use Rattle.std.specs.Prelude.{slice_get}
 use Rattle.std.specs.List.{repeat}
 use Rattle.std.proofs.Math.Nat.{mod-lt}
