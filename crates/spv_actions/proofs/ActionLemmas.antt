@@ -50,7 +50,7 @@ use Rattle.spv_actions.specs.Laws.{StopsAreActions, is_action}
 use Rattle.spv_actions.specs.Sites.{IsSite, Site, accepted}
 use Rattle.spv_actions.proofs.ComputationLemmas.{key_passes}
 use Rattle.spv_actions.proofs.EffectLemmas.{acting}
-use Rattle.spv_actions.proofs.KeptLemmas.{no_debug}
+use Rattle.spv_actions.proofs.ComputationRules.{no_debug}
 use Rattle.spv_actions.proofs.RunLemmas.{IsKept, Runs, kept_each}
 use Rattle.spv_actions.proofs.SiteLemmas.{site_runs}
 use Rattle.spv_actions.proofs.StandLemmas.{HasClass, InBlock, each_has_class, each_in_block}

@@ -13,6 +13,7 @@ use Rattle.spv_base.specs.declared.instructions.Inst.{Inst}
 use Rattle.spv_base.specs.declared.values.Pointer.{Pointer as Reference}
 use Rattle.spv_base.specs.declared.values.Root.{Root}
 use Rattle.spv_base.specs.declared.values.Value.{Value, Scalar, out-Value}
+use Rattle.spv_base.proofs.PartLemmas.{out_scalar}
 use Rattle.spv_types.specs.declared.forms.Form.{Form}
 use Rattle.spv_types.specs.declared.forms.Form.TheVariants.{Int}
 use Rattle.spv_types.specs.declared.queries.Pointed.{Pointed}
@@ -28,13 +29,12 @@ use Rattle.spv_bodies.specs.Context.{HasType, IsPointerTo, form_at, type_at}
 use Rattle.spv_bodies.specs.Rules.{atomic_rule, composite_rule, control_rule, memory_rule, other_rule, rule_of}
 use Rattle.spv_mem.specs.Conditions.{integer_width, width_at}
 use Rattle.spv_mem.specs.Memory.{Held as Memory, IsMemory, IsScalarAt, MayStore, id_in, load_of}
-use Rattle.spv_mem.proofs.BlankLemmas.{out_scalar}
 use Rattle.spv_mem.proofs.ConditionLemmas.{may_if, scalar_if}
 use Rattle.spv_valid.specs.Acceptance.{Accepted}
 use Rattle.spv_initial.specs.Start.{variables}
 use Rattle.spv_initial.specs.Variables.{targets_of}
 use Rattle.spv_operands.specs.Shapes.{target_in}
-use Rattle.spv_results.specs.Operands.{IsOperand, IsResult, known}
+use Rattle.spv_results.specs.Operands.{IsOperand, known}
 use Rattle.spv_results.proofs.OperandTypes.{HasForm, form_has_type}
 use Rattle.spv_results.proofs.ShapeProps.{shape_prop}
 use Rattle.spv_state.specs.Actions.{atomic_op, atomics}
@@ -47,7 +47,7 @@ use Rattle.spv_actions.specs.Fits.{StoreFits}
 use Rattle.spv_actions.specs.Sites.{IsShaped, IsSite, Site, accepted}
 use Rattle.spv_actions.proofs.AccessLemmas.{leads_there, part_shape, targets_are, types_are}
 use Rattle.spv_actions.proofs.ComputationLemmas.{key_passes, read_there}
-use Rattle.spv_actions.proofs.KeptLemmas.{is_plain_code}
+use Rattle.spv_actions.proofs.ComputationRules.{is_plain_code}
 use Rattle.spv_actions.proofs.RunLemmas.{alone}
 
 -- ---- the rules
@@ -203,10 +203,6 @@ module _ (x : Site) (sound : AreSound (accepted x).types) (rule : LeadsToInteger
   -- it has the width of the integer there
   pub value_width : (n : ℕ) (c : Lane) → HasType (known (accepted x)) x.inst n rule.0.target → IsOperand (accepted x) x.inst n (Scalar c) → c.width ≡ t.1.width
   value_width n c type operand = one_width (accepted x).types rule.0.target rule.2.1.0 rule.2.1.1 c t.1 sound rule.2.1.2 (operand rule.0.target type) (is.typed rule.0 rule.1)
-
-  -- and so has the result
-  pub old_result : rule.0.target ≡ x.inst.ty → IsResult (accepted x) x.inst (Scalar t.1)
-  old_result same = subst (λ (ty : ℕ). HasShape (accepted x).types no_roots ty (Scalar t.1)) same (is.typed rule.0 rule.1)
 
 -- another integer of its width may be stored
 pub exchange_fits : (x : Site) (t : Reference × Lane) (is : IsTarget x t) (memory : ∥ IsMemory x.state.memory ∥₁) (new : Lane) (v : Value) → v ≡ Scalar new → IsLane new → new.width ≡ t.1.width → StoreFits x.state x.inv (Some (t.0, v))

@@ -1,5 +1,5 @@
 -- What is due at an atomic, by what its operands are and where its pointer leads.
-use Rattle.std.proofs.Common.{◌≡◌, ◌∙◌, ℕ, Some, None, Option, Result, Ok, Err, ok_or, refl, sym, ap}
+use Rattle.std.proofs.Common.{◌≡◌, ◌∙◌, ℕ, Some, Option, Result, Ok, Err, ok_or, refl, sym, ap}
 use Rattle.spv_base.specs.Answers.{Answers}
 use Rattle.spv_base.specs.Lane.{Lane}
 use Rattle.spv_base.specs.declared.causes.Fail.{Fail}
@@ -66,9 +66,6 @@ module _ (x : Site) where
   pub scalar_ok : (n : ℕ) (v : Value) (c : Lane) → operand x n ≡ Ok v → lane_of v ≡ c → scalar x n ≡ Ok c
   scalar_ok n v c h is = ok_then (operand x n) (λ (v : Value). Ok (lane_of v)) v h ∙ ap (λ (d : Lane). Ok d) is
 
-  pub scalar_err : (n : ℕ) (cause : Cause) → operand x n ≡ Err cause → scalar x n ≡ Err cause
-  scalar_err n cause h = err_then (operand x n) (λ (v : Value). Ok (lane_of v)) cause h
-
   -- ---- where the pointer leads
 
   abbrev pub there : Reference → Result (Reference × Lane) Cause
@@ -79,14 +76,6 @@ module _ (x : Site) where
       ok_then (pointer at) there q place
       ∙ ok_then (loaded x.state x.inv q) (λ (v : Value). Ok (q, lane_of v)) v (ap (λ (o : Option Value). ok_or o OutOfBounds) load)
       ∙ ap (λ (d : Lane). Ok (q, d)) is
-
-  pub target_nowhere : (at : Value) (cause : Cause) → pointer at ≡ Err cause → target x at ≡ Err cause
-  target_nowhere at cause place = err_then (pointer at) there cause place
-
-  pub target_outside : (at : Value) (q : Reference) → pointer at ≡ Ok q → load_of x.state.memory x.inv q ≡ None → target x at ≡ Err OutOfBounds
-  target_outside at q place load =
-      ok_then (pointer at) there q place
-      ∙ err_then (loaded x.state x.inv q) (λ (v : Value). Ok (q, lane_of v)) OutOfBounds (ap (λ (o : Option Value). ok_or o OutOfBounds) load)
 
   -- ---- effects at the scalar to which the pointer leads
 

@@ -36,7 +36,7 @@ use Rattle.spv_actions.proofs.AtomicLemmas.{atomic_plain, keeps_atomic}
 use Rattle.spv_actions.proofs.AtomicSteps.{operand}
 use Rattle.spv_actions.proofs.ChainLemmas.{ConstantsAreMeant}
 use Rattle.spv_actions.proofs.EffectLemmas.{acting}
-use Rattle.spv_actions.proofs.KeptLemmas.{is_plain_code}
+use Rattle.spv_actions.proofs.ComputationRules.{is_plain_code}
 use Rattle.spv_actions.proofs.RunLemmas.{RulesAreTested}
 use Rattle.spv_actions.proofs.SiteLemmas.{body, plain_next}
 

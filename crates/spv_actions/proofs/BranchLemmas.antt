@@ -6,8 +6,8 @@ use Rattle.spv_base.specs.Lane.{Lane}
 use Rattle.spv_base.specs.declared.causes.Fail.{Fail}
 use Rattle.spv_base.specs.declared.causes.Fail.TheVariants.{Refused, NoMemory}
 use Rattle.spv_base.specs.declared.values.Value.{Value, Scalar}
+use Rattle.spv_base.proofs.PartLemmas.{out_scalar}
 use Rattle.spv_index.specs.Operands.{id_operand}
-use Rattle.spv_mem.proofs.BlankLemmas.{out_scalar}
 use Rattle.spv_state.specs.Actions.{action_of}
 use Rattle.spv_state.specs.State.{depth_of}
 use Rattle.spv_state.specs.declared.actions.Action.TheVariants.{Branch, BranchConditional, Switch}
@@ -91,7 +91,3 @@ module _ {R : Type 0} where
   pub joined : (rs : List R) (r : R) (o : Option (List R)) → option_map (λ (us : List R). rs ++ us) (option_map (λ (us : List R). r ∷ us) o) ≡ option_map (λ (us : List R). (rs ++ r ∷ []) ++ us) o
   joined rs r None = refl
   joined rs r (Some us) = ap (λ (ws : List R). Some ws) (sym (append_assoc rs (r ∷ []) us))
-
-  pub none_joined : (o : Option (List R)) → o ≡ option_map (λ (us : List R). [] ++ us) o
-  none_joined None = refl
-  none_joined (Some us) = refl

@@ -31,7 +31,7 @@ use Rattle.spv_results.specs.Operands.{IsOperand, known}
 use Rattle.spv_results.proofs.ShapeProps.{shape_prop}
 use Rattle.spv_state.specs.Sound.{IsCallOf, StandsIn}
 use Rattle.spv_state.proofs.EntryLemmas.{listed}
-use Rattle.spv_state.proofs.Known.{known as known_of}
+use Rattle.spv_state.proofs.AcceptedLemmas.{known as known_of}
 use Rattle.spv_state.proofs.Stands.{stood}
 use Rattle.spv_actions.specs.Calls.{callee}
 use Rattle.spv_actions.specs.Fits.{LeaveFits}

@@ -1,5 +1,5 @@
 -- What access chains do, and that their pointers lead to where their types point.
-use Rattle.std.proofs.Common.{◌≡◌, ◌∙◌, ℕ, suc, ◌+◌, ◌-◌, ◌<◌, ◌≤◌, ◌++◌, Bool, true, false, List, [], ◌∷◌, append_assoc, append-nil, length, map, Option, Some, None, Result, Ok, Err, ok_or, refl, sym, ap, subst, arith}
+use Rattle.std.proofs.Common.{◌≡◌, ◌∙◌, ℕ, suc, ◌+◌, ◌-◌, ◌<◌, ◌≤◌, ◌++◌, Bool, true, false, List, [], ◌∷◌, append_assoc, length, map, Option, Some, None, Result, Ok, Err, ok_or, refl, sym, ap, subst, arith}
 use Rattle.std.specs.List.{flat_map, range_with_len}
 use Rattle.std.specs.Option.{IsSomeAnd, option_and_then, option_map}
 use Rattle.std.specs.Prelude.{if◌then◌else◌, not}
@@ -77,9 +77,6 @@ chain_fails x at cs cause is base found fails = chain_by x at cs is base found �
 abbrev pub Reads : Site → List Lane → ℕ → Type 0
 Reads x cs n = indexes (values x) x.inst ≡ ok_or (option_map (λ (us : List Value). cs ++ flat_map leaves us) (all_of (values x) (range_with_len n (length x.inst.operands - n)))) NoValue
 
-pub none_read : (x : Site) → Reads x [] 1
-none_read x = refl
-
 -- the next operand, and those behind it
 next_of : (x : Site) (cs : List Lane) (n : ℕ) (o : Option Value) → n < length x.inst.operands → values x n ≡ o → Reads x cs n
     → indexes (values x) x.inst ≡ ok_or (option_map (λ (us : List Value). cs ++ flat_map leaves us)
@@ -97,14 +94,6 @@ moved cs v (Some us) = ap (λ (ls : List Lane). Ok ls) (sym (append_assoc cs (le
 
 pub one_read : (x : Site) (cs : List Lane) (n : ℕ) (v : Value) → n < length x.inst.operands → Reads x cs n → values x n ≡ Some v → Reads x (cs ++ leaves v) (n + 1)
 one_read x cs n v lt so_far value = next_of x cs n (Some v) lt value so_far ∙ moved cs v (all_of (values x) (range_with_len (n + 1) (length x.inst.operands - (n + 1))))
-
-pub none_there : (x : Site) (cs : List Lane) (n : ℕ) → n < length x.inst.operands → Reads x cs n → values x n ≡ None → indexes (values x) x.inst ≡ Err NoValue
-none_there x cs n lt so_far value = next_of x cs n None lt value so_far
-
-pub all_read : (x : Site) (cs : List Lane) (n : ℕ) → length x.inst.operands ≤ n → Reads x cs n → indexes (values x) x.inst ≡ Ok cs
-all_read x cs n le so_far =
-    let none : length x.inst.operands - n ≡ 0 = omega arith in
-    so_far ∙ ap (λ (k : ℕ). ok_or (option_map (λ (us : List Value). cs ++ flat_map leaves us) (all_of (values x) (range_with_len n k))) NoValue) none ∙ ap (λ (ls : List Lane). Ok ls) (append-nil cs)
 
 -- ---- the indexes are data
 

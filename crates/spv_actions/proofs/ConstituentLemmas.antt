@@ -51,8 +51,3 @@ one_gathered x vs n v lt so_far value shape = record {
         subst (λ (w : Value). IsOperand (accepted x) x.inst k w) new.1 (subst (λ (j : ℕ). IsOperand (accepted x) x.inst j v) here shape)
   ];
 }
-
-pub one_missing : (x : Site) (vs : List Value) (n : ℕ) → n < length x.inst.operands → Gathers x vs n → values x n ≡ None → all_of (values x) (range_with_len 0 (length x.inst.operands)) ≡ None
-one_missing x vs n lt so_far none =
-    so_far.rest ∙ ap (option_map (λ (us : List Value). vs ++ us)) (next_of x n lt
-    ∙ ap (option_and_then (λ (v : Value). option_map (λ (us : List Value). v ∷ us) (all_of (values x) (range_with_len (n + 1) (length x.inst.operands - (n + 1)))))) none)

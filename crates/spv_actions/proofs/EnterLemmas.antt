@@ -1,7 +1,7 @@
 -- What calls and returns with a value do.
 use Rattle.std.proofs.Common.{◌≡◌, ◌∙◌, ◌++◌, ℕ, true, List, [], ◌∷◌, length, Option, Some, None, Result, Ok, Err, ok_or, map, refl, sym, ap, subst}
 use Rattle.spv_base.specs.Answers.{Answers}
-use Rattle.spv_base.specs.State.{Roots}
+use Rattle.spv_base.specs.Variables.{Roots}
 use Rattle.spv_base.specs.declared.causes.Fail.{Fail}
 use Rattle.spv_base.specs.declared.causes.Fail.TheVariants.{Refused, NoMemory}
 use Rattle.spv_base.specs.declared.values.Value.{Value}

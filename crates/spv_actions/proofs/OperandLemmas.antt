@@ -36,7 +36,7 @@ use Rattle.spv_results.proofs.ShapeProps.{shape_prop}
 use Rattle.spv_actions.specs.Sites.{IsShaped, IsSite, Site, accepted, is_data, is_data_at, values}
 use Rattle.spv_state.specs.State.{depth_of}
 use Rattle.spv_actions.proofs.SiteLemmas.{frame_sound}
-use Rattle.spv_state.proofs.Standing.{function_known, standing}
+use Rattle.spv_state.proofs.ExecutableLemmas.{function_known, standing}
 
 -- ---- the plan of the frame
 

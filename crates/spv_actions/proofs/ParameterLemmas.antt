@@ -30,15 +30,10 @@ use Rattle.spv_valid.specs.Validity.{IsValid}
 use Rattle.spv_plans.specs.Members.{is_within, leading, members, stands_in}
 use Rattle.spv_plans.specs.Registers.{has_result, is_parameter, is_register, register_in, register_of, registers_of}
 use Rattle.spv_plans.proofs.ApartLemmas.{insts_of_stands}
-use Rattle.spv_plans.proofs.PlanLemmas.{each_inst, facts, function_named, result_here}
+use Rattle.spv_plans.proofs.PlanLemmas.{each_inst, facts, function_named, result_here, each_drop}
 use Rattle.spv_results.specs.Operands.{known}
 
 -- ---- lists
-
-each_drop : {X : Type 0} (P : X → Type 0) (n : ℕ) (xs : List X) → AllByRecursion P xs → AllByRecursion P (drop n xs)
-each_drop P zero xs h = h
-each_drop P (suc n) [] h = tt
-each_drop P (suc n) (x ∷ xs) h = each_drop P n xs h.1
 
 each_of : {X : Type 0} (P Q : X → Type 0) → ((x : X) → P x → Q x) → (xs : List X) → AllByRecursion P xs → AllByRecursion Q xs
 each_of P Q of [] h = tt

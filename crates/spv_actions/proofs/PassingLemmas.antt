@@ -24,7 +24,7 @@ use Rattle.spv_types.specs.Rows.{leaves, no_roots}
 use Rattle.spv_types.specs.Shapes.{HasShape, pointer_in}
 use Rattle.spv_types.specs.Types.{Types, form_of}
 use Rattle.spv_mem.specs.Memory.{AreVariables, IsVariable}
-use Rattle.spv_base.specs.State.{Roots}
+use Rattle.spv_base.specs.Variables.{Roots}
 use Rattle.spv_valid.specs.Acceptance.{Accepted, IsAccepted}
 use Rattle.spv_initial.specs.Start.{variables}
 use Rattle.spv_initial.specs.Variables.{HaveTargets, targets_of}
@@ -50,7 +50,7 @@ use Rattle.spv_results.proofs.SoundTypes.{sound_types}
 use Rattle.spv_state.specs.Sound.{IsSoundFrame}
 use Rattle.spv_state.specs.Roots.{IsRooted}
 use Rattle.spv_state.specs.State.{depth_of, frames_of, with_register, with_registers}
-use Rattle.spv_state.proofs.Known.{IsKnown, known_as}
+use Rattle.spv_state.proofs.AcceptedLemmas.{IsKnown, known_as}
 use Rattle.spv_state.proofs.StartSound.{fresh_rooted}
 use Rattle.spv_state.proofs.SlotLemmas.{no_value}
 use Rattle.spv_state.proofs.Stands.{IsOne, member_one, stand_inst}
@@ -61,7 +61,7 @@ use Rattle.spv_actions.specs.Passing.{IsParameter, Passes, Suits, frame_due, par
 use Rattle.spv_actions.specs.Sites.{Finds, IsShaped, Site, accepted, values}
 use Rattle.spv_actions.specs.declared.causes.Cause.{Cause}
 use Rattle.spv_actions.specs.declared.causes.Cause.TheVariants.{NoValue}
-use Rattle.spv_actions.proofs.KeepsFrames.{RegisterFits, register_kept, register_stays}
+use Rattle.spv_actions.proofs.SoundFrames.{RegisterFits, register_kept, register_stays}
 use Rattle.spv_actions.proofs.OperandLemmas.{plain_none, recovered}
 use Rattle.spv_actions.proofs.ParameterLemmas.{drop_here}
 use Rattle.spv_actions.proofs.PointerLemmas.{pointed, pointer_form}

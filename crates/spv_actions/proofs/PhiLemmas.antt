@@ -35,14 +35,14 @@ use Rattle.spv_valid.specs.Acceptance.{Accepted, IsAccepted}
 use Rattle.spv_valid.specs.Validity.{IsValid}
 use Rattle.spv_frame.specs.Frames.{Held as Frame}
 use Rattle.spv_plans.proofs.NumberLemmas.{filtered, leading_at, map_from}
+use Rattle.spv_plans.proofs.PlanLemmas.{each_at}
 use Rattle.spv_operands.specs.Values.{value_of}
 use Rattle.spv_operands.proofs.ShapeLemmas.{data_plain}
 use Rattle.spv_results.specs.Operands.{known}
 use Rattle.spv_results.proofs.ShapeProps.{shape_prop}
 use Rattle.spv_results.proofs.SoundTypes.{sound_types}
 use Rattle.spv_state.specs.State.{depth_of}
-use Rattle.spv_state.proofs.Known.{IsKnown}
-use Rattle.spv_state.proofs.Lists.{each_at}
+use Rattle.spv_state.proofs.AcceptedLemmas.{IsKnown}
 use Rattle.spv_actions.specs.Fits.{IsOfType}
 use Rattle.spv_actions.specs.Phis.{behind_label, block_at, comes_first, first_ones, is_phi, pairs, phi_value, phi_values, source_among}
 use Rattle.spv_actions.specs.Sites.{Finds, IsSite, Site, accepted, is_data}
@@ -316,12 +316,6 @@ module _ (a : Accepted) (f : Frame) (depth from : ℕ) where
       so_far ∙ ap (option_map (λ (rs : List (ℕ × Value)). values ++ rs)) (next_taken insts n i lt at phi
       ∙ ap (option_and_then (λ (u : ℕ × Value). option_map (λ (rs : List (ℕ × Value)). u ∷ rs) (taken_from insts (n + 1)))) value)
       ∙ joined values r (taken_from insts (n + 1))
-
-  pub one_missing : (all : Option (List (ℕ × Value))) (insts : List Inst) (n : ℕ) (i : Inst) (values : List (ℕ × Value)) → n < length insts → i ≡ get_or insts n i → is_phi i ≡ true
-      → phi_value a f depth from i ≡ None → all ≡ option_map (λ (rs : List (ℕ × Value)). values ++ rs) (taken_from insts n) → all ≡ None
-  one_missing all insts n i values lt at phi none so_far =
-      so_far ∙ ap (option_map (λ (rs : List (ℕ × Value)). values ++ rs)) (next_taken insts n i lt at phi
-      ∙ ap (option_and_then (λ (u : ℕ × Value). option_map (λ (rs : List (ℕ × Value)). u ∷ rs) (taken_from insts (n + 1)))) none)
 
   pub other_taken : (insts : List Inst) (n : ℕ) (i : Inst) → n < length insts → i ≡ get_or insts n i → is_phi i ≡ false → taken_from insts n ≡ taken_from insts (n + 1)
   other_taken insts n i lt at other = rw (drop-cons insts n i lt, ← at, other, add-one) refl

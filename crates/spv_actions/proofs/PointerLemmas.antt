@@ -29,7 +29,7 @@ use Rattle.spv_results.specs.Operands.{IsOperand, known}
 use Rattle.spv_actions.specs.Kept.{KeepsCopy}
 use Rattle.spv_actions.specs.Sites.{IsShaped, Site, part_of}
 use Rattle.spv_actions.specs.declared.causes.Cause.TheVariants.{OutOfBounds}
-use Rattle.spv_actions.proofs.KeepsFrames.{pointer_by}
+use Rattle.spv_actions.proofs.SoundFrames.{pointer_by}
 
 -- ---- values
 

@@ -19,7 +19,7 @@ use Rattle.spv_actions.specs.Kept.{Keeps}
 use Rattle.spv_actions.specs.Sites.{IsSite, Site, accepted}
 use Rattle.spv_state.specs.Sound.{IsSoundFrame}
 use Rattle.spv_actions.proofs.ComputationLemmas.{computed}
-use Rattle.spv_actions.proofs.KeptLemmas.{computed_plain, is_plain_code, keeps, keeps_load, keeps_store, load_plain, plain_open, plain_own, store_plain}
+use Rattle.spv_actions.proofs.ComputationRules.{computed_plain, is_plain_code, keeps, keeps_load, keeps_store, load_plain, plain_open, plain_own, store_plain}
 use Rattle.spv_actions.proofs.RunLemmas.{RulesAreTested, Runs, alone, is_run, rule_kept, runs_on, runs_there}
 
 there : {X : Type 0} (xs : List X) (n : ℕ) → n < length xs → (x : X) × (slice_get xs n ≡ Some x)

@@ -34,9 +34,8 @@ use Rattle.spv_results.specs.Operands.{IsOperand, known as known_in}
 use Rattle.spv_results.proofs.OperandTypes.{HasForm, form_has_type}
 use Rattle.spv_results.proofs.SoundTypes.{sound_types}
 use Rattle.spv_state.specs.Sound.{StandsIn}
-use Rattle.spv_state.proofs.Known.{IsKnown, known}
-use Rattle.spv_state.proofs.Lists.{each_at}
-use Rattle.spv_state.proofs.Standing.{at_standing, standing}
+use Rattle.spv_state.proofs.AcceptedLemmas.{IsKnown, known}
+use Rattle.spv_state.proofs.ExecutableLemmas.{at_standing, standing}
 use Rattle.spv_state.proofs.Stands.{IsOne, class_is, stood}
 use Rattle.spv_actions.specs.Branches.{picked, switched}
 use Rattle.spv_actions.specs.Sites.{IsSite, Site, accepted, is_data_at}
@@ -44,6 +43,7 @@ use Rattle.spv_actions.proofs.ControlCodes.{branch_ends, condition_ends, conditi
 use Rattle.spv_actions.proofs.DataLemmas.{typed_data}
 use Rattle.spv_actions.proofs.RunLemmas.{Runs}
 use Rattle.spv_actions.proofs.SiteLemmas.{frame_sound, site_runs}
+use Rattle.spv_plans.proofs.PlanLemmas.{each_at}
 
 -- ---- the labels of each opcode
 

@@ -7,8 +7,7 @@ use Rattle.spv_base.specs.declared.instructions.Inst.{Inst}
 use Rattle.spv_index.specs.declared.classes.Class.{Class}
 use Rattle.spv_index.specs.declared.classes.Class.TheVariants.{Function, Parameter, End, Label, Line, Phi, Variable, Terminator, Passed, Executable}
 use Rattle.spv_index.specs.declared.positions.Position.{Position}
-use Rattle.spv_index.specs.declared.positions.Stage.{Stage}
-use Rattle.spv_index.specs.declared.positions.Stage.TheVariants.{Outside, Head, Phis, Variables, Body, Between}
+use Rattle.spv_index.specs.declared.positions.Stage.TheVariants.{Variables, Body, Between}
 use Rattle.spv_index.specs.Classes.{class_of, sets_of}
 use Rattle.spv_index.specs.Definitions.{at, before_functions}
 use Rattle.spv_index.specs.Positions.{Stand, among_variables, begins_block, in_block, in_function, outside, position_after, stands, stands_of}
@@ -20,25 +19,13 @@ use Rattle.spv_valid.specs.Acceptance.{Accepted}
 use Rattle.spv_valid.specs.Validity.{IsValid}
 use Rattle.spv_results.specs.Operands.{known}
 use Rattle.spv_state.specs.Sound.{StandsIn}
-use Rattle.spv_state.proofs.Blocks.{block_inside, opcode_of_function}
-use Rattle.spv_state.proofs.Known.{IsKnown}
-use Rattle.spv_state.proofs.Lists.{each_at}
-use Rattle.spv_state.proofs.Standing.{Standing, at_standing, standing}
+use Rattle.spv_state.proofs.AcceptedLemmas.{IsKnown}
+use Rattle.spv_state.proofs.ExecutableLemmas.{Standing, at_standing, standing}
+use Rattle.spv_plans.proofs.PlanLemmas.{function_class, each_at}
+use Rattle.spv_plans.proofs.MemberLemmas.{variables_inside, inside_from, block_inside}
+use Rattle.spv_cfg.proofs.FunctionLaws.{opcode_of_function}
 
 -- ---- positions
-
-variables_inside : (stage : Stage) → among_variables stage ≡ true → in_function stage ≡ true
-variables_inside Outside h = absurd (cc)
-variables_inside Head h = refl
-variables_inside Phis h = refl
-variables_inside Variables h = refl
-variables_inside Body h = refl
-variables_inside Between h = refl
-
--- one of two stages
-inside_from : (b : Bool) (t stage : Stage) → (b ≡ true → in_function stage ≡ true) → in_function (cond b t stage) ≡ true → in_function stage ≡ true
-inside_from true t stage tells h = tells refl
-inside_from false t stage tells h = h
 
 -- no class but that of a function begins one
 abbrev Stays : Position → Position → Type 0
@@ -79,9 +66,6 @@ pub record KeptIn (k : Known) (insts : List Inst) (function : ℕ) (i : Inst) : 
 
 abbrev InFunction : Known → List Inst → Stand → Type 0
 InFunction k insts s = in_function s.position.stage ≡ true → KeptIn k insts s.position.function s.inst
-
-function_class : (sets : List (ℕ × Bool)) (i : Inst) → i.op ≡ 54 → class_of sets i ≡ Function
-function_class sets i op = rw op refl
 
 returns_next : (insts : List Inst) (sets : List (ℕ × Bool)) (position : Position) (w : Within) (i : Inst) → (n : ℕ) × (slice_get insts n ≡ Some i) → (in_function position.stage ≡ true → Returns insts position.function w)
     → in_function (position_after position (class_of sets i) i).stage ≡ true → Returns insts (position_after position (class_of sets i) i).function (within_after w i)

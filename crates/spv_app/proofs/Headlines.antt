@@ -11,8 +11,8 @@ use Rattle.spv_app.specs.declared.status.Status.TheVariants.{Done, Usage, Module
 use Rattle.spv_app.specs.declared.opening.OpeningRefusal.{OpeningRefusal}
 use Rattle.spv_app.specs.Lines.{lines_of}
 use Rattle.spv_app.specs.Transcript.{transcript}
-use Rattle.spv_app.specs.Command_line.{Names, debug_names}
-use Rattle.spv_app.specs.Command_loop.{Says, with_rest}
+use Rattle.spv_app.specs.CommandLine.{Names, debug_names}
+use Rattle.spv_app.specs.CommandLoop.{Says, with_rest}
 use Rattle.spv_app.specs.Opening.{opening, refusal_line}
 use Rattle.spv_app.specs.Limits.{binary_limit, setup_limit, input_limit}
 use Rattle.spv_app.specs.Outside.{Library, Outside}

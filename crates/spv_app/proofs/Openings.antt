@@ -3,7 +3,7 @@ use Rattle.std.proofs.Common.{◌≡◌, ◌∙◌, ℕ, Result, Ok, Err, refl, 
 use Rattle.spv_group.specs.Group.{Held as Group, Undoing}
 use Rattle.spv_app.specs.declared.opening.OpeningRefusal.{OpeningRefusal}
 use Rattle.spv_app.specs.declared.status.Status.{Status}
-use Rattle.spv_app.specs.Command_loop.{Ran}
+use Rattle.spv_app.specs.CommandLoop.{Ran}
 use Rattle.spv_app.specs.Opening.{journaled, viewed, with_journal}
 use Rattle.spv_app.specs.Outside.{Streams}
 use Rattle.spv_session.specs.View.{Viewing, first_viewing}

@@ -12,7 +12,7 @@ use Rattle.spv_app.specs.Lines.{complete_from, rest_from, complete_lines, rest_o
 use Rattle.spv_app.specs.Limits.{input_limit, piece_limit}
 use Rattle.spv_app.specs.Outside.{Streams}
 use Rattle.spv_app.specs.Transcript.{transcript, view_after, has_quit, Reaches, Spends}
-use Rattle.spv_app.specs.Command_loop.{Says, AnswersInTime, with_rest, Ran}
+use Rattle.spv_app.specs.CommandLoop.{Says, AnswersInTime, with_rest, Ran}
 use Rattle.spv_app.specs.Stops.{StopSays, status_of}
 use Rattle.spv_app.proofs.Transcripts.{transcript_goes, transcript_quits, has_quit-append, transcript_front, prefix_refl, prefix_trans, prefix_under, prefix_nil, prefix_of_proper, proper_under}
 use Rattle.spv_app.proofs.Spending.{reaches_more, spends_none, spends_front, spends_more, spends_reach}

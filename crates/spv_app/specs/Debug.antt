@@ -13,8 +13,8 @@ use Rattle.spv_app.specs.Limits.{binary_limit, setup_limit}
 use Rattle.spv_app.specs.Lines.{lines_of}
 use Rattle.spv_app.specs.Outside.{Library, Outside}
 use Rattle.spv_app.specs.Transcript.{transcript}
-use Rattle.spv_app.specs.Command_line.{Names}
-use Rattle.spv_app.specs.Command_loop.{Ran}
+use Rattle.spv_app.specs.CommandLine.{Names}
+use Rattle.spv_app.specs.CommandLoop.{Ran}
 use Rattle.spv_app.specs.Opening.{opening, refusal_line, with_journal}
 
 -- ---- one line

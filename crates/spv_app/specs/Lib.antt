@@ -2,13 +2,13 @@ pub mod Limits
 pub mod Lines
 pub mod Outside
 pub mod Transcript
-pub mod Command_loop
+pub mod CommandLoop
 pub mod Stops
 pub mod Acceptance
 pub mod Opening
 pub mod Checking
 pub mod Texting
-pub mod Command_line
+pub mod CommandLine
 pub mod Debug
-pub mod File_status
-pub mod Status_numbers
+pub mod FileStatus
+pub mod StatusNumbers

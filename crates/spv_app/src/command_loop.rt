@@ -4,7 +4,7 @@ ghost use Rattle.std.specs.Io.KnownBytes.{Appends, Consumes, Keeps, IsAtEnd};
 ghost use Rattle.spv_base.specs.Outside.{CountsFault};
 ghost use Rattle.spv_app.specs.Lines.{last_line};
 ghost use Rattle.spv_app.specs.Transcript.{transcript, Spends};
-ghost use Rattle.spv_app.specs.Command_loop.{Ran};
+ghost use Rattle.spv_app.specs.CommandLoop.{Ran};
 ghost use Rattle.spv_app.specs.Limits.{piece_limit};
 ghost use Rattle.spv_app.specs.Stops.{StopSays, StopCounts};
 

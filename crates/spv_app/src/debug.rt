@@ -1,12 +1,12 @@
 //! The top call.
 ghost use Rattle.std.specs.Prelude.{◌≡◌, ◌≢◌, ◌↔◌, ◌⊎◌, ◌<◌, ◌≤◌, ◌-◌, ◌^◌, [], ◌∷◌, ◌++◌, List, ℕ, Option, Some, None, All, vec_len, length, IfOk, IfErr, IsOk, IsErrOf};
 ghost use Rattle.std.specs.Io.KnownBytes.{Appends};
-ghost use Rattle.spv_app.specs.Command_line.{Names, debug_names, check_name, text_name, usage_line};
+ghost use Rattle.spv_app.specs.CommandLine.{Names, debug_names, check_name, text_name, usage_line};
 ghost use Rattle.spv_base.specs.Answers.{Answers};
 ghost use Rattle.spv_app.specs.Opening.{opening, refusal_line, viewed};
 ghost use Rattle.spv_app.specs.Debug.{Debugged, IsPair, IsOneOf, SaysLine, SaysUnopened, status_of_refusal, due_text, due_status};
 ghost use Rattle.spv_base.specs.Outside.{AsksFor};
-ghost use Rattle.spv_app.specs.File_status.{status_of_file};
+ghost use Rattle.spv_app.specs.FileStatus.{status_of_file};
 ghost use Rattle.spv_app.specs.Limits.{binary_limit, setup_limit, input_limit};
 ghost use Rattle.spv_app.specs.Checking.{Checked, checking, check_line, check_status, report_line};
 ghost use Rattle.spv_app.specs.Texting.{Texted, texting, text_line, text_status};

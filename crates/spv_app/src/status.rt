@@ -1,7 +1,7 @@
 //! How a call of the program ends.
 ghost use Rattle.std.specs.Prelude.{◌≡◌};
-ghost use Rattle.spv_app.specs.File_status.{status_of_file};
-ghost use Rattle.spv_app.specs.Status_numbers.{status_number};
+ghost use Rattle.spv_app.specs.FileStatus.{status_of_file};
+ghost use Rattle.spv_app.specs.StatusNumbers.{status_number};
 ghost use Rattle.spv_app.specs.Stops.{status_of};
 ghost use Rattle.spv_app.specs.declared.status.Stop.TheVariants as stop;
 

@@ -16,8 +16,3 @@ abbrev pub change : {A : Type 0} → ℕ → (A → A) → List A → List A
 change i f [] = []
 change zero f (x ∷ xs) = f x ∷ xs
 change (suc i) f (x ∷ xs) = x ∷ change i f xs
-
--- a change of the first element alone
-abbrev pub on_first : {A : Type 0} → (A → A) → List A → List A
-on_first g [] = []
-on_first g (x ∷ xs) = g x ∷ xs

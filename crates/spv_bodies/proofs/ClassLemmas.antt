@@ -18,9 +18,6 @@ use Rattle.spv_bodies.proofs.TermLemmas.{class_still, classes_tell, makes_still}
 pub grows_on : (a b c : List Node) → Grows a b → Grows b c → Grows a c
 grows_on a b c f g = λ n k h. g n k (f n k h)
 
-pub grows_not : (a : List Node) → Grows a a
-grows_not a = λ n k h. h
-
 -- a class of parts, under the opcode and the count that stand at places
 pub repeated_is : (a b c d e : List Node) (part count rest opcode whole : ℕ) (op n : ℕ) → Grows a b → Grows b c → Grows c d → Grows d e
     → slice_get b count ≡ Some (Single n) → slice_get c rest ≡ Some (Double part count) → slice_get d opcode ≡ Some (Single op) → slice_get e whole ≡ Some (Double opcode rest)

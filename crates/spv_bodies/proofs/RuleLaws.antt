@@ -21,7 +21,7 @@ use Rattle.spv_types.specs.Types.{Types, form_of}
 use Rattle.spv_types.specs.Queries.{is_integer, is_pointer}
 use Rattle.spv_index.specs.Classes.{is_debug}
 use Rattle.spv_typing.specs.Fitting.{is_selectable}
-use Rattle.spv_typing.proofs.LawLemmas.{glsl_rule_is, rule_is}
+use Rattle.spv_typing.proofs.LawLemmas.{glsl_rule_is, rule_is, impossible}
 use Rattle.spv_bodies.specs.declared.rules.Rule.{Rule}
 use Rattle.spv_bodies.specs.declared.rules.Rule.TheVariants.{Free, Lanes, Extended, Memory, Atomic, Composite, Control}
 use Rattle.spv_bodies.specs.declared.rules.MemoryRule.{MemoryRule}
@@ -47,7 +47,7 @@ use Rattle.spv_index.specs.Operands.{literal_in, literal_operand}
 use Rattle.spv_bodies.specs.Places.{Placed, placed}
 use Rattle.spv_bodies.specs.Rules.{rule_of}
 use Rattle.spv_bodies.proofs.TermLemmas.{both_written}
-use Rattle.spv_bodies.proofs.TestLemmas.{all_are, at_most, boolean, composed, declaring, equal, has_is, impossible, integer, itself, leading, less, one_more, opposite, present, runtime, some, void, word}
+use Rattle.spv_bodies.proofs.TestLemmas.{all_are, at_most, boolean, composed, declaring, equal, has_is, integer, itself, leading, less, one_more, opposite, present, runtime, some, void, word}
 
 -- ---- memory
 

@@ -1,17 +1,19 @@
 -- Terms that nodes make.
-use Rattle.std.proofs.Common.{◌≡◌, ◌↔◌, ◌⊎◌, ◌∙◌, inl, inr, ℕ, zero, suc, ◌==◌, Bool, true, false, cond, nat_cmp, List, [], ◌∷◌, ◌++◌, length, Option, Some, None, refl, sym, ap, arith, rules, tests}
+use Rattle.std.proofs.Common.{◌≡◌, ◌↔◌, ◌⊎◌, ◌∙◌, inl, inr, ℕ, zero, suc, ◌==◌, Bool, true, false, cond, nat_cmp, List, [], ◌∷◌, ◌++◌, length, Option, Some, None, refl, sym, ap, arith}
 use Rattle.std.specs.Prelude.{◌&&◌, slice_get}
 use Rattle.std.proofs.lemmas.Bool.Decides.{Decides-and, Decides-like}
 use Rattle.std.specs.Bool.{Decides}
 use Rattle.std.specs.Ordering.{is_eq}
 use Rattle.spv_index.specs.Keys.{pair_cmp}
+use Rattle.spv_index.proofs.KeyLemmas.{same_pair}
 use Rattle.spv_types.proofs.TableLemmas.{same_key}
 use Rattle.spv_bodies.specs.declared.terms.Node.{Node}
 use Rattle.spv_bodies.specs.declared.terms.Node.TheVariants.{Number as Single, Pair as Double}
 use Rattle.spv_bodies.specs.Matching.{Number, Pair, Term, same_term, same_terms}
 use Rattle.spv_bodies.specs.Terms.{AreDistinct, Grows, IsClass, Makes}
 use Rattle.spv_bodies.specs.Classes.{same_class}
-use Rattle.spv_bodies.proofs.TestLemmas.{equal, impossible}
+use Rattle.spv_bodies.proofs.TestLemmas.{equal}
+use Rattle.spv_typing.proofs.LawLemmas.{impossible}
 
 -- ---- a node more
 
@@ -58,9 +60,6 @@ push_same xs x k false o n m e d old new = push_other xs x k o n (λ same. let t
 
 pub singles : (a b : ℕ) → Decides (is_eq (nat_cmp a b)) (Single a ≡ Single b)
 singles a b = rw (same_key a b) (λ h. ap Single ((equal a b).0 h), λ h. let e : a ≡ b = cc in (equal a b).1 e)
-
-same_pair : (a b c d : ℕ) → is_eq (pair_cmp (a, b) (c, d)) ≡ (a == c && b == d)
-same_pair a b c d = search (tests, rules)
 
 pub doubles : (a b x y : ℕ) → Decides (is_eq (pair_cmp (a, b) (x, y))) (Double a b ≡ Double x y)
 doubles a b x y = rw (same_pair a b x y) (there (a == x) (b == y) refl refl, back)

@@ -13,9 +13,7 @@ use Rattle.spv_types.specs.declared.queries.Pointed.{Pointed}
 use Rattle.spv_types.specs.Rules.{is_runtime, is_word}
 use Rattle.spv_types.specs.Queries.{components_in, is_boolean, is_integer, is_void, parameters_in, pointee, returned}
 use Rattle.spv_bodies.specs.Context.{IsInteger, IsPointerTo, IsVectorOf, has}
-
-pub impossible : {A : Type 0} → false ≡ true → A
-impossible h = absurd (grind arith)
+use Rattle.spv_typing.proofs.LawLemmas.{impossible}
 
 -- ---- numbers and options
 

@@ -7,13 +7,13 @@ use Rattle.std.proofs.lemmas.Bool.{cases_lt}
 use Rattle.std.proofs.lemmas.List.{append-nil, drop_all, drop_more, get_or_past}
 use Rattle.spv_cfg.specs.Lowest.{lowest, sooner}
 use Rattle.spv_cfg.proofs.LowestLemmas.{sooner_assoc, sooner-none, lowest-append}
-use Rattle.spv_cfg.proofs.Backwards.{drop_back}
 use Rattle.std.proofs.lemmas.List.Elements.{All-nil, All-append, All-head, All-tail}
 use Rattle.spv_base.specs.Entries.{reads}
 use Rattle.spv_base.specs.declared.instructions.Inst.{Inst}
 use Rattle.spv_cfg.specs.Calls.{most, longest, limit, lengths, numbered, call_between, call_of, callee_of, depths, over, too_deep}
 use Rattle.spv_index.specs.Operands.{id_operand}
 use Rattle.spv_index.specs.Positions.{Stand, in_function}
+use Rattle.spv_index.proofs.ListLemmas.{drop_back}
 
 pub longest-suc : (k : ℕ) (calls : List (ℕ × ℕ)) (f : ℕ) → longest (suc k) calls f ≡ suc (most (λ g. longest k calls g) f calls)
 unfolding longest

@@ -1,5 +1,5 @@
 -- A module in which no rule is broken.
-use Rattle.std.proofs.Common.{◌≡◌, ℕ, List, [], ◌∷◌, Option, Some, None, Ok, Err, refl, sym, ap, ◌∙◌}
+use Rattle.std.proofs.Common.{◌≡◌, ℕ, List, [], ◌∷◌, Option, Some, None, Ok, refl, sym, ap, ◌∙◌}
 use Rattle.spv_base.specs.declared.causes.Refusal.{Refusal}
 use Rattle.spv_base.specs.declared.instructions.Inst.{Inst}
 use Rattle.spv_index.specs.Classes.{sets_of}
@@ -17,13 +17,6 @@ unfolding flow_of
 accepted insts block call flow block_is call_is none flow_is =
     let whole : flow_of insts ≡ unless_refused (refusal block call) (flow_in insts) = rw (block_is, call_is) refl in
     whole ∙ ap (λ (r : Option Refusal). unless_refused r (flow_in insts)) (sym none) ∙ ap (λ (f : Flow). Ok f) (sym flow_is)
-
-pub refused : (insts : List Inst) (block call : Option ℕ) (r : Refusal) → block ≡ lowest (block_breaches insts) → call ≡ lowest (call_breaches insts)
-    → Some r ≡ refusal block call → flow_of insts ≡ Err r
-unfolding flow_of
-refused insts block call r block_is call_is some =
-    let whole : flow_of insts ≡ unless_refused (refusal block call) (flow_in insts) = rw (block_is, call_is) refl in
-    whole ∙ ap (λ (o : Option Refusal). unless_refused o (flow_in insts)) (sym some)
 
 lowest-none : (words : List ℕ) → lowest words ≡ None → words ≡ []
 lowest-none [] none = refl

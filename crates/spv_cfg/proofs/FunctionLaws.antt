@@ -64,7 +64,7 @@ tests_of_functions false false = refl
 classes_of_functions : (debug local : Bool) → AllByRecursion GivesFunction (classes debug local)
 classes_of_functions debug local = all_from_test gives_function GivesFunction test_of_function (classes debug local) (tests_of_functions debug local)
 
-opcode_of_function : (sets : List (ℕ × Bool)) (inst : Inst) → class_of sets inst ≡ Function → inst.op ≡ 54
+pub opcode_of_function : (sets : List (ℕ × Bool)) (inst : Inst) → class_of sets inst ≡ Function → inst.op ≡ 54
 opcode_of_function sets inst is =
     key_of_function inst.op (classes (is_debug sets inst) (is_local inst)) (classes_of_functions (is_debug sets inst) (is_local inst)) is
 

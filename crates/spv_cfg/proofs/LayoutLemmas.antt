@@ -36,7 +36,7 @@ executables_from sets position insts = flat_map executable_of (stands sets posit
 abbrev pub Led : ℕ → List (ℕ × ℕ) → Type 0
 Led label es = (w : ℕ) × (more : List (ℕ × ℕ)) × (es ≡ (label, w) ∷ more)
 
-not_reported : (b : Bool) (block : ℕ) → b ≡ true → cond b (block ∷ []) [] ≡ [] → ⊥
+pub not_reported : (b : Bool) (block : ℕ) → b ≡ true → cond b (block ∷ []) [] ≡ [] → ⊥
 not_reported true block is none = cc
 not_reported false block is none = cc
 

@@ -1,6 +1,5 @@
 pub mod LowestLemmas
 pub mod Walks
-pub mod Backwards
 pub mod Orders
 pub mod Chains
 pub mod LayoutLemmas

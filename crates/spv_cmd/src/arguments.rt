@@ -27,7 +27,7 @@ pub fn none(arguments: &[u8], command: Command) -> Result<Command, Fail<CmdRefus
 }
 
 /// A number.
-#[tactic(auto, using(crate::proofs::Grammar_lemmas::not_one, crate::proofs::Grammar_lemmas::not_so))]
+#[tactic(auto, using(crate::proofs::GrammarLemmas::not_one, crate::proofs::GrammarLemmas::not_so))]
 pub fn number(arguments: &[u8]) -> Result<u32, Fail<CmdRefusal>>
     ensures { Reads (IsNumber (words_in arguments.now)) result }
 {
@@ -52,7 +52,7 @@ pub fn count(arguments: &[u8]) -> Result<Count, Fail<CmdRefusal>>
 }
 
 /// A path.
-#[tactic(auto, using(crate::proofs::Grammar_lemmas::not_one, crate::proofs::Grammar_lemmas::not_so))]
+#[tactic(auto, using(crate::proofs::GrammarLemmas::not_one, crate::proofs::GrammarLemmas::not_so))]
 pub fn path(alloc: Global, arguments: &[u8]) -> Result<ValuePath, Fail<CmdRefusal>>
     requires { length arguments.now ≤ 4090 }
     ensures { Reads (λ path. IsOne (IsPath path) (words_in arguments.now)) result }
@@ -64,7 +64,7 @@ pub fn path(alloc: Global, arguments: &[u8]) -> Result<ValuePath, Fail<CmdRefusa
 }
 
 /// A line of a source file.
-#[tactic(auto, using(crate::proofs::Grammar_lemmas::not_one, crate::proofs::Grammar_lemmas::not_so))]
+#[tactic(auto, using(crate::proofs::GrammarLemmas::not_one, crate::proofs::GrammarLemmas::not_so))]
 pub fn place(alloc: Global, arguments: &[u8]) -> Result<BreakPlace, Fail<CmdRefusal>>
     requires { length arguments.now ≤ 4090 }
     ensures { Reads (λ place. IsOne (IsPlace place) (words_in arguments.now)) result }

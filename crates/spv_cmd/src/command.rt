@@ -90,7 +90,7 @@ impl ValuePath {
     ghost use Rattle.spv_cmd.specs.Answers.{Reads};
 
     /// The path that a word is.
-    #[tactic(auto, using(crate::proofs::Path_lemmas::path_form))]
+    #[tactic(auto, using(crate::proofs::PathLemmas::path_form))]
     pub fn read(alloc: Global, word: &[u8]) -> Result<ValuePath, Fail<CmdRefusal>>
         requires { length word.now ≤ 4090 }
         ensures { Reads (λ path. IsPath path word.now) result }
@@ -137,7 +137,7 @@ impl BreakPlace {
     ghost use Rattle.spv_cmd.specs.Answers.{Reads};
 
     /// The line that a word is.
-    #[tactic(auto, using(crate::proofs::Place_lemmas::place_form))]
+    #[tactic(auto, using(crate::proofs::PlaceLemmas::place_form))]
     pub fn read(alloc: Global, word: &[u8]) -> Result<BreakPlace, Fail<CmdRefusal>>
         requires short { length word.now ≤ 4090 }
         requires whole { list_all is_other word.now ≡ true }

@@ -21,7 +21,7 @@ fn all_digits(digits: &[u8]) -> bool
 }
 
 /// The number of one or more decimal digits, where it fits. Leading zeros are read.
-#[tactic(auto, using(crate::proofs::Number_lemmas::number_is), unfolding(crate::specs::Numbers::number_of))]
+#[tactic(auto, using(crate::proofs::NumberLemmas::number_is), unfolding(crate::specs::Numbers::number_of))]
 pub fn number(digits: &[u8]) -> Option<u32>
     ensures { result ≡ number_of digits.now }
 {

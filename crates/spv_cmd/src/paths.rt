@@ -36,7 +36,7 @@ fn first_part(text: &[u8]) -> Option<usize>
 }
 
 /// The length of what stands before the first part.
-#[tactic(auto, using(spv_line::proofs::Words_lemmas::place_or_end, spv_line::proofs::Words_lemmas::place_within))]
+#[tactic(auto, using(spv_line::proofs::WordsLemmas::place_or_end, spv_line::proofs::WordsLemmas::place_within))]
 fn front_len(text: &[u8]) -> usize
     ensures front { result ≡ position_or_len is_mark text.now }
     ensures within { result ≤ length text.now }
@@ -45,7 +45,7 @@ fn front_len(text: &[u8]) -> usize
 }
 
 /// The length of the part that a text begins with.
-#[tactic(auto, using(spv_line::proofs::Words_lemmas::place_within))]
+#[tactic(auto, using(spv_line::proofs::WordsLemmas::place_within))]
 fn part_len(text: &[u8]) -> usize
     requires { 0 < length text.now }
     ensures part { result ≡ 1 + position_or_len is_mark (drop 1 text.now) }
@@ -56,7 +56,7 @@ fn part_len(text: &[u8]) -> usize
 }
 
 /// The part `.member`, without its point.
-#[tactic(auto, using(crate::proofs::Part_lemmas::no_member))]
+#[tactic(auto, using(crate::proofs::PartLemmas::no_member))]
 fn member(alloc: Global, name: &[u8]) -> Result<PathPart, Fail<CmdRefusal>>
     ensures { Reads (λ part. IsPart part (46 ∷ name.now)) result }
 {
@@ -67,7 +67,7 @@ fn member(alloc: Global, name: &[u8]) -> Result<PathPart, Fail<CmdRefusal>>
 }
 
 /// The part `[index]`, without its first bracket.
-#[tactic(auto, using(crate::proofs::Part_lemmas::no_index_empty, crate::proofs::Part_lemmas::no_index_end, crate::proofs::Part_lemmas::no_index_number, crate::proofs::Part_lemmas::index_is))]
+#[tactic(auto, using(crate::proofs::PartLemmas::no_index_empty, crate::proofs::PartLemmas::no_index_end, crate::proofs::PartLemmas::no_index_number, crate::proofs::PartLemmas::index_is))]
 fn index(text: &[u8]) -> Result<PathPart, Fail<CmdRefusal>>
     ensures { Reads (λ part. IsPart part (91 ∷ text.now)) result }
 {
@@ -86,7 +86,7 @@ fn index(text: &[u8]) -> Result<PathPart, Fail<CmdRefusal>>
 }
 
 /// A part of a path.
-#[tactic(auto, using(crate::proofs::Part_lemmas::no_part_empty, crate::proofs::Part_lemmas::no_part_other))]
+#[tactic(auto, using(crate::proofs::PartLemmas::no_part_empty, crate::proofs::PartLemmas::no_part_other))]
 fn part(alloc: Global, text: &[u8]) -> Result<PathPart, Fail<CmdRefusal>>
     ensures { Reads (λ part. IsPart part text.now) result }
 {
@@ -115,7 +115,7 @@ fn parts(alloc: Global, text: &[u8]) -> Result<PathParts, Fail<CmdRefusal>>
 }
 
 /// The path `%id`, without its percent sign.
-#[tactic(auto, using(crate::proofs::Part_lemmas::id_is, crate::proofs::Part_lemmas::no_id))]
+#[tactic(auto, using(crate::proofs::PartLemmas::id_is, crate::proofs::PartLemmas::no_id))]
 fn id(digits: &[u8]) -> Result<PathText, Fail<CmdRefusal>>
     ensures { Reads (λ path. IsPath path (37 ∷ digits.now)) result }
 {
@@ -126,7 +126,7 @@ fn id(digits: &[u8]) -> Result<PathText, Fail<CmdRefusal>>
 }
 
 /// A path that begins with a name.
-#[tactic(auto, using(crate::proofs::Part_lemmas::named_is, crate::proofs::Part_lemmas::no_name, crate::proofs::Part_lemmas::no_parts))]
+#[tactic(auto, using(crate::proofs::PartLemmas::named_is, crate::proofs::PartLemmas::no_name, crate::proofs::PartLemmas::no_parts))]
 fn named(alloc: Global, text: &[u8]) -> Result<PathText, Fail<CmdRefusal>>
     requires { (rest : List ℕ) → text.now ≢ 37 ∷ rest }
     ensures { Reads (λ path. IsPath path text.now) result }
@@ -143,7 +143,7 @@ fn named(alloc: Global, text: &[u8]) -> Result<PathText, Fail<CmdRefusal>>
 }
 
 /// The path that a text is.
-#[tactic(auto, using(crate::proofs::Part_lemmas::empty_begins, crate::proofs::Part_lemmas::other_begins))]
+#[tactic(auto, using(crate::proofs::PartLemmas::empty_begins, crate::proofs::PartLemmas::other_begins))]
 pub fn path(alloc: Global, text: &[u8]) -> Result<PathText, Fail<CmdRefusal>>
     ensures { Reads (λ path. IsPath path text.now) result }
 {

@@ -14,7 +14,7 @@ use std::alloc::Global;
 
 /// The canonical line of a command: its words with one space between them, numbers without leading zeros, and a number
 /// that may be left out written out. It has at most 4,096 bytes, and is a line of the command.
-#[tactic(auto, using(crate::proofs::Line_lemmas::line_again))]
+#[tactic(auto, using(crate::proofs::LineLemmas::line_again))]
 pub fn print(alloc: Global, command: &Command) -> Result<Text, NoMemory>
     ensures text { IfOk result (λ text. text ≡ line_of command.now) }
     ensures line { IfOk result (λ text. IsLine text command.now) }

@@ -10,7 +10,7 @@ use Rattle.spv_types.specs.declared.forms.Member.{Member}
 use Rattle.std.specs.Option.{option_map_or}
 use Rattle.spv_index.specs.Definitions.{result_type}
 use Rattle.spv_index.specs.Operands.{id_in}
-use Rattle.spv_typing.proofs.LawLemmas.{equal, parts}
+use Rattle.spv_typing.proofs.LawLemmas.{equal, parts, impossible}
 use Rattle.spv_consts.specs.Context.{Context}
 use Rattle.spv_consts.specs.State.{State, given_cells, is_operand, operand_cells}
 use Rattle.spv_consts.specs.Overrides.{is_same}
@@ -18,7 +18,7 @@ use Rattle.spv_consts.specs.Rules.{has_type, keeps_composite, keeps_part, keeps_
 use Rattle.spv_consts.specs.Laws.{FillType, OperandsFillTypes}
 use Rattle.spv_consts.specs.Values.{leaf_widths, widths_step}
 use Rattle.spv_consts.proofs.FillLemmas.{Fill, fill_append}
-use Rattle.spv_consts.proofs.ScalarShapes.{impossible, some_same}
+use Rattle.spv_consts.proofs.ScalarShapes.{some_same}
 
 same_number : (n : ℕ) (o : Option ℕ) → is_same n o ≡ true → Some n ≡ o
 same_number n None h = impossible h

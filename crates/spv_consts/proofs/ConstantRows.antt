@@ -28,12 +28,12 @@ use Rattle.spv_consts.specs.Rules.{has_type, keeps_composite, keeps_kind, keeps_
 use Rattle.spv_consts.specs.Evaluation.{cells_of, computed_cells, value_of}
 use Rattle.spv_consts.specs.Constants.{Has, IsConstant, Known, constituents, leaves_if, leaves_of, literal, result_of, specialized}
 use Rattle.spv_consts.proofs.ConstantGrowth.{Grows, erased}
-use Rattle.spv_consts.proofs.LaneFills.{impossible}
 use Rattle.spv_consts.proofs.OperationResults.{result_is}
 use Rattle.spv_consts.proofs.ValueFills.{constant_rules}
 use Rattle.spv_consts.proofs.WalkPlaces.{IsPlaced}
 use Rattle.spv_consts.proofs.WalkSteps.{Follows}
 use Rattle.spv_consts.proofs.WalkConstants.{constant_among, operands_fill}
+use Rattle.spv_typing.proofs.LawLemmas.{impossible}
 
 -- ---- what a form but for its length tells
 

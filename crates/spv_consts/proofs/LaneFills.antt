@@ -12,14 +12,11 @@ use Rattle.spv_alu.specs.Unary.{UnaryRow, conversion, arithmetic, logical, unary
 use Rattle.spv_alu.specs.Unary as unary
 use Rattle.spv_alu.specs.Binary.{BinaryRow, binary_of, binary_op, binary_result, binary_row, binary_width}
 use Rattle.spv_alu.specs.Binary as binary
-use Rattle.spv_typing.proofs.LawLemmas.{equal, parts, same}
+use Rattle.spv_typing.proofs.LawLemmas.{equal, parts, same, impossible}
 use Rattle.spv_consts.specs.Laws.{HasWidth}
 use Rattle.spv_consts.specs.Lanes.{binary_lane, is_lane_width, pair_takes, row_takes, select_lane, takes_one, unary_lane}
 
 -- ---- tests
-
-pub impossible : {A : Type 0} → false ≡ true → A
-impossible h = absurd (grind arith)
 
 narrow : (w : ℕ) → is_lane_width w ≡ true → w ≤ 64
 narrow w h = most (parts (nat_lt 0 w) (nat_le w 64) h).1

@@ -11,35 +11,14 @@ use Rattle.spv_types.specs.Types.{Types, form_at, form_of, in_first, is_number, 
 use Rattle.spv_types.specs.Laws.{IsAmong}
 use Rattle.spv_types.proofs.TypeLemmas.{in_first-found, number_lt}
 use Rattle.spv_types.specs.Limits.{AreLimits, limit_among, limit_step, no_limit}
+use Rattle.spv_types.proofs.LengthLemmas.{number_written, form_written}
 use Rattle.spv_alu.specs.Integers.{signed}
 use Rattle.spv_consts.specs.Lengths.{number_in}
 
 -- ---- a form written under an id
 
-number_written : (ts : Types) (id q : ℕ) (f : Form) → number_of (writes id f ts) q ≡ number_of ts q
-number_written [] id q f = refl
-number_written (t ∷ ts) id q f = step (t.0 == id) (number_written ts id q f)
-  where
-    step : (b : Bool) → number_of (writes id f ts) q ≡ number_of ts q → number_of (if b then (t.0, f) ∷ ts else t ∷ writes id f ts) q ≡ number_of (t ∷ ts) q
-    step true h = refl
-    step false h = rw h refl
-
 same_id : (a b : ℕ) → (a == b) ≡ true → a ≡ b
 same_id a b e = grind arith
-
-not_same : (a b : ℕ) → a ≢ b → (a == b) ≡ false
-not_same a b h = grind arith
-
-form_written : (ts : Types) (id q : ℕ) (f : Form) → id ≢ q → form_of (writes id f ts) q ≡ form_of ts q
-form_written [] id q f h = refl
-form_written (t ∷ ts) id q f h = step (t.0 == id) refl (form_written ts id q f h)
-  where
-    step : (b : Bool) → (t.0 == id) ≡ b → form_of (writes id f ts) q ≡ form_of ts q → form_of (if b then (t.0, f) ∷ ts else t ∷ writes id f ts) q ≡ form_of (t ∷ ts) q
-    step true e g =
-        let s : t.0 ≡ id = same_id t.0 id e in
-        let d : (t.0 == q) ≡ false = rw s (not_same id q h) in
-        rw d refl
-    step false e g = rw g refl
 
 at_written : (ts : Types) (id n m : ℕ) (f : Form) → number_of ts id ≡ Some n → m < n → form_at (writes id f ts) m ≡ form_at ts m
 at_written [] id n m f h l = cc

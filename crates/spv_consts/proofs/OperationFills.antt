@@ -18,7 +18,7 @@ use Rattle.spv_typing.specs.declared.lanes.Lanes.{Lanes}
 use Rattle.spv_typing.specs.Lanes.{lanes_at, lanes_of, repeated}
 use Rattle.spv_typing.specs.Laws.{IsCondition, IsTyped}
 use Rattle.spv_typing.specs.Rules.{is_constant_operation, is_constant_rule, operand_count, rule_count, rule_of}
-use Rattle.spv_typing.proofs.LawLemmas.{equal, parts, rule_is}
+use Rattle.spv_typing.proofs.LawLemmas.{equal, parts, rule_is, impossible}
 use Rattle.spv_consts.specs.Context.{Context}
 use Rattle.spv_consts.specs.Evaluation.{binary_cells, computed_cells, operand_at, select_cells, unary_cells}
 use Rattle.spv_consts.specs.Lanes.{binary_lane, is_lane_width, select_lane, takes_one, unary_lane}
@@ -29,7 +29,7 @@ use Rattle.spv_consts.specs.Overrides.{is_same}
 use Rattle.spv_consts.specs.Rules.{are_operands, keeps_count, keeps_opcode, operand_type}
 use Rattle.spv_consts.specs.State.{State, given_cells, is_given}
 use Rattle.spv_consts.proofs.FillLemmas.{Fill, fill_one, fill_pair, fill_three, fill_two}
-use Rattle.spv_consts.proofs.LaneFills.{binary_has_width, impossible, select_has_width, takes_pair_of, unary_has_width}
+use Rattle.spv_consts.proofs.LaneFills.{binary_has_width, select_has_width, takes_pair_of, unary_has_width}
 use Rattle.spv_consts.proofs.OperationKinds.{arithmetic_takes, booleans_take, comparisons_take, compares, conversion_takes, gives_integer, integers_take, is_arithmetic, is_conversion, is_negation, joins_booleans, negation_takes, one_computed, select_computed, shifts, shifts_take, suits, suits_of, two_computed}
 use Rattle.spv_consts.proofs.ScalarTypes.{are_lanes, width_of}
 

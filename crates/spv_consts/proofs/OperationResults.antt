@@ -25,7 +25,7 @@ use Rattle.spv_typing.specs.declared.rules.Rule.TheVariants.{Convert, Bitcast, I
 use Rattle.spv_typing.specs.Lanes.{lanes_at, lanes_of, repeated}
 use Rattle.spv_typing.specs.Laws.{IsTyped}
 use Rattle.spv_typing.specs.Rules.{is_constant_rule, rule_count}
-use Rattle.spv_typing.proofs.LawLemmas.{parts}
+use Rattle.spv_typing.proofs.LawLemmas.{parts, impossible}
 use Rattle.spv_consts.specs.Constants.{Known, chosen, leaves_if, leaves_of, operand, result_of}
 use Rattle.spv_consts.specs.Context.{Context}
 use Rattle.spv_consts.specs.Evaluation.{binary_cells, computed_cells, operand_at, select_cells, unary_cells}
@@ -35,7 +35,7 @@ use Rattle.spv_consts.specs.Operations.{by_three, by_two, lane_width, selected}
 use Rattle.spv_consts.specs.Rules.{keeps_opcode, operand_type}
 use Rattle.spv_consts.specs.State.{State, given_cells, is_given, is_operand, operand_cells}
 use Rattle.spv_consts.proofs.FillLemmas.{Fill}
-use Rattle.spv_consts.proofs.LaneFills.{impossible, takes_pair, takes_pair_of}
+use Rattle.spv_consts.proofs.LaneFills.{takes_pair, takes_pair_of}
 use Rattle.spv_consts.proofs.OperationFills.{counted, lanes_fill, ruled_by, typed}
 use Rattle.spv_consts.proofs.OperationKinds.{arithmetic_takes, booleans_take, comparisons_take, compares, computes_one, computes_two, conversion_takes, gives_integer, integers_take, is_arithmetic, is_conversion, is_negation, joins_booleans, negation_takes, one_computed, select_computed, shifts, shifts_take, suits, suits_of, two_computed}
 use Rattle.spv_consts.proofs.ScalarTypes.{AreLanes, are_lanes, width_of}

@@ -1,9 +1,9 @@
 -- Lanes that are scalars of a width: blank ones, literals, overrides and Booleans.
-use Rattle.std.proofs.Common.{◌≡◌, ℕ, ◌^◌, ◌<◌, ◌≤◌, min, Bool, true, false, Some, ℤ, pos, negsuc, refl, arith, rules}
+use Rattle.std.proofs.Common.{◌≡◌, ℕ, ◌^◌, ◌<◌, ◌≤◌, min, Bool, true, false, Some, ℤ, pos, negsuc, refl, arith}
 use Rattle.std.proofs.lemmas.Nat.{mod_below, pow_pos}
 use Rattle.spv_base.specs.Lane.{IsLane, Lane, undefined_lane}
-use Rattle.spv_base.specs.declared.values.Value.{Scalar, out-Value, the_lemmas}
-use Rattle.spv_base.specs.declared.values.Value.TheOpen.{Value-F}
+use Rattle.spv_base.specs.declared.values.Value.{Scalar}
+use Rattle.spv_base.proofs.PartLemmas.{out_scalar}
 use Rattle.spv_types.specs.Rules.{is_width}
 use Rattle.spv_types.specs.Shapes.{IsScalar}
 use Rattle.spv_alu.specs.Integers.{low_bits}
@@ -12,16 +12,10 @@ use Rattle.spv_consts.specs.Values.{blank_lane}
 
 -- ---- tests and numbers
 
-pub impossible : {A : Type 0} → false ≡ true → A
-impossible h = absurd (grind arith)
-
 pub some_same : (n k : ℕ) → Some n ≡ Some k → n ≡ k
 some_same n k e = cc
 
 -- ---- lanes
-
-out_scalar : (c : Lane) → out-Value (Scalar c) ≡ Value-F.Scalar c
-out_scalar c = search (rules, the_lemmas)
 
 pub is_scalar : (c : Lane) (width : ℕ) → c.width ≡ width → IsLane c → IsScalar width (Scalar c)
 is_scalar c width same lane = rw out_scalar (same, lane)

@@ -1,71 +1,32 @@
 -- Leaves that fill a type of data are those of the value that is read off them, which has the type's shape: a type comes after
 -- its parts, so this goes by the types' numbers.
-use Rattle.std.proofs.Common.{◌≡◌, ◌∙◌, ℕ, zero, suc, ◌==◌, ◌&&◌, ◌||◌, not, Bool, true, false, List, [], ◌∷◌, ◌++◌, length, map, replicate, append_assoc, append-nil, Option, Some, None, slice_get, refl, sym, ap, subst, arith, rules}
+use Rattle.std.proofs.Common.{◌≡◌, ◌∙◌, ℕ, zero, suc, ◌==◌, Bool, true, List, [], ◌∷◌, ◌++◌, length, map, replicate, append_assoc, append-nil, Option, Some, None, slice_get, refl, sym, ap, subst, arith}
 use Rattle.std.proofs.Math.Path.{fun_ext}
 use Rattle.std.specs.List.{All, AllZip, flat_map}
-use Rattle.std.specs.Option.{IsSomeAnd}
-use Rattle.spv_base.specs.Parts.{parts_in}
 use Rattle.std.proofs.lemmas.List.Elements.{All-cons, All-nil}
 use Rattle.spv_base.specs.Lane.{Lane}
 use Rattle.spv_base.specs.declared.values.Root.{Root}
-use Rattle.spv_base.specs.declared.values.Value.{Value, Scalar, List as Many, out-Value, the_lemmas}
-use Rattle.spv_base.specs.declared.values.Value.TheOpen.{Value-F}
-use Rattle.spv_base.proofs.PartLemmas.{out_many}
+use Rattle.spv_base.specs.declared.values.Value.{Value, Scalar, List as Many}
+use Rattle.spv_base.proofs.PartLemmas.{out_scalar, is_many}
 use Rattle.spv_types.specs.declared.forms.Form.{Form}
 use Rattle.spv_types.specs.declared.forms.Form.TheVariants.{Void, Bool as Boolean, Int, Vector, Array, Runtime, Struct, Pointer, Function}
 use Rattle.spv_types.specs.declared.forms.Member.{Member}
 use Rattle.spv_types.specs.Types.{IsUnset, Types, form_of}
 use Rattle.spv_types.specs.Rows.{leaves}
-use Rattle.spv_types.specs.Rules.{has_runtime, is_data, is_runtime, is_scalar, is_sized_data, keep_members, keeps_form, keeps_member}
+use Rattle.spv_types.specs.Rules.{is_data, is_scalar, keep_members, keeps_form, keeps_member}
 use Rattle.spv_types.specs.Shapes.{HasShape, shape_step}
 use Rattle.spv_types.specs.Laws.{AreByForms, AreComplete, AreSound, ComesBefore, IsAmong}
 use Rattle.spv_types.proofs.RowLemmas.{leaves_many, scalar_row}
-use Rattle.spv_typing.proofs.LawLemmas.{parts}
+use Rattle.spv_types.proofs.DataLemmas.{scalar_data, member_data, sized_data}
+use Rattle.spv_typing.proofs.LawLemmas.{parts, impossible}
 use Rattle.spv_consts.specs.Laws.{FillType, HasWidth, IsRowAt}
 use Rattle.spv_consts.specs.Trees.{Reader, read_among, read_list, read_none, read_parts, read_scalar, read_step, value_at}
 use Rattle.spv_consts.specs.Values.{leaf_widths, part_types, widths_step}
 use Rattle.spv_consts.proofs.FillLemmas.{Fill, fill_split}
-use Rattle.spv_consts.proofs.ScalarShapes.{impossible, is_scalar as scalar_has_shape}
+use Rattle.spv_consts.proofs.ScalarShapes.{is_scalar as scalar_has_shape}
 use Rattle.spv_consts.proofs.WidthLemmas.{by_form, listed, widths_by_form}
 
 -- ---- types of data
-
-scalar_data : (f : Option Form) → is_scalar f ≡ true → is_data f ≡ true
-scalar_data None h = impossible h
-scalar_data (Some Void) h = impossible h
-scalar_data (Some Boolean) h = refl
-scalar_data (Some (Int width sign)) h = refl
-scalar_data (Some (Vector component count)) h = refl
-scalar_data (Some (Array element n stride)) h = refl
-scalar_data (Some (Runtime element stride)) h = refl
-scalar_data (Some (Struct members block)) h = refl
-scalar_data (Some (Pointer class target)) h = impossible h
-scalar_data (Some (Function returns parameters)) h = impossible h
-
-runtime_data : (f : Option Form) → is_runtime f ≡ true → is_data f ≡ true
-runtime_data None h = impossible h
-runtime_data (Some Void) h = impossible h
-runtime_data (Some Boolean) h = refl
-runtime_data (Some (Int width sign)) h = refl
-runtime_data (Some (Vector component count)) h = refl
-runtime_data (Some (Array element n stride)) h = refl
-runtime_data (Some (Runtime element stride)) h = refl
-runtime_data (Some (Struct members block)) h = refl
-runtime_data (Some (Pointer class target)) h = impossible h
-runtime_data (Some (Function returns parameters)) h = impossible h
-
-pub sized_data : (ts : Types) (id : ℕ) → is_sized_data ts id ≡ true → is_data (form_of ts id) ≡ true
-sized_data ts id h = (parts (is_data (form_of ts id)) (not (has_runtime ts id)) h).0
-
-member_data : (ts : Types) (block last : Bool) (ty : ℕ) → keeps_member ts block last ty ≡ true → is_data (form_of ts ty) ≡ true
-member_data ts block last ty h = either (is_sized_data ts ty) refl h
-  where
-    either : (b : Bool) → is_sized_data ts ty ≡ b → (b || (last && (block && is_runtime (form_of ts ty)))) ≡ true → is_data (form_of ts ty) ≡ true
-    either true e h = sized_data ts ty e
-    either false e h =
-        let p = parts last (block && is_runtime (form_of ts ty)) h in
-        let q = parts block (is_runtime (form_of ts ty)) p.1 in
-        runtime_data (form_of ts ty) q.1
 
 same_data : (ts : Types) (n t index part : ℕ) → is_data (form_of ts t) ≡ true → slice_get (replicate n t) index ≡ Some part → is_data (form_of ts part) ≡ true
 same_data ts zero t index part d h = cc
@@ -121,9 +82,6 @@ step_same (Function returns parameters) g h same = list_same g h [] same
 
 -- ---- values read off leaves
 
-out_scalar : (c : Lane) → out-Value (Scalar c) ≡ Value-F.Scalar c
-out_scalar c = search (rules, the_lemmas)
-
 -- a reader gives off leaves that go with widths a value of a shape with these leaves, and leaves what is behind them
 abbrev pub ReadsAs : Reader → (Value → Type 0) → List ℕ → Type 0
 ReadsAs read shape ws = (cs more : List Lane) → Fill ws cs → shape (read (cs ++ more)).0 × (leaves (read (cs ++ more)).0 ≡ cs) × ((read (cs ++ more)).1 ≡ more)
@@ -173,9 +131,6 @@ zip_members P [] [] h = tt
 zip_members P [] (v ∷ vs) h = absurd h
 zip_members P (m ∷ ms) [] h = absurd h
 zip_members P (m ∷ ms) (v ∷ vs) h = (h.0, zip_members P ms vs h.1)
-
-is_many : (P : List Value → Type 0) (vs : List Value) → P vs → IsSomeAnd (parts_in (out-Value (Many vs))) P
-is_many P vs h = rw out_many h
 
 module _ (ts : Types) (roots : Root → Option ℕ) (read : ℕ → Reader) (shape : ℕ → Value → Type 0) (widths : ℕ → List ℕ) where
   form_reads : (f : Form) → is_data (Some f) ≡ true → (IsUnset (Some f) → ⊥) → ((index part : ℕ) → slice_get (part_types f) index ≡ Some part → ReadsAs (read part) (shape part) (widths part))

@@ -15,7 +15,7 @@ use Rattle.spv_types.specs.Rules.{is_sized_data, is_width}
 use Rattle.spv_types.specs.Laws.{AreSound}
 use Rattle.spv_types.specs.Queries.{is_boolean}
 use Rattle.spv_alu.specs.Results.{integer, truth}
-use Rattle.spv_typing.proofs.LawLemmas.{equal, parts}
+use Rattle.spv_typing.proofs.LawLemmas.{equal, parts, impossible}
 use Rattle.spv_consts.specs.Context.{Context}
 use Rattle.spv_consts.specs.State.{State, given_cells}
 use Rattle.spv_consts.specs.Values.{blank_of, leaf_widths, null_of, widths_step}
@@ -27,7 +27,7 @@ use Rattle.spv_consts.specs.Evaluation.{cells_of, computed_cells, operation_cell
 use Rattle.spv_consts.specs.Laws.{FillType, OperandsFillTypes}
 use Rattle.spv_consts.proofs.FillLemmas.{Fill, fill_blank}
 use Rattle.spv_consts.proofs.WidthLemmas.{widths_by_form, widths_narrow}
-use Rattle.spv_consts.proofs.ScalarShapes.{impossible, integer_is_lane, truth_is_lane, undefined_is_lane, width_narrow}
+use Rattle.spv_consts.proofs.ScalarShapes.{integer_is_lane, truth_is_lane, undefined_is_lane, width_narrow}
 use Rattle.spv_consts.proofs.CompositeFills.{composite_fills}
 use Rattle.spv_consts.proofs.OperationFills.{computed_fills}
 

@@ -1,26 +1,12 @@
 -- Texts that are joined, and the text that a number leads to.
-use Rattle.std.proofs.Common.{◌≡◌, ◌∙◌, Bool, true, false, ℕ, ◌+◌, ◌≤◌, cond, List, [], ◌∷◌, ◌++◌, map, length, slice_get, Option, Some, refl, ap, arith}
-use Rattle.std.proofs.lemmas.List.{length-append}
+use Rattle.std.proofs.Common.{◌≡◌, ◌∙◌, Bool, true, false, ℕ, cond, List, [], ◌∷◌, map, slice_get, Option, Some, refl, ap}
 use Rattle.std.specs.Prelude.{find}
 use Rattle.std.specs.Option.{option_and_then, option_map}
-use Rattle.spv_types.specs.Cuts.{cut}
 use Rattle.spv_dbg.specs.declared.sources.SourceText.{SourceText}
 use Rattle.spv_dbg.specs.Places.{keys_of, number_from}
 use Rattle.spv_dbg.specs.Seen.{seen, seen_in}
 use Rattle.spv_dbg.specs.Sources.{Strings, has_name, source_of}
 use Rattle.spv_dbg.proofs.NameLemmas.{numbered}
-
--- ---- lengths
-
--- one more text
-pub longer : (len : ℕ) (more rest : List ℕ) → cut (cut (len + length more) + length rest) ≡ cut (len + length (more ++ rest))
-longer len more rest = rw (length-append more rest) (sums len (length more) (length rest))
-  where
-    sums : (a b c : ℕ) → cut (cut (a + b) + c) ≡ cut (a + (b + c))
-    sums a b c = omega arith
-
-pub uncut : (n room : ℕ) → room ≤ 4194304 → cut n ≤ room → cut n ≡ n
-uncut n room le h = omega arith
 
 -- ---- the text with a number
 

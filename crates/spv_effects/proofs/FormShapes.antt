@@ -9,6 +9,7 @@ use Rattle.spv_base.specs.Lane.{IsLane, Lane}
 use Rattle.spv_base.specs.Parts.{parts_in}
 use Rattle.spv_base.specs.declared.values.Value.{Value, List as Many, fold-roll-Value, out-Value, roll-Value, roll-out-Value}
 use Rattle.spv_base.specs.declared.values.Value.TheOpen.{Value-F}
+use Rattle.spv_base.proofs.PartLemmas.{out_many}
 use Rattle.spv_types.specs.declared.forms.Form.{Form}
 use Rattle.spv_types.specs.declared.forms.Form.TheVariants.{Void, Bool as Boolean, Int, Vector, Array, Runtime, Struct, Pointer, Function}
 use Rattle.spv_types.specs.declared.forms.Member.{Member}
@@ -19,7 +20,7 @@ use Rattle.spv_types.proofs.RowCounts.{many_is}
 use Rattle.spv_types.proofs.RowLemmas.{many_row, scalar_row}
 use Rattle.spv_effects.specs.Forms.{Filler, fill_each, fill_scalar, fill_step, filled, with_leaves}
 use Rattle.spv_effects.proofs.FormLemmas.{fills, many_filled}
-use Rattle.spv_effects.proofs.TypeLemmas.{is_scalar_of, out_many}
+use Rattle.spv_effects.proofs.TypeLemmas.{is_scalar_of}
 
 abbrev pub width_in : Lane → ℕ
 width_in c = c.width

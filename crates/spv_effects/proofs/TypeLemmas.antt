@@ -1,5 +1,5 @@
 -- Values of scalar and vector types are their lanes.
-use Rattle.std.proofs.Common.{◌≡◌, ◌∙◌, ℕ, suc, ◌≤◌, ◌&&◌, nat_le, Bool, true, false, List, [], ◌∷◌, ◌++◌, Option, Some, None, map, length, refl, sym, ap, subst, arith, rules}
+use Rattle.std.proofs.Common.{◌≡◌, ◌∙◌, ℕ, suc, ◌≤◌, ◌&&◌, nat_le, Bool, true, false, List, [], ◌∷◌, ◌++◌, Option, Some, None, map, length, refl, sym, ap, subst, arith}
 use Rattle.std.proofs.Math.ListN.{length-map}
 use Rattle.std.proofs.lemmas.Bool.Decides.{nat_tests}
 use Rattle.std.proofs.lemmas.List.Elements.{All-cons, All-head, All-map, All-nil, All-tail, All-weaker}
@@ -8,8 +8,9 @@ use Rattle.std.specs.Option.{IsSomeAnd, option_and_then}
 use Rattle.spv_base.specs.Lane.{IsLane, Lane}
 use Rattle.spv_base.specs.Parts.{parts_in}
 use Rattle.spv_base.specs.declared.values.Root.{Root}
-use Rattle.spv_base.specs.declared.values.Value.{Value, Scalar, List as Many, out-Value, the_lemmas}
+use Rattle.spv_base.specs.declared.values.Value.{Value, Scalar, List as Many, out-Value}
 use Rattle.spv_base.specs.declared.values.Value.TheOpen.{Value-F}
+use Rattle.spv_base.proofs.PartLemmas.{out_many, out_scalar}
 use Rattle.spv_types.specs.declared.forms.Form.{Form}
 use Rattle.spv_types.specs.declared.forms.Form.TheVariants.{Void, Bool as Boolean, Int, Vector, Array, Runtime, Struct, Pointer, Function}
 use Rattle.spv_types.specs.Types.{Types, form_of}
@@ -116,7 +117,7 @@ scalar_type ts roots sound id w e v h = go (form_of ts id) refl e
     go None g k = cc
     go (Some f) g k = scalar_form ts roots (HasShape ts roots) f w v k ((shapes_are_by_forms ts roots sound id f v g).0 h)
 
-two_at_least : (b : Bool) (n : ℕ) → (b && (nat_le 2 n && nat_le n 4)) ≡ true → 2 ≤ n
+pub two_at_least : (b : Bool) (n : ℕ) → (b && (nat_le 2 n && nat_le n 4)) ≡ true → 2 ≤ n
 two_at_least false n h = cc
 two_at_least true n h = go (nat_le 2 n) refl h
   where
@@ -141,12 +142,6 @@ pub value_lanes : (ts : Types) (roots : Root → Option ℕ) (id w n : ℕ) (v :
 value_lanes ts roots id w n v sound h t = lanes_by ts roots sound id t.form t.is w n v t.lanes ((shapes_are_by_forms ts roots sound id t.form v t.is).0 h)
 
 -- ---- to a shape
-
-out_scalar : (c : Lane) → out-Value (Scalar c) ≡ Value-F.Scalar c
-out_scalar c = search (rules, the_lemmas)
-
-pub out_many : (vs : List Value) → out-Value (Many vs) ≡ Value-F.List vs
-out_many vs = search (rules, the_lemmas)
 
 pub is_scalar_of : (w : ℕ) (c : Lane) → HasWidth w c → IsScalar w (Scalar c)
 is_scalar_of w c h = rw (out_scalar c) h

@@ -1,3 +1,3 @@
-pub mod Given_lemmas
-pub mod Cell_lemmas
-pub mod Fit_lemmas
+pub mod GivenLemmas
+pub mod CellLemmas
+pub mod FitLemmas

@@ -38,7 +38,7 @@ fn elements_in(size: u64, at: u32, stride: Option<u32>) -> u64
 }
 
 /// The leaves of a type that has a number of them, or the greatest u64 where there are more.
-#[tactic(auto, using(crate::proofs::Cell_lemmas::cut_or_none))]
+#[tactic(auto, using(crate::proofs::CellLemmas::cut_or_none))]
 fn leaves_of(types: &TypeTable, ty: u32) -> u64
     ensures { result ≡ cut (due.leaves_of types.now ty) }
 {
@@ -46,7 +46,7 @@ fn leaves_of(types: &TypeTable, ty: u32) -> u64
 }
 
 /// The leaves of a runtime array that begins at a place of so many bytes, or the greatest u64.
-#[tactic(auto, using(crate::proofs::Cell_lemmas::cut_times))]
+#[tactic(auto, using(crate::proofs::CellLemmas::cut_times))]
 fn array_cells(types: &TypeTable, size: u64, at: u32, form: Option<&Form>) -> u64
     ensures { result ≡ cut (due.array_cells types.now size at (option_copied form.entry)) }
 {
@@ -59,7 +59,7 @@ fn array_cells(types: &TypeTable, size: u64, at: u32, form: Option<&Form>) -> u6
 }
 
 /// The leaves before a member, or the greatest u64.
-#[tactic(auto, using(crate::proofs::Cell_lemmas::cut_or_none))]
+#[tactic(auto, using(crate::proofs::CellLemmas::cut_or_none))]
 fn leaves_before(types: &TypeTable, ty: u32, n: usize) -> u64
     ensures { result ≡ cut (unwrap_or (leaf_of types.now ty (n ∷ [])) 0) }
 {
@@ -67,7 +67,7 @@ fn leaves_before(types: &TypeTable, ty: u32, n: usize) -> u64
 }
 
 /// The leaves of members of which number `n` is the last and a runtime array, or the greatest u64.
-#[tactic(auto, using(crate::proofs::Cell_lemmas::cut_plus))]
+#[tactic(auto, using(crate::proofs::CellLemmas::cut_plus))]
 fn last_cells(types: &TypeTable, size: u64, ty: u32, n: usize, last: &Member) -> u64
     ensures { result ≡ cut (due.last_cells types.now size ty n last.now) }
 {
@@ -96,7 +96,7 @@ fn struct_cells(types: &TypeTable, size: u64, ty: u32) -> u64
 }
 
 /// The leaves of a block of a type with so many bytes, or the greatest u64.
-#[tactic(auto, using(crate::proofs::Cell_lemmas::cut_some, crate::proofs::Cell_lemmas::cut_none))]
+#[tactic(auto, using(crate::proofs::CellLemmas::cut_some, crate::proofs::CellLemmas::cut_none))]
 fn block_cells(types: &TypeTable, size: u64, ty: u32) -> u64
     ensures { result ≡ cut (due.block_cells types.now size ty) }
 {
@@ -202,7 +202,7 @@ fn all_own(types: &TypeTable, insts: &[Inst]) -> u64
 }
 
 /// The cells of so many invocations, of which the frames of one have so many at most, or the greatest u64.
-#[tactic(auto, using(crate::proofs::Cell_lemmas::cut_plus, crate::proofs::Cell_lemmas::cut_times))]
+#[tactic(auto, using(crate::proofs::CellLemmas::cut_plus, crate::proofs::CellLemmas::cut_times))]
 fn cells_in(
     index: &Index,
     types: &TypeTable,

@@ -19,7 +19,7 @@ use std::alloc::Global;
 /// doesn't fit (S8), more than 4,194,304 entries (S9), a variable of a block that has no bytes (S6), bytes that are fewer than the
 /// fixed part of a block (S7), and more than 4,194,304 cells (S10): those of the variables and of all frames, where the frames of
 /// an invocation have at most `frames`.
-#[tactic(auto, using(crate::proofs::Fit_lemmas::schedule_counts), unfolding(crate::specs::Fit::fitted))]
+#[tactic(auto, using(crate::proofs::FitLemmas::schedule_counts), unfolding(crate::specs::Fit::fitted))]
 pub fn fit(
     alloc: Global,
     index: &Index,

@@ -6,7 +6,7 @@ use Rattle.spv_frame.specs.declared.contents.Argument.TheVariants.{Value, Pointe
 use Rattle.spv_frame.specs.declared.slots.Place.{Place}
 use Rattle.spv_frame.specs.declared.slots.Place.TheVariants.{Value as ValueAt, Pointer as PointerAt}
 use Rattle.spv_frame.specs.Calls.{AreArguments, IsArgument, entered, with_argument, with_arguments}
-use Rattle.spv_frame.specs.Frames.{Held, fresh}
+use Rattle.spv_frame.specs.Frames.{Held}
 use Rattle.spv_frame.specs.Registers.{Planned}
 
 pub plan_stays : (f : Held) (p : Place) (x : Argument) → (with_argument f p x).plan ≡ f.plan
@@ -44,9 +44,6 @@ one_more (j ∷ ps) (y ∷ xs) zero k x f e g =
     let other : x ≡ y = cc in
     ap (λ (a : Place). with_arguments ps xs (with_argument f a x)) one ∙ ap (λ (a : Argument). with_arguments ps xs (with_argument f j a)) other
 one_more (j ∷ ps) (y ∷ xs) (suc n) k x f e g = one_more ps xs n k x f e g
-
-pub begun : (p : Planned) (xs : List Argument) (f : Held) → f ≡ fresh p → Filling p xs f 0
-begun p xs f e = record { plan = ap (λ (x : Held). x.plan) e; left = ap (λ (x : Held). with_arguments p.parameters xs x) e }
 
 pub filled_more : (p : Planned) (xs : List Argument) (f g : Held) (n : ℕ) (k : Place) (x : Argument) → Filling p xs f n → slice_get p.parameters n ≡ Some k → slice_get xs n ≡ Some x
     → g ≡ with_argument f k x → Filling p xs g (suc n)

@@ -2,7 +2,7 @@
 use Rattle.std.proofs.Common.{◌≡◌, ◌≢◌, ◌∙◌, ℕ, zero, suc, ◌≤◌, List, [], ◌∷◌, ◌++◌, Option, Some, None, map, length, refl, sym, ap, subst, arith, take, drop, unwrap_or, slice_get, slice_set}
 use Rattle.std.specs.List.{AllByRecursion, AllZip}
 use Rattle.spv_base.specs.Entries.{reads, writes}
-use Rattle.spv_base.specs.State.{Registers}
+use Rattle.spv_base.specs.Variables.{Registers}
 use Rattle.spv_base.specs.declared.values.Value.{Value}
 use Rattle.spv_base.proofs.EntryLemmas.{writes_back}
 use Rattle.spv_frame.specs.declared.contents.Content.{Content}
@@ -36,9 +36,6 @@ pub record Going (ss : List Slot) (os cs : List Content) (f g : Held) (k : ℕ) 
   pub left : puts (drop k ss) (map content (drop k cs)) g.values ≡ puts ss (map content os) f.values
   pub handed : map content (take k cs) ++ map (held g) (drop k ss) ≡ map (held f) ss
   pub suit : AllSuit f.plan.values ss cs
-
-pub begun : (ss : List Slot) (os : List Content) (f : Held) → AllSuit f.plan.values ss os → Going ss os os f f 0
-begun ss os f suit = record { same = refl; left = refl; handed = refl; suit = suit }
 
 pub as_many : (rs : Rooms) (ss : List Slot) (cs : List Content) → AllSuit rs ss cs → length cs ≡ length ss
 as_many rs [] [] h = refl

@@ -2,7 +2,7 @@
 use Rattle.std.proofs.Common.{◌≡◌, ◌∙◌, ℕ, zero, suc, ◌<◌, Bool, false, List, [], ◌∷◌, Option, Some, None, length, length-set, refl, sym, ap, subst, arith, slice_get, slice_set}
 use Rattle.std.specs.List.{zip}
 use Rattle.spv_base.specs.Entries.{writes}
-use Rattle.spv_base.specs.State.{Registers}
+use Rattle.spv_base.specs.Variables.{Registers}
 use Rattle.spv_base.specs.declared.values.PassedEvent.{PassedEvent}
 use Rattle.spv_base.specs.declared.values.Pointer.{Pointer}
 use Rattle.spv_base.specs.declared.values.Value.{Value}

@@ -1,10 +1,10 @@
 -- The slots of a plan, and the row of a frame without values.
-use Rattle.std.proofs.Common.{◌≡◌, ◌∙◌, ℕ, zero, suc, ◌+◌, List, [], ◌∷◌, ◌++◌, Some, map, length, replicate, refl, sym, ap, subst, arith, rules, slice_get}
+use Rattle.std.proofs.Common.{◌≡◌, ◌∙◌, ℕ, zero, suc, ◌+◌, List, [], ◌∷◌, ◌++◌, Some, map, length, replicate, refl, sym, ap, subst, arith, slice_get}
 use Rattle.std.specs.List.{flat_map}
 use Rattle.std.proofs.lemmas.List.{length-replicate, replicate-append-replicate}
 use Rattle.spv_base.specs.Lane.{Lane, undefined_lane}
-use Rattle.spv_base.specs.declared.values.Value.{Value, Scalar, List as Many, out-Value, the_lemmas}
-use Rattle.spv_base.specs.declared.values.Value.TheOpen.{Value-F}
+use Rattle.spv_base.specs.declared.values.Value.{Value, Scalar, List as Many}
+use Rattle.spv_base.proofs.PartLemmas.{out_scalar}
 use Rattle.spv_types.specs.Rows.{leaves}
 use Rattle.spv_types.proofs.RowLemmas.{leaves_many, scalar_row}
 use Rattle.spv_frame.specs.Registers.{IsSlotOf, Rooms, cells_before, ids, number_of, sizes}
@@ -59,9 +59,6 @@ slot_is rs slots k s e apart h =
     )
 
 -- ---- the row without values
-
-out_scalar : (c : Lane) → out-Value (Scalar c) ≡ Value-F.Scalar c
-out_scalar c = search (rules, the_lemmas)
 
 scalars : (cs : List Lane) → flat_map leaves (map Scalar cs) ≡ cs
 scalars [] = refl

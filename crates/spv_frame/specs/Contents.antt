@@ -2,7 +2,7 @@
 use Rattle.std.specs.Prelude.{◌≡◌, ◌≢◌, ℕ, List, [], ◌∷◌, Option, None, length, unwrap_or}
 use Rattle.std.specs.List.{AllByRecursion, AllZip}
 use Rattle.spv_base.specs.Entries.{reads, writes}
-use Rattle.spv_base.specs.State.{Registers}
+use Rattle.spv_base.specs.Variables.{Registers}
 use Rattle.spv_base.specs.declared.values.Value.{Value}
 use Rattle.spv_types.specs.Rows.{leaves}
 use Rattle.spv_frame.specs.declared.contents.Content.{Content}

@@ -3,7 +3,7 @@
 use Rattle.std.specs.Prelude.{◌≡◌, ℕ, Bool, List, [], Option, None, map, length, unwrap_or}
 use Rattle.std.specs.List.{zip}
 use Rattle.spv_base.specs.Parts.{parts_in}
-use Rattle.spv_base.specs.State.{Registers}
+use Rattle.spv_base.specs.Variables.{Registers}
 use Rattle.spv_base.specs.declared.values.PassedEvent.{PassedEvent}
 use Rattle.spv_base.specs.declared.values.Pointer.{Pointer}
 use Rattle.spv_base.specs.declared.values.Value.{Value, List as Many, out-Value}

@@ -9,7 +9,7 @@ use Rattle.spv_state.specs.State.{State}
 use Rattle.spv_machine.specs.Step.{step_of}
 use Rattle.spv_group.specs.History.{moment_at, moments_below}
 use Rattle.spv_group.specs.Run.{run, happening_in, happening_at}
-use Rattle.spv_group.proofs.Window_lemmas.{fitting_take}
+use Rattle.spv_group.proofs.WindowLemmas.{fitting_take}
 
 -- ---- lists
 

@@ -1,5 +1,5 @@
 pub mod Histories
-pub mod Positions_lemmas
+pub mod PositionsLemmas
 pub mod Reaches
 pub mod Runs
-pub mod Window_lemmas
+pub mod WindowLemmas

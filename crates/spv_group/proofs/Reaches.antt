@@ -2,7 +2,7 @@
 use Rattle.std.proofs.Common.{◌≡◌, ◌≤◌, ℕ, ap₂, sym, subst}
 use Rattle.spv_group.specs.Group.{Held, Undoing, entries_in, group_at, window_in}
 use Rattle.spv_group.specs.History.{window}
-use Rattle.spv_group.proofs.Window_lemmas.{windows_rise}
+use Rattle.spv_group.proofs.WindowLemmas.{windows_rise}
 
 -- the window of the same run at a later position isn't lower
 pub window_later : (u t : Undoing) → t.group ≡ group_at t.group.position u.group → t.limit ≡ u.limit → u.group.position ≤ t.group.position → window_in u ≤ window_in t

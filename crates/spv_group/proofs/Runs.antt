@@ -25,8 +25,8 @@ use Rattle.spv_journal.specs.Events.{Event, size_of, size, fitting, older}
 use Rattle.spv_journal.specs.Undo.{Moment, past, before}
 use Rattle.spv_machine.specs.Weights.{weight_of}
 use Rattle.spv_machine.specs.World.{Held as World, IsRecorded}
-use Rattle.spv_group.proofs.Positions_lemmas.{least_is}
-use Rattle.spv_group.proofs.Window_lemmas.{fitting_length, fitting_size, fitting_light, keeps_window}
+use Rattle.spv_group.proofs.PositionsLemmas.{least_is}
+use Rattle.spv_group.proofs.WindowLemmas.{fitting_length, fitting_size, fitting_light, keeps_window}
 use Rattle.spv_group.proofs.Histories.{happening_is, entry_is, fitting_more, past_less}
 
 -- ---- the end

@@ -11,7 +11,7 @@ use Rattle.spv_base.specs.declared.instructions.Inst.{Inst}
 use Rattle.spv_ops.specs.Module.{Decoded, IsDecoded}
 use Rattle.spv_index.specs.Operands.{id_operand}
 use Rattle.spv_index.specs.Contents.{named}
-use Rattle.spv_index.specs.Definitions.{defining, has_result, holds, is_id, name_of, names_it, number_from, number_of, stands_at}
+use Rattle.spv_index.specs.Definitions.{defining, has_result, holds, is_id, names_it, number_from, number_of, stands_at}
 use Rattle.spv_index.specs.Firsts.{AreFirsts, slot}
 use Rattle.spv_index.proofs.FirstLemmas.{first_from-map, led, number_from_same}
 
@@ -78,10 +78,6 @@ no_definition insts id h = rw h refl
 pub some_definition : (insts : List Inst) (id : ℕ) → is_id id ≡ true → find (has_result id) insts ≡ defining insts id
 unfolding defining
 some_definition insts id h = rw h refl
-
-pub no_name : (insts : List Inst) (id : ℕ) → is_id id ≡ false → None ≡ name_of insts id
-unfolding name_of
-no_name insts id h = rw h refl
 
 later : (k n : ℕ) (o : Option ℕ) → IfSome o (λ m. m < suc k + n) → IfSome o (λ m. m < k + suc n)
 later k n None h = tt

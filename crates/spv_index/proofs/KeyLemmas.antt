@@ -7,7 +7,7 @@ use Rattle.spv_index.specs.Definitions.{number_from}
 use Rattle.spv_index.specs.Keys.{is_pair, is_triple, pair_cmp, triple_cmp}
 use Rattle.spv_index.proofs.ListLemmas.{drop_back}
 
-same_pair : (a b c d : ℕ) → is_eq (pair_cmp (a, b) (c, d)) ≡ (a == c && b == d)
+pub same_pair : (a b c d : ℕ) → is_eq (pair_cmp (a, b) (c, d)) ≡ (a == c && b == d)
 same_pair a b c d = search (tests, rules)
 
 same_triple : (a b c d e f : ℕ) → is_eq (triple_cmp (a, b, c) (d, e, f)) ≡ ((a == d && b == e) && c == f)

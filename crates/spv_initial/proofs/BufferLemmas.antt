@@ -1,23 +1,15 @@
 -- The buffers of a setup, by descriptor set and binding.
-use Rattle.std.proofs.Common.{◌≡◌, ◌∙◌, ℕ, ◌+◌, ◌-◌, ◌<◌, ◌≤◌, ◌==◌, ◌&&◌, Bool, true, false, cond, List, ◌∷◌, length, get_or, drop, slice_get, Option, Some, None, refl, sym, ap, arith, rules, tests}
+use Rattle.std.proofs.Common.{◌≡◌, ◌∙◌, ℕ, ◌-◌, ◌<◌, ◌≤◌, Bool, true, false, cond, List, length, get_or, drop, slice_get, Option, Some, None, refl, sym, ap, arith}
 use Rattle.std.proofs.Common.{drop_of_length-le}
 use Rattle.std.specs.List.{find}
 use Rattle.std.specs.Option.{option_and_then}
 use Rattle.std.specs.Ordering.{is_eq}
-use Rattle.std.proofs.lemmas.List.{drop_more}
 use Rattle.std.proofs.lemmas.Option.{slice_get_read}
 use Rattle.spv_index.specs.Keys.{pair_cmp}
+use Rattle.spv_index.proofs.ListLemmas.{drop_back}
+use Rattle.spv_index.proofs.KeyLemmas.{same_pair}
 use Rattle.spv_setup.specs.declared.settings.Buffer.{Buffer}
 use Rattle.spv_fit.specs.Given.{is_bound}
-
-same_pair : (a b c d : ℕ) → is_eq (pair_cmp (a, b) (c, d)) ≡ (a == c && b == d)
-same_pair a b c d = search (tests, rules)
-
-drop_back : {X : Type 0} (xs : List X) (i : ℕ) (d : X) → 0 < i → i ≤ length xs → drop (i - 1) xs ≡ get_or xs (i - 1) d ∷ drop i xs
-drop_back xs i d some le =
-    let lt : i - 1 < length xs = omega arith in
-    let same : i - 1 + 1 ≡ i = omega arith in
-    rw same at (drop_more xs (i - 1) d lt)
 
 -- ---- the map
 

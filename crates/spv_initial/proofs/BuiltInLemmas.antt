@@ -1,5 +1,6 @@
 -- Built-in values have the shapes of the types that an Input variable may have.
 use Rattle.std.proofs.Common.{◌≡◌, ◌∙◌, ℕ, ◌+◌, ◌*◌, ◌/◌, ◌^◌, ◌<◌, ◌≤◌, ◌==◌, ◌&&◌, ◌||◌, Bool, true, false, List, [], ◌∷◌, length, Option, Some, None, refl, sym, ap, subst, arith}
+use Rattle.std.proofs.lemmas.Bool.{and_parts}
 use Rattle.std.specs.Prelude.{if◌then◌else◌}
 use Rattle.std.specs.List.{All}
 use Rattle.std.proofs.Math.Nat.{div-le_self}
@@ -7,6 +8,7 @@ use Rattle.std.proofs.lemmas.Nat.{mod_below}
 use Rattle.std.proofs.lemmas.List.Elements.{All-cons, All-nil}
 use Rattle.spv_base.specs.Lane.{IsLane, defined_lane}
 use Rattle.spv_base.specs.declared.values.Value.{Value}
+use Rattle.spv_base.proofs.PartLemmas.{is_many}
 use Rattle.spv_types.specs.declared.forms.Form.{Form}
 use Rattle.spv_types.specs.declared.forms.Form.TheVariants.{Void, Bool as Boolean, Int, Vector, Array, Runtime, Struct, Pointer, Function}
 use Rattle.spv_types.specs.Laws.{AreSound}
@@ -15,15 +17,14 @@ use Rattle.spv_types.specs.Rules.{is_input, is_three_words, is_word}
 use Rattle.spv_types.specs.Shapes.{HasShape}
 use Rattle.spv_types.specs.Types.{Types, form_of}
 use Rattle.spv_types.proofs.ShapeLemmas.{shapes_are_by_forms}
-use Rattle.spv_types.proofs.SoundLemmas.{both_hold}
 use Rattle.spv_types.proofs.TypeLemmas.{number_same}
-use Rattle.spv_consts.proofs.ScalarShapes.{impossible, is_scalar}
+use Rattle.spv_consts.proofs.ScalarShapes.{is_scalar}
 use Rattle.spv_mem.specs.Targets.{elements_in}
+use Rattle.spv_mem.proofs.BlankLemmas.{impossible, scalar_last}
 use Rattle.spv_start.specs.BuiltIns.{Three, built_in, global_id, local_id, three_of, three_words, value_of_three, word}
 use Rattle.spv_start.specs.declared.built_ins.Invocation.{Invocation}
 use Rattle.spv_initial.specs.Values.{AreNarrow, IsNarrow}
-use Rattle.spv_initial.proofs.ElementLemmas.{scalar_last, three_last}
-use Rattle.spv_initial.proofs.ShapeLemmas.{is_many}
+use Rattle.spv_initial.proofs.ElementLemmas.{three_last}
 
 -- ---- how many parts the last part has
 
@@ -114,7 +115,7 @@ three_shape ts id n sound h low = by_form (form_of ts id) refl h
     by_form (Some Boolean) e g = impossible g
     by_form (Some (Int width sign)) e g = impossible g
     by_form (Some (Vector component count)) e g =
-        let both = both_hold (count == 3) (is_word (form_of ts component)) g in
+        let both = and_parts (count == 3) (is_word (form_of ts component)) g in
         let same : count ≡ 3 = number_same count 3 both.0 in
         let each = word_shape ts component in
         (shapes_are_by_forms ts no_roots sound id (Vector component count) (three_words n) e).1
@@ -154,4 +155,4 @@ built_in_shape ts i kind id v sound narrow x y input is = by_test (kind == 29) r
         subst (HasShape ts no_roots id) same (word_shape ts id i.index sound of_word narrow.index)
     by_test false e g =
         let words = three_input (((kind == 24 || kind == 26) || (kind == 27 || kind == 28)) && is_three_words ts (form_of ts id)) (kind == 29) e input in
-        by_three (three_of i kind) refl (both_hold ((kind == 24 || kind == 26) || (kind == 27 || kind == 28)) (is_three_words ts (form_of ts id)) words).1 g
+        by_three (three_of i kind) refl (and_parts ((kind == 24 || kind == 26) || (kind == 27 || kind == 28)) (is_three_words ts (form_of ts id)) words).1 g

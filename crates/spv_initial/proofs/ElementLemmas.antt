@@ -1,11 +1,9 @@
 -- How many parts the last part has of a value that is read from bytes.
-use Rattle.std.proofs.Common.{◌≡◌, ◌∙◌, ℕ, zero, suc, ◌+◌, ◌-◌, true, List, [], ◌∷◌, length, slice_get, Option, Some, None, refl, sym, ap, zero-add, arith, rules}
+use Rattle.std.proofs.Common.{◌≡◌, ◌∙◌, ℕ, zero, suc, ◌+◌, ◌-◌, true, List, [], ◌∷◌, length, slice_get, Option, Some, None, refl, sym, ap, zero-add, arith}
 use Rattle.std.specs.Prelude.{unwrap_or}
 use Rattle.std.specs.Option.{option_map_or}
 use Rattle.spv_base.specs.Lane.{Lane, undefined_lane}
-use Rattle.spv_base.specs.declared.values.Value.{Value, Scalar, List as Many, out-Value, the_lemmas}
-use Rattle.spv_base.specs.declared.values.Value.TheOpen.{Value-F}
-use Rattle.spv_base.proofs.PartLemmas.{out_many}
+use Rattle.spv_base.specs.declared.values.Value.{Scalar, List as Many}
 use Rattle.spv_types.specs.declared.forms.Form.{Form}
 use Rattle.spv_types.specs.declared.forms.Form.TheVariants.{Void, Bool as Boolean, Int, Vector, Array, Runtime, Struct, Pointer, Function}
 use Rattle.spv_types.specs.declared.forms.Member.{Member}
@@ -14,30 +12,13 @@ use Rattle.spv_types.specs.Places.{scalar_bytes}
 use Rattle.spv_types.specs.Rules.{is_block}
 use Rattle.spv_types.specs.Types.{Types, form_of, found_among}
 use Rattle.spv_types.proofs.CountedLemmas.{FoundAt, form_found, found_at}
-use Rattle.spv_consts.proofs.ScalarShapes.{impossible}
 use Rattle.spv_start.specs.Blocks.{Reader, elements_in as elements_within, read_among, read_members, read_row, read_step, value_in}
 use Rattle.spv_start.specs.Numbers.{scalar_at}
-use Rattle.spv_start.proofs.Block_lemmas.{found_value, read_among_is}
+use Rattle.spv_start.proofs.BlockLemmas.{found_value, read_among_is}
 use Rattle.spv_mem.specs.Blanks.{part_count}
 use Rattle.spv_mem.specs.Targets.{count_in, elements_in, last_of}
+use Rattle.spv_mem.proofs.BlankLemmas.{impossible, many_last, many_count, scalar_count}
 use Rattle.spv_initial.specs.Elements.{array_elements, last_count, member_count}
-
--- ---- one level
-
-out_scalar : (c : Lane) → out-Value (Scalar c) ≡ Value-F.Scalar c
-out_scalar c = search (rules, the_lemmas)
-
-pub many_last : (vs : List Value) → elements_in (Many vs) ≡ option_map_or count_in (last_of vs) 0
-many_last vs = rw out_many refl
-
-pub scalar_last : (c : Lane) → elements_in (Scalar c) ≡ 0
-scalar_last c = rw out_scalar refl
-
-pub many_count : (vs : List Value) → count_in (Many vs) ≡ length vs
-many_count vs = rw out_many refl
-
-pub scalar_count : (c : Lane) → count_in (Scalar c) ≡ 0
-scalar_count c = rw out_scalar refl
 
 -- ---- built-in values
 

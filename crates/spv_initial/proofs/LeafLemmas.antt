@@ -1,9 +1,8 @@
 -- How many parts the last part has of a value that is read off its leaves.
-use Rattle.std.proofs.Common.{◌≡◌, ◌∙◌, ℕ, zero, suc, Bool, List, [], ◌∷◌, length, map, replicate, Option, Some, None, refl, sym, ap, arith}
-use Rattle.std.specs.Prelude.{if◌then◌else◌, unwrap_or}
+use Rattle.std.proofs.Common.{◌≡◌, ◌∙◌, ℕ, zero, suc, List, [], ◌∷◌, length, map, replicate, Option, Some, None, refl, sym, ap}
+use Rattle.std.specs.Prelude.{unwrap_or}
 use Rattle.std.specs.Option.{option_map_or}
 use Rattle.std.proofs.lemmas.List.{length-map, length-replicate}
-use Rattle.std.proofs.lemmas.Bool.{lt-ltb}
 use Rattle.spv_base.specs.Lane.{Lane, undefined_lane}
 use Rattle.spv_base.specs.declared.values.Value.{Value, List as Many}
 use Rattle.spv_types.specs.declared.forms.Form.{Form}
@@ -15,8 +14,8 @@ use Rattle.spv_types.proofs.TypeLemmas.{in_first-is}
 use Rattle.spv_consts.specs.Trees.{Reader, read_among, read_none, read_parts, read_scalar, read_step, value_at}
 use Rattle.spv_mem.specs.Blanks.{if_any, last_part, part_count}
 use Rattle.spv_mem.specs.Targets.{count_in, elements_in, last_of}
+use Rattle.spv_mem.proofs.BlankLemmas.{any_is, many_count, many_last, scalar_count, scalar_last}
 use Rattle.spv_initial.specs.Elements.{part_parts}
-use Rattle.spv_initial.proofs.ElementLemmas.{many_count, many_last, scalar_count, scalar_last}
 
 -- the last of some types
 abbrev last_in : List ℕ → Option ℕ
@@ -37,9 +36,6 @@ last_parts read count each (t ∷ u ∷ types) cs = last_parts read count each (
 last_same : (t n : ℕ) → last_in (t ∷ replicate n t) ≡ Some t
 last_same t zero = refl
 last_same t (suc n) = last_same t n
-
-any_is : (n t : ℕ) → if_any (suc n) t ≡ Some t
-any_is n t = ap (λ (b : Bool). if b then Some t else None) (lt-ltb 0 (suc n) (omega arith))
 
 last_replicate : (n t : ℕ) → last_in (replicate n t) ≡ if_any n t
 last_replicate zero t = refl

@@ -1,35 +1,35 @@
 -- What is read from bytes has the shape of its type.
-use Rattle.std.proofs.Common.{◌≡◌, ◌∙◌, ◌⊎◌, ℕ, zero, suc, ◌+◌, ◌*◌, ◌/◌, ◌^◌, ◌<◌, ◌==◌, ◌&&◌, ◌||◌, Bool, true, false, List, [], ◌∷◌, length, get_or, slice_get, Option, Some, None, inl, inr, refl, sym, ap, subst, arith}
+use Rattle.std.proofs.Common.{◌≡◌, ◌∙◌, ◌⊎◌, ℕ, zero, suc, ◌+◌, ◌/◌, ◌^◌, ◌<◌, ◌==◌, ◌||◌, Bool, true, false, List, [], ◌∷◌, length, get_or, slice_get, Option, Some, None, inl, inr, refl, sym, ap, subst, arith}
+use Rattle.std.proofs.lemmas.Bool.{and_parts}
 use Rattle.std.specs.Prelude.{if◌then◌else◌, unwrap_or}
 use Rattle.std.specs.Bool.{MatchBool}
 use Rattle.std.specs.List.{All, AllZip}
-use Rattle.std.specs.Option.{IsSomeAnd, MatchOption, is_some, option_map, option_map_or}
+use Rattle.std.specs.Option.{MatchOption, is_some, option_map, option_map_or}
 use Rattle.std.proofs.Math.Nat.{pow-suc}
 use Rattle.std.proofs.lemmas.List.Elements.{All-cons, All-nil}
 use Rattle.std.proofs.lemmas.Option.{unwrap_or-slice_get}
 use Rattle.spv_base.specs.Lane.{Lane, defined_lane, undefined_lane}
-use Rattle.spv_base.specs.Parts.{parts_in}
-use Rattle.spv_base.specs.declared.values.Value.{Value, Scalar, List as Many, out-Value}
-use Rattle.spv_base.proofs.PartLemmas.{out_many}
+use Rattle.spv_base.specs.declared.values.Value.{Value, Scalar}
+use Rattle.spv_base.proofs.PartLemmas.{is_many}
 use Rattle.spv_types.specs.declared.forms.Form.{Form}
 use Rattle.spv_types.specs.declared.forms.Form.TheVariants.{Void, Bool as Boolean, Int, Vector, Array, Runtime, Struct, Pointer, Function}
 use Rattle.spv_types.specs.declared.forms.Member.{Member}
-use Rattle.spv_types.specs.Cells.{added, cells_among, cells_of, cells_step, members_cells}
+use Rattle.spv_types.specs.Cells.{cells_among, cells_of, cells_step, members_cells}
 use Rattle.spv_types.specs.Laws.{AreSound, ComesBefore, IsAmong}
 use Rattle.spv_types.specs.Places.{scalar_bytes}
 use Rattle.spv_types.specs.Rows.{no_roots}
-use Rattle.spv_types.specs.Rules.{is_data, is_runtime, is_scalar, is_sized_data, is_width, keep_members, keeps_form, keeps_member}
+use Rattle.spv_types.specs.Rules.{is_data, is_scalar, is_width, keep_members, keeps_form, keeps_member}
 use Rattle.spv_types.specs.Shapes.{HasShape, HasShapeAmong, IsScalar, part_type, shape_step}
 use Rattle.spv_types.specs.Types.{Types, form_of, in_first, is_number, number_of}
 use Rattle.spv_types.proofs.CountedLemmas.{cells_whole}
 use Rattle.spv_types.proofs.ShapeLemmas.{among_is, form_number}
-use Rattle.spv_types.proofs.SoundLemmas.{both_hold}
 use Rattle.spv_types.proofs.TypeLemmas.{in_first-found, number_lt, number_same}
-use Rattle.spv_consts.proofs.ScalarShapes.{impossible, is_scalar as scalar_is, undefined_is_lane, width_narrow}
-use Rattle.spv_consts.proofs.TreeLemmas.{sized_data}
+use Rattle.spv_types.proofs.DataLemmas.{scalar_data, member_data, sized_data}
+use Rattle.spv_consts.proofs.ScalarShapes.{is_scalar as scalar_is, undefined_is_lane, width_narrow}
 use Rattle.spv_start.specs.Blocks.{Reader, elements_in, read_among, read_members, read_none, read_row, read_step, value_in}
 use Rattle.spv_start.specs.Numbers.{byte_at, number_at, scalar_at}
 use Rattle.spv_mem.specs.Targets.{end_open, is_counted, is_open_array, is_open_block, may_be_target}
+use Rattle.spv_mem.proofs.BlankLemmas.{impossible, both_there, product_there}
 use Rattle.spv_initial.proofs.ElementLemmas.{row_length}
 
 -- ---- numbers
@@ -79,54 +79,6 @@ scalar_shape bytes small at width h =
     subst (λ (x : Lane). IsScalar width (Scalar x)) (sym is)
     (scalar_is c width refl (record { narrow = width_narrow width h; fits = bits_below bytes small at width h; zero = λ e. absurd (cc) }))
 
--- ---- types
-
-pub is_many : (P : List Value → Type 0) (vs : List Value) → P vs → IsSomeAnd (parts_in (out-Value (Many vs))) P
-is_many P vs h = rw out_many h
-
-scalar_data : (f : Option Form) → is_scalar f ≡ true → is_data f ≡ true
-scalar_data None h = impossible h
-scalar_data (Some Void) h = impossible h
-scalar_data (Some Boolean) h = refl
-scalar_data (Some (Int width sign)) h = refl
-scalar_data (Some (Vector component count)) h = impossible h
-scalar_data (Some (Array element n stride)) h = impossible h
-scalar_data (Some (Runtime element stride)) h = impossible h
-scalar_data (Some (Struct members block)) h = impossible h
-scalar_data (Some (Pointer class target)) h = impossible h
-scalar_data (Some (Function returns parameters)) h = impossible h
-
-runtime_data : (f : Option Form) → is_runtime f ≡ true → is_data f ≡ true
-runtime_data None h = impossible h
-runtime_data (Some Void) h = impossible h
-runtime_data (Some Boolean) h = impossible h
-runtime_data (Some (Int width sign)) h = impossible h
-runtime_data (Some (Vector component count)) h = impossible h
-runtime_data (Some (Array element n stride)) h = impossible h
-runtime_data (Some (Runtime element stride)) h = refl
-runtime_data (Some (Struct members block)) h = impossible h
-runtime_data (Some (Pointer class target)) h = impossible h
-runtime_data (Some (Function returns parameters)) h = impossible h
-
-member_data : (ts : Types) (block last : Bool) (ty : ℕ) → keeps_member ts block last ty ≡ true → is_data (form_of ts ty) ≡ true
-member_data ts block last ty h = either (is_sized_data ts ty) refl h
-  where
-    either : (b : Bool) → is_sized_data ts ty ≡ b → (b || (last && (block && is_runtime (form_of ts ty)))) ≡ true → is_data (form_of ts ty) ≡ true
-    either true e h = sized_data ts ty e
-    either false e h =
-        let p = both_hold last (block && is_runtime (form_of ts ty)) h in
-        let q = both_hold block (is_runtime (form_of ts ty)) p.1 in
-        runtime_data (form_of ts ty) q.1
-
-both_there : (a b : Option ℕ) → is_some (added a b) ≡ true → (is_some a ≡ true) × (is_some b ≡ true)
-both_there None b h = impossible h
-both_there (Some n) None h = impossible h
-both_there (Some n) (Some m) h = (refl, refl)
-
-product_there : (a : Option ℕ) (n : ℕ) → is_some (option_map (λ c. c * n) a) ≡ true → is_some a ≡ true
-product_there None n h = impossible h
-product_there (Some c) n h = refl
-
 -- ---- values
 
 row_all : (P : Value → Type 0) (read : Reader) → ((at : ℕ) → P (read at)) → (at stride n : ℕ) → All P (read_row read at stride n)
@@ -143,7 +95,7 @@ module _ (ts : Types) (bytes : List ℕ) (size : ℕ) (small : AreBytes bytes) (
   unfolding keep_members members_cells
   members_shape each block [] k c at = tt
   members_shape each block (m ∷ ms) k c at =
-      let kept = both_hold (keeps_member ts block (length ms == 0) m.ty) (keep_members ts block ms) k in
+      let kept = and_parts (keeps_member ts block (length ms == 0) m.ty) (keep_members ts block ms) k in
       let counted = both_there (cells m.ty) (members_cells cells ms) c in
       (each m.ty (member_data ts block (length ms == 0) m.ty kept.0) counted.0 (at + unwrap_or m.offset 0), members_shape each block ms kept.1 counted.1 at)
 
@@ -151,10 +103,10 @@ module _ (ts : Types) (bytes : List ℕ) (size : ℕ) (small : AreBytes bytes) (
       → shape_step ts no_roots shape f (read_step ts bytes size read f at)
   form_shape each Void k d c at = impossible d
   form_shape each Boolean k d c at = scalar_is (undefined_lane 1) 1 refl undefined_is_lane
-  form_shape each (Int width sign) k d c at = scalar_shape bytes small at width (both_hold (is_width width) _ k).0
+  form_shape each (Int width sign) k d c at = scalar_shape bytes small at width (and_parts (is_width width) _ k).0
   form_shape each (Vector component count) k d c at =
       let stride : ℕ = scalar_bytes (form_of ts component) in
-      let sort = scalar_data (form_of ts component) (both_hold (is_scalar (form_of ts component)) _ k).0 in
+      let sort = scalar_data (form_of ts component) (and_parts (is_scalar (form_of ts component)) _ k).0 in
       is_many (λ (vs : List Value). (length vs ≡ count) × All (shape component) vs) (read_row (read component) at stride count)
       (row_length (read component) at stride count, row_all (shape component) (read component) (each component sort (product_there (cells component) count c)) at stride count)
   form_shape each (Array element None stride) k d c at = impossible c
@@ -242,8 +194,8 @@ module _ (ts : Types) (bytes : List ℕ) (size : ℕ) (small : AreBytes bytes) (
   open_members n block [] before k h at = impossible h
   open_members n block (m ∷ []) before k h at = (array_shape n m.ty (before 0 m.ty refl) h (at + unwrap_or m.offset 0), tt)
   open_members n block (m ∷ l ∷ ms) before k h at =
-      let kept = both_hold (keeps_member ts block (length (l ∷ ms) == 0) m.ty) (keep_members ts block (l ∷ ms)) k in
-      let ends = both_hold (is_counted ts m.ty) (end_open ts (l ∷ ms)) h in (
+      let kept = and_parts (keeps_member ts block (length (l ∷ ms) == 0) m.ty) (keep_members ts block (l ∷ ms)) k in
+      let ends = and_parts (is_counted ts m.ty) (end_open ts (l ∷ ms)) h in (
         counted_before n m.ty (before 0 m.ty refl) (member_data ts block (length (l ∷ ms) == 0) m.ty kept.0) ends.0 (at + unwrap_or m.offset 0),
         open_members n block (l ∷ ms) (λ index part is. before (suc index) part is) kept.1 ends.1 at,
       )

@@ -1,5 +1,6 @@
 -- The memory that a run starts with, a variable after another.
-use Rattle.std.proofs.Common.{◌≡◌, ◌∙◌, ℕ, zero, suc, ◌+◌, ◌-◌, ◌*◌, ◌<◌, ◌≤◌, ◌&&◌, true, List, [], ◌∷◌, ◌++◌, length, map, replicate, take, get_or, slice_get, append-nil, Option, Some, None, Result, Ok, Err, OnOk, refl, sym, ap, subst, arith}
+use Rattle.std.proofs.Common.{◌≡◌, ◌∙◌, ℕ, zero, suc, ◌+◌, ◌-◌, ◌*◌, ◌<◌, ◌≤◌, ◌&&◌, true, List, [], ◌∷◌, ◌++◌, length, map, replicate, take, get_or, slice_get, append-nil, Option, Some, None, refl, sym, ap, subst, arith}
+use Rattle.std.proofs.lemmas.Bool.{and_parts}
 use Rattle.std.specs.Prelude.{nat_le}
 use Rattle.std.specs.List.{cons_option, filter_map, range_with_len}
 use Rattle.std.specs.Option.{option_map}
@@ -8,8 +9,7 @@ use Rattle.std.proofs.Math.Logic.{∥∥₁_elim, ∥∥₁_map}
 use Rattle.std.proofs.Props.{props}
 use Rattle.std.proofs.lemmas.Option.{slice_get_within}
 use Rattle.spv_base.specs.Entries.{change, reads}
-use Rattle.spv_base.specs.State.{Roots}
-use Rattle.spv_base.specs.declared.causes.NoMemory.{NoMemory}
+use Rattle.spv_base.specs.Variables.{Roots}
 use Rattle.spv_base.specs.declared.instructions.Inst.{Inst}
 use Rattle.spv_base.specs.declared.values.Value.{Value}
 use Rattle.spv_base.specs.contracts.values.Value.{the_row}
@@ -17,7 +17,6 @@ use Rattle.spv_types.specs.Laws.{AreSound}
 use Rattle.spv_types.specs.Rows.{no_roots}
 use Rattle.spv_types.specs.Shapes.{HasShape}
 use Rattle.spv_types.specs.Types.{Types}
-use Rattle.spv_types.proofs.SoundLemmas.{both_hold}
 use Rattle.spv_valid.specs.Acceptance.{Accepted}
 use Rattle.spv_valid.specs.Entry.{Size, is_size}
 use Rattle.spv_valid.specs.Validity.{IsValid}
@@ -63,9 +62,9 @@ fewer n zero h = absurd (omega (arith, h))
 
 pub size_fits : (s : Size) → is_size s ≡ true → IsFit s
 size_fits s h =
-    let both = both_hold (nat_le 1 s.0 && (nat_le 1 s.1 && nat_le 1 s.2)) (nat_le (s.0 * s.1 * s.2) 1024) h in
-    let x = both_hold (nat_le 1 s.0) (nat_le 1 s.1 && nat_le 1 s.2) both.0 in
-    let y = both_hold (nat_le 1 s.1) (nat_le 1 s.2) x.1 in
+    let both = and_parts (nat_le 1 s.0 && (nat_le 1 s.1 && nat_le 1 s.2)) (nat_le (s.0 * s.1 * s.2) 1024) h in
+    let x = and_parts (nat_le 1 s.0) (nat_le 1 s.1 && nat_le 1 s.2) both.0 in
+    let y = and_parts (nat_le 1 s.1) (nat_le 1 s.2) x.1 in
     let all : s.0 * s.1 * s.2 ≤ 1024 = le_true (s.0 * s.1 * s.2) 1024 both.1 in
     let z : 1 ≤ s.2 = le_true 1 s.2 y.1 in
     let less : s.0 * s.1 ≤ s.0 * s.1 * s.2 = fewer (s.0 * s.1) s.2 z in
@@ -89,10 +88,6 @@ pub may_add : (a : Accepted) (m : Held) (d : Declared) (v : Value) → ∥ IsVal
 may_add a m d v valid suits holds types named =
     ∥∥₁_map (suits (types_are_sound a valid) holds)
     (λ (shape : HasShape a.types no_roots d.target v). record { type = d.target; named = named; shape = subst (λ (ts : Types). HasShape ts no_roots d.target v) (sym types) shape })
-
-pub on_ok : {P Q : Type 0} (result : Result (Unit {0}) NoMemory) → (P → Q) → OnOk result P → OnOk result Q
-on_ok (Ok u) f h = f h
-on_ok (Err e) f h = h
 
 change_same : {A : Type 0} (i : ℕ) (f : A → A) (xs : List A) → ((x : A) → f x ≡ x) → change i f xs ≡ xs
 change_same i f [] same = refl
@@ -130,7 +125,7 @@ shared_next a s ds k d m new b inside is so_far more =
 abbrev pub own_of : Accepted → Settings → ℕ → Declared → Option (ℕ × Value)
 own_of a s n d = root d (own_value a s n d)
 
-length_change : {A : Type 0} (i : ℕ) (f : A → A) (xs : List A) → length (change i f xs) ≡ length xs
+pub length_change : {A : Type 0} (i : ℕ) (f : A → A) (xs : List A) → length (change i f xs) ≡ length xs
 length_change i f [] = refl
 length_change zero f (x ∷ xs) = refl
 length_change (suc i) f (x ∷ xs) = ap suc (length_change i f xs)

@@ -3,7 +3,7 @@ use Rattle.std.proofs.Common.{◌≡◌, ◌≢◌, ◌∙◌, ◌⊎◌, ℕ, z
 use Rattle.std.specs.Prelude.{if◌then◌else◌, nat_lt}
 use Rattle.std.specs.List.{AllByRecursion, cons_option, filter_map}
 use Rattle.std.specs.Option.{option_and_then, option_map}
-use Rattle.std.proofs.lemmas.Bool.{eq-eqb, ltb-true, ne_eqb}
+use Rattle.std.proofs.lemmas.Bool.{and_parts, eq-eqb, ltb-true, ne_eqb}
 use Rattle.std.proofs.lemmas.List.{take_more}
 use Rattle.std.proofs.lemmas.List.Elements.{filter_map-append}
 use Rattle.std.proofs.lemmas.Option.{get_or_from_slice_get, slice_get-get_or}
@@ -15,7 +15,6 @@ use Rattle.spv_types.specs.Queries.{pointee}
 use Rattle.spv_types.specs.Rules.{is_data}
 use Rattle.spv_types.specs.Types.{Types, form_of}
 use Rattle.spv_types.specs.declared.queries.Pointed.{Pointed}
-use Rattle.spv_types.proofs.SoundLemmas.{both_hold}
 use Rattle.spv_mem.specs.Targets.{is_counted, is_open_block, may_be_target}
 use Rattle.spv_initial.specs.Start.{root}
 use Rattle.spv_initial.specs.Variables.{AreApart, AreDeclared, Holds, declared_as, declared_by, declared_in, may_hold, targets_of, variable_of}
@@ -114,7 +113,7 @@ next_declared ts insts k i new old o inside is by pushed before =
 -- ---- their targets
 
 pub target_of : (ts : Types) (class id : ℕ) → may_hold ts class id ≡ true → may_be_target ts id ≡ true
-target_of ts class id h = by_count (is_counted ts id) (class == 12) (both_hold (is_data (form_of ts id)) _ h).1
+target_of ts class id h = by_count (is_counted ts id) (class == 12) (and_parts (is_data (form_of ts id)) _ h).1
   where
     by_count : (a b : Bool) → (a || (b && (a || is_open_block ts (form_of ts id)))) ≡ true → (a || is_open_block ts (form_of ts id)) ≡ true
     by_count true b g = refl
@@ -122,7 +121,7 @@ target_of ts class id h = by_count (is_counted ts id) (class == 12) (both_hold (
     by_count false false g = absurd (cc)
 
 pub data_of : (ts : Types) (class id : ℕ) → may_hold ts class id ≡ true → is_data (form_of ts id) ≡ true
-data_of ts class id h = (both_hold (is_data (form_of ts id)) _ h).0
+data_of ts class id h = (and_parts (is_data (form_of ts id)) _ h).0
 
 pub targets_hold : (ts : Types) (ds : List Declared) (id ty : ℕ) → AllByRecursion (Holds ts) ds → reads id (targets_of ds) ≡ Some ty → may_be_target ts ty ≡ true
 targets_hold ts [] id ty all is = absurd (cc)

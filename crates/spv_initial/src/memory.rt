@@ -3,7 +3,7 @@ ghost use Rattle.std.specs.Prelude.{◌≡◌, ◌<◌, ◌++◌, ◌*◌, [], I
 ghost use Rattle.std.specs.BTreeMap.{get};
 ghost use Rattle.std.specs.List.{cons_option, range_with_len};
 ghost use Rattle.spv_base.specs.Entries.{change, reads};
-ghost use Rattle.spv_base.specs.State.{Roots};
+ghost use Rattle.spv_base.specs.Variables.{Roots};
 ghost use Rattle.spv_index.specs.Keys.{pair_cmp};
 ghost use Rattle.spv_mem.specs.Memory.{empty};
 ghost use Rattle.spv_initial.specs.Start as spec;

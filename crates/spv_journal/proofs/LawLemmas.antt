@@ -1,9 +1,10 @@
 -- Each change of a state, and the entry that undoes it.
 use Rattle.std.proofs.Common.{◌≡◌, ◌≢◌, ◌∙◌, ℕ, zero, suc, ◌-◌, ◌<◌, ◌≤◌, true, List, [], ◌∷◌, ◌++◌, Option, Some, None, IsSome, length, length-set, option_map, replicate, slice_get, slice_set, take, refl, sym, ap, subst, arith}
+use Rattle.std.proofs.lemmas.List.{length-replicate}
 use Rattle.std.specs.List.{list_all}
 use Rattle.std.specs.Option.{IsSomeAnd, option_map_or}
 use Rattle.spv_base.specs.Entries.{change}
-use Rattle.spv_base.specs.State.{Roots}
+use Rattle.spv_base.specs.Variables.{Roots}
 use Rattle.spv_base.specs.declared.values.PassedEvent.{PassedEvent}
 use Rattle.spv_base.specs.declared.values.Pointer.{Pointer}
 use Rattle.spv_base.specs.declared.values.Value.{Value}
@@ -18,7 +19,7 @@ use Rattle.spv_statuses.specs.Invocations.{IsWithin, is_passed, waits_at}
 use Rattle.spv_statuses.specs.declared.invocations.Status.{Status}
 use Rattle.spv_statuses.specs.declared.invocations.Status.TheVariants.{Arrived, Finished, Passed, Ready}
 use Rattle.spv_state.specs.State.{State, append_event, drop_event, on_frame, on_frames, open_barrier, pop_frame, push_frame, set_status, top_of, with_pc, with_top, without_last, without_locals, without_top}
-use Rattle.spv_state.proofs.ChangeLemmas.{without_is}
+use Rattle.spv_state.proofs.ChangeLemmas.{without_is, some_frames}
 use Rattle.spv_state.proofs.Lists.{change_here, length_change}
 use Rattle.spv_journal.specs.Undo.{HasRooms, HasTop, Undoes}
 use Rattle.spv_journal.specs.declared.entries.Entry.TheVariants.{Leaf, Part, NoValue, CellRegister, RowRegister, PointerRegister, FramePushed, FramePopped, PcMoved, EventAppended, StatusChanged, BarrierOpened}
@@ -26,6 +27,7 @@ use Rattle.spv_journal.specs.declared.entries.Entry.{Entry}
 use Rattle.spv_journal.specs.declared.entries.OldFrame.{OldFrame}
 use Rattle.spv_journal.specs.Entries.{popped}
 use Rattle.spv_state.specs.Rooms.{HasLocals, IsBounded}
+use Rattle.spv_state.proofs.UndoingLemmas.{level_there}
 
 -- ---- the top frame, changed
 
@@ -120,10 +122,6 @@ passed_all : (n : ℕ) → list_all is_passed (replicate n Passed) ≡ true
 passed_all zero = refl
 passed_all (suc n) = passed_all n
 
-long_replicate : {A : Type 0} (n : ℕ) (x : A) → length (replicate n x) ≡ n
-long_replicate zero x = refl
-long_replicate (suc n) x = ap suc (long_replicate n x)
-
 waits_same : (ss : List Status) (word : ℕ) → list_all (waits_at word) ss ≡ true → replicate (length ss) (Arrived word) ≡ ss
 waits_same [] word h = refl
 waits_same (Ready ∷ ss) word h = cc
@@ -132,7 +130,7 @@ waits_same (Passed ∷ ss) word h = cc
 waits_same (Finished ∷ ss) word h = cc
 
 waits_again : (ss : List Status) (word : ℕ) → list_all (waits_at word) ss ≡ true → replicate (length (replicate (length ss) Passed)) (Arrived word) ≡ ss
-waits_again ss word h = ap (λ (n : ℕ). replicate n (Arrived word)) (long_replicate (length ss) Passed) ∙ waits_same ss word h
+waits_again ss word h = ap (λ (n : ℕ). replicate n (Arrived word)) (length-replicate (length ss) Passed) ∙ waits_same ss word h
 
 pub status_undone : (i : ℕ) (status old : Status) (s : State) → i < length s.statuses.list → slice_get s.statuses.list i ≡ Some old → IsWithin s.statuses.words old → Undoes i (StatusChanged old) s (set_status i status s)
 status_undone i status old s inside was within = record {
@@ -178,17 +176,8 @@ less_by_one {A} (x ∷ xs) n some h =
     short (suc k) [] = omega arith
     short (suc k) (y ∷ ys) = let r : length (take k ys) ≤ k = short k ys in omega (arith, r)
 
-some_frames : (fs : List Frame) → IsSome (top fs) → fs ≢ []
-some_frames [] h e = absurd cc
-some_frames (f ∷ fs) h e = cc
-
 changed_was : {A : Type 0} (i : ℕ) (g : A → A) (xs : List A) (x y : A) → slice_get xs i ≡ Some x → slice_get (change i g xs) i ≡ Some y → y ≡ g x
 changed_was i g xs x y at is = let e : slice_get (change i g xs) i ≡ Some (g x) = get_changed i g xs x at in cc
-
-level_there : (ls : List Levels) (i : ℕ) → i < length ls → (l : Levels) × (slice_get ls i ≡ Some l)
-level_there [] i h = absurd (omega arith)
-level_there (l ∷ ls) zero h = (l, refl)
-level_there (l ∷ ls) (suc i) h = level_there ls i (omega arith)
 
 pub left_rooms : (i : ℕ) (s t : State) (k : Stacked) → t ≡ pop_frame i s → i < length s.stacks → i < length s.memory.locals → slice_get s.stacks i ≡ Some k → IsBounded k → IsSome (top_of s i) → HasLocals s i
     → HasRooms t i

@@ -222,10 +222,6 @@ pub first_split : (ks : List Marked) (k : Marked) → slice_get ks 0 ≡ Some k 
 first_split [] k h = absurd cc
 first_split (j ∷ ks) k h = let same : j ≡ k = cc in ap (λ (x : Marked). x ∷ ks) same
 
-pub first_none : (ks : List Marked) → slice_get ks 0 ≡ None → ks ≡ []
-first_none [] h = refl
-first_none (k ∷ ks) h = absurd cc
-
 -- what is left where the first mark goes, and its changes with it
 pub record Newest (ks : List Marked) (es : List Entry) (limit held : ℕ) (k : Marked) : Type 0 where
   pub there : k.beside ≤ length es

@@ -1,7 +1,7 @@
 -- Memories of accepted modules, and locals of frames that are left.
 use Rattle.std.proofs.Common.{◌≡◌, ℕ, subst, sym}
 use Rattle.std.proofs.Math.Logic.{∥∥₁_map}
-use Rattle.spv_base.specs.State.{Roots}
+use Rattle.spv_base.specs.Variables.{Roots}
 use Rattle.spv_mem.specs.Memory.{AreVariables, Held, entered}
 use Rattle.spv_types.specs.Laws.{AreSound}
 use Rattle.spv_types.specs.Types.{Types}

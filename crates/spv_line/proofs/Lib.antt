@@ -1,3 +1,3 @@
-pub mod Words_lemmas
-pub mod Number_lemmas
-pub mod Hex_lemmas
+pub mod WordsLemmas
+pub mod NumberLemmas
+pub mod HexLemmas

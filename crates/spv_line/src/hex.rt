@@ -43,7 +43,7 @@ fn is_word(word: &[u8]) -> bool
 }
 
 /// The byte that the first two digits spell, and the digits after them.
-#[tactic(auto, using(crate::proofs::Hex_lemmas::pair_first, crate::proofs::Hex_lemmas::no_pair))]
+#[tactic(auto, using(crate::proofs::HexLemmas::pair_first, crate::proofs::HexLemmas::no_pair))]
 fn next_pair(digits: &[u8]) -> Option<(u8, &[u8])>
     requires { list_all is_hex_digit digits.now ≡ true }
     ensures { MatchOption result (pairs_of digits.now ≡ []) (λ parts. HasFirstPair digits.now parts.0 parts.1.now) }

@@ -21,7 +21,7 @@ fn all_digits(digits: &[u8]) -> bool
 }
 
 /// The number of one or more decimal digits, where it is at most a limit. Leading zeros are read.
-#[tactic(auto, using(crate::proofs::Number_lemmas::number_is), unfolding(crate::specs::Numbers::number_of))]
+#[tactic(auto, using(crate::proofs::NumberLemmas::number_is), unfolding(crate::specs::Numbers::number_of))]
 pub fn number(digits: &[u8], limit: u64) -> Option<u64>
     ensures number { result ≡ number_of limit digits.now }
     ensures within { IfSome result (λ n. n ≤ limit) }

@@ -18,7 +18,7 @@ fn first_space(text: &[u8]) -> Option<usize>
 }
 
 /// The first word of a text, and what follows the space after it.
-#[tactic(auto, using(crate::proofs::Words_lemmas::words_none, crate::proofs::Words_lemmas::place_within))]
+#[tactic(auto, using(crate::proofs::WordsLemmas::words_none, crate::proofs::WordsLemmas::place_within))]
 pub fn next_word(text: &[u8]) -> Option<(&[u8], &[u8])>
     ensures { MatchOption result (words_in text.now ≡ []) (λ parts. HasFirstWord text.now parts.0.now parts.1.now) }
 {
@@ -35,7 +35,7 @@ pub fn next_word(text: &[u8]) -> Option<(&[u8], &[u8])>
 }
 
 /// The only word of a text.
-#[tactic(auto, using(crate::proofs::Words_lemmas::only_first))]
+#[tactic(auto, using(crate::proofs::WordsLemmas::only_first))]
 pub fn only_word(text: &[u8]) -> Option<&[u8]>
     ensures { MatchOption result ((word : List ℕ) → words_in text.now ≢ word ∷ []) (λ word. HasOnlyWord text.now word.now) }
 {

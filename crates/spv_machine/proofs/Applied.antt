@@ -15,7 +15,7 @@ use Rattle.spv_statuses.specs.declared.invocations.Status.TheVariants.{Arrived, 
 use Rattle.spv_actions.specs.Effects.{Control, Effect, Next, Jump, Enter, Leave, Wait}
 use Rattle.spv_actions.specs.Fits.{ControlFits, ControlRooted, Fits, LeaveFits, ResultRooted}
 use Rattle.spv_actions.specs.Planned.{gained, gone, shown}
-use Rattle.spv_actions.proofs.KeepsFrames.{register_stays}
+use Rattle.spv_actions.proofs.SoundFrames.{register_stays}
 use Rattle.spv_actions.specs.declared.effects.Effect.{Effect as CodeEffect}
 use Rattle.spv_state.specs.Program.{Program}
 use Rattle.spv_state.specs.Roots.{IsRooted}
@@ -25,12 +25,12 @@ use Rattle.spv_state.proofs.Lists.{length_change}
 use Rattle.spv_state.proofs.RootLemmas.{ids_below, rooted_stays}
 use Rattle.spv_machine.specs.Reached.{IsReached}
 use Rattle.spv_machine.specs.Step.{apply, arrived, go, go_on, leave, opened, opens, put_result, resume}
-use Rattle.spv_machine.proofs.KeepsBarriers.{arrive_sound}
-use Rattle.spv_machine.proofs.KeepsCalls.{entered_sound, finished_sound}
-use Rattle.spv_machine.proofs.KeepsControl.{next_kept}
-use Rattle.spv_machine.proofs.KeepsJumps.{jump_kept}
+use Rattle.spv_machine.proofs.SoundBarriers.{arrive_sound}
+use Rattle.spv_machine.proofs.SoundCalls.{entered_sound, finished_sound}
+use Rattle.spv_machine.proofs.SoundControl.{next_kept}
+use Rattle.spv_machine.proofs.SoundJumps.{jump_kept}
 use Rattle.spv_machine.proofs.ReachedLemmas.{Facts, frames_changed, set_reached, stored_frames, stored_reached, word_is}
-use Rattle.spv_machine.proofs.Leaves.{CalledBy, LeftAt, given_rooted, left_all, left_finished, left_to}
+use Rattle.spv_machine.proofs.ReturnLemmas.{CalledBy, LeftAt, given_rooted, left_all, left_finished, left_to}
 
 -- ---- a sound state behind each way of control
 

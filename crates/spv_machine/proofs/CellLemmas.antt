@@ -16,7 +16,7 @@ use Rattle.spv_actions.specs.Effects.{Control, Next}
 use Rattle.spv_actions.specs.Instructions.{effect_of}
 use Rattle.spv_actions.specs.declared.cells.CellEffect.{CellEffect}
 use Rattle.spv_actions.specs.declared.cells.CellEffect.TheVariants.{Gives, Sets}
-use Rattle.spv_actions.proofs.KeepsFrames.{register_stays}
+use Rattle.spv_actions.proofs.SoundFrames.{register_stays}
 use Rattle.spv_journal.specs.Held.{Held as Recorded, KeepsEvent}
 use Rattle.spv_state.specs.Events.{captures_before, pass}
 use Rattle.spv_state.specs.Program.{Program}
@@ -30,7 +30,7 @@ use Rattle.spv_machine.specs.declared.cells.CellStep.{CellStep}
 use Rattle.spv_machine.specs.declared.execution.Did.TheVariants.{Moved}
 use Rattle.spv_machine.proofs.EventLemmas.{happening_inv}
 use Rattle.spv_machine.proofs.Recording.{effect_fits}
-use Rattle.spv_machine.proofs.Outcomes.{moved_is, reached_inside, reached_step}
+use Rattle.spv_machine.proofs.StatusSteps.{moved_is, reached_inside, reached_step}
 use Rattle.spv_machine.proofs.PassedLemmas.{none_due, none_passed}
 use Rattle.spv_machine.proofs.ReachedLemmas.{frame_changed, word_is}
 use Rattle.spv_machine.proofs.WeightLemmas.{reached_weight}

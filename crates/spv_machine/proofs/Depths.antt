@@ -21,11 +21,11 @@ use Rattle.spv_valid.proofs.AcceptedLemmas.{accepted_passes}
 use Rattle.spv_valid.proofs.PassLemmas.{flow_is}
 use Rattle.spv_plans.specs.Plans.{functions_in}
 use Rattle.spv_plans.proofs.NumberLemmas.{at_contains, contains_at}
+use Rattle.spv_plans.proofs.PlanLemmas.{each_at}
 use Rattle.spv_state.specs.Sound.{IsCallOf, IsSoundFrame}
 use Rattle.spv_state.proofs.Blocks.{Begun, rooted}
-use Rattle.spv_state.proofs.Known.{IsKnown, known}
-use Rattle.spv_state.proofs.Lists.{each_at}
-use Rattle.spv_state.proofs.Standing.{Standing, at_standing, function_known, standing}
+use Rattle.spv_state.proofs.AcceptedLemmas.{IsKnown, known}
+use Rattle.spv_state.proofs.ExecutableLemmas.{Standing, at_standing, function_known, standing}
 
 -- ---- numbers of functions
 

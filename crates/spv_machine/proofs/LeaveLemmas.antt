@@ -1,7 +1,7 @@
 -- What is there where a frame is left.
 use Rattle.std.proofs.Common.{◌≡◌, ◌≢◌, ℕ, ◌≤◌, List, [], ◌∷◌, Option, Some, IsSome, length, refl, sym, ap, subst, arith}
 use Rattle.spv_base.specs.declared.instructions.Inst.{Inst}
-use Rattle.spv_base.specs.State.{Roots}
+use Rattle.spv_base.specs.Variables.{Roots}
 use Rattle.spv_mem.specs.Memory.{Levels}
 use Rattle.spv_frame.specs.Frames.{Held as Frame}
 use Rattle.spv_frame.specs.Stacks.{top}
@@ -11,8 +11,8 @@ use Rattle.spv_state.specs.Sound.{HasVariables}
 use Rattle.spv_state.specs.State.{State, top_of}
 use Rattle.spv_machine.specs.Reached.{IsReached}
 use Rattle.spv_machine.proofs.Depths.{frames_within}
-use Rattle.spv_machine.proofs.KeepsCalls.{zip_length}
-use Rattle.spv_machine.proofs.Leaves.{own_stack}
+use Rattle.spv_machine.proofs.SoundCalls.{zip_length}
+use Rattle.spv_machine.proofs.ReturnLemmas.{own_stack}
 use Rattle.spv_machine.proofs.ReachedLemmas.{Facts}
 
 some_frames : (fs : List Frame) (f : Frame) → top fs ≡ Some f → 1 ≤ length fs

@@ -20,9 +20,9 @@ use Rattle.spv_state.specs.State.{State, frames_of, on_frame, on_frames, with_pc
 use Rattle.spv_state.proofs.Lists.{change_none, change_same, change_still, length_change}
 use Rattle.spv_machine.specs.Reached.{IsReached}
 use Rattle.spv_machine.specs.Step.{first_of, to_block}
-use Rattle.spv_machine.proofs.KeepsJumps.{type_fits}
+use Rattle.spv_machine.proofs.SoundJumps.{type_fits}
 use Rattle.spv_machine.proofs.ReachedLemmas.{Facts, register_reached, word_is}
-use Rattle.spv_machine.proofs.Leaves.{own_frame}
+use Rattle.spv_machine.proofs.ReturnLemmas.{own_frame}
 
 -- ---- two changes of the top frame
 

@@ -25,20 +25,20 @@ use Rattle.spv_actions.specs.declared.effects.Control.{Control as CodeControl}
 use Rattle.spv_actions.specs.declared.effects.Control.TheVariants.{Next as CodeNext, Jump as CodeJump, Enter as CodeEnter, Leave as CodeLeave, Give as CodeGive, Wait as CodeWait}
 use Rattle.spv_actions.specs.declared.effects.Gain.{Gain}
 use Rattle.spv_actions.specs.declared.effects.Gain.TheVariants.{Nothing, Row, Pointer as PointerTo, Handed}
-use Rattle.spv_actions.proofs.KeepsFrames.{RegisterFits, register_kept, register_stays}
+use Rattle.spv_actions.proofs.SoundFrames.{RegisterFits, register_kept, register_stays}
 use Rattle.spv_actions.proofs.RootedLemmas.{register_rooted}
 use Rattle.spv_state.specs.Program.{Program}
 use Rattle.spv_state.specs.Sound.{StandsAs}
 use Rattle.spv_state.specs.State.{State, frames_of, on_frame, on_frames, put_store, top_of, with_register}
-use Rattle.spv_state.proofs.Known.{IsKnown, known_as}
+use Rattle.spv_state.proofs.AcceptedLemmas.{IsKnown, known_as}
 use Rattle.spv_state.proofs.Lists.{change_here, changed_at, length_change}
 use Rattle.spv_state.proofs.Stands.{Stood, stand_inst, stood}
 use Rattle.spv_machine.specs.Reached.{IsHeld, IsReached}
 use Rattle.spv_machine.specs.Step.{put_result}
-use Rattle.spv_machine.proofs.KeepsBarriers.{word_within}
-use Rattle.spv_machine.proofs.KeepsControl.{frame_kept}
-use Rattle.spv_machine.proofs.KeepsStacks.{top_kept}
-use Rattle.spv_machine.proofs.KeepsStore.{store_kept}
+use Rattle.spv_machine.proofs.SoundBarriers.{word_within}
+use Rattle.spv_machine.proofs.SoundControl.{frame_kept}
+use Rattle.spv_machine.proofs.SoundStacks.{top_kept}
+use Rattle.spv_machine.proofs.SoundStores.{store_kept}
 
 -- ---- the store
 

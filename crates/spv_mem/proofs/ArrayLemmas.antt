@@ -23,11 +23,12 @@ use Rattle.spv_types.specs.Shapes.{HasShape, part_type, reached}
 use Rattle.spv_types.proofs.CellLemmas.{added_is}
 use Rattle.spv_types.proofs.RowCounts.{many_is, times_is}
 use Rattle.spv_types.proofs.ShapeLemmas.{shapes_are_by_forms}
+use Rattle.spv_types.proofs.OffsetLemmas.{cells_by_form}
 use Rattle.spv_mem.specs.Targets.{Fits, count_in, elements_in, end_open, is_array_at, is_counted, is_open_array, last_of}
 use Rattle.spv_mem.specs.Memory.{Held, IsMemory, NamesArray, id_in, load_of, member_of}
 use Rattle.spv_mem.specs.Roots.{AreFit}
 use Rattle.spv_mem.proofs.MemoryLemmas.{fits_in}
-use Rattle.spv_mem.proofs.CountLemmas.{cells_by_form, counted_is, is_counted_by, open_member}
+use Rattle.spv_mem.proofs.CountLemmas.{counted_is, is_counted_by, open_member}
 use Rattle.spv_mem.proofs.PartLemmas.{array_is, block_is, counted_no_array, open_target, part_cons}
 
 both_true : (a b : Bool) → (a && b) ≡ true → (a ≡ true) × (b ≡ true)

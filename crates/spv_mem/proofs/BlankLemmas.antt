@@ -1,20 +1,18 @@
 -- Undefined values: they are made of their forms, and have their shapes.
-use Rattle.std.proofs.Common.{◌≡◌, ◌∙◌, ℕ, zero, suc, ◌+◌, ◌<◌, ◌≤◌, ◌*◌, ◌==◌, ◌&&◌, ◌||◌, not, min, Bool, true, false, List, [], ◌∷◌, ◌++◌, length, map, replicate, slice_get, append-nil, Option, Some, None, refl, sym, ap, subst, arith, rules}
+use Rattle.std.proofs.Common.{◌≡◌, ◌∙◌, ℕ, zero, suc, ◌+◌, ◌<◌, ◌≤◌, ◌*◌, ◌==◌, ◌||◌, min, Bool, true, false, List, [], ◌∷◌, ◌++◌, length, map, replicate, slice_get, append-nil, Option, Some, None, refl, sym, ap, subst, arith, rules}
 use Rattle.std.specs.Prelude.{if◌then◌else◌, unwrap_or}
 use Rattle.std.specs.Bool.{MatchBool}
 use Rattle.std.specs.List.{All, AllZip, flat_map}
-use Rattle.std.specs.Option.{IsSomeAnd, MatchOption, is_some, option_map, option_map_or}
+use Rattle.std.specs.Option.{MatchOption, is_some, option_map, option_map_or}
 use Rattle.std.proofs.lemmas.List.{flat_map_more, length-map, length-replicate, replicate_more}
 use Rattle.std.proofs.lemmas.List.Elements.{All-replicate}
 use Rattle.std.proofs.lemmas.Nat.{pow_pos}
 use Rattle.std.proofs.Math.Logic.{∥∥₁_map}
-use Rattle.std.proofs.lemmas.Bool.{lt-ltb}
+use Rattle.std.proofs.lemmas.Bool.{and_parts, lt-ltb}
 use Rattle.spv_base.specs.Entries.{reads}
 use Rattle.spv_base.specs.Lane.{IsLane, Lane, undefined_lane}
-use Rattle.spv_base.specs.Parts.{parts_in}
-use Rattle.spv_base.specs.declared.values.Value.{Value, Scalar, List as Many, out-Value, the_lemmas}
-use Rattle.spv_base.specs.declared.values.Value.TheOpen.{Value-F}
-use Rattle.spv_base.proofs.PartLemmas.{out_many}
+use Rattle.spv_base.specs.declared.values.Value.{Value, Scalar, List as Many, the_lemmas}
+use Rattle.spv_base.proofs.PartLemmas.{out_many, out_scalar, is_many}
 use Rattle.spv_types.specs.declared.forms.Form.{Form}
 use Rattle.spv_types.specs.declared.forms.Form.TheVariants.{Void, Bool as Boolean, Int, Vector, Array, Runtime, Struct, Pointer, Function}
 use Rattle.spv_types.specs.declared.forms.Member.{Member}
@@ -22,18 +20,18 @@ use Rattle.spv_types.specs.Types.{Types, form_of, found_among, in_first, is_numb
 use Rattle.spv_types.specs.Cells.{added, cells_among, cells_of, cells_step, members_cells}
 use Rattle.spv_types.specs.Laws.{AreSound, ComesBefore, IsAmong}
 use Rattle.spv_types.specs.Rows.{leaves, no_roots}
-use Rattle.spv_types.specs.Rules.{has_runtime, is_data, is_runtime, is_scalar, is_sized_data, is_width, keep_members, keeps_form, keeps_member, last_type}
+use Rattle.spv_types.specs.Rules.{is_data, is_scalar, is_width, keep_members, keeps_form, keeps_member, last_type}
 use Rattle.spv_types.specs.Shapes.{HasShape, HasShapeAmong, IsScalar, part_type, shape_step}
 use Rattle.spv_types.proofs.CountedLemmas.{cells_whole}
 use Rattle.spv_types.proofs.RowLemmas.{leaves_many}
 use Rattle.spv_types.proofs.ShapeLemmas.{among_is, form_number}
-use Rattle.spv_types.proofs.SoundLemmas.{both_hold}
 use Rattle.spv_types.proofs.TypeLemmas.{in_first-found, in_first-is, number_lt}
+use Rattle.spv_types.proofs.DataLemmas.{scalar_data, member_data, sized_data}
 use Rattle.spv_mem.specs.Blanks.{blank_among, blank_in, blank_of, blank_step, if_any, last_part, part_count}
 use Rattle.spv_mem.specs.Memory.{Held, IsMemory, IsVariable}
 use Rattle.spv_mem.specs.Targets.{count_in, elements_in, end_open, is_counted, is_open_array, is_open_block, last_of, may_be_target}
 
-impossible : {A : Type 0} → false ≡ true → A
+pub impossible : {A : Type 0} → false ≡ true → A
 impossible h = absurd (grind arith)
 
 -- ---- by forms
@@ -68,9 +66,6 @@ member_leaves f ms = leaves_many (map f ms) ∙ each_leaves f ms
 
 -- ---- shapes
 
-pub out_scalar : (c : Lane) → out-Value (Scalar c) ≡ Value-F.Scalar c
-out_scalar c = search (rules, the_lemmas)
-
 -- no integer is wider than 64 bits
 width_narrow : (width : ℕ) → is_width width ≡ true → width ≤ 64
 width_narrow width h = grind arith
@@ -81,54 +76,13 @@ undefined_is_lane width narrow = record { narrow = narrow; fits = pow_pos width;
 undefined_is_scalar : (width lane : ℕ) → lane ≡ width → width ≤ 64 → IsScalar width (Scalar (undefined_lane lane))
 undefined_is_scalar width lane same narrow = rw (out_scalar, same) (refl, undefined_is_lane width narrow)
 
-is_many : (P : List Value → Type 0) (vs : List Value) → P vs → IsSomeAnd (parts_in (out-Value (Many vs))) P
-is_many P vs h = rw out_many h
-
--- what a test of a type tells of its form
-scalar_data : (f : Option Form) → is_scalar f ≡ true → is_data f ≡ true
-scalar_data None h = impossible h
-scalar_data (Some Void) h = impossible h
-scalar_data (Some Boolean) h = refl
-scalar_data (Some (Int width sign)) h = refl
-scalar_data (Some (Vector component count)) h = impossible h
-scalar_data (Some (Array element n stride)) h = impossible h
-scalar_data (Some (Runtime element stride)) h = impossible h
-scalar_data (Some (Struct members block)) h = impossible h
-scalar_data (Some (Pointer class target)) h = impossible h
-scalar_data (Some (Function returns parameters)) h = impossible h
-
-runtime_data : (f : Option Form) → is_runtime f ≡ true → is_data f ≡ true
-runtime_data None h = impossible h
-runtime_data (Some Void) h = impossible h
-runtime_data (Some Boolean) h = impossible h
-runtime_data (Some (Int width sign)) h = impossible h
-runtime_data (Some (Vector component count)) h = impossible h
-runtime_data (Some (Array element n stride)) h = impossible h
-runtime_data (Some (Runtime element stride)) h = refl
-runtime_data (Some (Struct members block)) h = impossible h
-runtime_data (Some (Pointer class target)) h = impossible h
-runtime_data (Some (Function returns parameters)) h = impossible h
-
-sized_data : (ts : Types) (id : ℕ) → is_sized_data ts id ≡ true → is_data (form_of ts id) ≡ true
-sized_data ts id h = (both_hold (is_data (form_of ts id)) (not (has_runtime ts id)) h).0
-
-member_data : (ts : Types) (block last : Bool) (ty : ℕ) → keeps_member ts block last ty ≡ true → is_data (form_of ts ty) ≡ true
-member_data ts block last ty h = either (is_sized_data ts ty) refl h
-  where
-    either : (b : Bool) → is_sized_data ts ty ≡ b → (b || (last && (block && is_runtime (form_of ts ty)))) ≡ true → is_data (form_of ts ty) ≡ true
-    either true e h = sized_data ts ty e
-    either false e h =
-        let p = both_hold last (block && is_runtime (form_of ts ty)) h in
-        let q = both_hold block (is_runtime (form_of ts ty)) p.1 in
-        runtime_data (form_of ts ty) q.1
-
 -- two numbers whose sum is there
-both_there : (a b : Option ℕ) → is_some (added a b) ≡ true → (is_some a ≡ true) × (is_some b ≡ true)
+pub both_there : (a b : Option ℕ) → is_some (added a b) ≡ true → (is_some a ≡ true) × (is_some b ≡ true)
 both_there None b h = impossible h
 both_there (Some n) None h = impossible h
 both_there (Some n) (Some m) h = (refl, refl)
 
-product_there : (a : Option ℕ) (n : ℕ) → is_some (option_map (λ c. c * n) a) ≡ true → is_some a ≡ true
+pub product_there : (a : Option ℕ) (n : ℕ) → is_some (option_map (λ c. c * n) a) ≡ true → is_some a ≡ true
 product_there None n h = impossible h
 product_there (Some c) n h = refl
 
@@ -142,7 +96,7 @@ module _ (ts : Types) (e : ℕ) (shape : ℕ → Value → Type 0) (cells : ℕ 
   unfolding keep_members members_cells
   members_shape each block [] k c = tt
   members_shape each block (m ∷ ms) k c =
-      let kept = both_hold (keeps_member ts block (length ms == 0) m.ty) (keep_members ts block ms) k in
+      let kept = and_parts (keeps_member ts block (length ms == 0) m.ty) (keep_members ts block ms) k in
       let counted = both_there (cells m.ty) (members_cells cells ms) c in
       (each m.ty (member_data ts block (length ms == 0) m.ty kept.0) counted.0, members_shape each block ms kept.1 counted.1)
 
@@ -151,10 +105,10 @@ module _ (ts : Types) (e : ℕ) (shape : ℕ → Value → Type 0) (cells : ℕ 
   form_shape each Void k d c = impossible d
   form_shape each Boolean k d c = undefined_is_scalar 1 1 refl (omega arith)
   form_shape each (Int width sign) k d c =
-      let narrow = width_narrow width (both_hold (is_width width) _ k).0 in
+      let narrow = width_narrow width (and_parts (is_width width) _ k).0 in
       undefined_is_scalar width (min width 64) (omega arith) narrow
   form_shape each (Vector component count) k d c =
-      let sort = scalar_data (form_of ts component) (both_hold (is_scalar (form_of ts component)) _ k).0 in
+      let sort = scalar_data (form_of ts component) (and_parts (is_scalar (form_of ts component)) _ k).0 in
       is_many (λ (vs : List Value). (length vs ≡ count) × All (shape component) vs) (replicate count (blank component))
       (length-replicate count (blank component), All-replicate (shape component) count (blank component) (each component sort (product_there (cells component) count c)))
   form_shape each (Array element None stride) k d c = impossible c
@@ -240,8 +194,8 @@ module _ (ts : Types) (e : ℕ) (sound : AreSound ts) where
   open_members n block [] before k h = impossible h
   open_members n block (m ∷ []) before k h = (array_shape n m.ty (before 0 m.ty refl) h, tt)
   open_members n block (m ∷ l ∷ ms) before k h =
-      let kept = both_hold (keeps_member ts block (length (l ∷ ms) == 0) m.ty) (keep_members ts block (l ∷ ms)) k in
-      let ends = both_hold (is_counted ts m.ty) (end_open ts (l ∷ ms)) h in
+      let kept = and_parts (keeps_member ts block (length (l ∷ ms) == 0) m.ty) (keep_members ts block (l ∷ ms)) k in
+      let ends = and_parts (is_counted ts m.ty) (end_open ts (l ∷ ms)) h in
       (counted_before n m.ty (before 0 m.ty refl) (member_data ts block (length (l ∷ ms) == 0) m.ty kept.0) ends.0, open_members n block (l ∷ ms) (λ index part at. before (suc index) part at) kept.1 ends.1)
 
   block_shape : (id : ℕ) (o : Option Form) → form_of ts id ≡ o → is_open_block ts o ≡ true → HasShapeAmong ts no_roots (length ts) id (blank_among ts e (length ts) id)
@@ -280,7 +234,7 @@ last_same : (v : Value) (n : ℕ) → last_of (v ∷ replicate n v) ≡ Some v
 last_same v zero = refl
 last_same v (suc n) = last_same v n
 
-any_is : (n t : ℕ) → if_any (suc n) t ≡ Some t
+pub any_is : (n t : ℕ) → if_any (suc n) t ≡ Some t
 any_is n t = ap (λ (b : Bool). if b then Some t else None) (lt-ltb 0 (suc n) (omega arith))
 
 any_last : (n t : ℕ) (v : ℕ → Value) → option_map_or count_in (last_of (replicate n (v t))) 0 ≡ option_map_or (λ part. count_in (v part)) (if_any n t) 0
@@ -292,10 +246,10 @@ last_member [] v = refl
 last_member (m ∷ []) v = refl
 last_member (m ∷ k ∷ ms) v = last_member (k ∷ ms) v
 
-many_last : (vs : List Value) → elements_in (Many vs) ≡ option_map_or count_in (last_of vs) 0
+pub many_last : (vs : List Value) → elements_in (Many vs) ≡ option_map_or count_in (last_of vs) 0
 many_last vs = rw out_many refl
 
-scalar_last : (c : Lane) → elements_in (Scalar c) ≡ 0
+pub scalar_last : (c : Lane) → elements_in (Scalar c) ≡ 0
 scalar_last c = rw out_scalar refl
 
 last_step : (e : ℕ) (v : ℕ → Value) (f : Form) → elements_in (blank_step e v f) ≡ option_map_or (λ part. count_in (v part)) (last_part e f) 0
@@ -309,10 +263,10 @@ last_step e v (Struct members block) = many_last (map (λ (m : Member). v m.ty) 
 last_step e v (Pointer class target) = many_last []
 last_step e v (Function returns parameters) = many_last []
 
-many_count : (vs : List Value) → count_in (Many vs) ≡ length vs
+pub many_count : (vs : List Value) → count_in (Many vs) ≡ length vs
 many_count vs = rw out_many refl
 
-scalar_count : (c : Lane) → count_in (Scalar c) ≡ 0
+pub scalar_count : (c : Lane) → count_in (Scalar c) ≡ 0
 scalar_count c = rw out_scalar refl
 
 count_step : (e : ℕ) (v : ℕ → Value) (f : Form) → count_in (blank_step e v f) ≡ part_count e f

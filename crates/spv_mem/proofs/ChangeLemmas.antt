@@ -5,7 +5,7 @@ use Rattle.std.specs.Option.{IfSome, MatchOption, option_and_then, option_or}
 use Rattle.std.proofs.Math.Logic.{∥∥₁_elim, ∥∥₁_map}
 use Rattle.std.proofs.Props.{props}
 use Rattle.spv_base.specs.Entries.{change, reads}
-use Rattle.spv_base.specs.State.{Roots}
+use Rattle.spv_base.specs.Variables.{Roots}
 use Rattle.spv_base.specs.declared.causes.NoMemory.{NoMemory}
 use Rattle.spv_base.specs.declared.values.Root.{Root}
 use Rattle.spv_base.specs.declared.values.Root.TheVariants.{Shared, Private, Local}

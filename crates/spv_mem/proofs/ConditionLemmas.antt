@@ -10,6 +10,7 @@ use Rattle.spv_base.specs.Parts.{part_at}
 use Rattle.spv_base.specs.declared.values.Pointer.{Pointer}
 use Rattle.spv_base.specs.declared.values.Root.TheVariants.{Shared}
 use Rattle.spv_base.specs.declared.values.Value.{Value, Scalar, out-Value}
+use Rattle.spv_base.proofs.PartLemmas.{out_scalar}
 use Rattle.spv_types.specs.declared.forms.Form.{Form}
 use Rattle.spv_types.specs.declared.forms.Form.TheVariants.{Void, Bool as Boolean, Int, Vector, Array, Runtime, Struct, Pointer as PointerForm, Function}
 use Rattle.spv_types.specs.Rows.{no_roots}
@@ -17,11 +18,10 @@ use Rattle.spv_types.specs.Shapes.{HasShape, IsScalar, reached, scalar_in}
 use Rattle.spv_types.specs.Types.{Types, form_of}
 use Rattle.spv_types.proofs.RowShapes.{shapes_keep}
 use Rattle.spv_types.proofs.ShapeLemmas.{shapes_are_by_forms}
+use Rattle.spv_types.proofs.OffsetLemmas.{cells_by_form}
 use Rattle.spv_mem.specs.Conditions.{integer_width, width_at}
 use Rattle.spv_mem.specs.Memory.{Held, IsMemory, IsScalarAt, IsVariable, MayBeTargets, MayStore, NamesArray, id_in, load_of, root_value, roots_in}
 use Rattle.spv_mem.specs.Targets.{is_array_at, is_counted, may_be_target}
-use Rattle.spv_mem.proofs.BlankLemmas.{out_scalar}
-use Rattle.spv_mem.proofs.CountLemmas.{cells_by_form}
 
 -- ---- options
 

@@ -1,7 +1,8 @@
 -- The leaves of types, by their forms, and the parts of values, each with its type.
-use Rattle.std.proofs.Common.{◌≡◌, ◌∙◌, ◌⊎◌, ℕ, zero, suc, ◌+◌, ◌*◌, ◌<◌, ◌≤◌, ◌&&◌, Bool, true, false, List, [], ◌∷◌, length, length-append, take, slice_get, Option, Some, None, nat_lt, refl, sym, ap, subst, inl, inr, arith}
+use Rattle.std.proofs.Common.{◌≡◌, ◌⊎◌, ℕ, zero, suc, ◌+◌, ◌<◌, ◌≤◌, Bool, true, false, List, [], ◌∷◌, length, length-append, take, slice_get, Option, Some, None, nat_lt, refl, subst, inl, inr, arith}
+use Rattle.std.proofs.lemmas.Bool.{and_parts}
 use Rattle.std.specs.Bool.{MatchBool}
-use Rattle.std.specs.Option.{MatchOption, is_some, option_map, option_and_then}
+use Rattle.std.specs.Option.{MatchOption, is_some, option_and_then}
 use Rattle.std.specs.List.{All, AllZip, flat_map}
 use Rattle.std.proofs.lemmas.List.Elements.{All-head, All-tail}
 use Rattle.spv_base.specs.Parts.{parts_in}
@@ -9,54 +10,17 @@ use Rattle.spv_base.specs.declared.values.Root.{Root}
 use Rattle.spv_base.specs.declared.values.Value.{Value, out-Value}
 use Rattle.spv_base.specs.declared.values.Value.TheOpen.{Value-F}
 use Rattle.spv_types.specs.declared.forms.Form.{Form}
-use Rattle.spv_types.specs.declared.forms.Form.TheVariants.{Void, Bool as Boolean, Int, Vector, Array, Runtime, Struct, Pointer, Function}
 use Rattle.spv_types.specs.declared.forms.Member.{Member}
-use Rattle.spv_types.specs.Types.{Types, form_at, form_of, is_number, number_of}
-use Rattle.spv_types.specs.Cells.{cells_among, cells_of, cells_step, members_cells}
-use Rattle.spv_types.specs.Laws.{AreSound, IsAmong}
-use Rattle.spv_types.specs.Leaves.{element_part, part_of}
+use Rattle.spv_types.specs.Types.{Types, form_of, is_number, number_of}
+use Rattle.spv_types.specs.Cells.{cells_of, members_cells}
+use Rattle.spv_types.specs.Leaves.{part_of}
 use Rattle.spv_types.specs.Rows.{leaves}
 use Rattle.spv_types.specs.Shapes.{HasShape, HasShapeAmong, part_type, shape_step}
 use Rattle.spv_types.proofs.CellLemmas.{added_is}
-use Rattle.spv_types.proofs.CountedLemmas.{cells_at, cells_whole}
 use Rattle.spv_types.proofs.RowCounts.{shapes_count}
-use Rattle.spv_types.proofs.ShapeLemmas.{form_number}
-use Rattle.spv_types.proofs.TypeLemmas.{number_form, number_lt}
 use Rattle.spv_mem.specs.Targets.{end_open, is_counted, is_open_array, last_of}
 
 -- ---- numbers of leaves
-
-members_alike : (c d : ℕ → Option ℕ) (ms : List Member) → ((k part : ℕ) → option_map (λ (m : Member). m.ty) (slice_get ms k) ≡ Some part → c part ≡ d part) → members_cells c ms ≡ members_cells d ms
-unfolding members_cells
-members_alike c d [] h = refl
-members_alike c d (m ∷ ms) h = rw (h 0 m.ty refl, members_alike c d ms (λ k part is. h (suc k) part is)) refl
-
-cells_alike : (c d : ℕ → Option ℕ) (f : Form) → ((index part : ℕ) → part_type f index ≡ Some part → c part ≡ d part) → cells_step c f ≡ cells_step d f
-cells_alike c d Void h = refl
-cells_alike c d Boolean h = refl
-cells_alike c d (Int width sign) h = refl
-cells_alike c d (Vector component count) h = rw (h 0 component refl) refl
-cells_alike c d (Array element None stride) h = refl
-cells_alike c d (Array element (Some n) stride) h = rw (h 0 element refl) refl
-cells_alike c d (Runtime element stride) h = refl
-cells_alike c d (Struct members block) h = members_alike c d members h
-cells_alike c d (Pointer class target) h = refl
-cells_alike c d (Function returns parameters) h = refl
-
-pub cells_by_form : (ts : Types) → AreSound ts → (id : ℕ) (f : Form) → form_of ts id ≡ Some f → cells_of ts id ≡ cells_step (cells_of ts) f
-unfolding cells_of
-cells_by_form ts sound id f is =
-    let number = form_number ts id f is in
-    let form : Some (form_at ts number.0) ≡ Some f = sym (number_form ts id number.0 (0, Void) number.1) ∙ is in
-    let same : form_at ts number.0 ≡ f = cc in
-    cells_at ts (length ts) id number.0 number.1 (number_lt ts id number.0 number.1) ∙ ap (cells_step (cells_among ts number.0)) same ∙ cells_alike (cells_among ts number.0) (cells_of ts) f (λ index part typed. whole number.0 number.1 index part typed)
-  where
-    whole : (n : ℕ) → number_of ts id ≡ Some n → (index part : ℕ) → part_type f index ≡ Some part → cells_among ts n part ≡ cells_of ts part
-    whole n e index part typed =
-        let before = sound.ordered id index part f is typed in
-        let at : Some before.number ≡ Some n = sym before.is ∙ e in
-        let same : before.number ≡ n = cc in
-        cells_whole ts n part (subst (λ (k : ℕ). IsAmong ts k part) same before.among)
 
 pub counted_is : (o : Option ℕ) → is_some o ≡ true → (n : ℕ) × (o ≡ Some n)
 counted_is None h = absurd cc
@@ -67,7 +31,7 @@ is_counted_by o n h = rw h refl
 
 -- ---- a value of a shape has a type with a form
 
-no_form : (ts : Types) (roots : Root → Option ℕ) (n id : ℕ) (v : Value) → form_of ts id ≡ None → HasShapeAmong ts roots n id v → ⊥
+pub no_form : (ts : Types) (roots : Root → Option ℕ) (n id : ℕ) (v : Value) → form_of ts id ≡ None → HasShapeAmong ts roots n id v → ⊥
 unfolding HasShapeAmong
 no_form ts roots zero id v none h = h
 no_form ts roots (suc n) id v none h = go (no_form ts roots n id v none) (is_number n (number_of ts id)) (form_of ts id) none h
@@ -120,9 +84,6 @@ pub all_at : (P : Value → Type 0) (vs : List Value) (i : ℕ) (u : Value) → 
 all_at P [] i u all h = absurd cc
 all_at P (v ∷ vs) zero u all h = let e : v ≡ u = cc in subst P e (All-head P v vs all)
 all_at P (v ∷ vs) (suc i) u all h = all_at P vs i u (All-tail P v vs all) h
-
-element_at : (cells : ℕ → Option ℕ) (element i c : ℕ) → cells element ≡ Some c → element_part cells element i ≡ Some (c * i, element)
-element_at cells element i c h = rw h refl
 
 pub below_is : (i n : ℕ) → i < n → nat_lt i n ≡ true
 below_is i n h = grind arith
@@ -186,11 +147,6 @@ module _ (ts : Types) (roots : Root → Option ℕ) where
         )
       ]
 
-  both_are : (a b : Bool) → (a && b) ≡ true → (a ≡ true) × (b ≡ true)
-  both_are true true h = (refl, refl)
-  both_are true false h = absurd cc
-  both_are false b h = absurd cc
-
   later_last : (v : Value) (vs : List Value) (u : Value) → last_of vs ≡ Some u → last_of (v ∷ vs) ≡ Some u
   later_last v [] u h = absurd cc
   later_last v (w ∷ vs) u h = h
@@ -210,10 +166,10 @@ module _ (ts : Types) (roots : Root → Option ℕ) where
   open_member (m ∷ []) (v ∷ []) (suc k) all h = inl (refl, refl)
   open_member (m ∷ n ∷ ms) (v ∷ []) k all h = absurd all.1
   open_member (m ∷ n ∷ ms) (v ∷ u ∷ vs) zero all h =
-      let both = both_are (is_counted ts m.ty) (end_open ts (n ∷ ms)) h in
+      let both = and_parts (is_counted ts m.ty) (end_open ts (n ∷ ms)) h in
       inr (record { member = m; part = v; before = 0; is = refl; found = refl; sum = sum_none; shape = all.0; kind = inl both.0 })
   open_member (m ∷ n ∷ ms) (v ∷ u ∷ vs) (suc k) all h =
-      let both = both_are (is_counted ts m.ty) (end_open ts (n ∷ ms)) h in
+      let both = and_parts (is_counted ts m.ty) (end_open ts (n ∷ ms)) h in
       let c = counted_is (cells_of ts m.ty) both.0 in
       elim (open_member (n ∷ ms) (u ∷ vs) k all.1 both.1) [
         | inl none ↦ inl none

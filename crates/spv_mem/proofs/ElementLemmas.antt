@@ -26,9 +26,10 @@ use Rattle.spv_types.proofs.RowCounts.{many_is, shapes_count, times_is}
 use Rattle.spv_types.proofs.RowPlaces.{changed, has_part}
 use Rattle.spv_types.proofs.RowShapes.{shapes_keep}
 use Rattle.spv_types.proofs.ShapeLemmas.{shapes_are_by_forms}
+use Rattle.spv_types.proofs.OffsetLemmas.{cells_by_form}
 use Rattle.spv_values.specs.Places.{IsRowAt}
 use Rattle.spv_mem.specs.Targets.{Fits, MayBePut, count_in, elements_in, is_counted, is_past, last_of}
-use Rattle.spv_mem.proofs.CountLemmas.{cells_by_form, counted_is, is_counted_by, shape_formed}
+use Rattle.spv_mem.proofs.CountLemmas.{counted_is, is_counted_by, shape_formed}
 use Rattle.spv_mem.proofs.PartLemmas.{Found, NotFound, names}
 
 -- ---- how many values a list has

@@ -7,7 +7,7 @@ use Rattle.std.proofs.Props.{props}
 use Rattle.std.specs.Coded.{codes}
 use Rattle.spv_base.specs.Entries.{change, reads, writes}
 use Rattle.spv_base.specs.Parts.{part_at, with_part}
-use Rattle.spv_base.specs.State.{Roots}
+use Rattle.spv_base.specs.Variables.{Roots}
 use Rattle.spv_base.specs.contracts.values.Value.{the_row}
 use Rattle.spv_base.specs.declared.causes.MemErr.{MemErr}
 use Rattle.spv_base.specs.declared.causes.MemErr.TheVariants.{OutOfBounds}

@@ -22,8 +22,9 @@ use Rattle.spv_types.specs.Shapes.{HasShape, part_type, pointer_in, reached, sca
 use Rattle.spv_types.proofs.RowCounts.{many_is, times_is}
 use Rattle.spv_types.proofs.RowLemmas.{many_row}
 use Rattle.spv_types.proofs.ShapeLemmas.{shapes_are_by_forms}
+use Rattle.spv_types.proofs.OffsetLemmas.{cells_by_form}
 use Rattle.spv_mem.specs.Targets.{element_index, elements_in, end_open, is_array_at, is_counted, is_open_array, is_open_block, is_past, last_of, may_be_target}
-use Rattle.spv_mem.proofs.CountLemmas.{MemberAt, NoMember, NoPart, PartIs, all_at, at_index, below_is, cells_by_form, counted_is, counted_member, is_counted_by, item_at, open_member, past_is, shape_formed}
+use Rattle.spv_mem.proofs.CountLemmas.{MemberAt, NoMember, NoPart, PartIs, all_at, at_index, below_is, counted_is, counted_member, is_counted_by, item_at, open_member, past_is, shape_formed}
 
 -- ---- paths, an index at a time
 
@@ -302,9 +303,6 @@ module _ (ts : Types) (roots : Root → Option ℕ) (sound : AreSound ts) where
 
   elements_are : (v u : Value) (vs us : List Value) → out-Value v ≡ Value-F.List vs → last_of vs ≡ Some u → out-Value u ≡ Value-F.List us → elements_in v ≡ length us
   elements_are v u vs us e l g = rw (e, l, g) refl
-
-  array_at_none : (members : List Member) (block : Bool) (k : ℕ) → slice_get members k ≡ None → is_array_at ts (Some (Struct members block)) k ≡ false
-  array_at_none members block k h = rw h refl
 
   array_at_is : (members : List Member) (block : Bool) (k : ℕ) (m : Member) → slice_get members k ≡ Some m → is_array_at ts (Some (Struct members block)) k ≡ is_runtime (form_of ts m.ty)
   array_at_is members block k m h = rw h refl

@@ -8,7 +8,7 @@ use Rattle.spv_base.specs.Parts.{part_at, with_part}
 use Rattle.spv_types.specs.Types.{Types}
 use Rattle.spv_mem.specs.Targets.{Exchanges, Fits, MayBePut}
 use Rattle.spv_base.specs.Entries.{reads, writes}
-use Rattle.spv_base.specs.State.{Roots}
+use Rattle.spv_base.specs.Variables.{Roots}
 use Rattle.spv_base.specs.declared.values.Value.{Value}
 use Rattle.spv_mem.specs.Roots.{AreFit, ExchangesIn, IsAt, MayBePutIn, distinct}
 

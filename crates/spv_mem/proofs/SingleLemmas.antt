@@ -1,18 +1,18 @@
 -- Leaves that are exchanged by where they lie.
-use Rattle.std.proofs.Common.{◌≡◌, ◌∙◌, ℕ, true, false, List, Option, Some, refl, sym, ap, subst}
+use Rattle.std.proofs.Common.{◌≡◌, ℕ, true, false, List, Option, Some, refl, sym, subst}
 use Rattle.std.specs.Option.{MatchOption}
 use Rattle.std.proofs.Math.Logic.{∥∥₁_elim, ∥∥₁_map}
 use Rattle.std.proofs.Props.{props}
 use Rattle.std.specs.Coded.{codes}
 use Rattle.spv_base.specs.Parts.{part_at, with_part}
-use Rattle.spv_base.specs.State.{Roots}
+use Rattle.spv_base.specs.Variables.{Roots}
 use Rattle.spv_base.specs.declared.values.Root.{Root}
 use Rattle.spv_base.specs.declared.values.Root.TheVariants.{Shared, Private, Local}
 use Rattle.spv_base.specs.declared.values.Value.{Value}
 use Rattle.spv_values.specs.Places.{IsRowAt}
 use Rattle.spv_mem.specs.Memory.{Held, IsMemory, MayStore, id_in, root_value, roots_in}
 use Rattle.spv_mem.specs.Roots.{IsAt}
-use Rattle.spv_mem.specs.Singles.{IsLeafFor, LeafAt, LeafIn, LeafLevel, LiesIn, NamesRow}
+use Rattle.spv_mem.specs.Singles.{IsLeafFor, LeafAt, LeafIn, LeafLevel, NamesRow}
 use Rattle.spv_mem.specs.Targets.{Exchanges, Fits, MayBePut, elements_in}
 use Rattle.spv_mem.proofs.ElementLemmas.{elements_stay}
 
@@ -85,8 +85,3 @@ local_leaf m i depth id k leaf n path u e f t =
   where
     go : Told m i (Local depth id) leaf path u → LeafLevel id m.locals i depth leaf path u
     go h l at es e = leaf_in m i (Local depth id) es leaf path u h.memory h.names h.may (rw at e)
-
--- ---- where a part lies
-
-pub lies_at : (id k : ℕ) (es : Roots) (path : List ℕ) (start len : ℕ) (v : Value) (a : IsAt id k es) → v ≡ a.value → IsRowAt v path start len → LiesIn id es path start len
-lies_at id k es path start len v a same row = record { value = v; is = a.is ∙ ap Some (sym same); row = row }

@@ -6,7 +6,7 @@ use Rattle.std.specs.Prelude.{◌≡◌, ℕ, ◌<◌, ◌++◌, ◌∷◌, [], 
 use Rattle.std.specs.Option.{MatchOption, option_and_then, option_map_or}
 use Rattle.spv_base.specs.Entries.{reads, change}
 use Rattle.spv_base.specs.Parts.{part_at}
-use Rattle.spv_base.specs.State.{Roots}
+use Rattle.spv_base.specs.Variables.{Roots}
 use Rattle.spv_base.specs.declared.causes.MemErr.{MemErr}
 use Rattle.spv_base.specs.declared.causes.MemErr.TheVariants.{UndefinedIndex, OutOfBounds, NoMemory}
 use Rattle.spv_base.specs.declared.values.Pointer.{Pointer}

@@ -3,7 +3,7 @@ use Rattle.std.specs.Prelude.{◌≡◌, ℕ, ◌&&◌, not, Bool, true, false, 
 use Rattle.std.specs.Option.{MatchOption, is_some, option_and_then, option_map_or}
 use Rattle.spv_base.specs.Entries.{reads, writes}
 use Rattle.spv_base.specs.Parts.{part_at, with_part}
-use Rattle.spv_base.specs.State.{Roots}
+use Rattle.spv_base.specs.Variables.{Roots}
 use Rattle.spv_base.specs.declared.values.Value.{Value}
 use Rattle.spv_types.specs.Types.{Types}
 use Rattle.spv_mem.specs.Targets.{Fits, MayBePut}

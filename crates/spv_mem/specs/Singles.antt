@@ -2,7 +2,7 @@
 use Rattle.std.specs.Prelude.{◌≡◌, ℕ, List, Some, slice_get}
 use Rattle.spv_base.specs.Entries.{reads}
 use Rattle.spv_base.specs.Parts.{with_part}
-use Rattle.spv_base.specs.State.{Roots}
+use Rattle.spv_base.specs.Variables.{Roots}
 use Rattle.spv_base.specs.declared.values.Pointer.{Pointer}
 use Rattle.spv_base.specs.declared.values.Value.{Value}
 use Rattle.spv_values.specs.Places.{IsRowAt}

@@ -1,7 +1,7 @@
 //! Memory: variables that are added, and locals that come and go with frames.
 ghost use Rattle.std.specs.Prelude.{◌≡◌, ◌<◌, IfOk, None, OnOk, OnErr, IfSome, Some, length, slice_get};
 ghost use Rattle.spv_base.specs.Entries.{reads};
-ghost use Rattle.spv_base.specs.State.{Roots};
+ghost use Rattle.spv_base.specs.Variables.{Roots};
 ghost use Rattle.spv_mem.specs.Memory.{AreVariables, HasRoom, IsVariable, Leaves, entered, with_private, with_shared};
 
 use crate::entries::{Locals, lists_copied};

@@ -1,7 +1,7 @@
 //! Tests of what the calls of a memory ask.
 ghost use Rattle.std.specs.Prelude.{◌≡◌, ◌↔◌, ◌<◌, ℕ, IfSome, IsTrue, None, Some, length, option_copied, slice_get};
 ghost use Rattle.spv_base.specs.Entries.{reads};
-ghost use Rattle.spv_base.specs.State.{Roots};
+ghost use Rattle.spv_base.specs.Variables.{Roots};
 ghost use Rattle.spv_base.specs.Lane.{IsLane, Lane};
 ghost use Rattle.spv_base.specs.declared.values.Root.TheVariants.{Shared};
 ghost use Rattle.spv_base.specs.declared.values.Value.{Scalar};

@@ -26,7 +26,7 @@ impl Model for Roots {
     ghost use Rattle.std.specs.Prelude.{◌≡◌, true};
     ghost use Rattle.std.specs.Coded.{codes};
     ghost use Rattle.spv_base.specs.contracts.values.Value as value;
-    ghost use Rattle.spv_base.specs.State.{Roots as Entries};
+    ghost use Rattle.spv_base.specs.Variables.{Roots as Entries};
     ghost use Rattle.spv_mem.specs.Roots.{distinct};
 
     ghost Value = { Entries };

@@ -1,6 +1,6 @@
 //! Laws of variables.
 ghost use Rattle.std.specs.Prelude.{ℕ, List, [], ◌∷◌, ◌++◌};
-ghost use Rattle.spv_base.specs.State.{Roots};
+ghost use Rattle.spv_base.specs.Variables.{Roots};
 ghost use Rattle.spv_base.specs.declared.values.Value.{Value};
 ghost use Rattle.spv_mem.specs.Memory.{AreVariables, IsVariable};
 ghost use Rattle.spv_types.specs.Types.{Types};

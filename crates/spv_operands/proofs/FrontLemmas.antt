@@ -13,8 +13,8 @@ use Rattle.spv_types.specs.Rules.{form_has_runtime, has_runtime, is_data, is_run
 use Rattle.spv_types.specs.Types.{Types, form_of}
 use Rattle.spv_types.specs.Typing.{defined_form, types_in, with_form}
 use Rattle.spv_types.proofs.BuildLemmas.{types_push}
-use Rattle.spv_types.proofs.GrowthLemmas.{sound_push}
 use Rattle.spv_types.proofs.TypeLemmas.{number_form}
+use Rattle.spv_types.proofs.AcceptedLemmas.{form_sound, no_types}
 use Rattle.spv_consts.proofs.WalkTypes.{form_left, types_joined}
 
 -- ---- they are sound
@@ -29,20 +29,6 @@ first_kept : (all before is : List Inst) (i : Inst) → type_breaches all before
 unfolding type_breaches keeps_rules
 first_kept all before is i h =
     none_broken (keeps_other all (types_in all before) i (defined_form all i)) (record { code = type_code; word = i.word }) (type_breaches all (before ++ i ∷ []) is) h
-
-form_sound : (all : List Inst) (ts : Types) (i : Inst) (o : Option Form) → AreSound ts → keeps_other all ts i o ≡ true → AreSound (with_form ts i.id o)
-form_sound all ts i None sound h = sound
-form_sound all ts i (Some f) sound h = sound_push ts i.id f sound h
-
-none_sound : AreSound []
-none_sound = record {
-  kept = λ id f h. absurd (cc);
-  ordered = λ id index part f h is. absurd (cc);
-}
-
-no_types : (all : List Inst) → AreSound (types_in all [])
-unfolding types_in
-no_types all = none_sound
 
 joined_sound : (all before front later : List Inst) → AreSound (types_in all before) → type_breaches all before (front ++ later) ≡ [] → AreSound (types_in all (before ++ front))
 joined_sound all before [] later sound h = rw (append-nil before) sound

@@ -1,7 +1,6 @@
 -- What the meaning of an id tells of the instruction that defines it.
-use Rattle.std.proofs.Common.{◌≡◌, ◌⊎◌, ◌∙◌, inl, inr, ℕ, ◌<◌, ◌==◌, ◌&&◌, ◌||◌, Bool, true, false, List, [], ◌∷◌, Option, Some, None, refl, sym, ap, arith}
+use Rattle.std.proofs.Common.{◌≡◌, ◌⊎◌, ◌∙◌, inl, inr, ℕ, ◌==◌, ◌&&◌, ◌||◌, Bool, true, false, List, [], ◌∷◌, Option, Some, None, refl, sym, ap}
 use Rattle.std.proofs.lemmas.Bool.{agree_below_at, and_parts, both_ways, eqb-true, not-false, not-true, or_cases}
-use Rattle.std.proofs.lemmas.Bool.Decides.{nat_tests}
 use Rattle.std.specs.Prelude.{find, if◌then◌else◌, not, unwrap_or}
 use Rattle.std.specs.List.{list_all}
 use Rattle.std.specs.Option.{option_map}
@@ -17,6 +16,8 @@ use Rattle.spv_types.specs.Constants.{is_constant}
 use Rattle.spv_valid.specs.Meanings.{inside_meanings, meaning_at, outside_meanings}
 use Rattle.spv_valid.specs.declared.meanings.Meaning.{Meaning}
 use Rattle.spv_valid.specs.declared.meanings.Meaning.TheVariants.{TypeDefinition, Constant, Undefined, ModuleVariable, Variable, Register, Label, Function, Other}
+use Rattle.spv_sections.proofs.TypesFirst.{constant_low}
+use Rattle.spv_plans.proofs.TypeLemmas.{second_false}
 
 -- ---- instructions and where they stand
 
@@ -148,13 +149,6 @@ constant_is (Some (Register function)) h = absurd (cc)
 constant_is (Some (Label function)) h = absurd (cc)
 constant_is (Some Function) h = absurd (cc)
 constant_is (Some Other) h = absurd (cc)
-
-constant_low : (op : ℕ) → is_constant op ≡ true → op < 53
-constant_low op h = grind (arith, nat_tests)
-
-second_false : (p q : Bool) → p ≡ true → (p && q) ≡ false → q ≡ false
-second_false true q e h = h
-second_false false q e h = absurd (cc)
 
 -- the meaning of an opcode of constants, outside functions
 pub constant_opcode : (op ty : ℕ) → is_constant op ≡ true → reads op (outside_meanings ty) ≡ Some Constant

@@ -1,25 +1,25 @@
 -- Shapes of data and of pointers, and of the values that operands stand for.
-use Rattle.std.proofs.Common.{◌≡◌, ◌∙◌, ℕ, zero, suc, Bool, true, false, List, [], length, Option, Some, None, refl, ap, rules}
+use Rattle.std.proofs.Common.{◌≡◌, ◌∙◌, ℕ, true, false, List, [], length, Option, Some, None, refl, ap, rules}
 use Rattle.std.proofs.lemmas.Bool.{both_ways}
-use Rattle.std.specs.Bool.{MatchBool}
-use Rattle.std.specs.Option.{IsSomeAnd, MatchOption, is_some, option_map_or}
+use Rattle.std.specs.Option.{IsSomeAnd, is_some, option_map_or}
 use Rattle.spv_base.specs.Lane.{Lane}
 use Rattle.spv_base.specs.Parts.{parts_in}
 use Rattle.spv_base.specs.declared.values.Pointer.{Pointer as Reference}
 use Rattle.spv_base.specs.declared.values.Root.{Root}
 use Rattle.spv_base.specs.declared.values.Value.{Value, Scalar, List as Many, Ptr, out-Value, the_lemmas}
 use Rattle.spv_base.specs.declared.values.Value.TheOpen.{Value-F}
-use Rattle.spv_base.proofs.PartLemmas.{out_many}
+use Rattle.spv_base.proofs.PartLemmas.{out_many, out_scalar}
 use Rattle.spv_types.specs.declared.forms.Form.{Form}
 use Rattle.spv_types.specs.declared.forms.Form.TheVariants.{Void, Bool as Boolean, Int, Vector, Array, Runtime, Struct, Pointer, Function}
 use Rattle.spv_types.specs.Laws.{AreSound}
 use Rattle.spv_types.specs.Queries.{is_pointer}
 use Rattle.spv_types.specs.Rows.{no_roots}
-use Rattle.spv_types.specs.Shapes.{HasShape, HasShapeAmong, LeadsTo, pointer_in, reached, scalar_in, shape_step}
-use Rattle.spv_types.specs.Types.{Types, form_of, found_among, is_number, number_of}
+use Rattle.spv_types.specs.Shapes.{HasShape, LeadsTo, pointer_in, reached, scalar_in, shape_step}
+use Rattle.spv_types.specs.Types.{Types, form_of, found_among}
 use Rattle.spv_types.proofs.ShapeLemmas.{shapes_are_by_forms}
 use Rattle.spv_mem.specs.Blanks.{blank_among, blank_of, blank_step}
-use Rattle.spv_mem.proofs.BlankLemmas.{blank_among_is, out_scalar}
+use Rattle.spv_mem.proofs.BlankLemmas.{blank_among_is}
+use Rattle.spv_mem.proofs.CountLemmas.{no_form}
 use Rattle.spv_operands.specs.Operands.{pointer_of}
 
 -- ---- values of each kind
@@ -45,16 +45,6 @@ no_parts (Value-F.List vs) P h = refl
 no_parts (Value-F.Ptr p) P h = absurd h
 
 -- ---- a shape is that of a form
-
-no_form : (ts : Types) (roots : Root → Option ℕ) (n id : ℕ) (v : Value) → form_of ts id ≡ None → HasShapeAmong ts roots n id v → ⊥
-unfolding HasShapeAmong
-no_form ts roots zero id v none h = h
-no_form ts roots (suc n) id v none h = by_number (is_number n (number_of ts id)) (form_of ts id) none h (no_form ts roots n id v none)
-  where
-    by_number : (b : Bool) (o : Option Form) → o ≡ None → MatchBool b (MatchOption o ⊥ (λ f. shape_step ts roots (HasShapeAmong ts roots n) f v)) (HasShapeAmong ts roots n id v) → (HasShapeAmong ts roots n id v → ⊥) → ⊥
-    by_number true None e g behind = g
-    by_number true (Some f) e g behind = cc
-    by_number false o e g behind = behind g
 
 pub shaped_form : (ts : Types) (roots : Root → Option ℕ) (id : ℕ) (v : Value) → HasShape ts roots id v → (f : Form) × (form_of ts id ≡ Some f)
 unfolding HasShape

@@ -32,7 +32,7 @@ product_there (Some n) (Some c) h g = refl
 
 -- ---- forms without runtime arrays
 
-scalar_plain : (ts : Types) (o : Option Form) → is_scalar o ≡ true → form_has_runtime ts o ≡ false
+pub scalar_plain : (ts : Types) (o : Option Form) → is_scalar o ≡ true → form_has_runtime ts o ≡ false
 scalar_plain ts None h = absurd (cc)
 scalar_plain ts (Some Void) h = refl
 scalar_plain ts (Some Boolean) h = refl
@@ -44,15 +44,15 @@ scalar_plain ts (Some (Struct members block)) h = absurd (cc)
 scalar_plain ts (Some (Pointer class target)) h = refl
 scalar_plain ts (Some (Function returns parameters)) h = refl
 
-sized_plain : (ts : Types) (id : ℕ) → is_sized_data ts id ≡ true → has_runtime ts id ≡ false
+pub sized_plain : (ts : Types) (id : ℕ) → is_sized_data ts id ≡ true → has_runtime ts id ≡ false
 sized_plain ts id h = not-true (has_runtime ts id) (and_parts (is_data (form_of ts id)) (not (has_runtime ts id)) h).1
 
 -- no member has a runtime array, where the last one is none
-abbrev Plain : Types → List Member → Type 0
+abbrev pub Plain : Types → List Member → Type 0
 Plain ts [] = Unit {0}
 Plain ts (m ∷ ms) = (has_runtime ts m.ty ≡ false) × Plain ts ms
 
-member_plain : (ts : Types) (block last : Bool) (ty : ℕ) → keeps_member ts block last ty ≡ true → (last ≡ true → is_runtime (form_of ts ty) ≡ false) → has_runtime ts ty ≡ false
+pub member_plain : (ts : Types) (block last : Bool) (ty : ℕ) → keeps_member ts block last ty ≡ true → (last ≡ true → is_runtime (form_of ts ty) ≡ false) → has_runtime ts ty ≡ false
 member_plain ts block last ty h apart = by_either (or_cases (is_sized_data ts ty) (last && (block && is_runtime (form_of ts ty))) h)
   where
     by_either : (is_sized_data ts ty ≡ true) ⊎ ((last && (block && is_runtime (form_of ts ty))) ≡ true) → has_runtime ts ty ≡ false
@@ -62,10 +62,10 @@ member_plain ts block last ty h apart = by_either (or_cases (is_sized_data ts ty
         let runtime = and_parts block (is_runtime (form_of ts ty)) ends.1 in
         absurd (both_ways (is_runtime (form_of ts ty)) (apart ends.0) runtime.1)
 
-not_last : (m : Member) (ms : List Member) → (length (m ∷ ms) == 0) ≡ true → ⊥
+pub not_last : (m : Member) (ms : List Member) → (length (m ∷ ms) == 0) ≡ true → ⊥
 not_last m ms h = let none : length (m ∷ ms) ≡ 0 = eqb-true (length (m ∷ ms)) 0 h in omega arith
 
-members_plain : (ts : Types) (block : Bool) (ms : List Member) → keep_members ts block ms ≡ true → option_map_or (λ (ty : ℕ). is_runtime (form_of ts ty)) (last_type ms) false ≡ false → Plain ts ms
+pub members_plain : (ts : Types) (block : Bool) (ms : List Member) → keep_members ts block ms ≡ true → option_map_or (λ (ty : ℕ). is_runtime (form_of ts ty)) (last_type ms) false ≡ false → Plain ts ms
 unfolding keep_members
 members_plain ts block [] h apart = tt
 members_plain ts block (m ∷ []) h apart =

@@ -1,12 +1,8 @@
 -- A plan with one more register.
-use Rattle.std.proofs.Common.{◌≡◌, ◌∙◌, ℕ, zero, suc, ◌≤◌, Bool, true, false, cond, List, [], ◌∷◌, ◌++◌, Option, Some, None, map, length, append-nil, slice_get, refl, sym, ap, subst, arith}
-use Rattle.std.proofs.lemmas.Bool.{leb-true}
-use Rattle.std.specs.Prelude.{nat_le}
+use Rattle.std.proofs.Common.{◌≡◌, ◌∙◌, ℕ, zero, suc, Bool, true, false, cond, List, [], ◌∷◌, ◌++◌, Option, Some, map, length, append-nil, slice_get, refl, sym, ap, subst}
 use Rattle.std.specs.List.{filter}
-use Rattle.std.specs.Option.{option_map, option_map_or}
 use Rattle.spv_base.specs.declared.instructions.Inst.{Inst}
 use Rattle.spv_types.specs.Cells.{cells_of}
-use Rattle.spv_types.specs.Cuts.{cut}
 use Rattle.spv_types.specs.Queries.{is_pointer}
 use Rattle.spv_types.specs.Types.{Types, form_of}
 use Rattle.spv_frame.specs.declared.slots.Place.{Place}
@@ -15,29 +11,6 @@ use Rattle.spv_frame.specs.Registers.{Planned, Rooms, ids}
 use Rattle.spv_plans.specs.Drafts.{Grows, with_pointer, with_value}
 use Rattle.spv_plans.specs.Plans.{HasRegisters, counted, id_at}
 use Rattle.spv_plans.specs.Registers.{has_cells, has_pointer, is_parameter, is_register, register_in}
-
--- ---- the cells of a type
-
-pub counted_cells : (o : Option ℕ) → option_map_or (λ n. nat_le n 4194304) o false ≡ true → (n : ℕ) × (o ≡ Some n) × (n ≤ 4194304)
-counted_cells None h = absurd (cc)
-counted_cells (Some n) h = (n, refl, leb-true n 4194304 h)
-
-uncut : (n : ℕ) → n ≤ 4194304 → cut n ≡ n
-uncut n h = omega arith
-
--- what the number of cells is that is asked for
-pub cells_are : (o : Option ℕ) (n : ℕ) → option_map_or (λ n. nat_le n 4194304) o false ≡ true → option_map cut o ≡ Some n → (o ≡ Some n) × (n ≤ 4194304)
-cells_are o n h e =
-    let c = counted_cells o h in
-    let whole : cut c.0 ≡ c.0 = uncut c.0 c.2 in
-    let asked : Some (cut c.0) ≡ Some n = sym (ap (option_map cut) c.1) ∙ e in
-    let same : cut c.0 ≡ n = cc in
-    let is : c.0 ≡ n = sym whole ∙ same in
-    (c.1 ∙ ap Some is, subst (λ (m : ℕ). m ≤ 4194304) is c.2)
-
-pub cells_there : (o : Option ℕ) → option_map_or (λ n. nat_le n 4194304) o false ≡ true → option_map cut o ≡ None → ⊥
-cells_there None h e = cc
-cells_there (Some n) h e = cc
 
 -- ---- lists with one more element
 
@@ -147,11 +120,6 @@ one_register ts i is q h lists =
     let own : register_in ts i ≡ i ∷ [] = rw h refl in
     subst (λ (js : List Inst). HasRegisters ts (is ++ js) q) (sym own) lists
 
-no_register : (ts : Types) (i : Inst) (is : List Inst) (q : Planned) → is_register ts i ≡ false → HasRegisters ts is q → HasRegisters ts (is ++ register_in ts i) q
-no_register ts i is q h lists =
-    let none : register_in ts i ≡ [] = rw h refl in
-    subst (λ (js : List Inst). HasRegisters ts (is ++ js) q) (sym none) (subst (λ (js : List Inst). HasRegisters ts js q) (sym (append-nil is)) lists)
-
 pub pointer_added : (ts : Types) (i : Inst) (p q : Planned) → is_register ts i ≡ true → is_pointer (form_of ts i.ty) ≡ true → q ≡ with_pointer p i → Grows ts i p q
 pointer_added ts i p q h pointer is =
     subst (Grows ts i p) (sym is)
@@ -161,7 +129,3 @@ pub value_added : (ts : Types) (i : Inst) (p q : Planned) (n : ℕ) → is_regis
 value_added ts i p q n h value cells is =
     subst (Grows ts i p) (sym is)
     (record { function = refl; first = refl; registers = λ is lists. one_register ts i is (with_value p i n) h (value_lists ts is i p n value cells lists) })
-
--- no register yet
-pub none_listed : (ts : Types) (p : Planned) (function first : ℕ) → p ≡ record { function = function; first = first; parameters = []; values = []; pointers = []; types = [] } → HasRegisters ts [] p
-none_listed ts p function first is = subst (HasRegisters ts []) (sym is) (record { values = refl; pointers = refl; types = refl; parameters = refl })

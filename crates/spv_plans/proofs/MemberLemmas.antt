@@ -24,7 +24,7 @@ block_inside Variables h = refl
 block_inside Body h = refl
 block_inside Between h = refl
 
-variables_inside : (stage : Stage) → among_variables stage ≡ true → in_function stage ≡ true
+pub variables_inside : (stage : Stage) → among_variables stage ≡ true → in_function stage ≡ true
 variables_inside Outside h = h
 variables_inside Head h = refl
 variables_inside Phis h = refl
@@ -33,7 +33,7 @@ variables_inside Body h = refl
 variables_inside Between h = refl
 
 -- one of two stages, the first where a test tells of the second that it is in a function
-inside_from : (b : Bool) (t stage : Stage) → (b ≡ true → in_function stage ≡ true) → in_function (cond b t stage) ≡ true → in_function stage ≡ true
+pub inside_from : (b : Bool) (t stage : Stage) → (b ≡ true → in_function stage ≡ true) → in_function (cond b t stage) ≡ true → in_function stage ≡ true
 inside_from true t stage tells h = tells refl
 inside_from false t stage tells h = h
 

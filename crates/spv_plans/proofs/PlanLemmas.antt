@@ -55,7 +55,7 @@ use Rattle.spv_plans.proofs.TypeLemmas.{each_behind, form_found, named_type, no_
 
 -- ---- lists
 
-each_drop : {X : Type 0} (P : X → Type 0) (n : ℕ) (xs : List X) → AllByRecursion P xs → AllByRecursion P (drop n xs)
+pub each_drop : {X : Type 0} (P : X → Type 0) (n : ℕ) (xs : List X) → AllByRecursion P xs → AllByRecursion P (drop n xs)
 each_drop P zero xs h = h
 each_drop P (suc n) [] h = tt
 each_drop P (suc n) (x ∷ xs) h = each_drop P n xs h.1
@@ -198,7 +198,7 @@ function_named decoded i h op none =
     let clash : false ≡ true = rw with_one at without in
     cc
 
-function_class : (sets : List (ℕ × Bool)) (i : Inst) → i.op ≡ 54 → class_of sets i ≡ Function
+pub function_class : (sets : List (ℕ × Bool)) (i : Inst) → i.op ≡ 54 → class_of sets i ≡ Function
 function_class sets i op = rw op refl
 
 differs : (id : ℕ) → id ≢ 0 → (j : Inst) → Differs id j → j.id ≢ id

@@ -22,9 +22,6 @@ pub record Reading (a : Accepted) (insts : List Inst) (ps : List Planned) (n : �
   pub functions : map (λ (p : Planned). p.function) ps ++ ids_from insts n ≡ map (λ (f : ℕ × ℕ). f.0) (functions_of insts)
   pub plans : AllByRecursion (IsPlan a) ps
 
-pub none_read : (a : Accepted) (insts : List Inst) → Reading a insts [] 0
-none_read a insts = record { functions = refl; plans = tt }
-
 drop_here : (insts : List Inst) (n : ℕ) (i : Inst) → slice_get insts n ≡ Some i → drop n insts ≡ i ∷ drop (suc n) insts
 drop_here [] n i at = absurd (cc)
 drop_here (j ∷ is) zero i at = let same : j ≡ i = cc in ap (λ (x : Inst). x ∷ is) same

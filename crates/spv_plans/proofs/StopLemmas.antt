@@ -10,17 +10,13 @@ use Rattle.spv_index.specs.Classes.{class_of}
 use Rattle.spv_index.specs.Positions.{Stand, among_variables, begins, in_block, in_function, position_after, stands}
 use Rattle.spv_cfg.specs.Layout.{lacking, layout_breach, unended}
 use Rattle.spv_cfg.proofs.BlockLaws.{same_number}
-use Rattle.spv_cfg.proofs.LayoutLemmas.{IsWhole, nil_parts, stays_inside, whole_parts}
+use Rattle.spv_cfg.proofs.LayoutLemmas.{IsWhole, nil_parts, stays_inside, whole_parts, not_reported}
 use Rattle.spv_plans.specs.Members.{is_stop, is_within, leading, stands_in}
 use Rattle.spv_plans.proofs.MemberLemmas.{block_inside}
 
 -- a run stops among the instructions of a function, of which these are the first
 abbrev pub Stops : ℕ → List Stand → Type 0
 Stops id ss = (s : Stand) × (find is_stop (leading (stands_in id) ss) ≡ Some s)
-
-not_reported : (b : Bool) (block : ℕ) → b ≡ true → cond b (block ∷ []) [] ≡ [] → ⊥
-not_reported true block is none = cc
-not_reported false block is none = cc
 
 both_true : (p q : Bool) → p ≡ true → q ≡ true → (p && q) ≡ true
 both_true p q h g = rw (h, g) refl

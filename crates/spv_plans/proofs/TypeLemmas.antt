@@ -31,9 +31,10 @@ use Rattle.spv_sections.specs.declared.ids.Scope.{Scope}
 use Rattle.spv_sections.specs.declared.kinds.Kind.{Kind}
 use Rattle.spv_sections.specs.declared.kinds.Kind.TheVariants.{Computed}
 use Rattle.spv_sections.specs.declared.kinds.Wanted.TheVariants.{DeclaredType}
-use Rattle.spv_sections.specs.Definitions.{definition_at, definitions_from, definitions_of, first, is_id}
+use Rattle.spv_sections.specs.Definitions.{definition_at, definitions_from, definitions_of, first}
 use Rattle.spv_sections.specs.Ids.{names, serves}
 use Rattle.spv_sections.specs.Kinds.{fits, is_type as is_type_kind, kind_of, kinds}
+use Rattle.spv_sections.proofs.TypesFirst.{first_read}
 use Rattle.spv_cfg.proofs.TargetLaws.{all_from_test}
 
 -- ---- the opcodes of types
@@ -84,7 +85,7 @@ is_lanes : Rule → Bool
 is_lanes Lanes = true
 is_lanes other = false
 
-second_false : (p q : Bool) → p ≡ true → (p && q) ≡ false → q ≡ false
+pub second_false : (p q : Bool) → p ≡ true → (p && q) ≡ false → q ≡ false
 second_false true q e h = h
 second_false false q e h = absurd (cc)
 
@@ -199,14 +200,6 @@ form_found all sets position (i ∷ front) back ty d defines none found is_kind 
 served : (scope : Scope) (o : Option Definition) → serves scope DeclaredType o ≡ true → (d : Definition) × (o ≡ Some d) × (is_type_kind d.kind ≡ true)
 served scope None h = absurd (cc)
 served scope (Some d) h = (d, refl, (and_parts (fits DeclaredType d.kind) _ h).0)
-
-first_read : (decoded : Decoded) (id : ℕ) (d : Definition) → first decoded id ≡ Some d → reads id (definitions_of decoded.insts) ≡ Some d
-unfolding first
-first_read decoded id d is = by_test (is_id decoded.bound id) is
-  where
-    by_test : (b : Bool) → cond b (reads id (definitions_of decoded.insts)) None ≡ Some d → reads id (definitions_of decoded.insts) ≡ Some d
-    by_test true e = e
-    by_test false e = absurd (cc)
 
 pub named_type : (decoded : Decoded) (scope : Scope) (ty : ℕ) → names decoded scope DeclaredType ty ≡ true
     → (d : Definition) × (reads ty (definitions_from (sets_of decoded.insts) outside decoded.insts) ≡ Some d) × (is_type_kind d.kind ≡ true)

@@ -8,7 +8,6 @@ use Rattle.spv_frame.specs.Registers.{Planned}
 use Rattle.spv_plans.specs.Members.{leading, stands_in}
 use Rattle.spv_plans.specs.Plans.{HasRegisters}
 use Rattle.spv_plans.specs.Registers.{AreCounted, is_counted, is_register, register_of}
-use Rattle.spv_plans.proofs.DraftLemmas.{none_listed}
 
 -- ---- the registers
 
@@ -23,16 +22,6 @@ pub record Walking (ts : Types) (ss : List Stand) (start function first : ℕ) (
   pub so_far : List Inst
   pub lists : HasRegisters ts so_far p
   pub rest : so_far ++ left ts ss function n ≡ left ts ss function start
-
-pub begun : (ts : Types) (ss : List Stand) (start function first : ℕ) (p : Planned) → p ≡ record { function = function; first = first; parameters = []; values = []; pointers = []; types = [] }
-    → Walking ts ss start function first p start
-begun ts ss start function first p is = record {
-  function_is = ap (λ (x : Planned). x.function) is;
-  first_is = ap (λ (x : Planned). x.first) is;
-  so_far = [];
-  lists = none_listed ts p function first is;
-  rest = refl;
-}
 
 -- ---- the types of the registers that are left have numbers of cells
 

@@ -1,9 +1,9 @@
 -- Values of a type without a runtime array have leaves of the same widths, and each of them has a number that fits its width.
-use Rattle.std.proofs.Common.{◌≡◌, ◌∙◌, ◌⊎◌, inl, inr, ℕ, zero, suc, ◌==◌, ◌&&◌, not, Bool, true, false, List, [], ◌∷◌, ◌++◌, Option, Some, None, map, length, refl, sym, ap, subst, arith}
+use Rattle.std.proofs.Common.{◌≡◌, ◌∙◌, ℕ, zero, suc, Bool, true, false, List, [], ◌∷◌, ◌++◌, Option, Some, None, map, length, refl, sym, ap, subst, arith}
 use Rattle.std.specs.Bool.{MatchBool}
 use Rattle.std.specs.List.{All, AllZip, flat_map}
-use Rattle.std.specs.Option.{IsSomeAnd, MatchOption, option_map_or}
-use Rattle.std.proofs.lemmas.Bool.{and_parts, both_ways, eqb-true, not-true, or_cases}
+use Rattle.std.specs.Option.{IsSomeAnd, MatchOption}
+use Rattle.std.proofs.lemmas.Bool.{and_parts}
 use Rattle.std.proofs.lemmas.List.{map-append}
 use Rattle.std.proofs.lemmas.List.Elements.{All-append, All-cons, All-head, All-nil, All-tail}
 use Rattle.spv_base.specs.Lane.{IsLane, Lane}
@@ -15,59 +15,16 @@ use Rattle.spv_types.specs.declared.forms.Form.TheVariants.{Void, Bool as Boolea
 use Rattle.spv_types.specs.declared.forms.Member.{Member}
 use Rattle.spv_types.specs.Laws.{AreSound}
 use Rattle.spv_types.specs.Rows.{leaves, no_roots}
-use Rattle.spv_types.specs.Rules.{form_has_runtime, has_runtime, is_data, is_runtime, is_scalar, is_sized_data, keep_members, keeps_form, keeps_member, last_type}
-use Rattle.spv_types.specs.Shapes.{HasShape, HasShapeAmong, LeadsTo, pointer_in, scalar_in, shape_step}
+use Rattle.spv_types.specs.Rules.{form_has_runtime, has_runtime, is_scalar, keeps_form}
+use Rattle.spv_types.specs.Shapes.{HasShape, HasShapeAmong, scalar_in, shape_step}
 use Rattle.spv_types.specs.Types.{Types, form_of, is_number, number_of}
 use Rattle.spv_types.proofs.RowCounts.{many_is}
 use Rattle.spv_types.proofs.RowLemmas.{many_row, scalar_row}
+use Rattle.spv_types.proofs.RowValues.{no_pointer}
+use Rattle.spv_plans.proofs.CountLemmas.{scalar_plain, sized_plain, Plain, members_plain}
 
 abbrev pub widths : List Lane → List ℕ
 widths cs = map (λ (c : Lane). c.width) cs
-
--- ---- forms without runtime arrays
-
-scalar_plain : (ts : Types) (o : Option Form) → is_scalar o ≡ true → form_has_runtime ts o ≡ false
-scalar_plain ts None h = absurd (cc)
-scalar_plain ts (Some Void) h = refl
-scalar_plain ts (Some Boolean) h = refl
-scalar_plain ts (Some (Int width sign)) h = refl
-scalar_plain ts (Some (Vector component count)) h = refl
-scalar_plain ts (Some (Array element n stride)) h = refl
-scalar_plain ts (Some (Runtime element stride)) h = absurd (cc)
-scalar_plain ts (Some (Struct members block)) h = absurd (cc)
-scalar_plain ts (Some (Pointer class target)) h = refl
-scalar_plain ts (Some (Function returns parameters)) h = refl
-
-sized_plain : (ts : Types) (id : ℕ) → is_sized_data ts id ≡ true → has_runtime ts id ≡ false
-sized_plain ts id h = not-true (has_runtime ts id) (and_parts (is_data (form_of ts id)) (not (has_runtime ts id)) h).1
-
--- no member has a runtime array, where the last one is none
-abbrev Plain : Types → List Member → Type 0
-Plain ts [] = Unit {0}
-Plain ts (m ∷ ms) = (has_runtime ts m.ty ≡ false) × Plain ts ms
-
-member_plain : (ts : Types) (block last : Bool) (ty : ℕ) → keeps_member ts block last ty ≡ true → (last ≡ true → is_runtime (form_of ts ty) ≡ false) → has_runtime ts ty ≡ false
-member_plain ts block last ty h apart = by_either (or_cases (is_sized_data ts ty) (last && (block && is_runtime (form_of ts ty))) h)
-  where
-    by_either : (is_sized_data ts ty ≡ true) ⊎ ((last && (block && is_runtime (form_of ts ty))) ≡ true) → has_runtime ts ty ≡ false
-    by_either (inl sized) = sized_plain ts ty sized
-    by_either (inr open_end) =
-        let ends = and_parts last (block && is_runtime (form_of ts ty)) open_end in
-        let runtime = and_parts block (is_runtime (form_of ts ty)) ends.1 in
-        absurd (both_ways (is_runtime (form_of ts ty)) (apart ends.0) runtime.1)
-
-not_last : (m : Member) (ms : List Member) → (length (m ∷ ms) == 0) ≡ true → ⊥
-not_last m ms h = let none : length (m ∷ ms) ≡ 0 = eqb-true (length (m ∷ ms)) 0 h in omega arith
-
-members_plain : (ts : Types) (block : Bool) (ms : List Member) → keep_members ts block ms ≡ true → option_map_or (λ (ty : ℕ). is_runtime (form_of ts ty)) (last_type ms) false ≡ false → Plain ts ms
-unfolding keep_members
-members_plain ts block [] h apart = tt
-members_plain ts block (m ∷ []) h apart =
-    let kept = and_parts (keeps_member ts block true m.ty) (keep_members ts block []) h in
-    (member_plain ts block true m.ty kept.0 (λ _. apart), tt)
-members_plain ts block (m ∷ n ∷ ms) h apart =
-    let kept = and_parts (keeps_member ts block (length (n ∷ ms) == 0) m.ty) (keep_members ts block (n ∷ ms)) h in
-    (member_plain ts block (length (n ∷ ms) == 0) m.ty kept.0 (λ last. absurd (not_last n ms last)), members_plain ts block (n ∷ ms) kept.1 apart)
 
 -- ---- leaves whose numbers fit
 
@@ -92,14 +49,6 @@ members_fit shape [] [] fit all = All-nil IsLane
 members_fit shape [] (v ∷ vs) fit all = absurd all
 members_fit shape (m ∷ ms) [] fit all = absurd all
 members_fit shape (m ∷ ms) (v ∷ vs) fit all = All-append IsLane (leaves v) (flat_map leaves vs) (fit m.ty v all.0) (members_fit shape ms vs fit all.1)
-
-no_pointer : (ts : Types) (v : Value) (target : ℕ) → IsSomeAnd (pointer_in (out-Value v)) (λ p. LeadsTo ts no_roots p target) → ⊥
-no_pointer ts v target h = level (out-Value v) h
-  where
-    level : (l : Value-F Value) → IsSomeAnd (pointer_in l) (λ p. LeadsTo ts no_roots p target) → ⊥
-    level (Value-F.Scalar c) h = h
-    level (Value-F.List vs) h = h
-    level (Value-F.Ptr p) h = cc
 
 -- ---- leaves of the same widths
 

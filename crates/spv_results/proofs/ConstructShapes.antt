@@ -2,16 +2,15 @@
 use Rattle.std.proofs.Common.{◌≡◌, ◌∙◌, ℕ, suc, ◌+◌, ◌<◌, ◌==◌, Bool, true, false, List, [], ◌∷◌, ◌++◌, length, length-append, slice_get, Option, Some, None, refl, sym, ap, subst, arith}
 use Rattle.std.specs.Prelude.{if◌then◌else◌}
 use Rattle.std.specs.List.{All, AllZip, flat_map, sum_by}
-use Rattle.std.specs.Option.{IsSomeAnd, is_some, option_and_then, option_map_or}
+use Rattle.std.specs.Option.{is_some, option_and_then, option_map_or}
 use Rattle.std.proofs.lemmas.Bool.{eqb-true}
 use Rattle.std.proofs.lemmas.List.Elements.{All-append, All-cons, All-head, All-nil, All-tail}
 use Rattle.std.proofs.lemmas.List.Sums.{sum_by-cons}
 use Rattle.spv_base.specs.Lane.{Lane}
 use Rattle.spv_base.specs.declared.instructions.Operand.{Operand}
-use Rattle.spv_base.specs.Parts.{parts_in}
 use Rattle.spv_base.specs.declared.values.Root.{Root}
-use Rattle.spv_base.specs.declared.values.Value.{Value, List as Many, out-Value}
-use Rattle.spv_base.proofs.PartLemmas.{out_many}
+use Rattle.spv_base.specs.declared.values.Value.{Value, List as Many}
+use Rattle.spv_base.proofs.PartLemmas.{is_many}
 use Rattle.spv_types.specs.declared.forms.Form.{Form}
 use Rattle.spv_types.specs.declared.forms.Form.TheVariants.{Void, Bool as Boolean, Int, Vector, Array, Runtime, Struct, Pointer, Function}
 use Rattle.spv_types.specs.declared.forms.Member.{Member}
@@ -133,9 +132,6 @@ module _ (k : Known) (roots : Root → Option ℕ) (sound : AreSound k.types) (c
       subst (λ (n : ℕ). AreScalars width n (leaves v ++ flat_map leaves vs)) (sym (sum_by-cons f o os)) (append_lanes width (f o) (sum_by f os) (leaves v) (flat_map leaves vs) first rest)
 
 -- ---- whole values
-
-is_many : (P : List Value → Type 0) (vs : List Value) → P vs → IsSomeAnd (parts_in (out-Value (Many vs))) P
-is_many P vs h = rw (out_many vs) h
 
 pub constructed_shape : (k : Known) (roots : Root → Option ℕ) → AreSound k.types → (id : ℕ) (os : List Operand) (vs : List Value) → AreParts k os (form_of k.types id) → Have k (HasShape k.types roots) os vs
     → HasShape k.types roots id (constructed (form_of k.types id) vs)

@@ -2,14 +2,13 @@
 use Rattle.std.proofs.Common.{◌≡◌, ◌||◌, not, true, false, length, sym, ap}
 use Rattle.std.proofs.Math.Logic.{∥∥₁_elim, ∥∥₁_map}
 use Rattle.std.proofs.Props.{props}
-use Rattle.std.proofs.lemmas.Bool.{not-true}
+use Rattle.std.proofs.lemmas.Bool.{and_parts, not-true}
 use Rattle.spv_base.specs.declared.instructions.Inst.{Inst}
 use Rattle.spv_base.specs.declared.values.Value.{Value}
 use Rattle.spv_types.specs.Cells.{cells_of}
 use Rattle.spv_types.specs.Rows.{leaves, no_roots}
 use Rattle.spv_types.specs.Rules.{has_runtime, is_data}
 use Rattle.spv_types.specs.Types.{form_of}
-use Rattle.spv_types.proofs.SoundLemmas.{both_hold}
 use Rattle.spv_bodies.specs.Composites.{KeepsCopyObject}
 use Rattle.spv_bodies.specs.Matching.{KeepsCopyLogical}
 use Rattle.spv_bodies.specs.Memory.{KeepsUndef}
@@ -39,7 +38,7 @@ logical_shape a i v rule operand = match_keeps_shape a.types no_roots rule.1.0 i
 
 undefined_fits_in : (a : Accepted) (i : Inst) → IsValid a → KeepsUndef (known a) i → Fits a.types i.ty (blank_of a.types 0 i.ty)
 undefined_fits_in a i is rule =
-    let both = both_hold (is_data (form_of a.types i.ty)) (not (has_runtime a.types i.ty)) rule in
+    let both = and_parts (is_data (form_of a.types i.ty)) (not (has_runtime a.types i.ty)) rule in
     let n = sized_counted a.types (counted a is) i.ty rule in
     let may : may_be_target a.types i.ty ≡ true = ap (λ b. b || is_open_block a.types (form_of a.types i.ty)) (is_counted_by (cells_of a.types i.ty) n.0 n.1) in
     record { sound = is.types; may = may; shape = blank_shape a.types 0 is.types i.ty may both.0 }
@@ -52,5 +51,5 @@ undefined_shape a i valid rule = ∥∥₁_elim valid (shape_prop a.types no_roo
 
 pub undefined_fills : (a : Accepted) (i : Inst) → ∥ IsValid a ∥₁ → KeepsUndef (known a) i → room_of a i ≡ length (leaves (blank_of a.types 0 i.ty))
 undefined_fills a i valid rule =
-    let both = both_hold (is_data (form_of a.types i.ty)) (not (has_runtime a.types i.ty)) rule in
+    let both = and_parts (is_data (form_of a.types i.ty)) (not (has_runtime a.types i.ty)) rule in
     copy_fills a i (blank_of a.types 0 i.ty) valid (not-true (has_runtime a.types i.ty) both.1) (undefined_shape a i valid rule)

@@ -1,6 +1,6 @@
 -- The lanes of a type: at least one, of a width that an integer or a Boolean may have. So the values of the operands are lanes of
 -- their types, and lanes of the result's type have its shape.
-use Rattle.std.proofs.Common.{◌≡◌, ◌∙◌, ℕ, ◌<◌, ◌≤◌, ◌&&◌, Bool, true, List, Option, Some, None, refl, sym, ap, subst, arith}
+use Rattle.std.proofs.Common.{◌≡◌, ◌∙◌, ℕ, ◌<◌, ◌≤◌, ◌&&◌, true, List, Option, Some, None, refl, sym, ap, subst, arith}
 use Rattle.std.specs.Prelude.{nat_le}
 use Rattle.std.specs.Option.{option_and_then, option_map, option_map_or}
 use Rattle.spv_alu.specs.Integers.{IsWidth}
@@ -23,7 +23,7 @@ use Rattle.spv_bodies.specs.Context.{type_at}
 use Rattle.spv_valid.specs.Acceptance.{Accepted}
 use Rattle.spv_effects.specs.LaneTypes.{HasLaneType, scalar_width}
 use Rattle.spv_effects.specs.Lanes.{AreScalars, of_lanes}
-use Rattle.spv_effects.proofs.TypeLemmas.{lanes_shape, value_lanes}
+use Rattle.spv_effects.proofs.TypeLemmas.{lanes_shape, value_lanes, two_at_least}
 use Rattle.spv_results.specs.Operands.{IsOperand, known}
 use Rattle.spv_results.specs.Results.{lane_count, lane_width, width_in}
 
@@ -86,14 +86,6 @@ kind_of ts sound id count n e h = go (form_of ts id) refl h
     go (Some (Function returns parameters)) is g = absurd (cc)
 
 -- ---- types
-
-two_at_least : (b : Bool) (n : ℕ) → (b && (nat_le 2 n && nat_le n 4)) ≡ true → 2 ≤ n
-two_at_least b n h =
-    let range = (parts b (nat_le 2 n && nat_le n 4) h).1 in
-    least n (parts (nat_le 2 n) (nat_le n 4) range).0
-  where
-    least : (n : ℕ) → nat_le 2 n ≡ true → 2 ≤ n
-    least n h = grind arith
 
 pub lane_type : (ts : Types) → AreSound ts → (ty n : ℕ) (e : Element) → lanes_of ts ty ≡ Some (repeated n e) → IsOfLanes ts ty n e
 unfolding lanes_of

@@ -3,7 +3,7 @@ use Rattle.std.proofs.Common.{◌≡◌, ◌∙◌, ℕ, zero, suc, ◌+◌, ◌
 use Rattle.std.specs.Prelude.{if◌then◌else◌}
 use Rattle.std.specs.List.{All, AllZip}
 use Rattle.std.specs.Option.{option_and_then, option_map, option_map_or}
-use Rattle.std.proofs.lemmas.Bool.{not-true}
+use Rattle.std.proofs.lemmas.Bool.{and_parts, not-true}
 use Rattle.spv_base.specs.Parts.{part_at}
 use Rattle.spv_base.specs.declared.instructions.Operand.{Operand}
 use Rattle.spv_base.specs.declared.values.Root.{Root}
@@ -21,8 +21,7 @@ use Rattle.spv_types.specs.Shapes.{HasShape, part_type, reached, shape_step}
 use Rattle.spv_types.specs.Types.{Types, form_of}
 use Rattle.spv_types.proofs.RowCounts.{many_is}
 use Rattle.spv_types.proofs.ShapeLemmas.{shapes_are_by_forms}
-use Rattle.spv_types.proofs.SoundLemmas.{both_hold}
-use Rattle.spv_mem.proofs.CountLemmas.{cells_by_form}
+use Rattle.spv_types.proofs.OffsetLemmas.{cells_by_form}
 use Rattle.spv_mem.proofs.PartLemmas.{part_cons}
 use Rattle.spv_bodies.specs.Composites.{named, part}
 use Rattle.spv_bodies.specs.Context.{Known}
@@ -123,7 +122,7 @@ module _ (ts : Types) (roots : Root → Option ℕ) (sound : AreSound ts) (count
   members_before block (k ∷ ms) zero m kept h = (0, sum_none)
   members_before block (k ∷ []) (suc i) m kept h = cc
   members_before block (k ∷ l ∷ ms) (suc i) m kept h =
-      let both = both_hold (keeps_member ts block (length (l ∷ ms) == 0) k.ty) (keep_members ts block (l ∷ ms)) kept in
+      let both = and_parts (keeps_member ts block (length (l ∷ ms) == 0) k.ty) (keep_members ts block (l ∷ ms)) kept in
       let c = counted k.ty (not_last block k l ms both.0) in
       let b = members_before block (l ∷ ms) i m both.1 h in
       (c.0 + b.0, sum_more k (take i (l ∷ ms)) c.0 b.0 c.1 b.1)
@@ -139,7 +138,7 @@ module _ (ts : Types) (roots : Root → Option ℕ) (sound : AreSound ts) (count
       let below = below_there i count component t h in
       let many = many_is (λ (vs : List Value). (length vs ≡ count) × All (HasShape ts roots component) vs) v s in
       let item = item_there (HasShape ts roots component) many.0 i (subst (λ (n : ℕ). i < n) (sym many.2.0) (less i count below.0)) many.2.1 in
-      let cells = scalar_cells component (both_hold (is_scalar (form_of ts component)) _ (sound.kept id (Vector component count) is)).0 in
+      let cells = scalar_cells component (and_parts (is_scalar (form_of ts component)) _ (sound.kept id (Vector component count) is)).0 in
       record {
         before = 1 * i;
         values = many.0;
@@ -191,7 +190,7 @@ module _ (ts : Types) (roots : Root → Option ℕ) (sound : AreSound ts) (count
   -- ---- parts of types without runtime arrays
 
   sized_plain : (id : ℕ) → is_sized_data ts id ≡ true → has_runtime ts id ≡ false
-  sized_plain id h = not-true (has_runtime ts id) (both_hold (is_data (form_of ts id)) (not (has_runtime ts id)) h).1
+  sized_plain id h = not-true (has_runtime ts id) (and_parts (is_data (form_of ts id)) (not (has_runtime ts id)) h).1
 
   scalar_plain : (o : Option Form) → is_scalar o ≡ true → form_has_runtime ts o ≡ false
   scalar_plain None h = cc
@@ -221,13 +220,13 @@ module _ (ts : Types) (roots : Root → Option ℕ) (sound : AreSound ts) (count
   members_sized block [] i t kept plain h = cc
   members_sized block (m ∷ []) zero t kept plain h =
       let e : m.ty ≡ t = cc in
-      subst (λ (k : ℕ). is_sized_data ts k ≡ true) e (last_sized block m plain (both_hold (keeps_member ts block true m.ty) true kept).0)
+      subst (λ (k : ℕ). is_sized_data ts k ≡ true) e (last_sized block m plain (and_parts (keeps_member ts block true m.ty) true kept).0)
   members_sized block (m ∷ []) (suc i) t kept plain h = cc
   members_sized block (m ∷ l ∷ ms) zero t kept plain h =
       let e : m.ty ≡ t = cc in
-      subst (λ (k : ℕ). is_sized_data ts k ≡ true) e (not_last block m l ms (both_hold (keeps_member ts block (length (l ∷ ms) == 0) m.ty) (keep_members ts block (l ∷ ms)) kept).0)
+      subst (λ (k : ℕ). is_sized_data ts k ≡ true) e (not_last block m l ms (and_parts (keeps_member ts block (length (l ∷ ms) == 0) m.ty) (keep_members ts block (l ∷ ms)) kept).0)
   members_sized block (m ∷ l ∷ ms) (suc i) t kept plain h =
-      members_sized block (l ∷ ms) i t (both_hold (keeps_member ts block (length (l ∷ ms) == 0) m.ty) (keep_members ts block (l ∷ ms)) kept).1 plain h
+      members_sized block (l ∷ ms) i t (and_parts (keeps_member ts block (length (l ∷ ms) == 0) m.ty) (keep_members ts block (l ∷ ms)) kept).1 plain h
 
   part_plain : (f : Form) (id i t : ℕ) → form_of ts id ≡ Some f → form_has_runtime ts (Some f) ≡ false → part (Some f) i ≡ Some t → has_runtime ts t ≡ false
   part_plain Void id i t is plain h = cc
@@ -235,7 +234,7 @@ module _ (ts : Types) (roots : Root → Option ℕ) (sound : AreSound ts) (count
   part_plain (Int width sign) id i t is plain h = cc
   part_plain (Vector component count) id i t is plain h =
       subst (λ (k : ℕ). has_runtime ts k ≡ false) (below_there i count component t h).1
-      (scalar_plain (form_of ts component) (both_hold (is_scalar (form_of ts component)) _ (sound.kept id (Vector component count) is)).0)
+      (scalar_plain (form_of ts component) (and_parts (is_scalar (form_of ts component)) _ (sound.kept id (Vector component count) is)).0)
   part_plain (Array element None stride) id i t is plain h = cc
   part_plain (Array element (Some count) stride) id i t is plain h =
       subst (λ (k : ℕ). has_runtime ts k ≡ false) (below_there i count element t h).1 (sized_plain element (sound.kept id (Array element (Some count) stride) is))

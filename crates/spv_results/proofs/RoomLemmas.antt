@@ -2,7 +2,7 @@
 use Rattle.std.proofs.Common.{◌≡◌, ◌∙◌, ℕ, ◌+◌, ◌<◌, ◌≤◌, ◌^◌, not, true, false, List, length, Option, Some, None, refl, sym, ap, subst, arith}
 use Rattle.std.specs.Prelude.{unwrap_or}
 use Rattle.std.specs.Option.{is_some, option_map_or}
-use Rattle.std.proofs.lemmas.Bool.{not-true}
+use Rattle.std.proofs.lemmas.Bool.{and_parts, not-true}
 use Rattle.spv_base.specs.Parts.{part_at, with_part}
 use Rattle.spv_base.specs.declared.instructions.Operand.{Operand}
 use Rattle.spv_base.specs.declared.values.Root.{Root}
@@ -19,7 +19,6 @@ use Rattle.spv_types.specs.Types.{Types, form_of}
 use Rattle.spv_types.proofs.RowCounts.{shapes_count}
 use Rattle.spv_types.proofs.RowPlaces.{lies_within, part_lies}
 use Rattle.spv_types.proofs.RowShapes.{shapes_keep}
-use Rattle.spv_types.proofs.SoundLemmas.{both_hold}
 use Rattle.spv_mem.proofs.CountLemmas.{counted_is, shape_formed}
 use Rattle.spv_bodies.specs.Composites.{named}
 use Rattle.spv_bodies.specs.Context.{Known}
@@ -42,7 +41,7 @@ data_formed (Some f) h = (f, refl)
 
 pub sized_counted : (ts : Types) → AreCounted ts → (id : ℕ) → is_sized_data ts id ≡ true → (n : ℕ) × (cells_of ts id ≡ Some n)
 sized_counted ts counted id h =
-    let both = both_hold (is_data (form_of ts id)) (not (has_runtime ts id)) h in
+    let both = and_parts (is_data (form_of ts id)) (not (has_runtime ts id)) h in
     let f = data_formed (form_of ts id) both.0 in
     counted_is (cells_of ts id) (counted id f.0 f.1 (not-true (has_runtime ts id) both.1))
 

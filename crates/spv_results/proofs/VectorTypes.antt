@@ -1,6 +1,6 @@
 -- Types whose values are lanes, by their forms.
 use Rattle.std.proofs.Common.{◌≡◌, ◌∙◌, ℕ, ◌<◌, ◌≤◌, nat_le, true, Option, Some, None, refl, ap, arith}
-use Rattle.std.proofs.lemmas.Bool.{leb-true}
+use Rattle.std.proofs.lemmas.Bool.{and_parts, leb-true}
 use Rattle.std.specs.Option.{option_and_then}
 use Rattle.spv_base.specs.declared.values.Root.{Root}
 use Rattle.spv_base.specs.declared.values.Value.{Value}
@@ -11,7 +11,6 @@ use Rattle.spv_types.specs.Rows.{leaves}
 use Rattle.spv_types.specs.Rules.{is_scalar}
 use Rattle.spv_types.specs.Shapes.{HasShape}
 use Rattle.spv_types.specs.Types.{Types, form_of}
-use Rattle.spv_types.proofs.SoundLemmas.{both_hold}
 use Rattle.spv_effects.specs.LaneTypes.{HasLaneType, IsLaneForm, scalar_width}
 use Rattle.spv_effects.specs.Lanes.{AreScalars}
 use Rattle.spv_effects.proofs.TypeLemmas.{value_lanes}
@@ -54,8 +53,8 @@ pub record IsVectorType (ts : Types) (id component count : ℕ) : Type 0 where
 
 pub vector_type : (ts : Types) (id component count : ℕ) → AreSound ts → form_of ts id ≡ Some (Vector component count) → IsVectorType ts id component count
 vector_type ts id component count sound e =
-    let kept = both_hold (is_scalar (form_of ts component)) _ (sound.kept id (Vector component count) e) in
-    let counts = both_hold (nat_le 2 count) (nat_le count 4) kept.1 in
+    let kept = and_parts (is_scalar (form_of ts component)) _ (sound.kept id (Vector component count) e) in
+    let counts = and_parts (nat_le 2 count) (nat_le count 4) kept.1 in
     let two : 2 ≤ count = leb-true 2 count counts.0 in
     let s = scalar_type ts component kept.0 in
     record {

@@ -35,7 +35,7 @@ use Rattle.spv_sections.specs.Laws.{IsInOrder}
 
 -- ---- the opcodes of constants
 
-constant_low : (op : ℕ) → is_constant op ≡ true → op < 53
+pub constant_low : (op : ℕ) → is_constant op ≡ true → op < 53
 constant_low op h = grind (arith, nat_tests)
 
 second_false : (p q : Bool) → p ≡ true → p && q ≡ false → q ≡ false
@@ -96,7 +96,7 @@ served scope wanted (Some d) h =
 has_type_id : (decoded : Decoded) (i : Inst) → is_type_id decoded i ≡ true → has_type (head_of i.op) ≡ true → i.ty ≢ 0
 has_type_id decoded i h typed none = both_ways (has_type (head_of i.op)) (not-true (has_type (head_of i.op)) (rw none at h)) typed
 
-first_read : (decoded : Decoded) (id : ℕ) (d : Definition) → first decoded id ≡ Some d → reads id (definitions_of decoded.insts) ≡ Some d
+pub first_read : (decoded : Decoded) (id : ℕ) (d : Definition) → first decoded id ≡ Some d → reads id (definitions_of decoded.insts) ≡ Some d
 unfolding first
 first_read decoded id d is = by_test (is_id decoded.bound id) is
   where

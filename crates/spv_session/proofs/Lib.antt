@@ -1,5 +1,5 @@
-pub mod Cost_lemmas
-pub mod Request_lemmas
-pub mod Reply_lemmas
-pub mod Register_lemmas
-pub mod Shown_lemmas
+pub mod CostLemmas
+pub mod RequestLemmas
+pub mod ReplyLemmas
+pub mod RegisterLemmas
+pub mod ShownLemmas

@@ -1,4 +1,4 @@
-pub mod Line_lemmas
-pub mod Row_lemmas
-pub mod Index_lemmas
-pub mod Schedule_lemmas
+pub mod LineLemmas
+pub mod RowLemmas
+pub mod IndexLemmas
+pub mod ScheduleLemmas

@@ -35,7 +35,7 @@ impl Turn {
 }
 
 /// Whose turn it is at a place, where each invocation has one in turn. A division costs as much as a small event.
-#[tactic(auto, using(crate::proofs::Schedule_lemmas::one_turn))]
+#[tactic(auto, using(crate::proofs::ScheduleLemmas::one_turn))]
 fn turn_at(invocations: u32, place: u32) -> u32
     requires { 0 < invocations }
     ensures { result ≡ place % invocations }

@@ -74,7 +74,7 @@ fn triple(x: &[u8], y: &[u8], z: &[u8]) -> Option<(u32, u32, u32)>
 type Three<'a> = (&'a [u8], &'a [u8], &'a [u8]);
 
 /// The two words of a text.
-#[tactic(auto, using(crate::proofs::Row_lemmas::not_two))]
+#[tactic(auto, using(crate::proofs::RowLemmas::not_two))]
 pub fn two_words(text: &[u8]) -> Option<(&[u8], &[u8])>
     ensures { MatchOption result (length (words_in text.now) ≢ 2) (λ p. words_in text.now ≡ p.0.now ∷ p.1.now ∷ []) }
 {
@@ -107,7 +107,7 @@ fn seven_words(text: &[u8]) -> Option<(Three<'_>, &[u8], Three<'_>)>
 }
 
 /// `entry NAME`
-#[tactic(auto, using(crate::proofs::Row_lemmas::no_entry))]
+#[tactic(auto, using(crate::proofs::RowLemmas::no_entry))]
 fn entry(alloc: Global, text: &[u8]) -> Result<Line, Fail<LineFault>>
     ensures { Answers (spec.entry_row (words_in text.now)) result }
 {
@@ -141,7 +141,7 @@ fn group_line(
 }
 
 /// `group X Y Z of X Y Z`
-#[tactic(auto, using(crate::proofs::Row_lemmas::no_group))]
+#[tactic(auto, using(crate::proofs::RowLemmas::no_group))]
 fn group(text: &[u8]) -> Result<Line, Fail<LineFault>>
     ensures { Answers (spec.group_row (words_in text.now)) result }
 {
@@ -156,7 +156,7 @@ fn group(text: &[u8]) -> Result<Line, Fail<LineFault>>
 }
 
 /// `spec ID VALUE`
-#[tactic(auto, using(crate::proofs::Row_lemmas::no_spec))]
+#[tactic(auto, using(crate::proofs::RowLemmas::no_spec))]
 fn spec(text: &[u8]) -> Result<Line, Fail<LineFault>>
     ensures { Answers (spec.spec_row (words_in text.now)) result }
 {
@@ -186,7 +186,7 @@ fn hex_buffer(
 }
 
 /// `buffer SET BIND zero N`, from its number on.
-#[tactic(auto, using(crate::proofs::Row_lemmas::no_zero))]
+#[tactic(auto, using(crate::proofs::RowLemmas::no_zero))]
 fn zero_buffer(set: &[u8], binding: &[u8], text: &[u8]) -> Result<Line, Fail<LineFault>>
     ensures { Answers (spec.zero_row set.now binding.now (words_in text.now)) result }
 {
@@ -202,7 +202,7 @@ fn zero_buffer(set: &[u8], binding: &[u8], text: &[u8]) -> Result<Line, Fail<Lin
 }
 
 /// `buffer SET BIND hex DIGITS` and `buffer SET BIND zero N`
-#[tactic(auto, using(crate::proofs::Row_lemmas::no_buffer))]
+#[tactic(auto, using(crate::proofs::RowLemmas::no_buffer))]
 fn buffer(alloc: Global, text: &[u8]) -> Result<Line, Fail<LineFault>>
     ensures { Answers (spec.buffer_row (words_in text.now)) result }
 {
@@ -234,7 +234,7 @@ fn push(alloc: Global, text: &[u8]) -> Result<Line, Fail<LineFault>>
 }
 
 /// `move I N`
-#[tactic(auto, using(crate::proofs::Row_lemmas::no_move))]
+#[tactic(auto, using(crate::proofs::RowLemmas::no_move))]
 fn moves(text: &[u8]) -> Result<Line, Fail<LineFault>>
     ensures { Answers (spec.move_row (words_in text.now)) result }
 {
@@ -248,7 +248,7 @@ fn moves(text: &[u8]) -> Result<Line, Fail<LineFault>>
 }
 
 /// `rounds N`
-#[tactic(auto, using(crate::proofs::Row_lemmas::no_rounds))]
+#[tactic(auto, using(crate::proofs::RowLemmas::no_rounds))]
 fn rounds(text: &[u8]) -> Result<Line, Fail<LineFault>>
     ensures { Answers (spec.rounds_row (words_in text.now)) result }
 {

@@ -25,7 +25,7 @@ const ONLY_GROUP: Workgroup = Workgroup {
 };
 
 /// Whether the first line is `spvdbg-setup 1`.
-#[tactic(auto, using(crate::proofs::Row_lemmas::no_head))]
+#[tactic(auto, using(crate::proofs::RowLemmas::no_head))]
 fn is_head(line: &[u8]) -> bool
     ensures { result ≡ is_head (words_in line.now) }
 {

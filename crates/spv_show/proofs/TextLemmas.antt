@@ -14,11 +14,12 @@ use Rattle.spv_types.specs.declared.forms.Form.TheVariants.{Void, Bool as Boolea
 use Rattle.spv_types.specs.declared.forms.Member.{Member}
 use Rattle.spv_types.specs.Types.{Types, form_of, in_first, is_number, number_of}
 use Rattle.spv_types.specs.Cells.{cells_among, cells_of, cells_step, members_cells}
-use Rattle.spv_types.specs.Shapes.{HasShape, HasShapeAmong, LeadsTo, pointer_in, scalar_in, shape_step}
+use Rattle.spv_types.specs.Shapes.{HasShape, HasShapeAmong, scalar_in, shape_step}
 use Rattle.spv_types.specs.Rows.{leaves, no_roots}
 use Rattle.spv_types.proofs.CellLemmas.{added_is}
 use Rattle.spv_types.proofs.RowCounts.{many_is, times_is}
 use Rattle.spv_types.proofs.RowLemmas.{many_row, scalar_row}
+use Rattle.spv_types.proofs.RowValues.{no_pointer}
 use Rattle.spv_show.specs.declared.scalars.Reading.{Reading}
 use Rattle.spv_show.specs.declared.scalars.Reading.TheVariants as reading
 use Rattle.spv_show.specs.Lists.{Shown, Writer, bracketed, continued, elements, joined, leaf, named, plain, separator}
@@ -183,14 +184,6 @@ struct_agrees cells cs text ms v vs e all =
     let inside = bracketed_agrees cells (codes "{") (codes "}") cs (members_text text 0 ms vs) (flat_map leaves vs) all in
     let here : Agrees cells (put_struct cs) (struct_if_any text ms (Some vs)) (flat_map leaves vs) = record { writes = λ s rest lies. inside.writes s rest lies } in
     rw (many_row v vs e, e) here
-
-no_pointer : (ts : Types) (v : Value) (target : ℕ) → IsSomeAnd (pointer_in (out-Value v)) (λ p. LeadsTo ts no_roots p target) → ⊥
-no_pointer ts v target h = level (out-Value v) h
-  where
-    level : (l : Value-F Value) → IsSomeAnd (pointer_in l) (λ p. LeadsTo ts no_roots p target) → ⊥
-    level (Value-F.Scalar c) h = h
-    level (Value-F.List vs) h = h
-    level (Value-F.Ptr p) h = cc
 
 -- ---- one level
 

@@ -1,3 +1,3 @@
-pub mod Number_lemmas
-pub mod Block_lemmas
-pub mod BuiltIn_lemmas
+pub mod NumberLemmas
+pub mod BlockLemmas
+pub mod BuiltInLemmas

@@ -44,7 +44,7 @@ struct Reader<'a> {
 
 impl<'a> Reader<'a> {
     /// Appends the row of the type with an id, where it is among the first `limit` types, that begins at a place.
-    #[tactic(auto, using(crate::proofs::Block_lemmas::read_among_is))]
+    #[tactic(auto, using(crate::proofs::BlockLemmas::read_among_is))]
     #[cycle(reads)]
     fn among(&self, cells: &mut Vec<Cell>, limit: usize, ty: u32, at: u128) -> Result<(), NoMemory>
         requires { at + limit * 2 ^ 64 + 8 < 2 ^ 128 }

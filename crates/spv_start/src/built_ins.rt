@@ -111,7 +111,7 @@ fn three_cells(alloc: Global, x: Cell, y: Cell, z: Cell) -> Result<Vec<Cell>, No
 }
 
 /// The row of one number of 32 bits.
-#[tactic(auto, using(crate::proofs::Block_lemmas::scalar_leaves))]
+#[tactic(auto, using(crate::proofs::BlockLemmas::scalar_leaves))]
 fn row_of_word(alloc: Global, n: u32) -> Result<Row, NoMemory>
     ghost value: { Value }
     requires { value ≡ spec.word n }
@@ -122,7 +122,7 @@ fn row_of_word(alloc: Global, n: u32) -> Result<Row, NoMemory>
 }
 
 /// The row of three numbers of 32 bits.
-#[tactic(auto, using(crate::proofs::BuiltIn_lemmas::three_leaves))]
+#[tactic(auto, using(crate::proofs::BuiltInLemmas::three_leaves))]
 fn row_of_three(alloc: Global, numbers: (u32, u32, u32)) -> Result<Row, NoMemory>
     ghost value: { Value }
     requires { value ≡ spec.three_words numbers }
@@ -133,7 +133,7 @@ fn row_of_three(alloc: Global, numbers: (u32, u32, u32)) -> Result<Row, NoMemory
 }
 
 /// A law, with nothing to run: the invocation with a number lies so many behind the first, where x goes first, then y, then z.
-#[tactic(auto, using(crate::proofs::BuiltIn_lemmas::place_of))]
+#[tactic(auto, using(crate::proofs::BuiltInLemmas::place_of))]
 pub fn invocations_lie_in_order()
     ensures { (size : spec.Three) (n : ℕ) → 1 ≤ size.0 → 1 ≤ size.1 → n < size.0 * size.1 * size.2 → spec.IsPlaceOf size (spec.local_id size n) n }
 {}

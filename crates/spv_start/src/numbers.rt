@@ -15,7 +15,7 @@ fn byte_at(bytes: &[u8], at: u128) -> u8
 }
 
 /// The number of the two bytes from a place on.
-#[tactic(auto, using(crate::proofs::Number_lemmas::two))]
+#[tactic(auto, using(crate::proofs::NumberLemmas::two))]
 fn half_at(bytes: &[u8], at: u128) -> u16
     requires { at + 2 < 2 ^ 128 }
     ensures { result ≡ spec.number_at bytes.now at 2 }
@@ -24,7 +24,7 @@ fn half_at(bytes: &[u8], at: u128) -> u16
 }
 
 /// The number of the four bytes from a place on.
-#[tactic(auto, using(crate::proofs::Number_lemmas::four))]
+#[tactic(auto, using(crate::proofs::NumberLemmas::four))]
 fn word_at(bytes: &[u8], at: u128) -> u32
     requires { at + 4 < 2 ^ 128 }
     ensures { result ≡ spec.number_at bytes.now at 4 }
@@ -33,7 +33,7 @@ fn word_at(bytes: &[u8], at: u128) -> u32
 }
 
 /// The number of the eight bytes from a place on.
-#[tactic(auto, using(crate::proofs::Number_lemmas::eight))]
+#[tactic(auto, using(crate::proofs::NumberLemmas::eight))]
 fn long_at(bytes: &[u8], at: u128) -> u64
     requires { at + 8 < 2 ^ 128 }
     ensures { result ≡ spec.number_at bytes.now at 8 }
@@ -43,7 +43,7 @@ fn long_at(bytes: &[u8], at: u128) -> u64
 
 /// The integer of a width, in bits, that begins at a place, in bytes, lowest byte first. Bytes behind those that are written out are
 /// 0.
-#[tactic(auto, using(crate::proofs::Number_lemmas::one))]
+#[tactic(auto, using(crate::proofs::NumberLemmas::one))]
 pub fn scalar_at(bytes: &[u8], at: u128, width: u32) -> Cell
     requires { at + 8 < 2 ^ 128 }
     ensures { result ≡ spec.scalar_at bytes.now at width }

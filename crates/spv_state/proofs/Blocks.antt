@@ -19,6 +19,7 @@ use Rattle.spv_sections.specs.Ids.{has_result as results, head_of, is_result}
 use Rattle.spv_cfg.specs.Executables.{executable_of, followed, following}
 use Rattle.spv_cfg.proofs.TargetLaws.{all_from_test}
 use Rattle.spv_plans.specs.Members.{is_stop}
+use Rattle.spv_plans.proofs.MemberLemmas.{block_inside}
 use Rattle.spv_state.proofs.Stands.{IsOne}
 
 -- ---- what a position comes from
@@ -45,14 +46,6 @@ pub record IsRooted (ss : List Stand) (q : Position) : Type 0 where
 inside_from : (test : Stage → Bool) (b : Bool) (t stage : Stage) → (b ≡ true → test stage ≡ true) → test (cond b t stage) ≡ true → test stage ≡ true
 inside_from test true t stage tells h = tells refl
 inside_from test false t stage tells h = h
-
-pub block_inside : (stage : Stage) → in_block stage ≡ true → in_function stage ≡ true
-block_inside Outside h = absurd (cc)
-block_inside Head h = refl
-block_inside Phis h = refl
-block_inside Variables h = refl
-block_inside Body h = refl
-block_inside Between h = refl
 
 variables_inside : (stage : Stage) → among_variables stage ≡ true → in_block stage ≡ true
 variables_inside Outside h = absurd (cc)
@@ -138,10 +131,6 @@ is_label : Class → Bool
 is_label Label = true
 is_label other = false
 
-is_function : Class → Bool
-is_function Function = true
-is_function other = false
-
 labels_given : (debug local : Bool) → list_all (gives is_label 248) (classes debug local) ≡ true
 unfolding is_label
 labels_given true true = refl
@@ -149,26 +138,12 @@ labels_given true false = refl
 labels_given false true = refl
 labels_given false false = refl
 
-functions_given : (debug local : Bool) → list_all (gives is_function 54) (classes debug local) ≡ true
-unfolding is_function
-functions_given true true = refl
-functions_given true false = refl
-functions_given false true = refl
-functions_given false false = refl
-
 pub opcode_of_label : (sets : List (ℕ × Bool)) (inst : Inst) → class_of sets inst ≡ Label → inst.op ≡ 248
 unfolding is_label
 opcode_of_label sets inst is =
     key_of is_label 248 inst.op (classes (is_debug sets inst) (is_local inst)) refl
     (all_from_test (gives is_label 248) (Gives is_label 248) (test_gives is_label 248) (classes (is_debug sets inst) (is_local inst)) (labels_given (is_debug sets inst) (is_local inst)))
     (ap is_label is)
-
-pub opcode_of_function : (sets : List (ℕ × Bool)) (inst : Inst) → class_of sets inst ≡ Function → inst.op ≡ 54
-unfolding is_function
-opcode_of_function sets inst is =
-    key_of is_function 54 inst.op (classes (is_debug sets inst) (is_local inst)) refl
-    (all_from_test (gives is_function 54) (Gives is_function 54) (test_gives is_function 54) (classes (is_debug sets inst) (is_local inst)) (functions_given (is_debug sets inst) (is_local inst)))
-    (ap is_function is)
 
 label_results : results (head_of 248) ≡ true
 unfolding head_of row_of table

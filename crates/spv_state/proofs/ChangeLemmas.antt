@@ -3,7 +3,7 @@ use Rattle.std.proofs.Common.{◌≡◌, ◌≢◌, ◌∙◌, inl, inr, ℕ, ze
 use Rattle.std.specs.Option.{MatchOption, option_map_or}
 use Rattle.std.proofs.lemmas.Option.{slice_get-get_or}
 use Rattle.spv_base.specs.Entries.{change}
-use Rattle.spv_base.specs.State.{Roots}
+use Rattle.spv_base.specs.Variables.{Roots}
 use Rattle.spv_base.specs.declared.causes.MemErr.{MemErr}
 use Rattle.spv_base.specs.declared.causes.MemErr.TheVariants.{OutOfBounds}
 use Rattle.spv_base.specs.declared.values.Pointer.{Pointer}
@@ -16,6 +16,7 @@ use Rattle.spv_mem.proofs.MemoryLemmas.{change_set, get_set}
 use Rattle.spv_statuses.specs.Group.{Held as Statuses}
 use Rattle.spv_state.specs.Rooms.{AreBounded, IsBounded}
 use Rattle.spv_state.specs.State.{State, on_frame, on_frames, on_memory, pop_frame, push_frame, top_of, with_top, without_last, without_locals, without_top}
+use Rattle.spv_initial.proofs.StartLemmas.{length_change}
 
 -- ---- stacks of which one changes
 
@@ -32,11 +33,6 @@ put_bounded ks i k new inside here all keeps j x at =
       | inl old ↦ all j x old
       | inr is ↦ subst IsBounded (sym is.1) (keeps (all i k (slice_get-get_or ks i k inside ∙ ap (λ (y : Stacked). Some y) (sym here))))
     ]
-
-pub length_change : {A : Type 0} (i : ℕ) (f : A → A) (xs : List A) → length (change i f xs) ≡ length xs
-length_change i f [] = refl
-length_change zero f (x ∷ xs) = refl
-length_change (suc i) f (x ∷ xs) = ap suc (length_change i f xs)
 
 -- a change of the top frame keeps the bounds
 pub top_bounded : (g : Frame → Frame) (k new : Stacked) → new ≡ on_frames g k → IsBounded k → IsBounded new

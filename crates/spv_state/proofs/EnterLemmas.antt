@@ -3,7 +3,7 @@ use Rattle.std.proofs.Common.{◌≡◌, ◌∙◌, ℕ, zero, suc, ◌+◌, ◌
 use Rattle.std.proofs.Math.Logic.{∥∥₁_elim}
 use Rattle.std.proofs.Props.{props}
 use Rattle.spv_base.specs.Entries.{change}
-use Rattle.spv_base.specs.State.{Roots}
+use Rattle.spv_base.specs.Variables.{Roots}
 use Rattle.spv_types.specs.Types.{Types}
 use Rattle.spv_mem.specs.Memory.{AreVariables, Held as Memory, Levels, entered}
 use Rattle.spv_valid.specs.Acceptance.{Accepted}

@@ -22,6 +22,7 @@ use Rattle.spv_valid.specs.Acceptance.{Accepted, IsAccepted}
 use Rattle.spv_valid.specs.Entry.{begins_plain, is_plain, is_plain_function}
 use Rattle.spv_valid.specs.Validity.{IsValid}
 use Rattle.spv_plans.specs.Plans.{functions_in}
+use Rattle.spv_plans.proofs.PlanLemmas.{function_class}
 
 -- ---- lists
 
@@ -100,9 +101,6 @@ stand_with P sets position [] k i all at = absurd (cc)
 stand_with P sets position (j ∷ js) zero i (first, rest) at =
     let same : j ≡ i = cc in (record { position = position; class = class_of sets j; inst = j }, same, ap (class_of sets) same, first)
 stand_with P sets position (j ∷ js) (suc k) i (first, rest) at = stand_with P sets (position_after position (class_of sets j) j) js k i rest at
-
-function_class : (sets : List (ℕ × Bool)) (i : Inst) → i.op ≡ 54 → class_of sets i ≡ Function
-function_class sets i op = rw op refl
 
 depth_is : (f : Flow) (id depth : ℕ) → HasDepth f id → reads id f.depths ≡ Some depth → 1 ≤ depth
 depth_is f id depth (n, known, some, few) is = let same : n ≡ depth = cc in subst (λ (m : ℕ). 1 ≤ m) same some

@@ -1,5 +1,5 @@
 -- The debug events that a run passes.
-use Rattle.std.proofs.Common.{◌≡◌, ◌∙◌, ℕ, zero, suc, ◌-◌, ◌==◌, Bool, true, false, cond, List, [], ◌∷◌, ◌++◌, append-nil, drop, length, ◌≤◌, map, Option, Some, Result, Ok, Err, OnOk, OnErr, Vec, refl, sym, ap, subst, arith, slice_get}
+use Rattle.std.proofs.Common.{◌≡◌, ◌∙◌, ℕ, zero, suc, ◌-◌, ◌==◌, Bool, true, false, cond, List, [], ◌∷◌, ◌++◌, append-nil, drop, length, ◌≤◌, map, Option, Some, Vec, refl, sym, ap, subst, arith, slice_get}
 use Rattle.std.specs.Prelude.{unwrap_or}
 use Rattle.std.specs.Option.{option_map_or}
 use Rattle.std.specs.declared.alloc.Global.{Global}
@@ -14,11 +14,9 @@ use Rattle.spv_plans.specs.Plans.{plan_of}
 use Rattle.spv_frame.specs.Stacks.{Stacked, top}
 use Rattle.spv_base.specs.declared.values.PassedEvent.{PassedEvent}
 use Rattle.spv_state.specs.Events.{IsReadable, behind, captures_before, due, due_at, entries, entry, listed, pass, passed, since, under}
-use Rattle.spv_state.specs.Rooms.{IsBounded}
 use Rattle.spv_state.specs.Sound.{IsSoundFrame}
 use Rattle.spv_state.specs.State.{State, depth_of, on_frame, on_frames, top_of}
 use Rattle.spv_state.specs.declared.captures.Capture.{Capture}
-use Rattle.spv_state.proofs.ChangeLemmas.{top_bounded}
 use Rattle.spv_state.proofs.Lists.{change_same}
 use Rattle.spv_state.proofs.StartSound.{HavePlans, entry_frame}
 use Rattle.spv_state.proofs.TopLemmas.{of_function}
@@ -67,7 +65,7 @@ captures_kept a insts es same are pc =
 pub due_top : (a : Accepted) (s : State) (i depth : ℕ) (f : Frame) → Some f ≡ top_of s i → depth ≡ depth_of s i → due a depth f ≡ due_at a s i
 due_top a s i depth f is same = ap (λ (n : ℕ). due a n f) same ∙ ap (λ (o : Option Frame). option_map_or (due a (depth_of s i)) o []) is
 
-top_at : (s : State) (i : ℕ) (k : Stacked) (f : Frame) → slice_get s.stacks i ≡ Some k → top k.frames ≡ Some f → top_of s i ≡ Some f
+pub top_at : (s : State) (i : ℕ) (k : Stacked) (f : Frame) → slice_get s.stacks i ≡ Some k → top k.frames ≡ Some f → top_of s i ≡ Some f
 top_at s i k f at here = rw at here
 
 -- where they are appended, they are passed
@@ -80,11 +78,6 @@ passed_is a s i es is =
     ap (λ (fs : List Frame). record k { frames = fs })
     (change_same (length k.frames - 1) g h k.frames (λ x here.
     ap (λ (ds : List PassedEvent). record x { events = x.events ++ ds }) (is ∙ sym (due_top a s i (depth_of s i) x (sym (top_at s i k x stack here)) refl))))))
-
--- an append keeps the bounds of a stack, whether there was memory or not
-pub appended_bounded : {T E : Type 0} (g : Frame → Frame) (k new : Stacked) (r : Result T E) → OnOk r (new ≡ on_frames g k) → OnErr r (new ≡ k) → IsBounded k → IsBounded new
-appended_bounded g k new (Ok x) ok err bounded = top_bounded g k new ok bounded
-appended_bounded g k new (Err e) ok err bounded = subst IsBounded (sym err) bounded
 
 -- ---- frames
 

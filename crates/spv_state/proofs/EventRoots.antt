@@ -29,7 +29,7 @@ use Rattle.spv_state.specs.Events.{captured, captures_before, due, passed}
 use Rattle.spv_state.specs.Roots.{CapturesRoot, IsRoot, IsRooted}
 use Rattle.spv_state.specs.Sound.{IsSoundFrame}
 use Rattle.spv_state.specs.declared.captures.Capture.{Capture}
-use Rattle.spv_state.proofs.Known.{found_once}
+use Rattle.spv_state.proofs.AcceptedLemmas.{found_once}
 use Rattle.spv_state.proofs.OperandRoots.{HasFrame, value_root}
 use Rattle.spv_state.proofs.RootLemmas.{ids_last, root_prop, rooted_more}
 use Rattle.spv_state.proofs.Stands.{stand_inst}

@@ -1,9 +1,9 @@
 pub mod Stands
 pub mod Blocks
-pub mod Known
+pub mod AcceptedLemmas
 pub mod Lists
 pub mod Entries
-pub mod Standing
+pub mod ExecutableLemmas
 pub mod StartLemmas
 pub mod EntryLemmas
 pub mod VariableLemmas

@@ -1,6 +1,5 @@
 -- Changes of one element of a list.
-use Rattle.std.proofs.Common.{◌≡◌, ◌≢◌, ◌∙◌, ℕ, zero, suc, List, [], ◌∷◌, length, Option, Some, None, slice_get, slice_set, refl, ap, subst}
-use Rattle.std.specs.List.{AllByRecursion}
+use Rattle.std.proofs.Common.{◌≡◌, ◌≢◌, ◌∙◌, ℕ, zero, suc, List, [], ◌∷◌, length, Option, Some, None, slice_get, slice_set, refl, ap}
 use Rattle.std.specs.Option.{option_map}
 use Rattle.spv_base.specs.Entries.{change}
 
@@ -54,9 +53,3 @@ pub record Changed {A : Type 0} (g : A → A) (o : Option A) (y : A) : Type 0 wh
 pub changed_from : {A : Type 0} (g : A → A) (o : Option A) (y : A) → option_map g o ≡ Some y → Changed g o y
 changed_from g None y h = absurd (cc)
 changed_from g (Some x) y h = let is : g x ≡ y = cc in record { before = x; at = refl; is = is }
-
--- what is so of each element
-pub each_at : {X : Type 0} (P : X → Type 0) (xs : List X) (k : ℕ) (x : X) → AllByRecursion P xs → slice_get xs k ≡ Some x → P x
-each_at P [] k x all h = absurd (cc)
-each_at P (y ∷ xs) zero x all h = let same : y ≡ x = cc in subst P same all.0
-each_at P (y ∷ xs) (suc k) x all h = each_at P xs k x all.1 h

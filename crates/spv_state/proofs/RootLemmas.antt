@@ -10,7 +10,7 @@ use Rattle.std.specs.List.{AllByRecursion, AllZip, Contains, cons_option, filter
 use Rattle.std.specs.Option.{is_some, option_and_then, option_map_or}
 use Rattle.spv_base.specs.Entries.{change, reads}
 use Rattle.spv_base.specs.Parts.{part_at}
-use Rattle.spv_base.specs.State.{Roots}
+use Rattle.spv_base.specs.Variables.{Roots}
 use Rattle.spv_base.specs.declared.values.Pointer.{Pointer}
 use Rattle.spv_base.specs.declared.values.Root.{Root}
 use Rattle.spv_base.specs.declared.values.Root.TheVariants.{Shared, Private, Local}

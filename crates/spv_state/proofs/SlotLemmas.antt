@@ -15,7 +15,7 @@ use Rattle.spv_plans.specs.Registered.{HasApart, HasValueType}
 use Rattle.spv_plans.proofs.NumberLemmas.{number_there}
 use Rattle.spv_valid.specs.Acceptance.{Accepted}
 use Rattle.spv_state.specs.Sound.{IsSoundFrame}
-use Rattle.spv_state.proofs.Standing.{function_known, standing}
+use Rattle.spv_state.proofs.ExecutableLemmas.{function_known, standing}
 
 -- ---- where a register lies
 

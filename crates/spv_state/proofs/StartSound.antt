@@ -20,7 +20,7 @@ use Rattle.spv_mem.specs.Memory.{Levels}
 use Rattle.spv_initial.specs.Start.{invocations, own_roots, starting, variables}
 use Rattle.spv_plans.specs.Members.{first_stop, is_stop, members}
 use Rattle.spv_plans.specs.Plans.{IsPlan, functions_in, plan_of}
-use Rattle.spv_operands.specs.Shapes.{AreShaped}
+use Rattle.spv_operands.proofs.FrameLemmas.{fresh_shaped}
 use Rattle.spv_statuses.specs.declared.invocations.Status.{Status}
 use Rattle.spv_statuses.specs.declared.invocations.Status.TheVariants.{Ready}
 use Rattle.spv_state.specs.Events.{passed}
@@ -99,12 +99,6 @@ none_ids X (k ∷ ks) = ap (λ (ms : List ℕ). k ∷ ms) (none_ids X ks)
 
 fresh_places : (p : Planned) → HasPlaces (fresh p)
 fresh_places p = record { values = none_ids Value (ids p.values); pointers = none_ids Pointer p.pointers }
-
-fresh_shaped : (a : Accepted) (p : Planned) → AreShaped a (fresh p)
-fresh_shaped a p = record {
-  values = λ id ty v at of. absurd (let gone : Some v ≡ None = none_read id (ids p.values) (Some v) at in cc);
-  pointers = λ id ty q at of. absurd (let gone : Some q ≡ None = none_read id p.pointers (Some q) at in cc);
-}
 
 -- no pointers are kept in it
 pub fresh_rooted : (a : Accepted) (frames : List Frame) (depth : ℕ) (p : Planned) → IsRooted a frames depth (fresh p)

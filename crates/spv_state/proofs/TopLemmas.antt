@@ -9,7 +9,7 @@ use Rattle.spv_valid.specs.Acceptance.{Accepted}
 use Rattle.spv_state.specs.Program.{Program}
 use Rattle.spv_state.specs.Sound.{IsSound, IsSoundFrame}
 use Rattle.spv_state.specs.State.{State, top_of}
-use Rattle.spv_state.proofs.Standing.{function_known, standing}
+use Rattle.spv_state.proofs.ExecutableLemmas.{function_known, standing}
 
 there : {X : Type 0} (xs : List X) (i : ℕ) → i < length xs → (x : X) × (slice_get xs i ≡ Some x)
 there [] i h = absurd (omega arith)

@@ -3,7 +3,7 @@ use Rattle.std.proofs.Common.{◌≡◌, ◌≢◌, ◌∙◌, ℕ, zero, suc, �
 use Rattle.std.specs.Option.{MatchOption, option_map_or}
 use Rattle.std.proofs.lemmas.Option.{slice_get-get_or}
 use Rattle.spv_base.specs.Entries.{change}
-use Rattle.spv_base.specs.State.{Roots}
+use Rattle.spv_base.specs.Variables.{Roots}
 use Rattle.spv_base.specs.declared.values.PassedEvent.{PassedEvent}
 use Rattle.spv_frame.specs.Frames.{Held as Frame}
 use Rattle.spv_frame.specs.Registers.{Planned}
@@ -13,7 +13,8 @@ use Rattle.spv_mem.proofs.MemoryLemmas.{change_set, set_same}
 use Rattle.spv_statuses.specs.Group.{Held as Statuses}
 use Rattle.spv_state.specs.Rooms.{IsBounded}
 use Rattle.spv_state.specs.State.{State, append_event, drop_event, on_frames, push_frame, top_of, with_top}
-use Rattle.spv_state.proofs.ChangeLemmas.{inside, length_change, seen, stack_at, top_bounded, without_is}
+use Rattle.spv_state.proofs.ChangeLemmas.{inside, seen, stack_at, top_bounded, without_is}
+use Rattle.spv_initial.proofs.StartLemmas.{length_change}
 
 -- the top frame of the stack that is changed
 pub top_is : (ps : List Planned) (m : Memory) (ks : List Stacked) (ts : Statuses) (s : State) (i : ℕ) (k : Stacked) → seen ps m ks ts ≡ s → i < length ks → k ≡ get_or ks i k → top_of s i ≡ top k.frames
@@ -26,7 +27,7 @@ pub frame_some : (k new : Stacked) (o : Option Frame) → k.frames ≢ [] → Ma
 frame_some k new None some both = absurd (some both.0)
 frame_some k new (Some f) some is = refl
 
-level_there : (ls : List Levels) (i : ℕ) → i < length ls → (l : Levels) × (slice_get ls i ≡ Some l)
+pub level_there : (ls : List Levels) (i : ℕ) → i < length ls → (l : Levels) × (slice_get ls i ≡ Some l)
 level_there [] i h = absurd (omega arith)
 level_there (l ∷ ls) zero h = (l, refl)
 level_there (l ∷ ls) (suc i) h = level_there ls i (omega arith)

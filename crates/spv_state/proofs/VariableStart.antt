@@ -9,7 +9,7 @@ use Rattle.std.specs.Prelude.{find, if◌then◌else◌, nat_lt, not, IsOk}
 use Rattle.std.specs.List.{AllByRecursion, Contains, cons_option, filter_map, list_any, range_with_len}
 use Rattle.std.specs.Option.{is_some, option_and_then, option_map}
 use Rattle.spv_base.specs.Answers.{after}
-use Rattle.spv_base.specs.State.{Roots}
+use Rattle.spv_base.specs.Variables.{Roots}
 use Rattle.spv_base.specs.declared.causes.SetupRefusal.{SetupRefusal}
 use Rattle.spv_base.specs.declared.instructions.Inst.{Inst}
 use Rattle.spv_base.specs.declared.values.Value.{Value}

@@ -4,7 +4,7 @@ use Rattle.std.specs.List.{All, Contains}
 use Rattle.std.specs.Option.{option_and_then, option_map_or}
 use Rattle.spv_base.specs.Entries.{reads}
 use Rattle.spv_base.specs.Parts.{part_at}
-use Rattle.spv_base.specs.State.{Roots}
+use Rattle.spv_base.specs.Variables.{Roots}
 use Rattle.spv_base.specs.declared.values.PassedEvent.{PassedEvent}
 use Rattle.spv_base.specs.declared.values.Pointer.{Pointer}
 use Rattle.spv_base.specs.declared.values.Root.{Root}

@@ -1,6 +1,6 @@
 -- The start of a run: the memory of the module's variables, and each invocation at the entry point (SPIR-V 1.6 section 2.4, Entry Point).
 use Rattle.std.specs.Prelude.{ℕ, [], ◌∷◌, ◌++◌, map, replicate}
-use Rattle.spv_base.specs.State.{Roots}
+use Rattle.spv_base.specs.Variables.{Roots}
 use Rattle.spv_valid.specs.Acceptance.{Accepted}
 use Rattle.spv_mem.specs.Memory.{Held as Memory, Levels}
 use Rattle.spv_initial.specs.Start.{invocations, local_roots, starting}

@@ -1,2 +1,2 @@
-pub mod Stop_lemmas
-pub mod Hit_lemmas
+pub mod StopLemmas
+pub mod HitLemmas

@@ -11,7 +11,7 @@ fn digits_end(text: &[u8]) -> Option<usize>
 }
 
 /// The digits at the front, and what follows them.
-#[tactic(auto, using(crate::proofs::Front_lemmas::front_within))]
+#[tactic(auto, using(crate::proofs::FrontLemmas::front_within))]
 fn digits_at(text: &[u8]) -> (&[u8], &[u8])
     ensures digits { list_all is_digit result.0.now ≡ true }
     ensures whole { text.now ≡ result.0.now ++ result.1.now }
@@ -79,7 +79,7 @@ fn name_end(text: &[u8]) -> Option<usize>
 }
 
 /// The letters and digits at the front, and what follows them.
-#[tactic(auto, using(crate::proofs::Front_lemmas::front_within))]
+#[tactic(auto, using(crate::proofs::FrontLemmas::front_within))]
 fn letters_at(text: &[u8]) -> (&[u8], &[u8])
     ensures letters { list_all is_name_byte result.0.now ≡ true }
     ensures whole { text.now ≡ result.0.now ++ result.1.now }

@@ -32,7 +32,7 @@ none_sound = record {
   ordered = λ id index part f h is. absurd cc;
 }
 
-form_sound : (all : List Inst) (ts : Types) (i : Inst) (o : Option Form) → AreSound ts → keeps_other all ts i o ≡ true → AreSound (with_form ts i.id o)
+pub form_sound : (all : List Inst) (ts : Types) (i : Inst) (o : Option Form) → AreSound ts → keeps_other all ts i o ≡ true → AreSound (with_form ts i.id o)
 form_sound all ts i None sound h = sound
 form_sound all ts i (Some f) sound h = sound_push ts i.id f sound h
 
@@ -53,7 +53,7 @@ accepted_is : (insts : List Inst) (ts : Types) → types_of insts ≡ Ok ts → 
 unfolding types_of
 accepted_is insts ts h = accepted (types_in insts (before_functions insts)) ts (type_breaches insts [] (before_functions insts)) h
 
-no_types : (all : List Inst) → AreSound (types_in all [])
+pub no_types : (all : List Inst) → AreSound (types_in all [])
 unfolding types_in
 no_types all = none_sound
 

@@ -1,6 +1,6 @@
 -- The leaves of a type are those of its form, and the leaves of members add up.
 use Rattle.std.proofs.Common.{◌≡◌, ℕ, zero, suc, ◌+◌, ◌<◌, List, [], ◌∷◌, length, get_or, take, ◌-◌, ◌*◌, ◌^◌, ◌∙◌, Option, Some, None, refl, ap, arith}
-use Rattle.std.specs.Option.{option_map, option_map_or, IfSome}
+use Rattle.std.specs.Option.{option_map, option_map_or}
 use Rattle.spv_types.specs.declared.forms.Form.{Form}
 use Rattle.spv_types.specs.declared.forms.Member.{Member}
 use Rattle.spv_types.specs.Types.{Types, found_among}
@@ -52,10 +52,6 @@ added_cut (Some a) (Some b) n m h k = let e : cut a ≡ n = cc in let f : cut b 
 pub repeated_cut : (a : Option ℕ) (n k : ℕ) → option_map cut a ≡ Some n → option_map cut (option_map (λ c. c * k) a) ≡ Some (min (n * k) (2 ^ 64 - 1))
 repeated_cut None n k h = cc
 repeated_cut (Some a) n k h = let e : cut a ≡ n = cc in rw (← e, cut-mul a k) refl
-
-pub uncut : (o : Option ℕ) → IfSome o (λ n. n < 2 ^ 64) → option_map cut o ≡ o
-uncut None h = refl
-uncut (Some n) h = let e : cut n ≡ n = omega arith in ap Some e
 
 abbrev pub pair : ℕ → ℕ → ℕ × ℕ
 pair a b = (a, b)

@@ -1,5 +1,6 @@
 -- Types stay sound as a type that keeps the rule of its form is added at their end.
 use Rattle.std.proofs.Common.{◌≡◌, ◌∙◌, ◌⊎◌, inl, inr, ⊎_elim, ℕ, zero, suc, ◌==◌, Bool, true, false, List, [], ◌∷◌, ◌++◌, length, Option, Some, None, slice_get, refl, sym, ap}
+use Rattle.std.proofs.lemmas.Bool.{and_parts}
 use Rattle.std.specs.Prelude.{not, ◌&&◌, ◌||◌, if◌then◌else◌}
 use Rattle.std.specs.Option.{option_map, option_map_or, option_or}
 use Rattle.spv_types.specs.declared.forms.Form.{Form}
@@ -11,7 +12,7 @@ use Rattle.spv_types.specs.Shapes.{part_type}
 use Rattle.spv_types.specs.Laws.{AreSound, ComesBefore}
 use Rattle.spv_types.proofs.TypeLemmas.{number_form, number_lt, number_push}
 use Rattle.spv_types.proofs.ShapeLemmas.{form_number}
-use Rattle.spv_types.proofs.SoundLemmas.{CountAlike, and_holds, both_hold, form_carried}
+use Rattle.spv_types.proofs.SoundLemmas.{CountAlike, and_holds, form_carried}
 
 pub form_append : (ts us : Types) (q : ℕ) → form_of (ts ++ us) q ≡ option_or (form_of ts q) (form_of us q)
 form_append [] us q = refl
@@ -42,7 +43,7 @@ found_by ts test q none h = go (form_of ts q) refl h
     go (Some x) e g = (x, e)
 
 sized_found : (ts : Types) (q : ℕ) → is_sized_data ts q ≡ true → IsFound ts q
-sized_found ts q h = found_by ts (λ o. is_data o) q refl (both_hold (is_data (form_of ts q)) (not (has_runtime ts q)) h).0
+sized_found ts q h = found_by ts (λ o. is_data o) q refl (and_parts (is_data (form_of ts q)) (not (has_runtime ts q)) h).0
 
 member_found : (ts : Types) (block last : Bool) (q : ℕ) → keeps_member ts block last q ≡ true → IsFound ts q
 member_found ts block last q h = go (is_sized_data ts q) refl h
@@ -50,18 +51,18 @@ member_found ts block last q h = go (is_sized_data ts q) refl h
     go : (b : Bool) → is_sized_data ts q ≡ b → (b || (last && (block && is_runtime (form_of ts q)))) ≡ true → IsFound ts q
     go true e g = sized_found ts q e
     go false e g =
-        let inner = both_hold last (block && is_runtime (form_of ts q)) g in
-        found_by ts (λ o. is_runtime o) q refl (both_hold block (is_runtime (form_of ts q)) inner.1).1
+        let inner = and_parts last (block && is_runtime (form_of ts q)) g in
+        found_by ts (λ o. is_runtime o) q refl (and_parts block (is_runtime (form_of ts q)) inner.1).1
 
 members_found : (ts : Types) (block : Bool) (ms : List Member) → keep_members ts block ms ≡ true
     → (index part : ℕ) → option_map (λ (m : Member). m.ty) (slice_get ms index) ≡ Some part → IsFound ts part
 unfolding keep_members
 members_found ts block [] h index part is = cc
 members_found ts block (m ∷ ms) h zero part is =
-    let here = member_found ts block (length ms == 0) m.ty (both_hold (keeps_member ts block (length ms == 0) m.ty) (keep_members ts block ms) h).0 in
+    let here = member_found ts block (length ms == 0) m.ty (and_parts (keeps_member ts block (length ms == 0) m.ty) (keep_members ts block ms) h).0 in
     let same : m.ty ≡ part = cc in
     rw (← same) here
-members_found ts block (m ∷ ms) h (suc index) part is = members_found ts block ms (both_hold (keeps_member ts block (length ms == 0) m.ty) (keep_members ts block ms) h).1 index part is
+members_found ts block (m ∷ ms) h (suc index) part is = members_found ts block ms (and_parts (keeps_member ts block (length ms == 0) m.ty) (keep_members ts block ms) h).1 index part is
 
 -- each part of a form that keeps its rule
 part_found : (ts : Types) (f : Form) → keeps_form ts f ≡ true → (index part : ℕ) → part_type f index ≡ Some part → IsFound ts part
@@ -70,7 +71,7 @@ part_found ts Boolean h index part is = cc
 part_found ts (Int width sign) h index part is = cc
 part_found ts (Vector component count) h index part is =
     let same : component ≡ part = cc in
-    rw (← same) (found_by ts (λ o. is_scalar o) component refl (both_hold _ _ h).0)
+    rw (← same) (found_by ts (λ o. is_scalar o) component refl (and_parts _ _ h).0)
 part_found ts (Array element n stride) h index part is = let same : element ≡ part = cc in rw (← same) (sized_found ts element h)
 part_found ts (Runtime element stride) h index part is = let same : element ≡ part = cc in rw (← same) (sized_found ts element h)
 part_found ts (Struct members block) h index part is = members_found ts block members h index part is
@@ -110,8 +111,8 @@ module _ (ts : Types) (id : ℕ) (f : Form) where
       → option_map_or (λ (q : ℕ). is_runtime (form_of (ts ++ (id, f) ∷ []) q)) (last_type ms) false ≡ option_map_or (λ (q : ℕ). is_runtime (form_of ts q)) (last_type ms) false
   unfolding keep_members
   last_stays block [] h = refl
-  last_stays block (m ∷ []) h = ap (λ (o : Option Form). is_runtime o) (stays m.ty (member_found ts block true m.ty (both_hold (keeps_member ts block true m.ty) true h).0))
-  last_stays block (m ∷ n ∷ ms) h = last_stays block (n ∷ ms) (both_hold (keeps_member ts block (length (n ∷ ms) == 0) m.ty) (keep_members ts block (n ∷ ms)) h).1
+  last_stays block (m ∷ []) h = ap (λ (o : Option Form). is_runtime o) (stays m.ty (member_found ts block true m.ty (and_parts (keeps_member ts block true m.ty) true h).0))
+  last_stays block (m ∷ n ∷ ms) h = last_stays block (n ∷ ms) (and_parts (keeps_member ts block (length (n ∷ ms) == 0) m.ty) (keep_members ts block (n ∷ ms)) h).1
 
   runtime_stays : (o : Option Form) → ((g : Form) → o ≡ Some g → keeps_form ts g ≡ true) → form_has_runtime (ts ++ (id, f) ∷ []) o ≡ form_has_runtime ts o
   runtime_stays None kept = refl
@@ -127,7 +128,7 @@ module _ (ts : Types) (id : ℕ) (f : Form) where
 
   sized_stays : AreSound ts → (q : ℕ) → is_sized_data ts q ≡ true → is_sized_data (ts ++ (id, f) ∷ []) q ≡ true
   sized_stays sound q h =
-      let parts = both_hold (is_data (form_of ts q)) (not (has_runtime ts q)) h in
+      let parts = and_parts (is_data (form_of ts q)) (not (has_runtime ts q)) h in
       let same : form_of (ts ++ (id, f) ∷ []) q ≡ form_of ts q = stays q (sized_found ts q h) in
       let runtime : has_runtime (ts ++ (id, f) ∷ []) q ≡ has_runtime ts q
       = ap (λ (o : Option Form). form_has_runtime (ts ++ (id, f) ∷ []) o) same ∙ runtime_stays (form_of ts q) (λ g is. sound.kept q g is) in

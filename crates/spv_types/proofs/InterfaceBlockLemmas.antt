@@ -1,9 +1,10 @@
 -- The refusals of layout and the places of buffers, one instruction after another.
-use Rattle.std.proofs.Common.{◌≡◌, ◌∙◌, ℕ, ◌+◌, ◌<◌, ◌≤◌, ◌==◌, ◌&&◌, Bool, true, false, cond, List, [], ◌∷◌, ◌++◌, length, get_or, take, drop, drop-cons, drop_of_length-le, add-one, Result, Ok, Err, refl, sym, subst, rules, tests}
+use Rattle.std.proofs.Common.{◌≡◌, ◌∙◌, ℕ, ◌+◌, ◌<◌, ◌≤◌, ◌==◌, ◌&&◌, Bool, true, false, cond, List, [], ◌∷◌, ◌++◌, length, get_or, take, drop, drop-cons, drop_of_length-le, add-one, Result, Ok, Err, refl, sym, subst}
 use Rattle.std.specs.Prelude.{◌||◌, if◌then◌else◌}
 use Rattle.std.specs.List.{list_any}
 use Rattle.std.specs.Ordering.{is_eq}
 use Rattle.spv_index.specs.Keys.{pair_cmp}
+use Rattle.spv_index.proofs.KeyLemmas.{same_pair}
 use Rattle.std.proofs.lemmas.List.{take_more}
 use Rattle.spv_base.specs.declared.causes.Refusal.{Refusal}
 use Rattle.spv_base.specs.declared.instructions.Inst.{Inst}
@@ -33,9 +34,6 @@ pub layout_whole : (all is : List Inst) (ts : Types) (r : Result (Unit {0}) Refu
 layout_whole all is ts r e h = subst (λ (xs : List Inst). unless_refused nothing (module_breaches all ts [] xs) ≡ r) e h
 
 -- ---- the places of buffers
-
-same_pair : (a b c d : ℕ) → is_eq (pair_cmp (a, b) (c, d)) ≡ (a == c && b == d)
-same_pair a b c d = search (tests, rules)
 
 pub place_put : (set binding a b : ℕ) (new old : Bool) → new ≡ cond (is_eq (pair_cmp (set, binding) (a, b))) true old → new ≡ (old || (set == a && binding == b))
 place_put set binding a b new old h = h ∙ rw (same_pair set binding a b) (by_test (set == a && binding == b) old)

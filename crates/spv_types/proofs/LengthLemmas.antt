@@ -18,10 +18,10 @@ use Rattle.spv_types.proofs.SoundLemmas.{CountAlike, form_carried}
 
 -- ---- a form written under an id
 
-not_same : (a b : ℕ) → a ≢ b → (a == b) ≡ false
+pub not_same : (a b : ℕ) → a ≢ b → (a == b) ≡ false
 not_same a b h = grind arith
 
-number_written : (ts : Types) (id q : ℕ) (f : Form) → number_of (writes id f ts) q ≡ number_of ts q
+pub number_written : (ts : Types) (id q : ℕ) (f : Form) → number_of (writes id f ts) q ≡ number_of ts q
 number_written [] id q f = refl
 number_written (t ∷ ts) id q f = step (t.0 == id) (number_written ts id q f)
   where
@@ -29,7 +29,7 @@ number_written (t ∷ ts) id q f = step (t.0 == id) (number_written ts id q f)
     step true h = refl
     step false h = rw h refl
 
-form_written : (ts : Types) (id q : ℕ) (f : Form) → id ≢ q → form_of (writes id f ts) q ≡ form_of ts q
+pub form_written : (ts : Types) (id q : ℕ) (f : Form) → id ≢ q → form_of (writes id f ts) q ≡ form_of ts q
 form_written [] id q f h = refl
 form_written (t ∷ ts) id q f h = step (t.0 == id) refl (form_written ts id q f h)
   where

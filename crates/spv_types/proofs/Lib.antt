@@ -6,6 +6,7 @@ pub mod PlaceLemmas
 pub mod TableLemmas
 pub mod TypingLemmas
 pub mod RuleLemmas
+pub mod DataLemmas
 pub mod BuildLemmas
 pub mod LayoutLemmas
 pub mod InterfaceBlockLemmas

@@ -198,12 +198,12 @@ step_typed ts (Function returns parameters) i o other h = cc
 
 -- ---- by forms, where types are sound
 
-members_alike : (c d : ℕ → Option ℕ) (ms : List Member) → ((k part : ℕ) → option_map (λ (m : Member). m.ty) (slice_get ms k) ≡ Some part → c part ≡ d part) → members_cells c ms ≡ members_cells d ms
+pub members_alike : (c d : ℕ → Option ℕ) (ms : List Member) → ((k part : ℕ) → option_map (λ (m : Member). m.ty) (slice_get ms k) ≡ Some part → c part ≡ d part) → members_cells c ms ≡ members_cells d ms
 unfolding members_cells
 members_alike c d [] h = refl
 members_alike c d (m ∷ ms) h = rw (h 0 m.ty refl, members_alike c d ms (λ k part is. h (suc k) part is)) refl
 
-cells_alike : (c d : ℕ → Option ℕ) (f : Form) → ((index part : ℕ) → part_type f index ≡ Some part → c part ≡ d part) → cells_step c f ≡ cells_step d f
+pub cells_alike : (c d : ℕ → Option ℕ) (f : Form) → ((index part : ℕ) → part_type f index ≡ Some part → c part ≡ d part) → cells_step c f ≡ cells_step d f
 cells_alike c d Void h = refl
 cells_alike c d Boolean h = refl
 cells_alike c d (Int width sign) h = refl
@@ -228,7 +228,7 @@ place_here : (ts : Types) (id : ℕ) (f : Form) (leaf n : ℕ) → number_of ts 
 unfolding place_of
 place_here ts id f leaf n h is = place_at ts (length ts) id n leaf f h (number_lt ts id n h) is
 
-cells_by_form : (ts : Types) → AreSound ts → (id : ℕ) (f : Form) → form_of ts id ≡ Some f → cells_of ts id ≡ cells_step (cells_of ts) f
+pub cells_by_form : (ts : Types) → AreSound ts → (id : ℕ) (f : Form) → form_of ts id ≡ Some f → cells_of ts id ≡ cells_step (cells_of ts) f
 unfolding cells_of
 cells_by_form ts sound id f is =
     let number = form_number ts id f is in

@@ -117,10 +117,6 @@ pub begins_first : (cells : ℕ → Option ℕ) (ms : List Member) (leaf : ℕ) 
 unfolding members_cells
 begins_first cells ms leaf = omega arith
 
-begins_none : (o : Option ℕ) (leaf : ℕ) → None ≡ option_map cut o → IsSomeAnd o (λ n. n ≤ leaf) → ⊥
-begins_none None leaf h k = k
-begins_none (Some n) leaf h k = cc
-
 module _ (cells : ℕ → Option ℕ) (place : ℕ → ℕ → Option ℕ) where
   -- a leaf behind the first members is a leaf of the others
   pub in_members_from : (ms : List Member) (i n leaf : ℕ) → members_cells cells (take i ms) ≡ Some n → n ≤ leaf → place_in_members cells place ms leaf ≡ place_in_members cells place (drop i ms) (leaf - n)

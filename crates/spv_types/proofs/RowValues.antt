@@ -74,7 +74,7 @@ scalars_tell P v u p q h =
     let same : a.0 ≡ b.0 = cc in
     a.1 ∙ ap Scalar same ∙ sym b.1
 
-no_pointer : (ts : Types) (v : Value) (target : ℕ) → IsSomeAnd (pointer_in (out-Value v)) (λ p. LeadsTo ts no_roots p target) → ⊥
+pub no_pointer : (ts : Types) (v : Value) (target : ℕ) → IsSomeAnd (pointer_in (out-Value v)) (λ p. LeadsTo ts no_roots p target) → ⊥
 no_pointer ts v target h = level (out-Value v) h
   where
     level : (l : Value-F Value) → IsSomeAnd (pointer_in l) (λ p. LeadsTo ts no_roots p target) → ⊥

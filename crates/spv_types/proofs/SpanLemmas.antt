@@ -1,5 +1,6 @@
 -- Spans in the order of their starts: no two have a byte in common where each ends before the next one.
 use Rattle.std.proofs.Common.{◌≡◌, ◌≢◌, ◌∙◌, ℕ, zero, suc, ◌+◌, ◌<◌, ◌≤◌, ◌==◌, Bool, true, false, List, [], ◌∷◌, length, get_or, get_or-set_other, get_or-set_same, length-set, set, refl, sym, ap, arith, ltb}
+use Rattle.std.proofs.lemmas.Bool.{and_parts}
 use Rattle.std.specs.Prelude.{◌&&◌, ◌||◌, not, nat_le, if◌then◌else◌}
 use Rattle.std.specs.List.{All, AllPass, filter, list_all, swap}
 use Rattle.std.specs.List.Sorted.{IsNonDecreasingBy, IsPermutation}
@@ -9,7 +10,7 @@ use Rattle.std.proofs.lemmas.List.Sorted.{All-permutation, IsPermutation-keeps, 
 use Rattle.std.proofs.lemmas.List.Sums.{AllPass-from_list_all, list_all-from_AllPass}
 use Rattle.spv_types.specs.declared.spans.Span.{Span}
 use Rattle.spv_types.specs.Layout.{EachEndsBeforeNext, IsForward, are_apart, ends_before, is_empty, none_overlap}
-use Rattle.spv_types.proofs.SoundLemmas.{and_holds, both_hold}
+use Rattle.spv_types.proofs.SoundLemmas.{and_holds}
 
 -- ---- two spans
 
@@ -83,7 +84,7 @@ pub pairs_apart : (ss : List Span) → none_overlap ss ≡ true → Pairs ss
 unfolding none_overlap
 pairs_apart [] h = λ i j d l m ne. absurd (omega arith)
 pairs_apart (s ∷ ss) h =
-    let both = both_hold (list_all (are_apart s) ss) (none_overlap ss) h in
+    let both = and_parts (list_all (are_apart s) ss) (none_overlap ss) h in
     let first : AllPass (are_apart s) ss = AllPass-from_list_all (are_apart s) ss both.0 in
     let rest : Pairs ss = pairs_apart ss both.1 in
     λ i j d. pair first rest i j d
@@ -164,7 +165,7 @@ pairs_permuted xs ys p h = IsPermutation-keeps xs Pairs h (λ l i j a b g. pairs
 
 ends_later : (s t u : Span) → ends_before s t ≡ true → t.start ≤ u.start → ends_before s u ≡ true
 ends_later s t u h l =
-    let both = both_hold (not s.is_open) (nat_le s.end t.start) h in
+    let both = and_parts (not s.is_open) (nat_le s.end t.start) h in
     let e : s.end ≤ t.start = grind (arith, both.1) in
     and_holds _ _ both.0 (grind arith)
 
@@ -190,7 +191,7 @@ next_by s t p q l h = go (ends_before s t) refl (rw (p.some, q.some) at h)
   where
     bad : ends_before t s ≡ true → false ≡ true
     bad e =
-        let both = both_hold (not t.is_open) (nat_le t.end s.start) e in
+        let both = and_parts (not t.is_open) (nat_le t.end s.start) e in
         let end : t.end ≤ s.start = grind (arith, both.1) in
         let f = q.forward in
         let same : (t.end == t.start) ≡ true = grind arith in

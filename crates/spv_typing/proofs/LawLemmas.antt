@@ -220,7 +220,7 @@ condition_says r c h = elim (either (is_one_boolean c) (is_boolean_vector c && s
         let k = counted q.0 q.2 p.1 in
         (q.0, k.0, q.1, q.2, k.1)
 
-impossible : {A : Type 0} → false ≡ true → A
+pub impossible : {A : Type 0} → false ≡ true → A
 impossible h = absurd (grind arith)
 
 pair_says : (ty : ℕ) (f : Option Form) → is_pair_of ty f ≡ true → (a : Member) × (b : Member) × (block : Bool) × (f ≡ Some (Struct (a ∷ b ∷ []) block)) × (a.ty ≡ ty) × (b.ty ≡ ty)

@@ -9,8 +9,8 @@ use Rattle.spv_base.specs.declared.instructions.Inst.{Inst}
 use Rattle.spv_types.specs.Cuts.{cut}
 use Rattle.spv_types.specs.Types.{Types}
 use Rattle.spv_index.specs.Positions.{Stand, in_function, stands_of}
+use Rattle.spv_index.proofs.ListLemmas.{drop_back}
 use Rattle.spv_cfg.specs.Calls.{Calls, IsChain, calls_in, calls_of, functions_of, limit, longest, most, numbered}
-use Rattle.spv_cfg.proofs.Backwards.{drop_back}
 use Rattle.spv_cfg.proofs.Chains.{Within, most-le}
 use Rattle.spv_cfg.proofs.LongestChains.{long_is_refused, most-comes, most-ge}
 use Rattle.std.proofs.lemmas.Bool.{cases_lt}

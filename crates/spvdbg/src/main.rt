@@ -4,7 +4,7 @@
 
 ghost use Rattle.std.specs.Prelude.{◌≡◌, ◌<◌};
 ghost use Rattle.std.specs.Process.{exit_status};
-ghost use Rattle.spv_app.specs.Status_numbers.{status_number};
+ghost use Rattle.spv_app.specs.StatusNumbers.{status_number};
 
 mod complaints;
 

@@ -1,4 +1,4 @@
-use Rattle.spv_actions.proofs.MemoryKept.{chain_keeps, chain_next}
+use Rattle.spv_actions.proofs.MemoryRules.{chain_keeps, chain_next}
 use Rattle.spv_actions.proofs.kept.chain_is_kept.Goals as goal
 
 pub returns-clause-rule : goal.returns-clause-rule

@@ -1,4 +1,4 @@
-use Rattle.spv_actions.proofs.MemoryKept.{copy_keeps, copy_next}
+use Rattle.spv_actions.proofs.MemoryRules.{copy_keeps, copy_next}
 use Rattle.spv_actions.proofs.kept.copy_memory_is_kept.Goals as goal
 
 pub returns-clause-rule : goal.returns-clause-rule

@@ -1,4 +1,4 @@
-use Rattle.spv_actions.proofs.MemoryKept.{length_keeps, length_next}
+use Rattle.spv_actions.proofs.MemoryRules.{length_keeps, length_next}
 use Rattle.spv_actions.proofs.kept.length_is_kept.Goals as goal
 
 pub returns-clause-rule : goal.returns-clause-rule

@@ -1,7 +1,7 @@
 use Rattle.spv_line.specs.Words.{words_in}
 use Rattle.spv_cmd.specs.Grammar.{IsNumber, IsCount}
-use Rattle.spv_cmd.proofs.Reads_lemmas.{reads_through}
-use Rattle.spv_cmd.proofs.Row_lemmas.{no_count}
+use Rattle.spv_cmd.proofs.ReadsLemmas.{reads_through}
+use Rattle.spv_cmd.proofs.RowLemmas.{no_count}
 use Rattle.spv_cmd.proofs.arguments.count.Goals as goal
 
 pub returns-in_err-number : goal.returns-in_err-number

@@ -1,5 +1,5 @@
 use Rattle.std.proofs.Common.{arith}
-use Rattle.spv_cmd.proofs.Keyword_lemmas.{none_of_all}
+use Rattle.spv_cmd.proofs.KeywordLemmas.{none_of_all}
 use Rattle.spv_cmd.proofs.keywords.find_keyword.Goals as goal
 
 pub returns : goal.returns

@@ -1,4 +1,4 @@
-use Rattle.spv_cmd.proofs.Keyword_lemmas.{one_keyword}
+use Rattle.spv_cmd.proofs.KeywordLemmas.{one_keyword}
 use Rattle.spv_cmd.proofs.keywords.keywords_differ.Goals as goal
 
 pub returns : goal.returns

@@ -2,7 +2,7 @@ use Rattle.std.proofs.Common.{ap}
 use Rattle.spv_cmd.specs.declared.command.Command.TheVariants as command
 use Rattle.spv_line.specs.Words.{words_in}
 use Rattle.spv_cmd.specs.Grammar.{row}
-use Rattle.spv_cmd.proofs.Row_lemmas.{number_err, count_err, path_err, place_err}
+use Rattle.spv_cmd.proofs.RowLemmas.{number_err, count_err, path_err, place_err}
 use Rattle.spv_cmd.proofs.parsing.command.Goals as goal
 
 pub returns-in_err-number-in-Goto : goal.returns-in_err-number-in-Goto

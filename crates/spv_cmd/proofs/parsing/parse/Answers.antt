@@ -1,5 +1,5 @@
 use Rattle.spv_cmd.specs.Answers.{IsSplit}
-use Rattle.spv_cmd.proofs.Due_lemmas.{due_answered, known_line}
+use Rattle.spv_cmd.proofs.DueLemmas.{due_answered, known_line}
 use Rattle.spv_cmd.proofs.parsing.parse.Goals as goal
 
 pub returns-in-Some-clause-answered : goal.returns-in-Some-clause-answered

@@ -1,8 +1,8 @@
 use Rattle.std.proofs.Common.{List}
 use Rattle.spv_cmd.specs.declared.command.PathPart.{PathPart}
 use Rattle.spv_cmd.specs.Paths.{AreParts, IsPath}
-use Rattle.spv_cmd.proofs.Reads_lemmas.{reads_through}
-use Rattle.spv_cmd.proofs.Part_lemmas.{no_parts}
+use Rattle.spv_cmd.proofs.ReadsLemmas.{reads_through}
+use Rattle.spv_cmd.proofs.PartLemmas.{no_parts}
 use Rattle.spv_cmd.proofs.paths.named.Goals as goal
 
 pub returns-in_err-parts : goal.returns-in_err-parts

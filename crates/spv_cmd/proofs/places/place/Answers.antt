@@ -1,7 +1,7 @@
 use Rattle.std.proofs.Common.{refl, ◌≡◌, ◌<◌, [], length, sym, subst, Some}
 use Rattle.spv_cmd.specs.Places.{IsPlace}
-use Rattle.spv_cmd.proofs.Bool_lemmas.{some_when, empty_when}
-use Rattle.spv_cmd.proofs.Place_lemmas.{no_line, no_file, file_is}
+use Rattle.spv_cmd.proofs.BoolLemmas.{some_when, empty_when}
+use Rattle.spv_cmd.proofs.PlaceLemmas.{no_line, no_file, file_is}
 use Rattle.spv_cmd.proofs.places.place.Goals as goal
 
 pub returns-in-None : goal.returns-in-None

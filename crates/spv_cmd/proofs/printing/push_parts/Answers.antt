@@ -1,6 +1,6 @@
 use Rattle.std.proofs.Common.{◌++◌, ap, ◌∙◌}
 use Rattle.spv_cmd.specs.Paths.{parts_text}
-use Rattle.spv_cmd.proofs.Path_lemmas.{parts_more, parts_done}
+use Rattle.spv_cmd.proofs.PathLemmas.{parts_more, parts_done}
 use Rattle.spv_cmd.proofs.printing.push_parts.Goals as goal
 
 pub loop-part-preserved : goal.loop-part-preserved

@@ -1,5 +1,10 @@
+use Rattle.std.proofs.Common.{arith}
+use Rattle.std.proofs.lemmas.Grind.{common_steps}
 use Rattle.spv_dbg.proofs.MeasureLemmas.{members_all}
 use Rattle.spv_dbg.proofs.measures.members.Goals as goal
+
+pub loop-id-preserved : goal.loop-id-preserved
+loop-id-preserved c = grind (arith, common_steps)
 
 pub returns : goal.returns
 returns c =

@@ -1,4 +1,5 @@
 use Rattle.std.proofs.Common.{◌≡◌, ◌+◌, ◌<◌, ◌≤◌, length, ap, arith, take}
+use Rattle.std.proofs.lemmas.Grind.{common_steps}
 use Rattle.spv_types.specs.Rows.{leaves}
 use Rattle.spv_effects.specs.Composites.{leaves_in}
 use Rattle.spv_effects.proofs.CompositeLemmas.{joined_within}
@@ -11,3 +12,6 @@ put_row-requires c =
     let long : length c.cells-cells.result.now ≡ length (leaves c.part-item.result) = ap length c.cells-cells.ensures in
     let place = c.loop-part.invariant.place in
     omega arith
+
+pub loop-part-preserved : goal.loop-part-preserved
+loop-part-preserved c = grind (arith, common_steps)

@@ -1,5 +1,5 @@
 use Rattle.std.proofs.Common.{sym, arith}
-use Rattle.spv_fit.proofs.Given_lemmas.{short_more, short_none}
+use Rattle.spv_fit.proofs.GivenLemmas.{short_more, short_none}
 use Rattle.spv_fit.proofs.bytes.lowest_short.Goals as goal
 
 pub back-init : goal.back-init

@@ -1,5 +1,5 @@
 use Rattle.std.proofs.Common.{◌∙◌, sym}
-use Rattle.spv_fit.proofs.Given_lemmas.{lack_here, lack_next, lack_none}
+use Rattle.spv_fit.proofs.GivenLemmas.{lack_here, lack_next, lack_none}
 use Rattle.spv_fit.proofs.bytes.some_lack.Goals as goal
 
 pub returns-then-lacks_bytes : goal.returns-then-lacks_bytes

@@ -1,5 +1,5 @@
 use Rattle.std.proofs.Common.{arith}
-use Rattle.spv_fit.proofs.Cell_lemmas.{own_at, own_none, sum_end, sum_more}
+use Rattle.spv_fit.proofs.CellLemmas.{own_at, own_none, sum_end, sum_more}
 use Rattle.spv_fit.proofs.cells.all_own.Goals as goal
 
 pub loop-inst-preserved : goal.loop-inst-preserved

@@ -1,4 +1,4 @@
-use Rattle.spv_fit.proofs.Cell_lemmas.{cut_all}
+use Rattle.spv_fit.proofs.CellLemmas.{cut_all}
 use Rattle.spv_fit.proofs.cells.cells_in.Goals as goal
 
 pub returns : goal.returns

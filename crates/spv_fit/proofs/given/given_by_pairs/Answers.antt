@@ -1,5 +1,5 @@
 use Rattle.std.proofs.Common.{ap, arith, rules}
-use Rattle.spv_fit.proofs.Given_lemmas.{back_more, none_given}
+use Rattle.spv_fit.proofs.GivenLemmas.{back_more, none_given}
 use Rattle.spv_fit.proofs.given.given_by_pairs.Goals as goal
 
 pub back-init : goal.back-init

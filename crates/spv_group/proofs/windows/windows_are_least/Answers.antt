@@ -1,4 +1,4 @@
-use Rattle.spv_group.proofs.Window_lemmas.{window_is, windows_rise}
+use Rattle.spv_group.proofs.WindowLemmas.{window_is, windows_rise}
 use Rattle.spv_group.proofs.windows.windows_are_least.Goals as goal
 
 pub returns-clause-least : goal.returns-clause-least

@@ -1,9 +1,13 @@
 use Rattle.std.proofs.Common.{◌≡◌, length, None, arith, rules, sym, ◌∙◌, ap, inl, inr}
+use Rattle.std.proofs.lemmas.Grind.{common_steps}
 use Rattle.std.proofs.lemmas.List.{get_or_past, length-replicate}
 use Rattle.std.proofs.lemmas.Bool.{cases_lt}
 use Rattle.spv_index.specs.Firsts.{first_from, slot}
 use Rattle.spv_index.proofs.FirstLemmas.{no_first, past_all}
 use Rattle.spv_index.proofs.firsts.first_numbers.Goals as goal
+
+pub back-preserved : goal.back-preserved
+back-preserved c = grind (arith, common_steps)
 
 pub returns : goal.returns
 returns c =

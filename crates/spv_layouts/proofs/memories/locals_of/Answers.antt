@@ -1,5 +1,5 @@
 use Rattle.std.proofs.Common.{◌≡◌, ◌∙◌, [], ◌∷◌, ◌++◌, ap, subst, sym}
-use Rattle.spv_base.specs.State.{Roots}
+use Rattle.spv_base.specs.Variables.{Roots}
 use Rattle.spv_mem.specs.Memory.{AreVariables, IsVariable}
 use Rattle.spv_layouts.proofs.memories.locals_of.Goals as goal
 

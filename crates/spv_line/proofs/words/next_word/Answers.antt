@@ -1,7 +1,7 @@
 use Rattle.std.proofs.Common.{◌≡◌, Some, None, sym, ◌∙◌}
 use Rattle.std.specs.List.{position}
 use Rattle.spv_line.specs.Words.{is_space, is_other}
-use Rattle.spv_line.proofs.Words_lemmas.{first_at_space, first_at_end}
+use Rattle.spv_line.proofs.WordsLemmas.{first_at_space, first_at_end}
 use Rattle.spv_line.proofs.words.next_word.Goals as goal
 
 pub returns-in-Some : goal.returns-in-Some

@@ -1,5 +1,5 @@
-use Rattle.spv_machine.proofs.Outcomes.{reached_inside}
-use Rattle.spv_machine.proofs.Leaves.{enter_levels, enter_room, enter_variables}
+use Rattle.spv_machine.proofs.StatusSteps.{reached_inside}
+use Rattle.spv_machine.proofs.ReturnLemmas.{enter_levels, enter_room, enter_variables}
 use Rattle.spv_machine.proofs.ReachedLemmas.{Facts, facts, levels_inside}
 use Rattle.spv_machine.proofs.applying.enter.Goals as goal
 

@@ -1,4 +1,4 @@
-use Rattle.spv_machine.proofs.Leaves.{given_plain}
+use Rattle.spv_machine.proofs.ReturnLemmas.{given_plain}
 use Rattle.spv_machine.proofs.ReachedLemmas.{Facts, facts}
 use Rattle.spv_machine.proofs.applying.go.Goals as goal
 

@@ -6,7 +6,7 @@ use Rattle.spv_state.specs.Events.{pass}
 use Rattle.spv_state.specs.State.{State, on_frame, with_pc}
 use Rattle.spv_machine.specs.Step.{next_of, to_next}
 use Rattle.spv_machine.specs.Weights.{events_before}
-use Rattle.spv_machine.proofs.Outcomes.{moved_is, reached_frame, reached_inside}
+use Rattle.spv_machine.proofs.StatusSteps.{moved_is, reached_frame, reached_inside}
 use Rattle.spv_machine.proofs.ReachedLemmas.{word_is}
 use Rattle.spv_machine.proofs.applying.go_on.Goals as goal
 

@@ -9,7 +9,7 @@ use Rattle.spv_state.specs.Events.{pass}
 use Rattle.spv_state.specs.State.{State, on_frame, with_pc, with_registers}
 use Rattle.spv_machine.specs.Step.{first_of, jump, to_block}
 use Rattle.spv_machine.specs.Weights.{events_before}
-use Rattle.spv_machine.proofs.Outcomes.{reached_frame, reached_inside}
+use Rattle.spv_machine.proofs.StatusSteps.{reached_frame, reached_inside}
 use Rattle.spv_machine.proofs.Phis.{jump_first, jump_is}
 use Rattle.spv_machine.proofs.ReachedLemmas.{Facts, facts}
 use Rattle.spv_machine.proofs.Recording.{records_on}

@@ -12,9 +12,9 @@ use Rattle.spv_statuses.specs.declared.invocations.Status.TheVariants.{Finished,
 use Rattle.spv_machine.specs.Reached.{IsReached}
 use Rattle.spv_machine.specs.Step.{go_on, leave, put_result}
 use Rattle.spv_machine.specs.Weights.{events_before, taking}
-use Rattle.spv_machine.proofs.Outcomes.{reached_inside}
+use Rattle.spv_machine.proofs.StatusSteps.{reached_inside}
 use Rattle.spv_machine.proofs.LeaveLemmas.{leave_locals, reached_some}
-use Rattle.spv_machine.proofs.Leaves.{CalledBy, LeftAt, given_rooted, left_finished, left_to}
+use Rattle.spv_machine.proofs.ReturnLemmas.{CalledBy, LeftAt, given_rooted, left_finished, left_to}
 use Rattle.spv_machine.proofs.ReachedLemmas.{Facts, facts, levels_inside}
 use Rattle.spv_machine.proofs.Recording.{records_more, records_on}
 use Rattle.spv_machine.proofs.applying.leave.Goals as goal

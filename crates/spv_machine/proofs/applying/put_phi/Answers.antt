@@ -1,4 +1,4 @@
-use Rattle.spv_machine.proofs.Outcomes.{reached_frame}
+use Rattle.spv_machine.proofs.StatusSteps.{reached_frame}
 use Rattle.spv_machine.proofs.Phis.{phi_shape}
 use Rattle.spv_machine.proofs.applying.put_phi.Goals as goal
 

@@ -1,6 +1,6 @@
 use Rattle.std.proofs.Common.{◌≡◌, ◌∙◌, None, Some}
 use Rattle.spv_statuses.specs.declared.invocations.Status.TheVariants.{Passed}
-use Rattle.spv_machine.proofs.Outcomes.{HasTop, has_top}
+use Rattle.spv_machine.proofs.StatusSteps.{HasTop, has_top}
 use Rattle.spv_machine.proofs.execution.barrier.Goals as goal
 
 pub unreachable-requires : goal.unreachable-requires

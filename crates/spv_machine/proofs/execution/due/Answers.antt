@@ -1,5 +1,5 @@
 use Rattle.std.proofs.Common.{sym}
-use Rattle.spv_machine.proofs.Outcomes.{step_by}
+use Rattle.spv_machine.proofs.StatusSteps.{step_by}
 use Rattle.spv_machine.proofs.WeightLemmas.{weight_by}
 use Rattle.spv_machine.proofs.execution.due.Goals as goal
 

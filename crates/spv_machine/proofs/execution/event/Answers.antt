@@ -1,7 +1,7 @@
 use Rattle.std.proofs.Common.{◌≡◌, ◌∙◌, Some, ap, inl, inr, slice_get, sym}
 use Rattle.spv_statuses.specs.Group.{Held as Statuses}
 use Rattle.spv_state.specs.State.{State}
-use Rattle.spv_machine.proofs.Outcomes.{arrived_step, finished_step}
+use Rattle.spv_machine.proofs.StatusSteps.{arrived_step, finished_step}
 use Rattle.spv_machine.proofs.WeightLemmas.{arrived_weight, finished_weight}
 use Rattle.spv_machine.proofs.execution.event.Goals as goal
 

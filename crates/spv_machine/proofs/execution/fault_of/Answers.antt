@@ -2,7 +2,7 @@ use Rattle.std.proofs.Common.{◌≡◌, Some, ap, sym, ◌∙◌, inl, inr, sli
 use Rattle.spv_statuses.specs.Group.{Held as Statuses}
 use Rattle.spv_state.specs.State.{State}
 use Rattle.spv_machine.specs.Step.{fault_in}
-use Rattle.spv_machine.proofs.Outcomes.{arrived_step, finished_step, passed_faultless}
+use Rattle.spv_machine.proofs.StatusSteps.{arrived_step, finished_step, passed_faultless}
 use Rattle.spv_machine.proofs.execution.fault_of.Goals as goal
 
 pub returns-in-Passed : goal.returns-in-Passed

@@ -4,13 +4,13 @@ use Rattle.spv_frame.specs.Frames.{Held as Frame}
 use Rattle.spv_statuses.specs.declared.invocations.Status.TheVariants.{Passed, Ready}
 use Rattle.spv_state.specs.Sound.{IsSound}
 use Rattle.spv_state.specs.State.{State, set_status, top_of}
-use Rattle.spv_state.proofs.Known.{IsKnown, known_as}
+use Rattle.spv_state.proofs.AcceptedLemmas.{IsKnown, known_as}
 use Rattle.spv_machine.specs.Does.{Does}
 use Rattle.spv_machine.specs.Step.{Moves, go_on, plain, step_of}
 use Rattle.spv_machine.specs.Weights.{events_before}
 use Rattle.spv_machine.specs.World.{seen}
-use Rattle.spv_machine.proofs.KeepsControl.{past_kept}
-use Rattle.spv_machine.proofs.Outcomes.{HasTop, barrier_next, has_top, passed_step}
+use Rattle.spv_machine.proofs.SoundControl.{past_kept}
+use Rattle.spv_machine.proofs.StatusSteps.{HasTop, barrier_next, has_top, passed_step}
 use Rattle.spv_machine.proofs.WeightLemmas.{passed_weight}
 use Rattle.spv_machine.proofs.Recording.{made_does, made_keeps, made_none}
 use Rattle.spv_machine.proofs.execution.pass.Goals as goal

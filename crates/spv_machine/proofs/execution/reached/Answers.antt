@@ -2,8 +2,8 @@ use Rattle.std.proofs.Common.{◌≡◌, Some, None, ap, sym, ◌∙◌}
 use Rattle.spv_index.specs.Definitions.{at}
 use Rattle.spv_statuses.specs.declared.invocations.Status.TheVariants.{Ready}
 use Rattle.spv_valid.specs.Acceptance.{Accepted}
-use Rattle.spv_state.proofs.Known.{IsKnown, known_as}
-use Rattle.spv_machine.proofs.Outcomes.{HasTop, has_top, ready_at}
+use Rattle.spv_state.proofs.AcceptedLemmas.{IsKnown, known_as}
+use Rattle.spv_machine.proofs.StatusSteps.{HasTop, has_top, ready_at}
 use Rattle.spv_machine.proofs.execution.reached.Goals as goal
 
 pub unreachable-requires : goal.unreachable-requires

@@ -3,7 +3,7 @@ use Rattle.std.specs.Prelude.{option_copied}
 use Rattle.spv_base.specs.declared.values.Pointer.{Pointer}
 use Rattle.spv_frame.specs.Registers.{Planned, number_of}
 use Rattle.spv_valid.specs.Acceptance.{Accepted, IsAccepted}
-use Rattle.spv_session.proofs.Register_lemmas.{pointer_shape}
+use Rattle.spv_session.proofs.RegisterLemmas.{pointer_shape}
 use Rattle.spv_session.proofs.registers.show_pointer_at.Goals as goal
 
 pub show_pointer-requires : goal.show_pointer-requires

@@ -2,7 +2,7 @@ use Rattle.std.proofs.Common.{◌∙◌, ℕ, Option, Some, ap, subst, sym}
 use Rattle.spv_base.specs.declared.values.Value.{Value}
 use Rattle.spv_frame.specs.Registers.{Planned, ids, number_of}
 use Rattle.spv_valid.specs.Acceptance.{Accepted, IsAccepted}
-use Rattle.spv_session.proofs.Register_lemmas.{value_row}
+use Rattle.spv_session.proofs.RegisterLemmas.{value_row}
 use Rattle.spv_session.proofs.registers.show_value_at.Goals as goal
 
 pub show_value-requires : goal.show_value-requires

@@ -1,6 +1,6 @@
 use Rattle.std.proofs.Common.{◌∙◌, ◌<◌, ℕ, List, length, ap, arith, slice_get}
 use Rattle.spv_session.specs.Texts.{shown_value, with_any}
-use Rattle.spv_session.proofs.Register_lemmas.{with_next}
+use Rattle.spv_session.proofs.RegisterLemmas.{with_next}
 use Rattle.spv_session.proofs.registers.show_values.Goals as goal
 
 pub loop-number-preserved : goal.loop-number-preserved

@@ -1,4 +1,4 @@
-use Rattle.spv_session.proofs.Shown_lemmas.{shown_ascend, shown_are_theirs, texts_are_shown}
+use Rattle.spv_session.proofs.ShownLemmas.{shown_ascend, shown_are_theirs, texts_are_shown}
 use Rattle.spv_session.proofs.registers.shown_registers_ascend.Goals as goal
 
 pub returns-clause-ascending : goal.returns-clause-ascending

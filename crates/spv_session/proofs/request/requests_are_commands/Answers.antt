@@ -1,4 +1,4 @@
-use Rattle.spv_session.proofs.Request_lemmas.{asked_is_line, line_is_asked, refused_is_unknown, unknown_is_refused}
+use Rattle.spv_session.proofs.RequestLemmas.{asked_is_line, line_is_asked, refused_is_unknown, unknown_is_refused}
 use Rattle.spv_session.proofs.request.requests_are_commands.Goals as goal
 
 pub returns-clause-command : goal.returns-clause-command

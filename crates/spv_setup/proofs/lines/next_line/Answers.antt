@@ -1,7 +1,7 @@
 use Rattle.std.proofs.Common.{◌≡◌, Some, sym, ap, ◌∙◌}
 use Rattle.std.specs.List.{position}
 use Rattle.spv_setup.specs.Lines.{is_line_feed, without_return}
-use Rattle.spv_setup.proofs.Line_lemmas.{only_line, first_line}
+use Rattle.spv_setup.proofs.LineLemmas.{only_line, first_line}
 use Rattle.spv_setup.proofs.lines.next_line.Goals as goal
 
 pub returns-in-None : goal.returns-in-None

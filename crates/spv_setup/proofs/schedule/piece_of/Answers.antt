@@ -3,7 +3,7 @@ use Rattle.std.proofs.lemmas.Option.{slice_get-get_or}
 use Rattle.spv_setup.specs.Pieces.{pieces_entries}
 use Rattle.spv_setup.specs.declared.pieces.Piece.{Piece}
 use Rattle.spv_setup.specs.declared.pieces.Turn.TheVariants.{Of}
-use Rattle.spv_setup.proofs.Schedule_lemmas.{piece_start, middle_at, is_piece}
+use Rattle.spv_setup.proofs.ScheduleLemmas.{piece_start, middle_at, is_piece}
 use Rattle.spv_setup.proofs.schedule.piece_of.Goals as goal
 
 none : Piece

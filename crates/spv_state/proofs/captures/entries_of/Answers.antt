@@ -1,7 +1,11 @@
 use Rattle.std.proofs.Common.{◌∙◌, ◌≤◌, [], ap, arith, drop, length, map}
+use Rattle.std.proofs.lemmas.Grind.{common_steps}
 use Rattle.spv_state.specs.Events.{entries, listed}
 use Rattle.spv_state.proofs.EventLemmas.{drop_end, entries_all}
 use Rattle.spv_state.proofs.captures.entries_of.Goals as goal
+
+pub loop-n-preserved : goal.loop-n-preserved
+loop-n-preserved c = grind (arith, common_steps)
 
 pub returns : goal.returns
 returns c =

@@ -1,7 +1,7 @@
 use Rattle.std.proofs.Common.{subst, sym}
 use Rattle.spv_plans.specs.Registered.{HasNumber}
 use Rattle.spv_state.proofs.NumberLemmas.{held_pointer, no_pointer_held, own_pointer_slot}
-use Rattle.spv_state.proofs.Standing.{function_known, standing}
+use Rattle.spv_state.proofs.ExecutableLemmas.{function_known, standing}
 use Rattle.spv_state.proofs.held.held_pointer_in.Goals as goal
 
 pub pointer_slot_of-requires-clause-function : goal.pointer_slot_of-requires-clause-function

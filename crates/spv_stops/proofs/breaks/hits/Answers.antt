@@ -1,7 +1,7 @@
 use Rattle.std.proofs.Common.{◌≡◌, ◌<◌, ◌==◌, length, sym, ap, ◌∙◌, arith}
 use Rattle.std.specs.List.{list_any}
 use Rattle.spv_stops.specs.Breaks.{has_head}
-use Rattle.spv_stops.proofs.Hit_lemmas.{hits_yes, hits_no}
+use Rattle.spv_stops.proofs.HitLemmas.{hits_yes, hits_no}
 use Rattle.spv_stops.proofs.breaks.hits.Goals.{then-contains+in_ok-push, else-contains}
 use Rattle.spv_stops.proofs.breaks.hits.Goals as goal
 

@@ -1,7 +1,7 @@
 use Rattle.std.proofs.Common.{refl}
 use Rattle.spv_text.specs.declared.lines.Wrong.TheVariants.{WrongForm}
 use Rattle.spv_text.specs.Listing.{line_of}
-use Rattle.spv_text.proofs.Inst_lemmas.{as_told, inst_wrong}
+use Rattle.spv_text.proofs.InstLemmas.{as_told, inst_wrong}
 use Rattle.spv_text.proofs.inst_reading.count_of.Goals as goal
 
 pub returns-in_default-clause-err : goal.returns-in_default-clause-err

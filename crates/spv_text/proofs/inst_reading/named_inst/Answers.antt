@@ -1,7 +1,7 @@
 use Rattle.std.proofs.Common.{subst, ◌∙◌}
 use Rattle.spv_text.specs.Reading.{IsOpcode}
 use Rattle.spv_text.specs.declared.lines.Wrong.TheVariants.{WrongForm}
-use Rattle.spv_text.proofs.Inst_lemmas.{as_told, split_wrong}
+use Rattle.spv_text.proofs.InstLemmas.{as_told, split_wrong}
 use Rattle.spv_text.proofs.inst_reading.named_inst.Goals as goal
 
 pub returns-in_default-2-clause-err : goal.returns-in_default-2-clause-err

@@ -1,6 +1,10 @@
-use Rattle.std.proofs.Common.{◌∙◌}
-use Rattle.spv_text.proofs.Inst_lemmas.{no_operands}
+use Rattle.std.proofs.Common.{◌∙◌, arith}
+use Rattle.std.proofs.lemmas.Grind.{common_steps}
+use Rattle.spv_text.proofs.InstLemmas.{no_operands}
 use Rattle.spv_text.proofs.inst_reading.operands_of.Goals as goal
+
+pub loop-part-preserved : goal.loop-part-preserved
+loop-part-preserved c = grind (arith, common_steps)
 
 pub returns-in_default : goal.returns-in_default
 returns-in_default c operands e =

@@ -1,4 +1,4 @@
-use Rattle.spv_text.proofs.Line_lemmas.{none_of_colon, none_of_name, none_of_parts}
+use Rattle.spv_text.proofs.LineLemmas.{none_of_colon, none_of_name, none_of_parts}
 use Rattle.spv_text.proofs.line_reading.line_at.Goals as goal
 
 pub returns-in_default-after : goal.returns-in_default-after

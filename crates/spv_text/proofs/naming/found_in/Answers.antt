@@ -1,4 +1,4 @@
-use Rattle.spv_text.proofs.Name_lemmas.{among_at}
+use Rattle.spv_text.proofs.NameLemmas.{among_at}
 use Rattle.spv_text.proofs.naming.found_in.Goals as goal
 
 pub returns-then-is_named : goal.returns-then-is_named

@@ -1,4 +1,4 @@
-use Rattle.spv_text.proofs.Name_lemmas.{found}
+use Rattle.spv_text.proofs.NameLemmas.{found}
 use Rattle.spv_text.proofs.naming.opcode_named.Goals as goal
 
 pub returns : goal.returns

@@ -1,6 +1,6 @@
 use Rattle.std.proofs.Common.{refl, ap, ◌∙◌, take, drop}
 use Rattle.spv_text.specs.Lines.{is_name_byte}
-use Rattle.spv_text.proofs.Front_lemmas.{front_passes}
+use Rattle.spv_text.proofs.FrontLemmas.{front_passes}
 use Rattle.spv_text.proofs.numbers.letters_at.Goals as goal
 
 pub returns-clause-letters : goal.returns-clause-letters

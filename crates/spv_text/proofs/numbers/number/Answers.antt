@@ -1,4 +1,4 @@
-use Rattle.spv_text.proofs.Digit_lemmas.{number_leads, number_is, number_is_not}
+use Rattle.spv_text.proofs.DigitLemmas.{number_leads, number_is, number_is_not}
 use Rattle.spv_text.proofs.numbers.number.Goals as goal
 
 pub returns-then-not-leads_well : goal.returns-then-not-leads_well

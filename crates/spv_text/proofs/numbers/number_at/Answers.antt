@@ -1,4 +1,4 @@
-use Rattle.spv_text.proofs.Digit_lemmas.{no_number}
+use Rattle.spv_text.proofs.DigitLemmas.{no_number}
 use Rattle.spv_text.proofs.numbers.number_at.Goals as goal
 
 pub returns-in-None : goal.returns-in-None

@@ -1,4 +1,4 @@
-use Rattle.spv_text.proofs.Part_lemmas.{no_numbered, no_part}
+use Rattle.spv_text.proofs.PartLemmas.{no_numbered, no_part}
 use Rattle.spv_text.proofs.parts.numbered_at.Goals as goal
 
 pub returns-in-None : goal.returns-in-None

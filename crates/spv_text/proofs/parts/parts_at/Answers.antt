@@ -3,7 +3,7 @@ use Rattle.std.specs.List.{AllByRecursion}
 use Rattle.spv_text.specs.declared.lines.Part.{Part}
 use Rattle.spv_text.specs.Spelling.{parts_text}
 use Rattle.spv_text.specs.Lines.{IsPart}
-use Rattle.spv_text.proofs.Part_lemmas.{no_parts_ended, no_parts_spaced, parts_all, parts_go_on, parts_more}
+use Rattle.spv_text.proofs.PartLemmas.{no_parts_ended, no_parts_spaced, parts_all, parts_go_on, parts_more}
 use Rattle.spv_text.proofs.parts.parts_at.Goals as goal
 
 pub returns-in_default-2 : goal.returns-in_default-2

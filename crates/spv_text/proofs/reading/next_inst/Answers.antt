@@ -1,5 +1,5 @@
-use Rattle.spv_text.proofs.Inst_lemmas.{handed_on}
-use Rattle.spv_text.proofs.Reading_lemmas.{line_wrong}
+use Rattle.spv_text.proofs.InstLemmas.{handed_on}
+use Rattle.spv_text.proofs.ReadingLemmas.{line_wrong}
 use Rattle.spv_text.proofs.reading.next_inst.Goals as goal
 
 pub returns-in-Err-clause-err : goal.returns-in-Err-clause-err

@@ -2,7 +2,7 @@ use Rattle.std.proofs.Common.{◌++◌, List, ℕ, subst, sym, ap, ◌∙◌}
 use Rattle.std.specs.List.{flat_map, AllByRecursion}
 use Rattle.spv_text.specs.Spelling.{byte_text}
 use Rattle.spv_text.specs.Lines.{IsByte}
-use Rattle.spv_text.proofs.String_lemmas.{all_more, bytes_more, string_goes_on}
+use Rattle.spv_text.proofs.StringLemmas.{all_more, bytes_more, string_goes_on}
 use Rattle.spv_text.proofs.strings.bytes_at.Goals as goal
 
 pub loop-byte-init : goal.loop-byte-init

@@ -1,4 +1,4 @@
-use Rattle.spv_text.proofs.String_lemmas.{no_string}
+use Rattle.spv_text.proofs.StringLemmas.{no_string}
 use Rattle.spv_text.proofs.strings.string_at.Goals as goal
 
 pub returns-in-None : goal.returns-in-None

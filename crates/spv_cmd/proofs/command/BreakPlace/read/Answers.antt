@@ -1,5 +1,5 @@
 use Rattle.std.proofs.Common.{arith}
-use Rattle.spv_cmd.proofs.Place_lemmas.{place_form}
+use Rattle.spv_cmd.proofs.PlaceLemmas.{place_form}
 use Rattle.spv_cmd.proofs.command.BreakPlace.read.Goals as goal
 
 pub invariant_of-result : goal.invariant_of-result

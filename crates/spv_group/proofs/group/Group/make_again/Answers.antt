@@ -4,7 +4,7 @@ use Rattle.spv_group.specs.History.{window}
 use Rattle.spv_group.specs.Motion.{kept_in}
 use Rattle.spv_group.specs.Run.{end_of, happening_before}
 use Rattle.spv_group.proofs.Runs.{again_most, again_made, event_before}
-use Rattle.spv_group.proofs.Window_lemmas.{windows_rise}
+use Rattle.spv_group.proofs.WindowLemmas.{windows_rise}
 use Rattle.spv_group.proofs.group.Group.make_again.Goals as goal
 
 pub returns-clause-kept : goal.returns-clause-kept

@@ -1,7 +1,7 @@
 use Rattle.std.proofs.Common.{◌≡◌, ◌≤◌, ℕ, ◌+◌, max, subst, arith}
 use Rattle.spv_group.specs.History.{window}
 use Rattle.spv_group.specs.Motion.{IsRun, kept_in}
-use Rattle.spv_group.proofs.Window_lemmas.{windows_rise}
+use Rattle.spv_group.proofs.WindowLemmas.{windows_rise}
 use Rattle.spv_group.proofs.run.Run.run_to.Goals as goal
 
 pub up-preserved : goal.up-preserved

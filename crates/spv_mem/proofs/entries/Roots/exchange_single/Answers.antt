@@ -1,5 +1,5 @@
 use Rattle.std.proofs.Common.{◌≡◌, ◌∙◌, ℕ, true, get_or, slice_set, ap, subst, sym}
-use Rattle.spv_base.specs.State.{Roots}
+use Rattle.spv_base.specs.Variables.{Roots}
 use Rattle.spv_base.specs.declared.values.Value.{Value}
 use Rattle.spv_mem.specs.Roots.{ExchangesIn, IsAt, distinct}
 use Rattle.spv_mem.specs.Targets.{Exchanges}

@@ -1,6 +1,6 @@
 use Rattle.std.proofs.Common.{◌≡◌, ◌∙◌, ℕ, Some, length, slice_get, ap, refl, subst, sym}
 use Rattle.std.proofs.lemmas.Option.{slice_get_read}
-use Rattle.spv_base.specs.State.{Roots}
+use Rattle.spv_base.specs.Variables.{Roots}
 use Rattle.spv_mem.specs.Roots.{distinct}
 use Rattle.spv_mem.proofs.RootLemmas.{at_place}
 use Rattle.spv_mem.proofs.entries.Roots.find.Goals as goal

@@ -1,7 +1,7 @@
 use Rattle.std.proofs.Common.{◌≡◌, ◌∙◌, ℕ, get_or, ap, subst, sym}
 use Rattle.std.specs.Option.{option_and_then}
 use Rattle.spv_base.specs.Parts.{part_at}
-use Rattle.spv_base.specs.State.{Roots}
+use Rattle.spv_base.specs.Variables.{Roots}
 use Rattle.spv_base.specs.declared.values.Value.{Value}
 use Rattle.spv_mem.specs.Roots.{IsAt}
 use Rattle.spv_mem.proofs.RootLemmas.{fit_at, item_is}

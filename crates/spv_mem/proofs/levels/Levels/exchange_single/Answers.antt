@@ -1,5 +1,5 @@
 use Rattle.std.proofs.Common.{List, ap, subst, sym, ◌∙◌}
-use Rattle.spv_base.specs.State.{Roots}
+use Rattle.spv_base.specs.Variables.{Roots}
 use Rattle.spv_mem.specs.Memory.{Levels}
 use Rattle.spv_mem.specs.Singles.{LeafAt}
 use Rattle.spv_mem.proofs.levels.Levels.exchange_single.Goals as goal

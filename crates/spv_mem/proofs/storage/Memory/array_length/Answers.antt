@@ -1,7 +1,7 @@
 use Rattle.std.proofs.Common.{◌≡◌, ◌∙◌, ℕ, Some, ap, subst, sym}
 use Rattle.std.specs.Option.{option_map_or}
 use Rattle.spv_base.specs.Entries.{reads}
-use Rattle.spv_base.specs.State.{Roots}
+use Rattle.spv_base.specs.Variables.{Roots}
 use Rattle.spv_mem.specs.Memory.{Held, IsMemory, id_in}
 use Rattle.spv_mem.specs.Targets.{elements_in}
 use Rattle.spv_mem.proofs.ArrayLemmas.{counts_at}

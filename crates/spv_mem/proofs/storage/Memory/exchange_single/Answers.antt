@@ -1,5 +1,5 @@
 use Rattle.std.proofs.Common.{◌∙◌, ℕ, List, ap, drop, length, subst, sym, take_at}
-use Rattle.spv_base.specs.State.{Roots}
+use Rattle.spv_base.specs.Variables.{Roots}
 use Rattle.spv_base.specs.declared.values.Root.TheVariants.{Shared, Private, Local}
 use Rattle.spv_mem.specs.Levels.{ExchangesAt, ExchangesLevel}
 use Rattle.spv_mem.specs.Roots.{ExchangesIn}

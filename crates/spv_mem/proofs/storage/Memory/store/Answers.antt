@@ -1,6 +1,6 @@
 use Rattle.std.proofs.Common.{◌≡◌, ◌∙◌, ℕ, List, Some, ap, drop, length, subst, sym, take_at}
 use Rattle.spv_base.specs.Entries.{reads}
-use Rattle.spv_base.specs.State.{Roots}
+use Rattle.spv_base.specs.Variables.{Roots}
 use Rattle.spv_types.specs.Types.{Types}
 use Rattle.spv_mem.specs.Memory.{IsMemory, Levels, Stores, id_in}
 use Rattle.spv_mem.specs.Levels.{ExchangesAt, ExchangesLevel, FitAt, FitLevel, MayBePutAt, MayBePutLevel}

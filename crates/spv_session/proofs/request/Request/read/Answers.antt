@@ -1,5 +1,5 @@
 use Rattle.std.proofs.Common.{sym, ◌∙◌}
-use Rattle.spv_session.proofs.Request_lemmas.{first_refused, no_words, not_built, asks, not_none, passes_refusal, passes_error}
+use Rattle.spv_session.proofs.RequestLemmas.{first_refused, no_words, not_built, asks, not_none, passes_refusal, passes_error}
 use Rattle.spv_session.proofs.request.Request.read.Goals as goal
 
 pub returns-in_err-keyword : goal.returns-in_err-keyword

@@ -3,7 +3,7 @@ use Rattle.spv_group.specs.Group.{Held as Group, end_in}
 use Rattle.spv_session.specs.Reply.{reply_to}
 use Rattle.spv_session.specs.View.{View, Viewing}
 use Rattle.spv_session.specs.declared.request.Request.TheVariants.{Back}
-use Rattle.spv_session.proofs.Reply_lemmas.{back_text}
+use Rattle.spv_session.proofs.ReplyLemmas.{back_text}
 use Rattle.spv_session.proofs.session.Session.answer.Goals as goal
 
 pub returns-in_ok-go-in-Ok-Back-clause-text : goal.returns-in_ok-go-in-Ok-Back-clause-text

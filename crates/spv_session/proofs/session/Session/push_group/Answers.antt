@@ -1,6 +1,6 @@
 use Rattle.std.proofs.Common.{◌∙◌}
 use Rattle.spv_session.specs.Reply.{invocation_reply}
-use Rattle.spv_session.proofs.Reply_lemmas.{text_more}
+use Rattle.spv_session.proofs.ReplyLemmas.{text_more}
 use Rattle.spv_session.proofs.session.Session.push_group.Goals as goal
 
 pub loop-inv-preserved : goal.loop-inv-preserved

@@ -3,7 +3,7 @@ use Rattle.std.specs.Prelude.{slice_get}
 use Rattle.std.specs.List.{repeat}
 use Rattle.std.proofs.Math.Nat.{mod-lt}
 use Rattle.spv_setup.specs.Pieces.{turns_of}
-use Rattle.spv_setup.proofs.Schedule_lemmas.{one_at, round_at, length_each}
+use Rattle.spv_setup.proofs.ScheduleLemmas.{one_at, round_at, length_each}
 use Rattle.spv_setup.proofs.pieces.Piece.at.Goals as goal
 
 pub returns-in-Of-clause-entry : goal.returns-in-Of-clause-entry

@@ -1,6 +1,6 @@
 use Rattle.std.proofs.Common.{◌*◌, ◌∙◌, sym, ap}
 use Rattle.spv_setup.specs.Pieces.{turns_of}
-use Rattle.spv_setup.proofs.Schedule_lemmas.{length_repeat}
+use Rattle.spv_setup.proofs.ScheduleLemmas.{length_repeat}
 use Rattle.spv_setup.proofs.pieces.Piece.len.Goals as goal
 
 pub returns : goal.returns

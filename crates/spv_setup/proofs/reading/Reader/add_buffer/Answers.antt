@@ -1,6 +1,6 @@
 use Rattle.std.proofs.Common.{◌∙◌, ◌&&◌, ap, sym, eqb}
 use Rattle.std.specs.List.{list_any}
-use Rattle.spv_setup.proofs.Index_lemmas.{one_more}
+use Rattle.spv_setup.proofs.IndexLemmas.{one_more}
 use Rattle.spv_setup.proofs.reading.Reader.add_buffer.Goals as goal
 
 pub returns-clause-indexed : goal.returns-clause-indexed

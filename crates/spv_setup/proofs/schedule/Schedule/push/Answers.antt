@@ -1,7 +1,7 @@
 use Rattle.std.proofs.Common.{◌≡◌, ◌≤◌, ◌++◌, ◌∷◌, [], None, length, subst, sym, ap, arith, length-append}
 use Rattle.spv_setup.specs.Schedule.{Entries, entries_in, stray_line}
 use Rattle.spv_setup.specs.Pieces.{pieces_entries}
-use Rattle.spv_setup.proofs.Schedule_lemmas.{pieces_grow, list_grows}
+use Rattle.spv_setup.proofs.ScheduleLemmas.{pieces_grow, list_grows}
 use Rattle.spv_setup.proofs.schedule.Schedule.push.Goals as goal
 
 pub invariant_of-self-2 : goal.invariant_of-self-2

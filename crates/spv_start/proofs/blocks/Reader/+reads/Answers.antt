@@ -2,7 +2,7 @@ use Rattle.std.proofs.Common.{◌≡◌, ◌+◌, ◌-◌, ◌*◌, ◌<◌, ref
 use Rattle.spv_base.specs.Lane.{undefined_lane}
 use Rattle.spv_start.specs.Blocks.{read_among, read_members}
 use Rattle.spv_start.specs.Numbers.{scalar_at}
-use Rattle.spv_start.proofs.Block_lemmas.{less_one, many_leaves, no_leaves, none_read, row_more, row_of, scalar_leaves}
+use Rattle.spv_start.proofs.BlockLemmas.{less_one, many_leaves, no_leaves, none_read, row_more, row_of, scalar_leaves}
 use Rattle.spv_start.proofs.blocks.Reader.+reads.Goals as goal
 
 pub among-returns-in-None : goal.among-returns-in-None

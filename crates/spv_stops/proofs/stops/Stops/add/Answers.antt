@@ -1,6 +1,6 @@
 use Rattle.std.proofs.Common.{◌<◌, ◌+◌, length, sym, subst, arith}
 use Rattle.spv_stops.specs.Stops.{Stops, AreStops}
-use Rattle.spv_stops.proofs.Stop_lemmas.{stops_push}
+use Rattle.spv_stops.proofs.StopLemmas.{stops_push}
 use Rattle.spv_stops.proofs.stops.Stops.add.Goals as goal
 
 pub invariant_of-self-2 : goal.invariant_of-self-2

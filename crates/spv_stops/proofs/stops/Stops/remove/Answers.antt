@@ -1,7 +1,7 @@
 use Rattle.std.proofs.Common.{◌≡◌, true, false, cond, Some, None, Ok, Err, sym, ap, ◌∙◌, subst}
 use Rattle.std.specs.List.{position}
 use Rattle.spv_stops.specs.Stops.{Stops, has_number, is_kept, without_stop, AreStops}
-use Rattle.spv_stops.proofs.Stop_lemmas.{removed_is, stops_without, kept_where, kept_nowhere}
+use Rattle.spv_stops.proofs.StopLemmas.{removed_is, stops_without, kept_where, kept_nowhere}
 use Rattle.spv_stops.proofs.stops.Stops.remove.Goals as goal
 
 pub invariant_of-self : goal.invariant_of-self

@@ -1,0 +1,44 @@
+-- What a test of a type tells of its form.
+use Rattle.std.proofs.Common.{◌≡◌, ℕ, ◌&&◌, ◌||◌, not, Bool, true, false, Option, Some, None, refl}
+use Rattle.std.proofs.lemmas.Bool.{and_parts}
+use Rattle.spv_types.specs.declared.forms.Form.{Form}
+use Rattle.spv_types.specs.declared.forms.Form.TheVariants.{Void, Bool as Boolean, Int, Vector, Array, Runtime, Struct, Pointer, Function}
+use Rattle.spv_types.specs.Types.{Types, form_of}
+use Rattle.spv_types.specs.Rules.{has_runtime, is_data, is_runtime, is_scalar, is_sized_data, keeps_member}
+
+pub scalar_data : (f : Option Form) → is_scalar f ≡ true → is_data f ≡ true
+scalar_data None h = absurd (cc)
+scalar_data (Some Void) h = absurd (cc)
+scalar_data (Some Boolean) h = refl
+scalar_data (Some (Int width sign)) h = refl
+scalar_data (Some (Vector component count)) h = absurd (cc)
+scalar_data (Some (Array element n stride)) h = absurd (cc)
+scalar_data (Some (Runtime element stride)) h = absurd (cc)
+scalar_data (Some (Struct members block)) h = absurd (cc)
+scalar_data (Some (Pointer class target)) h = absurd (cc)
+scalar_data (Some (Function returns parameters)) h = absurd (cc)
+
+pub runtime_data : (f : Option Form) → is_runtime f ≡ true → is_data f ≡ true
+runtime_data None h = absurd (cc)
+runtime_data (Some Void) h = absurd (cc)
+runtime_data (Some Boolean) h = absurd (cc)
+runtime_data (Some (Int width sign)) h = absurd (cc)
+runtime_data (Some (Vector component count)) h = absurd (cc)
+runtime_data (Some (Array element n stride)) h = absurd (cc)
+runtime_data (Some (Runtime element stride)) h = refl
+runtime_data (Some (Struct members block)) h = absurd (cc)
+runtime_data (Some (Pointer class target)) h = absurd (cc)
+runtime_data (Some (Function returns parameters)) h = absurd (cc)
+
+pub sized_data : (ts : Types) (id : ℕ) → is_sized_data ts id ≡ true → is_data (form_of ts id) ≡ true
+sized_data ts id h = (and_parts (is_data (form_of ts id)) (not (has_runtime ts id)) h).0
+
+pub member_data : (ts : Types) (block last : Bool) (ty : ℕ) → keeps_member ts block last ty ≡ true → is_data (form_of ts ty) ≡ true
+member_data ts block last ty h = either (is_sized_data ts ty) refl h
+  where
+    either : (b : Bool) → is_sized_data ts ty ≡ b → (b || (last && (block && is_runtime (form_of ts ty)))) ≡ true → is_data (form_of ts ty) ≡ true
+    either true e h = sized_data ts ty e
+    either false e h =
+        let p = and_parts last (block && is_runtime (form_of ts ty)) h in
+        let q = and_parts block (is_runtime (form_of ts ty)) p.1 in
+        runtime_data (form_of ts ty) q.1
