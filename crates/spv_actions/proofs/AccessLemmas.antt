@@ -17,7 +17,7 @@ use Rattle.spv_types.specs.declared.forms.Form.TheVariants.{Pointer as PointerFo
 use Rattle.spv_types.specs.declared.queries.Pointed.{Pointed}
 use Rattle.spv_types.specs.Laws.{AreSound}
 use Rattle.spv_types.specs.Rows.{no_roots}
-use Rattle.spv_types.specs.Shapes.{HasShape, LeadsTo, reached}
+use Rattle.spv_types.specs.Shapes.{HasShape, LeadsTo, reached_type}
 use Rattle.spv_types.specs.Types.{Types}
 use Rattle.spv_types.proofs.RowShapes.{shapes_keep}
 use Rattle.spv_bodies.specs.Context.{PointsTo, type_at}
@@ -126,10 +126,10 @@ module _ (a : Accepted) (sound : AreSound a.types) (d : Inst) (n : ℕ) (at : Va
 
 -- the type of a variable, and that which a path reaches from it
 module _ (m : Memory) (a : Accepted) (types : m.types ≡ a.types) (targets : m.targets ≡ targets_of (variables a)) (q : Reference) (target : ℕ) (leads : LeadsTo a.types (target_in a) q target) where
-  pub reaches : (ty : ℕ) → reads (id_in q.root) m.targets ≡ Some ty → reached m.types ty q.path ≡ Some target
+  pub reaches : (ty : ℕ) → reads (id_in q.root) m.targets ≡ Some ty → reached_type m.types ty q.path ≡ Some target
   reaches ty named =
       let same : target_in a q.root ≡ Some ty = ap (reads (id_in q.root)) (sym targets) ∙ named in
-      ap (λ (ts : Types). reached ts ty q.path) types ∙ sym (ap (option_and_then (λ (t : ℕ). reached a.types t q.path)) same) ∙ leads
+      ap (λ (ts : Types). reached_type ts ty q.path) types ∙ sym (ap (option_and_then (λ (t : ℕ). reached_type a.types t q.path)) same) ∙ leads
 
   -- the part that a memory has there is one of the target type
   pub part_shape : (i : ℕ) (v : Value) → IsMemory m → load_of m i q ≡ Some v → HasShape a.types no_roots target v

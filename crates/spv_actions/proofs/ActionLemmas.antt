@@ -44,7 +44,7 @@ use Rattle.spv_plans.specs.Members.{is_stop}
 use Rattle.spv_results.specs.Computations.{by_opcode, computation_of}
 use Rattle.spv_results.specs.Operands.{known}
 use Rattle.spv_results.specs.declared.computations.Computation.TheVariants.{Glsl}
-use Rattle.spv_state.specs.Actions.{action_of, atomic_op, named}
+use Rattle.spv_state.specs.Actions.{action_of, atomic_op, action_rows}
 use Rattle.spv_state.specs.declared.actions.Action.TheVariants.{Compute}
 use Rattle.spv_actions.specs.Laws.{StopsAreActions, is_action}
 use Rattle.spv_actions.specs.Sites.{IsSite, Site, accepted}
@@ -65,7 +65,7 @@ passed =
 
 -- an opcode that tells by itself that its instructions are actions
 abbrev is_action_code : ℕ → Bool
-is_action_code op = (is_some (reads op named) || is_some (atomic_op op)) || is_some (by_opcode op)
+is_action_code op = (is_some (reads op action_rows) || is_some (atomic_op op)) || is_some (by_opcode op)
 
 -- those, and ExtInst 12
 abbrev is_ruled : ℕ → Bool
@@ -192,7 +192,7 @@ module _ (k : Known) (i : Inst) (runs : is_executable (class_of k.sets i) ≡ tr
   of_set op =
       let rule : KeepsExtended k kept.placed.inst = subst (λ (n : ℕ). KeepsRule k kept.placed (rule_of n)) (ap (λ (j : Inst). j.op) kept.same ∙ op) kept.keeps.1 in
       let own : KeepsExtended k i = subst (KeepsExtended k) kept.same rule in
-      or_right (is_some (reads i.op named) || is_some (atomic_op i.op)) (is_some (computation_of i)) (extended_computes k i op (no_debug k.sets i op runs) own)
+      or_right (is_some (reads i.op action_rows) || is_some (atomic_op i.op)) (is_some (computation_of i)) (extended_computes k i op (no_debug k.sets i op runs) own)
 
   of_code : (i.op == 12) ≡ false → is_action_code i.op ≡ true → is_action i ≡ true
   unfolding computation_of

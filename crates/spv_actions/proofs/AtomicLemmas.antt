@@ -6,7 +6,7 @@ use Rattle.std.specs.Prelude.{nat_le}
 use Rattle.std.specs.List.{AllByRecursion}
 use Rattle.std.specs.Option.{IsSomeAnd, option_and_then}
 use Rattle.spv_base.specs.Entries.{reads}
-use Rattle.spv_base.specs.Lane.{IsLane, Lane, undefined_lane}
+use Rattle.spv_base.specs.Cell.{IsCell, Cell, undefined_cell}
 use Rattle.spv_effects.specs.Lanes.{lane_of, of_lanes}
 use Rattle.spv_values.proofs.RowLemmas.{scalar_leaf}
 use Rattle.spv_base.specs.declared.instructions.Inst.{Inst}
@@ -20,7 +20,7 @@ use Rattle.spv_types.specs.declared.queries.Pointed.{Pointed}
 use Rattle.spv_types.specs.Laws.{AreSound}
 use Rattle.spv_types.specs.Rows.{no_roots}
 use Rattle.spv_types.specs.Rules.{is_width}
-use Rattle.spv_types.specs.Shapes.{HasShape, IsScalar, LeadsTo, reached, scalar_in}
+use Rattle.spv_types.specs.Shapes.{HasShape, IsScalar, LeadsTo, reached_type, scalar_in}
 use Rattle.spv_types.specs.Types.{Types, form_of}
 use Rattle.spv_types.proofs.ShapeLemmas.{shapes_are_by_forms}
 use Rattle.spv_alu.specs.Integers.{IsWidth}
@@ -106,13 +106,13 @@ keeps_atomic a i x is kept = by_code x (subst (λ (op : ℕ). KeepsRule (known a
 -- ---- integers
 
 -- a scalar of an integer type has the type's width
-pub scalar_shape : (ts : Types) (roots : Root → Option ℕ) (ty width sign : ℕ) (c : Lane) → AreSound ts → form_of ts ty ≡ Some (Int width sign) → HasShape ts roots ty (Scalar c) → (c.width ≡ width) × IsLane c
+pub scalar_shape : (ts : Types) (roots : Root → Option ℕ) (ty width sign : ℕ) (c : Cell) → AreSound ts → form_of ts ty ≡ Some (Int width sign) → HasShape ts roots ty (Scalar c) → (c.width ≡ width) × IsCell c
 scalar_shape ts roots ty width sign c sound is shape =
     let scalar : IsScalar width (Scalar c) = (shapes_are_by_forms ts roots sound ty (Int width sign) (Scalar c) is).0 shape in
-    subst (λ l. IsSomeAnd (scalar_in l) (λ d. (d.width ≡ width) × IsLane d)) (out_scalar c) scalar
+    subst (λ l. IsSomeAnd (scalar_in l) (λ d. (d.width ≡ width) × IsCell d)) (out_scalar c) scalar
 
 -- two scalars of one integer type have one width
-pub one_width : (ts : Types) (ty width sign : ℕ) (c d : Lane) → AreSound ts → form_of ts ty ≡ Some (Int width sign) → HasShape ts no_roots ty (Scalar c) → HasShape ts no_roots ty (Scalar d) → c.width ≡ d.width
+pub one_width : (ts : Types) (ty width sign : ℕ) (c d : Cell) → AreSound ts → form_of ts ty ≡ Some (Int width sign) → HasShape ts no_roots ty (Scalar c) → HasShape ts no_roots ty (Scalar d) → c.width ≡ d.width
 one_width ts ty width sign c d sound is first second =
     (scalar_shape ts no_roots ty width sign c sound is first).0 ∙ sym (scalar_shape ts no_roots ty width sign d sound is second).0
 
@@ -136,9 +136,9 @@ then_is f g (Some y) t h = ap (option_and_then g) h
 width_is : (m : Memory) (a : Accepted) (q : Reference) (target width sign : ℕ) → m.types ≡ a.types → m.targets ≡ targets_of (variables a) → LeadsTo a.types (target_in a) q target
     → form_of a.types target ≡ Some (Int width sign) → width_at m q ≡ Some width
 width_is m a q target width sign types targets leads is =
-    ap (λ (ts : Types). option_and_then (λ (type : ℕ). option_and_then (λ (t : ℕ). integer_width (form_of ts t)) (reached ts type q.path)) (reads (id_in q.root) m.targets)) types
-    ∙ ap (λ (es : List (ℕ × ℕ)). option_and_then (λ (type : ℕ). option_and_then (λ (t : ℕ). integer_width (form_of a.types t)) (reached a.types type q.path)) (reads (id_in q.root) es)) targets
-    ∙ then_is (λ (type : ℕ). reached a.types type q.path) (λ (t : ℕ). integer_width (form_of a.types t)) (reads (id_in q.root) (targets_of (variables a))) target leads
+    ap (λ (ts : Types). option_and_then (λ (type : ℕ). option_and_then (λ (t : ℕ). integer_width (form_of ts t)) (reached_type ts type q.path)) (reads (id_in q.root) m.targets)) types
+    ∙ ap (λ (es : List (ℕ × ℕ)). option_and_then (λ (type : ℕ). option_and_then (λ (t : ℕ). integer_width (form_of a.types t)) (reached_type a.types type q.path)) (reads (id_in q.root) es)) targets
+    ∙ then_is (λ (type : ℕ). reached_type a.types type q.path) (λ (t : ℕ). integer_width (form_of a.types t)) (reads (id_in q.root) (targets_of (variables a))) target leads
     ∙ ap integer_width is
 
 -- ---- where the pointer leads
@@ -159,7 +159,7 @@ module _ (x : Site) (sound : AreSound (accepted x).types) (memory : ∥ IsMemory
   pub scalar_there : IsScalarAt x.state.memory x.inv q
   scalar_there = scalar_if x.state.memory q (Some rule.2.1.0) memory (sym width) x.inv
 
-  pub is_target : (old : Lane) → load_of x.state.memory x.inv q ≡ Some (Scalar old) → IsTarget x (q, old)
+  pub is_target : (old : Cell) → load_of x.state.memory x.inv q ≡ Some (Scalar old) → IsTarget x (q, old)
   is_target old there =
       let shape : HasShape (accepted x).types no_roots rule.0.target (Scalar old)
       = ∥∥₁_elim memory (shape_prop (accepted x).types no_roots rule.0.target (Scalar old)) (λ (m : IsMemory x.state.memory).
@@ -175,12 +175,12 @@ module _ (x : Site) (sound : AreSound (accepted x).types) (memory : ∥ IsMemory
 
 -- ---- scalars as lanes
 
-pub one_scalar : (c : Lane) → of_lanes (c ∷ []) ≡ Scalar c
+pub one_scalar : (c : Cell) → of_lanes (c ∷ []) ≡ Scalar c
 unfolding of_lanes
 one_scalar c = refl
 
-pub lane_scalar : (v : Value) (c : Lane) → v ≡ Scalar c → lane_of v ≡ c
-lane_scalar v c is = ap lane_of is ∙ ap (λ (ls : List Lane). slice_index_or ls 0 (undefined_lane 0)) (scalar_leaf c)
+pub lane_scalar : (v : Value) (c : Cell) → v ≡ Scalar c → lane_of v ≡ c
+lane_scalar v c is = ap lane_of is ∙ ap (λ (ls : List Cell). slice_index_or ls 0 (undefined_cell 0)) (scalar_leaf c)
 
 -- an operand of an integer type is a scalar
 pub scalar_operand : (a : Accepted) (d : Inst) (n : ℕ) (v : Value) → AreSound a.types → IsIntegerAt a d n → IsOperand a d n v → IsSome (scalar_in (out-Value v))
@@ -189,7 +189,7 @@ scalar_operand a d n v sound integer operand =
     let scalar : IsScalar integer.0 v = (shapes_are_by_forms a.types no_roots sound form.type (Int integer.0 integer.1) v form.form).0 (operand form.type form.is) in
     some_scalar (scalar_in (out-Value v)) scalar
   where
-    some_scalar : (o : Option Lane) → IsSomeAnd o (λ d. (d.width ≡ integer.0) × IsLane d) → IsSome o
+    some_scalar : (o : Option Cell) → IsSomeAnd o (λ d. (d.width ≡ integer.0) × IsCell d) → IsSome o
     some_scalar None h = absurd h
     some_scalar (Some c) h = refl
 
@@ -199,13 +199,13 @@ scalar_operand a d n v sound integer operand =
 pub integer_at : (a : Accepted) (d : Inst) (n : ℕ) (rule : LeadsToInteger a d) → HasType (known a) d n rule.0.target → IsIntegerAt a d n
 integer_at a d n rule type = (rule.2.1.0, rule.2.1.1, ap (option_and_then (form_of a.types)) type ∙ rule.2.1.2)
 
-module _ (x : Site) (sound : AreSound (accepted x).types) (rule : LeadsToInteger (accepted x) x.inst) (t : Reference × Lane) (is : IsTarget x t) where
+module _ (x : Site) (sound : AreSound (accepted x).types) (rule : LeadsToInteger (accepted x) x.inst) (t : Reference × Cell) (is : IsTarget x t) where
   -- it has the width of the integer there
-  pub value_width : (n : ℕ) (c : Lane) → HasType (known (accepted x)) x.inst n rule.0.target → IsOperand (accepted x) x.inst n (Scalar c) → c.width ≡ t.1.width
+  pub value_width : (n : ℕ) (c : Cell) → HasType (known (accepted x)) x.inst n rule.0.target → IsOperand (accepted x) x.inst n (Scalar c) → c.width ≡ t.1.width
   value_width n c type operand = one_width (accepted x).types rule.0.target rule.2.1.0 rule.2.1.1 c t.1 sound rule.2.1.2 (operand rule.0.target type) (is.typed rule.0 rule.1)
 
 -- another integer of its width may be stored
-pub exchange_fits : (x : Site) (t : Reference × Lane) (is : IsTarget x t) (memory : ∥ IsMemory x.state.memory ∥₁) (new : Lane) (v : Value) → v ≡ Scalar new → IsLane new → new.width ≡ t.1.width → StoreFits x.state x.inv (Some (t.0, v))
+pub exchange_fits : (x : Site) (t : Reference × Cell) (is : IsTarget x t) (memory : ∥ IsMemory x.state.memory ∥₁) (new : Cell) (v : Value) → v ≡ Scalar new → IsCell new → new.width ≡ t.1.width → StoreFits x.state x.inv (Some (t.0, v))
 exchange_fits x t is memory new v put lane width = (
   subst (λ (o : Option Value). IsSome o) (sym is.there) refl,
   subst (λ (u : Value). ∥ MayStore x.state.memory x.inv t.0 u ∥₁) (sym put) (may_if x.state.memory t.0 (Some t.1.width) memory (sym is.leads) x.inv new width lane),

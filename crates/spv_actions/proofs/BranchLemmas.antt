@@ -2,7 +2,7 @@
 use Rattle.std.proofs.Common.{◌≡◌, ◌∙◌, ℕ, ◌++◌, List, [], ◌∷◌, append_assoc, true, false, Option, Some, None, Result, Ok, Err, ok_or, refl, sym, ap, subst}
 use Rattle.std.specs.Option.{option_map}
 use Rattle.spv_base.specs.Answers.{Answers}
-use Rattle.spv_base.specs.Lane.{Lane}
+use Rattle.spv_base.specs.Cell.{Cell}
 use Rattle.spv_base.specs.declared.causes.Fail.{Fail}
 use Rattle.spv_base.specs.declared.causes.Fail.TheVariants.{Refused, NoMemory}
 use Rattle.spv_base.specs.declared.values.Value.{Value, Scalar}
@@ -11,7 +11,7 @@ use Rattle.spv_index.specs.Operands.{id_operand}
 use Rattle.spv_state.specs.Actions.{action_of}
 use Rattle.spv_state.specs.State.{depth_of}
 use Rattle.spv_state.specs.declared.actions.Action.TheVariants.{Branch, BranchConditional, Switch}
-use Rattle.spv_actions.specs.Branches.{decided, jump_by, picked, switched}
+use Rattle.spv_actions.specs.Branches.{deciding_number, jump_by, chosen_label, switch_label}
 use Rattle.spv_actions.specs.Effects as spec
 use Rattle.spv_actions.specs.Effects.{◌>>=◌}
 use Rattle.spv_actions.specs.Phis.{block_at, phi_values, phis_of}
@@ -34,20 +34,20 @@ taken x block = phi_values (accepted x) x.frame (depth_of x.state x.inv) (block_
 -- ---- by a value
 
 abbrev pub jumps_by : Site → (ℕ → Option ℕ) → Result spec.Effect Cause
-jumps_by x label = ok_or (values x 0) NoValue >>= (λ (v : Value). decided v >>= (λ (n : ℕ). jumps x (label n)))
+jumps_by x label = ok_or (values x 0) NoValue >>= (λ (v : Value). deciding_number v >>= (λ (n : ℕ). jumps x (label n)))
 
 module _ (x : Site) (label : ℕ → Option ℕ) where
   pub by_missing : values x 0 ≡ None → jumps_by x label ≡ Err NoValue
-  by_missing none = ap (λ (o : Option Value). ok_or o NoValue >>= (λ (v : Value). decided v >>= (λ (n : ℕ). jumps x (label n)))) none
+  by_missing none = ap (λ (o : Option Value). ok_or o NoValue >>= (λ (v : Value). deciding_number v >>= (λ (n : ℕ). jumps x (label n)))) none
 
-  pub by_undefined : (v : Value) (cause : Cause) → values x 0 ≡ Some v → decided v ≡ Err cause → jumps_by x label ≡ Err cause
+  pub by_undefined : (v : Value) (cause : Cause) → values x 0 ≡ Some v → deciding_number v ≡ Err cause → jumps_by x label ≡ Err cause
   by_undefined v cause value undefined =
-      ap (λ (o : Option Value). ok_or o NoValue >>= (λ (u : Value). decided u >>= (λ (n : ℕ). jumps x (label n)))) value
+      ap (λ (o : Option Value). ok_or o NoValue >>= (λ (u : Value). deciding_number u >>= (λ (n : ℕ). jumps x (label n)))) value
       ∙ ap (λ (r : Result ℕ Cause). r >>= (λ (n : ℕ). jumps x (label n))) undefined
 
-  pub by_number : (v : Value) (n : ℕ) → values x 0 ≡ Some v → decided v ≡ Ok n → jumps_by x label ≡ jumps x (label n)
+  pub by_number : (v : Value) (n : ℕ) → values x 0 ≡ Some v → deciding_number v ≡ Ok n → jumps_by x label ≡ jumps x (label n)
   by_number v n value number =
-      ap (λ (o : Option Value). ok_or o NoValue >>= (λ (u : Value). decided u >>= (λ (m : ℕ). jumps x (label m)))) value
+      ap (λ (o : Option Value). ok_or o NoValue >>= (λ (u : Value). deciding_number u >>= (λ (m : ℕ). jumps x (label m)))) value
       ∙ ap (λ (r : Result ℕ Cause). r >>= (λ (m : ℕ). jumps x (label m))) number
 
 -- ---- the instructions
@@ -55,10 +55,10 @@ module _ (x : Site) (label : ℕ → Option ℕ) where
 pub branch_due : (x : Site) → action_of x.inst ≡ Branch → due x ≡ jumps x (id_operand x.inst 0)
 branch_due x is = due_by x Branch is
 
-pub condition_due : (x : Site) → action_of x.inst ≡ BranchConditional → due x ≡ jumps_by x (picked x.inst)
+pub condition_due : (x : Site) → action_of x.inst ≡ BranchConditional → due x ≡ jumps_by x (chosen_label x.inst)
 condition_due x is = due_by x BranchConditional is
 
-pub switch_due : (x : Site) → action_of x.inst ≡ Switch → due x ≡ jumps_by x (switched (accepted x).insts x.inst)
+pub switch_due : (x : Site) → action_of x.inst ≡ Switch → due x ≡ jumps_by x (switch_label (accepted x).insts x.inst)
 switch_due x is = due_by x Switch is
 
 -- ---- as the calls answer
@@ -79,11 +79,11 @@ answer_due a v n NoMemory r gives h same = subst (λ (s : Result Effect (Fail Ca
 
 -- ---- the number of a scalar
 
-pub number_defined : (v : Value) (c : Lane) → v ≡ Scalar c → c.defined ≡ true → decided v ≡ Ok c.bits
-number_defined v c is defined = ap decided is ∙ rw (out_scalar c) (rw defined refl)
+pub number_defined : (v : Value) (c : Cell) → v ≡ Scalar c → c.defined ≡ true → deciding_number v ≡ Ok c.bits
+number_defined v c is defined = ap deciding_number is ∙ rw (out_scalar c) (rw defined refl)
 
-pub number_undefined : (v : Value) (c : Lane) → v ≡ Scalar c → c.defined ≡ false → decided v ≡ Err UndefinedBranch
-number_undefined v c is undefined = ap decided is ∙ rw (out_scalar c) (rw undefined refl)
+pub number_undefined : (v : Value) (c : Cell) → v ≡ Scalar c → c.defined ≡ false → deciding_number v ≡ Err UndefinedBranch
+number_undefined v c is undefined = ap deciding_number is ∙ rw (out_scalar c) (rw undefined refl)
 
 -- ---- the phis that have taken their values so far
 

@@ -4,7 +4,7 @@ use Rattle.std.specs.List.{flat_map, range_with_len}
 use Rattle.std.specs.Option.{IsSomeAnd, option_and_then, option_map}
 use Rattle.std.specs.Prelude.{if◌then◌else◌, not}
 use Rattle.spv_base.specs.Entries.{reads}
-use Rattle.spv_base.specs.Lane.{Lane}
+use Rattle.spv_base.specs.Cell.{Cell}
 use Rattle.spv_base.specs.declared.instructions.Inst.{Inst}
 use Rattle.spv_base.specs.declared.values.Pointer.{Pointer as Reference}
 use Rattle.spv_base.specs.declared.values.Value.{Value, Ptr, out-Value}
@@ -14,7 +14,7 @@ use Rattle.spv_types.specs.declared.forms.Form.TheVariants.{Pointer as PointerFo
 use Rattle.spv_types.specs.Laws.{AreSound}
 use Rattle.spv_types.specs.Queries.{is_integer, is_pointer}
 use Rattle.spv_types.specs.Rows.{leaves, no_roots}
-use Rattle.spv_types.specs.Shapes.{HasShape, LeadsTo, pointer_in, reached}
+use Rattle.spv_types.specs.Shapes.{HasShape, LeadsTo, pointer_in, reached_type}
 use Rattle.spv_types.specs.Types.{Types, form_of}
 use Rattle.spv_types.proofs.ShapeLemmas.{shapes_are_by_forms}
 use Rattle.spv_consts.specs.Table.{Constants, Row, only, scalar_of}
@@ -35,7 +35,7 @@ use Rattle.spv_results.specs.Results.{all_of}
 use Rattle.spv_state.specs.Actions.{action_of}
 use Rattle.spv_state.specs.State.{depth_of}
 use Rattle.spv_state.specs.declared.actions.Action.TheVariants.{Chain}
-use Rattle.spv_actions.specs.Chains.{chained, indexes, with_indexes}
+use Rattle.spv_actions.specs.Chains.{chained_pointer, indexes, with_indexes}
 use Rattle.spv_actions.specs.Effects as spec
 use Rattle.spv_actions.specs.Effects.{◌>>=◌, gives, pointer}
 use Rattle.spv_actions.specs.Fits.{LevelFits}
@@ -49,8 +49,8 @@ use Rattle.spv_actions.proofs.OperandLemmas.{PointersHaveShapes, ValuesHaveShape
 
 -- ---- what is due
 
-abbrev chain_from : Option Value → Result (List Lane) Cause → Result spec.Effect Cause
-chain_from o is = ok_or o NoValue >>= (λ (at : Value). is >>= (λ (cs : List Lane). chained at cs >>= (λ (q : Reference). Ok (gives (Ptr q)))))
+abbrev chain_from : Option Value → Result (List Cell) Cause → Result spec.Effect Cause
+chain_from o is = ok_or o NoValue >>= (λ (at : Value). is >>= (λ (cs : List Cell). chained_pointer at cs >>= (λ (q : Reference). Ok (gives (Ptr q)))))
 
 chain_due : (x : Site) → action_of x.inst ≡ Chain → due x ≡ chain_from (values x 0) (indexes (values x) x.inst)
 chain_due x is = due_by x Chain is
@@ -62,23 +62,23 @@ pub chain_without : (x : Site) (at : Value) (cause : Cause) → action_of x.inst
 chain_without x at cause is base none =
     chain_due x is ∙ ap (λ (o : Option Value). chain_from o (indexes (values x) x.inst)) base ∙ ap (chain_from (Some at)) none
 
-chain_by : (x : Site) (at : Value) (cs : List Lane) → action_of x.inst ≡ Chain → values x 0 ≡ Some at → indexes (values x) x.inst ≡ Ok cs → due x ≡ (chained at cs >>= (λ (q : Reference). Ok (gives (Ptr q))))
+chain_by : (x : Site) (at : Value) (cs : List Cell) → action_of x.inst ≡ Chain → values x 0 ≡ Some at → indexes (values x) x.inst ≡ Ok cs → due x ≡ (chained_pointer at cs >>= (λ (q : Reference). Ok (gives (Ptr q))))
 chain_by x at cs is base found = chain_due x is ∙ ap (λ (o : Option Value). chain_from o (indexes (values x) x.inst)) base ∙ ap (chain_from (Some at)) found
 
-pub chain_gives : (x : Site) (at : Value) (cs : List Lane) (r : Reference) → action_of x.inst ≡ Chain → values x 0 ≡ Some at → indexes (values x) x.inst ≡ Ok cs → chained at cs ≡ Ok r → due x ≡ Ok (gives (Ptr r))
+pub chain_gives : (x : Site) (at : Value) (cs : List Cell) (r : Reference) → action_of x.inst ≡ Chain → values x 0 ≡ Some at → indexes (values x) x.inst ≡ Ok cs → chained_pointer at cs ≡ Ok r → due x ≡ Ok (gives (Ptr r))
 chain_gives x at cs r is base found goes = chain_by x at cs is base found ∙ ap (λ (p : Result Reference Cause). p >>= (λ (q : Reference). Ok (gives (Ptr q)))) goes
 
-pub chain_fails : (x : Site) (at : Value) (cs : List Lane) (cause : Cause) → action_of x.inst ≡ Chain → values x 0 ≡ Some at → indexes (values x) x.inst ≡ Ok cs → chained at cs ≡ Err cause → due x ≡ Err cause
+pub chain_fails : (x : Site) (at : Value) (cs : List Cell) (cause : Cause) → action_of x.inst ≡ Chain → values x 0 ≡ Some at → indexes (values x) x.inst ≡ Ok cs → chained_pointer at cs ≡ Err cause → due x ≡ Err cause
 chain_fails x at cs cause is base found fails = chain_by x at cs is base found ∙ ap (λ (p : Result Reference Cause). p >>= (λ (q : Reference). Ok (gives (Ptr q)))) fails
 
 -- ---- the indexes are read one after another
 
 -- the cells of the operands from 1 to the one before a number; those of the others come behind them
-abbrev pub Reads : Site → List Lane → ℕ → Type 0
+abbrev pub Reads : Site → List Cell → ℕ → Type 0
 Reads x cs n = indexes (values x) x.inst ≡ ok_or (option_map (λ (us : List Value). cs ++ flat_map leaves us) (all_of (values x) (range_with_len n (length x.inst.operands - n)))) NoValue
 
 -- the next operand, and those behind it
-next_of : (x : Site) (cs : List Lane) (n : ℕ) (o : Option Value) → n < length x.inst.operands → values x n ≡ o → Reads x cs n
+next_of : (x : Site) (cs : List Cell) (n : ℕ) (o : Option Value) → n < length x.inst.operands → values x n ≡ o → Reads x cs n
     → indexes (values x) x.inst ≡ ok_or (option_map (λ (us : List Value). cs ++ flat_map leaves us)
     (option_and_then (λ (v : Value). option_map (λ (us : List Value). v ∷ us) (all_of (values x) (range_with_len (n + 1) (length x.inst.operands - (n + 1))))) o)) NoValue
 next_of x cs n o lt value so_far =
@@ -87,12 +87,12 @@ next_of x cs n o lt value so_far =
     ∙ ap (λ (p : Option Value). ok_or (option_map (λ (us : List Value). cs ++ flat_map leaves us)
     (option_and_then (λ (v : Value). option_map (λ (us : List Value). v ∷ us) (all_of (values x) (range_with_len (n + 1) (length x.inst.operands - (n + 1))))) p)) NoValue) value
 
-moved : (cs : List Lane) (v : Value) (o : Option (List Value))
+moved : (cs : List Cell) (v : Value) (o : Option (List Value))
     → ok_or (option_map (λ (us : List Value). cs ++ flat_map leaves us) (option_map (λ (us : List Value). v ∷ us) o)) NoValue ≡ ok_or (option_map (λ (us : List Value). (cs ++ leaves v) ++ flat_map leaves us) o) NoValue
 moved cs v None = refl
-moved cs v (Some us) = ap (λ (ls : List Lane). Ok ls) (sym (append_assoc cs (leaves v) (flat_map leaves us)))
+moved cs v (Some us) = ap (λ (ls : List Cell). Ok ls) (sym (append_assoc cs (leaves v) (flat_map leaves us)))
 
-pub one_read : (x : Site) (cs : List Lane) (n : ℕ) (v : Value) → n < length x.inst.operands → Reads x cs n → values x n ≡ Some v → Reads x (cs ++ leaves v) (n + 1)
+pub one_read : (x : Site) (cs : List Cell) (n : ℕ) (v : Value) → n < length x.inst.operands → Reads x cs n → values x n ≡ Some v → Reads x (cs ++ leaves v) (n + 1)
 one_read x cs n v lt so_far value = next_of x cs n (Some v) lt value so_far ∙ moved cs v (all_of (values x) (range_with_len (n + 1) (length x.inst.operands - (n + 1))))
 
 -- ---- the indexes are data
@@ -109,7 +109,7 @@ chain_data a d kept n low lt =
 -- ---- what the chain's pointer leads to
 
 -- the scalar of a constant is its one cell
-constant_cell : (cs : Constants) (id : ℕ) (c : Lane) → scalar_of cs id ≡ Some c → (r : Row) × (reads id cs ≡ Some r) × (only r.cells ≡ Some c)
+constant_cell : (cs : Constants) (id : ℕ) (c : Cell) → scalar_of cs id ≡ Some c → (r : Row) × (reads id cs ≡ Some r) × (only r.cells ≡ Some c)
 constant_cell cs id c h = by_row (reads id cs) refl h
   where
     by_row : (o : Option Row) → reads id cs ≡ o → option_and_then (λ (r : Row). only r.cells) o ≡ Some c → (r : Row) × (reads id cs ≡ Some r) × (only r.cells ≡ Some c)
@@ -117,14 +117,14 @@ constant_cell cs id c h = by_row (reads id cs) refl h
     by_row (Some r) e h = (r, e, h)
 
 -- the constant that a member's index is
-member_constant : (k : Known) (id n : ℕ) → member_number k id ≡ Some n → (c : Lane) × (scalar_of k.consts id ≡ Some c) × (index_in c ≡ Some n)
+member_constant : (k : Known) (id n : ℕ) → member_number k id ≡ Some n → (c : Cell) × (scalar_of k.consts id ≡ Some c) × (index_in c ≡ Some n)
 member_constant k id n h = by_literal (is_literal k id) h
   where
-    by_scalar : (o : Option Lane) → scalar_of k.consts id ≡ o → option_and_then index_in o ≡ Some n → (c : Lane) × (scalar_of k.consts id ≡ Some c) × (index_in c ≡ Some n)
+    by_scalar : (o : Option Cell) → scalar_of k.consts id ≡ o → option_and_then index_in o ≡ Some n → (c : Cell) × (scalar_of k.consts id ≡ Some c) × (index_in c ≡ Some n)
     by_scalar None e h = absurd (cc)
     by_scalar (Some c) e h = (c, e, h)
 
-    by_literal : (b : Bool) → (if b then option_and_then index_in (scalar_of k.consts id) else None) ≡ Some n → (c : Lane) × (scalar_of k.consts id ≡ Some c) × (index_in c ≡ Some n)
+    by_literal : (b : Bool) → (if b then option_and_then index_in (scalar_of k.consts id) else None) ≡ Some n → (c : Cell) × (scalar_of k.consts id ≡ Some c) × (index_in c ≡ Some n)
     by_literal false h = absurd (cc)
     by_literal true h = by_scalar (scalar_of k.consts id) refl h
 
@@ -140,7 +140,7 @@ integer_type k id h = by_type (type_of k id) refl h
     by_type None e h = absurd (cc)
     by_type (Some ty) e h = (ty, e, h)
 
-only_one : (cs : List Lane) (c d : Lane) → cs ≡ c ∷ [] → only cs ≡ Some d → c ≡ d
+only_one : (cs : List Cell) (c d : Cell) → cs ≡ c ∷ [] → only cs ≡ Some d → c ≡ d
 only_one cs c d same one = let there : Some c ≡ Some d = sym (ap only same) ∙ one in cc
 
 module _ (plains : ValuesHaveShapes) (pointers : PointersHaveShapes) (meant : ConstantsAreMeant) (x : Site) (m : Accepted) (same : m ≡ accepted x) (accepts : ∥ IsAccepted m ∥₁) (sound : AreSound (accepted x).types)
@@ -169,14 +169,14 @@ module _ (plains : ValuesHaveShapes) (pointers : PointersHaveShapes) (meant : Co
       }
 
   -- the pointer and its cells
-  path_is : (q : Reference) (cs : List Lane) (r : Reference) → with_indexes q cs ≡ Ok r → record { root = q.root; path = extend q.path cs } ≡ r
+  path_is : (q : Reference) (cs : List Cell) (r : Reference) → with_indexes q cs ≡ Ok r → record { root = q.root; path = extend q.path cs } ≡ r
   path_is q cs r h = by_defined (all_defined cs) h
     where
       by_defined : (b : Bool) → (if b then Ok (record { root = q.root; path = extend q.path cs }) else Err UndefinedIndex) ≡ Ok r → record { root = q.root; path = extend q.path cs } ≡ r
       by_defined false h = absurd (cc)
       by_defined true h = cc
 
-  cells_are : (cs : List Lane) → indexes (values x) x.inst ≡ Ok cs → (vs : List Value) × (all_of (values x) (range_with_len 1 (length x.inst.operands - 1)) ≡ Some vs) × (flat_map leaves vs ≡ cs)
+  cells_are : (cs : List Cell) → indexes (values x) x.inst ≡ Ok cs → (vs : List Value) × (all_of (values x) (range_with_len 1 (length x.inst.operands - 1)) ≡ Some vs) × (flat_map leaves vs ≡ cs)
   cells_are cs h = by_values (all_of (values x) (range_with_len 1 (length x.inst.operands - 1))) refl h
     where
       by_values : (o : Option (List Value)) → all_of (values x) (range_with_len 1 (length x.inst.operands - 1)) ≡ o → ok_or (option_map (flat_map leaves) o) NoValue ≡ Ok cs
@@ -184,29 +184,29 @@ module _ (plains : ValuesHaveShapes) (pointers : PointersHaveShapes) (meant : Co
       by_values None e h = absurd (cc)
       by_values (Some vs) e h = let is : flat_map leaves vs ≡ cs = cc in (vs, e, is)
 
-  module _ (kept : KeepsChain (known (accepted x)) x.inst) (at : Value) (shaped : IsShaped (accepted x) x.inst 0 at) (cs : List Lane) (found : indexes (values x) x.inst ≡ Ok cs) where
-    goes_on : reached (accepted x).types kept.0.target (map extended cs) ≡ Some kept.2.0.target
+  module _ (kept : KeepsChain (known (accepted x)) x.inst) (at : Value) (shaped : IsShaped (accepted x) x.inst 0 at) (cs : List Cell) (found : indexes (values x) x.inst ≡ Ok cs) where
+    goes_on : reached_type (accepted x).types kept.0.target (map extended cs) ≡ Some kept.2.0.target
     goes_on =
         let vs = cells_are cs found in
-        ap (λ (ls : List Lane). reached (accepted x).types kept.0.target (map extended ls)) (sym vs.2)
+        ap (λ (ls : List Cell). reached_type (accepted x).types kept.0.target (map extended ls)) (sym vs.2)
         ∙ lead_behind (known (accepted x)) (values x) x.inst.operands kept.0.target kept.2.0.target vs.0 is_index vs.1 kept.2.2.1
 
     indexed_leads : (q r : Reference) → LeadsTo (accepted x).types (target_in (accepted x)) q kept.0.target → with_indexes q cs ≡ Ok r → LeadsTo (accepted x).types (target_in (accepted x)) r kept.2.0.target
     indexed_leads q r leads goes =
         subst (λ (p : Reference). LeadsTo (accepted x).types (target_in (accepted x)) p kept.2.0.target) (path_is q cs r goes) (by_root (target_in (accepted x) q.root) leads)
       where
-        by_root : (o : Option ℕ) → option_and_then (λ t. reached (accepted x).types t q.path) o ≡ Some kept.0.target → option_and_then (λ t. reached (accepted x).types t (extend q.path cs)) o ≡ Some kept.2.0.target
+        by_root : (o : Option ℕ) → option_and_then (λ t. reached_type (accepted x).types t q.path) o ≡ Some kept.0.target → option_and_then (λ t. reached_type (accepted x).types t (extend q.path cs)) o ≡ Some kept.2.0.target
         by_root None h = absurd (cc)
         by_root (Some t) h = reached_append (accepted x).types q.path (map extended cs) t kept.0.target h ∙ goes_on
 
-    chained_leads : (r : Reference) → chained at cs ≡ Ok r → LeadsTo (accepted x).types (target_in (accepted x)) r kept.2.0.target
+    chained_leads : (r : Reference) → chained_pointer at cs ≡ Ok r → LeadsTo (accepted x).types (target_in (accepted x)) r kept.2.0.target
     chained_leads r h = by_place (pointer at) refl h
       where
         by_place : (p : Result Reference Cause) → pointer at ≡ p → (p >>= (λ (q : Reference). with_indexes q cs)) ≡ Ok r → LeadsTo (accepted x).types (target_in (accepted x)) r kept.2.0.target
         by_place (Err cause) e h = absurd (cc)
         by_place (Ok q) e h = indexed_leads q r (leads_there (accepted x) sound x.inst 0 at shaped kept.0 kept.1 q e) h
 
-    pub chain_fits : (r : Reference) → chained at cs ≡ Ok r → LevelFits (accepted x) x.inst.ty (Ptr r) (out-Value (Ptr r))
+    pub chain_fits : (r : Reference) → chained_pointer at cs ≡ Ok r → LevelFits (accepted x) x.inst.ty (Ptr r) (out-Value (Ptr r))
     chain_fits r h =
         let ts = (accepted x).types in
         let roots = target_in (accepted x) in

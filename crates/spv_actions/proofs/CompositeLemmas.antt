@@ -17,7 +17,7 @@ use Rattle.spv_types.specs.Queries.{components_in, is_pointer}
 use Rattle.spv_types.specs.Rules.{is_data as is_data_form, is_runtime, is_scalar, is_sized_data, keep_members, keeps_form, keeps_member}
 use Rattle.spv_types.specs.Types.{Types, form_of, in_first, is_number, number_of}
 use Rattle.spv_typing.specs.Fitting.{is_selectable}
-use Rattle.spv_bodies.specs.Composites.{AreParts, IsPart, KeepsConstruct, KeepsExtract, KeepsExtractDynamic, KeepsInsert, KeepsInsertDynamic, KeepsShuffle, given, named, part}
+use Rattle.spv_bodies.specs.Composites.{AreParts, IsPart, KeepsConstruct, KeepsExtract, KeepsExtractDynamic, KeepsInsert, KeepsInsertDynamic, KeepsShuffle, given, named_type, part}
 use Rattle.spv_bodies.specs.Context.{HasType, IsInteger, IsVectorOf, Known, form_at, type_at, type_in, type_of}
 use Rattle.spv_bodies.specs.Matching.{KeepsCopyLogical, Match, form_term, term_among, term_of}
 use Rattle.spv_valid.specs.Acceptance.{Accepted}
@@ -95,7 +95,7 @@ module _ (k : Known) (i : Inst) where
 -- ---- parts
 
 -- a pointer type has no part, and is selected by none
-named_plain : (k : Known) (whole ty : ℕ) (os : List Operand) (f : Option Form) → form_of k.types whole ≡ f → named k whole os ≡ Some ty → is_selectable (form_of k.types ty) ≡ true → not (is_pointer f) ≡ true
+named_plain : (k : Known) (whole ty : ℕ) (os : List Operand) (f : Option Form) → form_of k.types whole ≡ f → named_type k whole os ≡ Some ty → is_selectable (form_of k.types ty) ≡ true → not (is_pointer f) ≡ true
 named_plain k whole ty os None is found selectable = refl
 named_plain k whole ty os (Some Void) is found selectable = refl
 named_plain k whole ty os (Some Boolean) is found selectable = refl
@@ -109,11 +109,11 @@ named_plain k whole ty [] (Some (Pointer class target)) is found selectable =
     let wrong : is_selectable (Some (Pointer class target)) ≡ true = ap is_selectable (sym is) ∙ ap (λ (n : ℕ). is_selectable (form_of k.types n)) same ∙ selectable in
     absurd (cc)
 named_plain k whole ty (o ∷ os) (Some (Pointer class target)) is found selectable =
-    let none : option_and_then (λ (t : ℕ). named k t os) (option_and_then (part (Some (Pointer class target))) (literal_in o)) ≡ Some ty
-    = ap (λ (x : Option Form). option_and_then (λ (t : ℕ). named k t os) (option_and_then (part x) (literal_in o))) (sym is) ∙ found in
+    let none : option_and_then (λ (t : ℕ). named_type k t os) (option_and_then (part (Some (Pointer class target))) (literal_in o)) ≡ Some ty
+    = ap (λ (x : Option Form). option_and_then (λ (t : ℕ). named_type k t os) (option_and_then (part x) (literal_in o))) (sym is) ∙ found in
     absurd (no_part (literal_in o) none)
   where
-    no_part : (l : Option ℕ) → option_and_then (λ (t : ℕ). named k t os) (option_and_then (part (Some (Pointer class target))) l) ≡ Some ty → ⊥
+    no_part : (l : Option ℕ) → option_and_then (λ (t : ℕ). named_type k t os) (option_and_then (part (Some (Pointer class target))) l) ≡ Some ty → ⊥
     no_part None h = cc
     no_part (Some n) h = cc
 named_plain k whole ty os (Some (Function returns parameters)) is found selectable = refl

@@ -17,7 +17,7 @@ use Rattle.spv_results.specs.Computations.{computation_of}
 use Rattle.spv_results.specs.Operands.{IsResult}
 use Rattle.spv_results.specs.Results.{result_by, result_of}
 use Rattle.spv_results.specs.declared.computations.Computation.{Computation}
-use Rattle.spv_state.specs.Actions.{action_of, atomic_op, named}
+use Rattle.spv_state.specs.Actions.{action_of, atomic_op, action_rows}
 use Rattle.spv_actions.specs.Effects.{◌>>=◌, gives}
 use Rattle.spv_actions.specs.Instructions.{effect_of, row}
 use Rattle.spv_actions.specs.Fits.{LevelFits, ResultFits}
@@ -55,13 +55,13 @@ IsNamed op ControlBarrier = op ≡ 224
 IsNamed op MemoryBarrier = op ≡ 225
 IsNamed op (Atomic operation) = ⊥
 
-named_are : AllByRecursion (λ (e : ℕ × Action). IsNamed e.0 e.1) named
+named_are : AllByRecursion (λ (e : ℕ × Action). IsNamed e.0 e.1) action_rows
 named_are =
     (refl, (refl, (refl, (refl, (inl refl, (inr refl, (refl, (refl, (refl, (refl, (refl, (refl, (refl, (refl, (refl, tt)))))))))))))))
 
 -- what an instruction is that does something
 abbrev pub IsActing : Inst → Action → Type 0
-IsActing i Compute = (reads i.op named ≡ None) × (atomic_op i.op ≡ None)
+IsActing i Compute = (reads i.op action_rows ≡ None) × (atomic_op i.op ≡ None)
 IsActing i Load = i.op ≡ 61
 IsActing i Store = i.op ≡ 62
 IsActing i CopyMemory = i.op ≡ 63
@@ -98,12 +98,12 @@ named_acts i (Atomic operation) h = absurd h
 
 pub acts : (i : Inst) → IsActing i (action_of i)
 unfolding action_of
-acts i = by_read (reads i.op named) refl (atomic_op i.op) refl
+acts i = by_read (reads i.op action_rows) refl (atomic_op i.op) refl
   where
-    by_read : (o : Option Action) → reads i.op named ≡ o → (q : Option AtomicOp) → atomic_op i.op ≡ q → IsActing i (unwrap_or (option_or o (option_map Atomic q)) Compute)
+    by_read : (o : Option Action) → reads i.op action_rows ≡ o → (q : Option AtomicOp) → atomic_op i.op ≡ q → IsActing i (unwrap_or (option_or o (option_map Atomic q)) Compute)
     by_read None e None a = (e, a)
     by_read None e (Some operation) a = a
-    by_read (Some x) e q a = named_acts i x (read_there IsNamed i.op x named named_are e)
+    by_read (Some x) e q a = named_acts i x (read_there IsNamed i.op x action_rows named_are e)
 
 -- what an instruction is, by its action
 pub acting : (i : Inst) (x : Action) → action_of i ≡ x → IsActing i x

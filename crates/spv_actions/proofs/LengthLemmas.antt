@@ -4,7 +4,7 @@ use Rattle.std.proofs.Math.Logic.{∥∥₁_map}
 use Rattle.std.specs.Option.{option_and_then, option_map, option_map_or}
 use Rattle.std.specs.Prelude.{if◌then◌else◌}
 use Rattle.spv_base.specs.Entries.{reads}
-use Rattle.spv_base.specs.Lane.{IsLane, defined_lane}
+use Rattle.spv_base.specs.Cell.{IsCell, defined_cell}
 use Rattle.spv_base.specs.Parts.{part_at, parts_in}
 use Rattle.spv_base.specs.declared.causes.MemErr.{MemErr}
 use Rattle.spv_base.specs.declared.causes.MemErr.TheVariants.{UndefinedIndex, OutOfBounds as OutsideMemory, NoMemory}
@@ -20,7 +20,7 @@ use Rattle.spv_types.specs.Laws.{AreSound}
 use Rattle.spv_types.specs.Queries.{member_of as member_type_of}
 use Rattle.spv_types.specs.Rows.{no_roots}
 use Rattle.spv_types.specs.Rules.{is_runtime}
-use Rattle.spv_types.specs.Shapes.{LeadsTo, reached}
+use Rattle.spv_types.specs.Shapes.{LeadsTo, reached_type}
 use Rattle.spv_types.specs.Types.{Types, form_of}
 use Rattle.spv_types.proofs.ShapeLemmas.{shapes_are_by_forms}
 use Rattle.spv_bodies.specs.Memory.{KeepsArrayLength}
@@ -43,7 +43,7 @@ use Rattle.spv_actions.proofs.EffectLemmas.{due_by}
 -- ---- what is due
 
 abbrev length_from : Site → Option Value → Result spec.Effect Cause
-length_from x o = ok_or o NoValue >>= (λ (at : Value). length_of x.state x.inv x.inst at >>= (λ (n : ℕ). Ok (gives (Scalar (defined_lane 32 n)))))
+length_from x o = ok_or o NoValue >>= (λ (at : Value). length_of x.state x.inv x.inst at >>= (λ (n : ℕ). Ok (gives (Scalar (defined_cell 32 n)))))
 
 length_due : (x : Site) → action_of x.inst ≡ ArrayLength → due x ≡ length_from x (values x 0)
 length_due x is = due_by x ArrayLength is
@@ -53,11 +53,11 @@ length_missing x is none = length_due x is ∙ ap (length_from x) none
 
 pub length_outside : (x : Site) (at : Value) (cause : Cause) → action_of x.inst ≡ ArrayLength → values x 0 ≡ Some at → length_of x.state x.inv x.inst at ≡ Err cause → due x ≡ Err cause
 length_outside x at cause is value outside =
-    length_due x is ∙ ap (length_from x) value ∙ ap (λ (r : Result ℕ Cause). r >>= (λ (n : ℕ). Ok (gives (Scalar (defined_lane 32 n))))) outside
+    length_due x is ∙ ap (length_from x) value ∙ ap (λ (r : Result ℕ Cause). r >>= (λ (n : ℕ). Ok (gives (Scalar (defined_cell 32 n))))) outside
 
-pub length_gives : (x : Site) (at : Value) (n : ℕ) → action_of x.inst ≡ ArrayLength → values x 0 ≡ Some at → length_of x.state x.inv x.inst at ≡ Ok n → due x ≡ Ok (gives (Scalar (defined_lane 32 n)))
+pub length_gives : (x : Site) (at : Value) (n : ℕ) → action_of x.inst ≡ ArrayLength → values x 0 ≡ Some at → length_of x.state x.inv x.inst at ≡ Ok n → due x ≡ Ok (gives (Scalar (defined_cell 32 n)))
 length_gives x at n is value many =
-    length_due x is ∙ ap (length_from x) value ∙ ap (λ (r : Result ℕ Cause). r >>= (λ (n : ℕ). Ok (gives (Scalar (defined_lane 32 n))))) many
+    length_due x is ∙ ap (length_from x) value ∙ ap (λ (r : Result ℕ Cause). r >>= (λ (n : ℕ). Ok (gives (Scalar (defined_cell 32 n))))) many
 
 -- ---- elements
 
@@ -150,7 +150,7 @@ member_array ts (Some (Function returns parameters)) k ty element stride h is = 
 variable_type : (x : Site) (q : Reference) (target : ℕ) → LeadsTo (accepted x).types (target_in (accepted x)) q target → (type : ℕ) × (target_in (accepted x) q.root ≡ Some type)
 variable_type x q target leads = by_type (target_in (accepted x) q.root) refl leads
   where
-    by_type : (o : Option ℕ) → target_in (accepted x) q.root ≡ o → option_and_then (λ t. reached (accepted x).types t q.path) o ≡ Some target → (type : ℕ) × (target_in (accepted x) q.root ≡ Some type)
+    by_type : (o : Option ℕ) → target_in (accepted x) q.root ≡ o → option_and_then (λ t. reached_type (accepted x).types t q.path) o ≡ Some target → (type : ℕ) × (target_in (accepted x) q.root ≡ Some type)
     by_type None e h = absurd (cc)
     by_type (Some t) e h = (t, e)
 
@@ -176,7 +176,7 @@ leads_to_array x sound site at shaped kept q k place literal =
     } ∣₁
 
 -- the number has the type of the result
-pub length_shape : (x : Site) (n : ℕ) → AreSound (accepted x).types → KeepsArrayLength (known (accepted x)) x.inst → n < 2 ^ 32 → IsResult (accepted x) x.inst (Scalar (defined_lane 32 n))
+pub length_shape : (x : Site) (n : ℕ) → AreSound (accepted x).types → KeepsArrayLength (known (accepted x)) x.inst → n < 2 ^ 32 → IsResult (accepted x) x.inst (Scalar (defined_cell 32 n))
 length_shape x n sound kept small =
-    let lane : IsLane (defined_lane 32 n) = record { narrow = omega arith; fits = small; zero = λ h. absurd (cc) } in
-    (shapes_are_by_forms (accepted x).types no_roots sound x.inst.ty (Int 32 kept.0.0) (Scalar (defined_lane 32 n)) kept.0.1).1 (is_scalar (defined_lane 32 n) 32 refl lane)
+    let lane : IsCell (defined_cell 32 n) = record { narrow = omega arith; fits = small; zero = λ h. absurd (cc) } in
+    (shapes_are_by_forms (accepted x).types no_roots sound x.inst.ty (Int 32 kept.0.0) (Scalar (defined_cell 32 n)) kept.0.1).1 (is_scalar (defined_cell 32 n) 32 refl lane)

@@ -5,7 +5,7 @@ use Rattle.std.specs.Prelude.{not}
 use Rattle.std.specs.List.{AllByRecursion, filter, flat_map}
 use Rattle.spv_base.specs.Order.{AreDistinct}
 use Rattle.spv_base.specs.declared.instructions.Inst.{Inst}
-use Rattle.spv_ops.specs.Forms.{row_of}
+use Rattle.spv_ops.specs.Grammar.{row_of}
 use Rattle.spv_ops.specs.Module.{Decoded}
 use Rattle.spv_ops.specs.Opcodes.{table}
 use Rattle.spv_index.specs.declared.classes.Class.{Class}

@@ -4,7 +4,7 @@ use Rattle.std.proofs.Math.Logic.{∥∥₁_elim}
 use Rattle.std.specs.Option.{option_and_then}
 use Rattle.std.specs.Prelude.{if◌then◌else◌}
 use Rattle.spv_base.specs.Entries.{reads}
-use Rattle.spv_base.specs.Lane.{Lane}
+use Rattle.spv_base.specs.Cell.{Cell}
 use Rattle.spv_base.specs.declared.instructions.Inst.{Inst}
 use Rattle.spv_base.specs.declared.values.Pointer.{Pointer as Reference}
 use Rattle.spv_base.specs.declared.values.Root.{Root}
@@ -29,7 +29,7 @@ use Rattle.spv_state.specs.State.{depth_of, frames_of, with_level, with_register
 use Rattle.spv_state.proofs.Entries.{reads_written}
 use Rattle.spv_state.proofs.OperandRoots.{operand_root, pointer_own}
 use Rattle.spv_state.proofs.RootLemmas.{frame_rooted, root_prop}
-use Rattle.spv_actions.specs.Chains.{chained, with_indexes}
+use Rattle.spv_actions.specs.Chains.{chained_pointer, with_indexes}
 use Rattle.spv_actions.specs.Effects.{◌>>=◌}
 use Rattle.spv_actions.specs.Fits.{ResultRooted}
 use Rattle.spv_actions.specs.Planned.{gained}
@@ -92,14 +92,14 @@ chain_typed k d kept = by_type (type_at k d 0) refl kept.1
     by_type (Some ty) e h = (ty, e)
 
 -- a pointer with further indexes has the root that it had
-with_root : (q : Reference) (cs : List Lane) (r : Reference) → with_indexes q cs ≡ Ok r → q.root ≡ r.root
+with_root : (q : Reference) (cs : List Cell) (r : Reference) → with_indexes q cs ≡ Ok r → q.root ≡ r.root
 with_root q cs r h = by_defined (all_defined cs) h
   where
     by_defined : (b : Bool) → (if b then Ok (record { root = q.root; path = extend q.path cs }) else Err UndefinedIndex) ≡ Ok r → q.root ≡ r.root
     by_defined false g = absurd (cc)
     by_defined true g = let made : Reference = record { root = q.root; path = extend q.path cs } in let same : made ≡ r = cc in ap (λ (p : Reference). p.root) same
 
-pub chain_rooted : (a : Accepted) (fs : List Frame) (at : Value) (cs : List Lane) (r : Reference) → ((q : Reference) → pointer_of at ≡ Some q → IsRoot a fs (length fs - 1) q.root) → chained at cs ≡ Ok r → ResultRooted a fs (Some (Ptr r))
+pub chain_rooted : (a : Accepted) (fs : List Frame) (at : Value) (cs : List Cell) (r : Reference) → ((q : Reference) → pointer_of at ≡ Some q → IsRoot a fs (length fs - 1) q.root) → chained_pointer at cs ≡ Ok r → ResultRooted a fs (Some (Ptr r))
 chain_rooted a fs at cs r base h = by_place (pointer_of at) refl h
   where
     by_place : (o : Option Reference) → pointer_of at ≡ o → (ok_or o OutOfBounds >>= (λ (q : Reference). with_indexes q cs)) ≡ Ok r → ResultRooted a fs (Some (Ptr r))

@@ -37,7 +37,7 @@ use Rattle.spv_state.specs.Sound.{StandsIn}
 use Rattle.spv_state.proofs.AcceptedLemmas.{IsKnown, known}
 use Rattle.spv_state.proofs.ExecutableLemmas.{at_standing, standing}
 use Rattle.spv_state.proofs.Stands.{IsOne, class_is, stood}
-use Rattle.spv_actions.specs.Branches.{picked, switched}
+use Rattle.spv_actions.specs.Branches.{chosen_label, switch_label}
 use Rattle.spv_actions.specs.Sites.{IsSite, Site, accepted, is_data_at}
 use Rattle.spv_actions.proofs.ControlCodes.{branch_ends, condition_ends, condition_kept, selector_kept, switch_ends}
 use Rattle.spv_actions.proofs.DataLemmas.{typed_data}
@@ -152,12 +152,12 @@ module _ (a : Accepted) (accepts : ∥ IsAccepted a ∥₁) (valid : ∥ IsValid
   branch_entered label op last is = entered a function label (∥∥₁_elim valid (hlevel props) (λ (v : IsValid a). tested a function label
       (of_one (IsEntered a.insts a.flow function) (id_operand d 0) label (all_by (IsEntered a.insts a.flow function) (selector_width a.insts d) 249 d op (targets_there a v function d (there last))) is)))
 
-  pub condition_entered : (n label : ℕ) → d.op ≡ 250 → is_terminator (class_of (sets_of a.insts) d) ≡ true → picked d n ≡ Some label → IsEntered a.insts a.flow function label
+  pub condition_entered : (n label : ℕ) → d.op ≡ 250 → is_terminator (class_of (sets_of a.insts) d) ≡ true → chosen_label d n ≡ Some label → IsEntered a.insts a.flow function label
   unfolding labels_by
   condition_entered n label op last is = entered a function label (∥∥₁_elim valid (hlevel props) (λ (v : IsValid a). tested a function label
       (of_two (IsEntered a.insts a.flow function) (id_operand d 1) (id_operand d 2) n label (all_by (IsEntered a.insts a.flow function) (selector_width a.insts d) 250 d op (targets_there a v function d (there last))) is)))
 
-  pub switch_entered : (n label : ℕ) → d.op ≡ 251 → is_terminator (class_of (sets_of a.insts) d) ≡ true → switched a.insts d n ≡ Some label → IsEntered a.insts a.flow function label
+  pub switch_entered : (n label : ℕ) → d.op ≡ 251 → is_terminator (class_of (sets_of a.insts) d) ≡ true → switch_label a.insts d n ≡ Some label → IsEntered a.insts a.flow function label
   unfolding labels_by
   switch_entered n label op last is = entered a function label (∥∥₁_elim valid (hlevel props) (λ (v : IsValid a). tested a function label
       (of_cases (IsEntered a.insts a.flow function) (λ (c : ℕ × ℕ). at_width (selector_width a.insts d) c.0 == n) (id_operand d 1) (cases (selector_width a.insts d) (case_words d)) label
@@ -244,11 +244,11 @@ module _ (x : Site) (m : Accepted) (same : m ≡ accepted x) (accepts : ∥ IsAc
   branch_leads op block function is stands =
       branch_entered (accepted x) accepted_here valid_here x.inst found_here function stands block op (branch_ends (sets_of (accepted x).insts) x.inst op) is
 
-  pub condition_leads : x.inst.op ≡ 250 → (n block function : ℕ) → picked x.inst n ≡ Some block → StandsIn (accepted x) function x.inst.word → IsEntered (accepted x).insts (accepted x).flow function block
+  pub condition_leads : x.inst.op ≡ 250 → (n block function : ℕ) → chosen_label x.inst n ≡ Some block → StandsIn (accepted x) function x.inst.word → IsEntered (accepted x).insts (accepted x).flow function block
   condition_leads op n block function is stands =
       condition_entered (accepted x) accepted_here valid_here x.inst found_here function stands n block op (condition_ends (sets_of (accepted x).insts) x.inst op) is
 
-  pub switch_leads : x.inst.op ≡ 251 → (n block function : ℕ) → switched (accepted x).insts x.inst n ≡ Some block → StandsIn (accepted x) function x.inst.word → IsEntered (accepted x).insts (accepted x).flow function block
+  pub switch_leads : x.inst.op ≡ 251 → (n block function : ℕ) → switch_label (accepted x).insts x.inst n ≡ Some block → StandsIn (accepted x) function x.inst.word → IsEntered (accepted x).insts (accepted x).flow function block
   switch_leads op n block function is stands =
       switch_entered (accepted x) accepted_here valid_here x.inst found_here function stands n block op (switch_ends (sets_of (accepted x).insts) x.inst op) is
 

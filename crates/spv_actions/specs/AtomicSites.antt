@@ -1,6 +1,6 @@
 -- What calls inside a step find at an atomic. No definition of a step speaks of it.
 use Rattle.std.specs.Prelude.{◌≡◌, ℕ, Some, Result, ⊤}
-use Rattle.spv_base.specs.Lane.{Lane}
+use Rattle.spv_base.specs.Cell.{Cell}
 use Rattle.spv_base.specs.declared.instructions.Inst.{Inst}
 use Rattle.spv_base.specs.declared.values.Pointer.{Pointer}
 use Rattle.spv_base.specs.declared.values.Value.{Value, Scalar}
@@ -38,23 +38,23 @@ IsUpdate (updates new) = ⊤
 IsUpdate _ = ⊥
 
 -- what is stored by a row that counts, and by one that updates; the old scalar by another
-abbrev pub counted : AtomicRow → Lane → Lane
-counted (counts new) old = new old
-counted _ old = old
+abbrev pub counted_cell : AtomicRow → Cell → Cell
+counted_cell (counts new) old = new old
+counted_cell _ old = old
 
-abbrev pub updated : AtomicRow → Lane → Lane → Lane
-updated (updates new) old value = new old value
-updated _ old value = old
+abbrev pub updated_cell : AtomicRow → Cell → Cell → Cell
+updated_cell (updates new) old value = new old value
+updated_cell _ old value = old
 
 -- ---- what is read
 
 abbrev pub first_of_three : Site → Result Value Cause
 first_of_three x = spec.first_of_three x.program x.state x.inv x.frame x.inst
 
-abbrev pub scalar : Site → ℕ → Result Lane Cause
+abbrev pub scalar : Site → ℕ → Result Cell Cause
 scalar x n = spec.scalar x.program x.state x.inv x.frame x.inst n
 
-abbrev pub target : Site → Value → Result (Pointer × Lane) Cause
+abbrev pub target : Site → Value → Result (Pointer × Cell) Cause
 target x at = spec.target x.state x.inv at
 
 -- an operand is one integer
@@ -66,7 +66,7 @@ abbrev pub LeadsToInteger : Accepted → Inst → Type 0
 LeadsToInteger a d = (p : Pointed) × PointsTo (known a) d 0 p × IsShared (known a) p
 
 -- an integer is where a pointer leads: there may be another of its width
-pub record IsTarget (x : Site) (t : Pointer × Lane) : Type 0 where
+pub record IsTarget (x : Site) (t : Pointer × Cell) : Type 0 where
   pub there : load_of x.state.memory x.inv t.0 ≡ Some (Scalar t.1)
   pub leads : width_at x.state.memory t.0 ≡ Some t.1.width
   pub width : IsWidth t.1.width

@@ -2,7 +2,7 @@
 -- two's complement, modulo 2 ^ width. Where an operand has no value that is looked for first.
 use Rattle.std.specs.Prelude.{ℕ, ◌==◌, ◌&&◌, if◌then◌else◌, min, max, ℤ, pos, ◌+ℤ◌, ◌-ℤ◌, bit_and, bit_or, bit_xor, Some, Result, Ok}
 use Rattle.std.specs.Int.{int_min, int_max}
-use Rattle.spv_base.specs.Lane.{Lane}
+use Rattle.spv_base.specs.Cell.{Cell}
 use Rattle.spv_base.specs.declared.instructions.Inst.{Inst}
 use Rattle.spv_base.specs.declared.values.Pointer.{Pointer}
 use Rattle.spv_base.specs.declared.values.Value.{Value, Scalar}
@@ -26,41 +26,41 @@ pub data AtomicRow : Type 0 where
   -- the value, with no result: (pointer, scope, semantics, value)
   stores : AtomicRow
   -- by the old one: (pointer, scope, semantics)
-  counts : (Lane → Lane) → AtomicRow
+  counts : (Cell → Cell) → AtomicRow
   -- by the old one and the value: (pointer, scope, semantics, value)
-  updates : (Lane → Lane → Lane) → AtomicRow
+  updates : (Cell → Cell → Cell) → AtomicRow
   -- by the old one, the value and the comparator: (pointer, scope, semantics where equal, semantics where unequal, value, comparator)
-  compares : (Lane → Lane → Lane → Lane) → AtomicRow
+  compares : (Cell → Cell → Cell → Cell) → AtomicRow
 
 -- the low-order bits of an integer that the old scalar's width and bits make; not defined where the old one isn't
-abbrev pub counted : (ℕ → ℤ) → Lane → Lane
-counted f old = defined_if old.defined (integer old.width (f old.bits))
+abbrev pub counting : (ℕ → ℤ) → Cell → Cell
+counting f old = defined_if old.defined (integer old.width (f old.bits))
 
 -- the same of the width and the bits of both; not defined where one isn't
-abbrev pub updated : (ℕ → ℕ → ℕ → ℤ) → Lane → Lane → Lane
-updated f old value = defined_if (old.defined && value.defined) (integer old.width (f old.width old.bits value.bits))
+abbrev pub updating : (ℕ → ℕ → ℕ → ℤ) → Cell → Cell → Cell
+updating f old value = defined_if (old.defined && value.defined) (integer old.width (f old.width old.bits value.bits))
 
 -- The value, with its own mark, where the old scalar equals the comparator, else the old one again; not defined where one of these two isn't.
-abbrev pub compared : Lane → Lane → Lane → Lane
-compared old value comparator = defined_if (old.defined && comparator.defined) (if old.bits == comparator.bits then value else old)
+abbrev pub compared_cell : Cell → Cell → Cell → Cell
+compared_cell old value comparator = defined_if (old.defined && comparator.defined) (if old.bits == comparator.bits then value else old)
 
 -- the table: a row for each atomic
 unfoldable pub atomic_row : AtomicOp → AtomicRow
 atomic_row Load = loads
 atomic_row Store = stores
 atomic_row Exchange = updates (λ old value. defined_if old.defined value)
-atomic_row CompareExchange = compares compared
-atomic_row Increment = counts (counted (λ a. pos a +ℤ pos 1))
-atomic_row Decrement = counts (counted (λ a. pos a -ℤ pos 1))
-atomic_row Add = updates (updated (λ w a b. pos a +ℤ pos b))
-atomic_row Sub = updates (updated (λ w a b. pos a -ℤ pos b))
-atomic_row SMin = updates (updated (λ w a b. int_min (signed w a) (signed w b)))
-atomic_row UMin = updates (updated (λ w a b. pos (min a b)))
-atomic_row SMax = updates (updated (λ w a b. int_max (signed w a) (signed w b)))
-atomic_row UMax = updates (updated (λ w a b. pos (max a b)))
-atomic_row And = updates (updated (λ w a b. pos (bit_and a b)))
-atomic_row Or = updates (updated (λ w a b. pos (bit_or a b)))
-atomic_row Xor = updates (updated (λ w a b. pos (bit_xor a b)))
+atomic_row CompareExchange = compares compared_cell
+atomic_row Increment = counts (counting (λ a. pos a +ℤ pos 1))
+atomic_row Decrement = counts (counting (λ a. pos a -ℤ pos 1))
+atomic_row Add = updates (updating (λ w a b. pos a +ℤ pos b))
+atomic_row Sub = updates (updating (λ w a b. pos a -ℤ pos b))
+atomic_row SMin = updates (updating (λ w a b. int_min (signed w a) (signed w b)))
+atomic_row UMin = updates (updating (λ w a b. pos (min a b)))
+atomic_row SMax = updates (updating (λ w a b. int_max (signed w a) (signed w b)))
+atomic_row UMax = updates (updating (λ w a b. pos (max a b)))
+atomic_row And = updates (updating (λ w a b. pos (bit_and a b)))
+atomic_row Or = updates (updating (λ w a b. pos (bit_or a b)))
+atomic_row Xor = updates (updating (λ w a b. pos (bit_xor a b)))
 
 -- ---- what is read
 
@@ -69,17 +69,17 @@ abbrev pub first_of_three : Program → State → ℕ → Frame → Inst → Res
 first_of_three p s i f d = operand p s i f d 0 >>= (λ v. operand p s i f d 1 >>= (λ _. operand p s i f d 2 >>= (λ _. Ok v)))
 
 -- the scalar that an operand is
-abbrev pub scalar : Program → State → ℕ → Frame → Inst → ℕ → Result Lane Cause
+abbrev pub scalar : Program → State → ℕ → Frame → Inst → ℕ → Result Cell Cause
 scalar p s i f d n = operand p s i f d n >>= (λ v. Ok (lane_of v))
 
 -- where a pointer leads, with the scalar there; F3 where there is none
-abbrev pub target : State → ℕ → Value → Result (Pointer × Lane) Cause
+abbrev pub target : State → ℕ → Value → Result (Pointer × Cell) Cause
 target s i at = pointer at >>= (λ q. loaded s i q >>= (λ v. Ok (q, lane_of v)))
 
 -- ---- effects
 
 -- a scalar is stored over an old one, which is given
-abbrev pub exchanges : Pointer → Lane → Lane → Effect
+abbrev pub exchanges : Pointer → Cell → Cell → Effect
 exchanges q new old = record { store = Some (q, Scalar new); result = Some (Scalar old); control = Next }
 
 abbrev pub atomic_by : Program → State → ℕ → Frame → Inst → AtomicRow → Result Effect Cause

@@ -1,7 +1,7 @@
 -- Branches and switches (SPIR-V 1.6 section 3.42.17, OpBranch, OpBranchConditional and OpSwitch).
 use Rattle.std.specs.Prelude.{ℕ, ◌==◌, if◌then◌else◌, find, List, Option, Result, Ok, Err, ok_or}
 use Rattle.std.specs.Option.{option_map, option_map_or, option_or}
-use Rattle.spv_base.specs.Lane.{Lane}
+use Rattle.spv_base.specs.Cell.{Cell}
 use Rattle.spv_base.specs.declared.instructions.Inst.{Inst}
 use Rattle.spv_base.specs.declared.values.Value.{Value, out-Value}
 use Rattle.spv_index.specs.Operands.{id_operand}
@@ -30,23 +30,23 @@ jump_by p s i f d label = ok_or label NoValue >>= jump_to p s i f d
 -- ---- by a value
 
 -- the number of a scalar, a Boolean's 1 or 0; F1 where it is undefined
-abbrev pub number_in : Lane → Result ℕ Cause
+abbrev pub number_in : Cell → Result ℕ Cause
 number_in c = if c.defined then Ok c.bits else Err UndefinedBranch
 
-abbrev pub decided : Value → Result ℕ Cause
-decided v = option_map_or number_in (scalar_in (out-Value v)) (Err UndefinedBranch)
+abbrev pub deciding_number : Value → Result ℕ Cause
+deciding_number v = option_map_or number_in (scalar_in (out-Value v)) (Err UndefinedBranch)
 
 -- the label of a true condition, 1, and that of a false one, 0
-abbrev pub picked : Inst → ℕ → Option ℕ
-picked d n = if n == 0 then id_operand d 2 else id_operand d 1
+abbrev pub chosen_label : Inst → ℕ → Option ℕ
+chosen_label d n = if n == 0 then id_operand d 2 else id_operand d 1
 
 -- the case of a switch whose literal, as a number of the selector's width, is a number
 abbrev pub case_of : ℕ → Inst → ℕ → Option (ℕ × ℕ)
 case_of width d n = find (λ (c : ℕ × ℕ). at_width width c.0 == n) (cases width (case_words d))
 
 -- the label of this case, else the default
-abbrev pub switched : List Inst → Inst → ℕ → Option ℕ
-switched insts d n = option_or (option_map (λ (c : ℕ × ℕ). c.1) (case_of (selector_width insts d) d n)) (id_operand d 1)
+abbrev pub switch_label : List Inst → Inst → ℕ → Option ℕ
+switch_label insts d n = option_or (option_map (λ (c : ℕ × ℕ). c.1) (case_of (selector_width insts d) d n)) (id_operand d 1)
 
 -- ---- the instructions
 
@@ -56,8 +56,8 @@ branch_effect p s i f d = jump_by p s i f d (id_operand d 0)
 
 -- OpBranchConditional (condition, label of true, label of false)
 abbrev pub branch_conditional_effect : Program → State → ℕ → Frame → Inst → Result Effect Cause
-branch_conditional_effect p s i f d = operand p s i f d 0 >>= (λ (v : Value). decided v >>= (λ (n : ℕ). jump_by p s i f d (picked d n)))
+branch_conditional_effect p s i f d = operand p s i f d 0 >>= (λ (v : Value). deciding_number v >>= (λ (n : ℕ). jump_by p s i f d (chosen_label d n)))
 
 -- OpSwitch (selector, label of the default, literals with their labels)
 abbrev pub switch_effect : Program → State → ℕ → Frame → Inst → Result Effect Cause
-switch_effect p s i f d = operand p s i f d 0 >>= (λ (v : Value). decided v >>= (λ (n : ℕ). jump_by p s i f d (switched p.accepted.insts d n)))
+switch_effect p s i f d = operand p s i f d 0 >>= (λ (v : Value). deciding_number v >>= (λ (n : ℕ). jump_by p s i f d (switch_label p.accepted.insts d n)))

@@ -1,7 +1,7 @@
 -- The lengths of runtime arrays (SPIR-V 1.6 section 3.42.8, OpArrayLength).
 use Rattle.std.specs.Prelude.{ℕ, if◌then◌else◌, Bool, true, false, Option, None, Result, Ok, ok_or}
 use Rattle.std.specs.Option.{option_and_then, option_map}
-use Rattle.spv_base.specs.Lane.{defined_lane}
+use Rattle.spv_base.specs.Cell.{defined_cell}
 use Rattle.spv_base.specs.declared.instructions.Inst.{Inst}
 use Rattle.spv_base.specs.declared.values.Pointer.{Pointer}
 use Rattle.spv_base.specs.declared.values.Root.{Root}
@@ -34,4 +34,4 @@ length_of s i d at = pointer at >>= (λ q. ok_or (option_and_then (elements_at s
 
 -- OpArrayLength (pointer to the block, number of the member): an integer of 32 bits
 abbrev pub length_effect : Program → State → ℕ → Frame → Inst → Result Effect Cause
-length_effect p s i f d = operand p s i f d 0 >>= (λ at. length_of s i d at >>= (λ n. Ok (gives (Scalar (defined_lane 32 n)))))
+length_effect p s i f d = operand p s i f d 0 >>= (λ at. length_of s i d at >>= (λ n. Ok (gives (Scalar (defined_cell 32 n)))))

@@ -11,7 +11,7 @@ use Rattle.spv_base.specs.declared.values.Value.{Value, Ptr}
 use Rattle.spv_index.specs.Definitions.{at}
 use Rattle.spv_types.specs.Queries.{is_pointer}
 use Rattle.spv_types.specs.Rows.{no_roots}
-use Rattle.spv_types.specs.Shapes.{HasShape, reached}
+use Rattle.spv_types.specs.Shapes.{HasShape, reached_type}
 use Rattle.spv_types.specs.Types.{Types, form_of}
 use Rattle.spv_bodies.specs.Context.{type_at}
 use Rattle.spv_valid.specs.Acceptance.{Accepted}
@@ -68,8 +68,8 @@ abbrev pub values : Site → ℕ → Option Value
 values x = operand_value (accepted x) x.frame (depth_of x.state x.inv) x.inst
 
 -- what an id stands for, where it stands for a value
-abbrev pub named : Site → ℕ → Option Value
-named x id = value_of (accepted x) x.frame (depth_of x.state x.inv) id
+abbrev pub value_with : Site → ℕ → Option Value
+value_with x id = value_of (accepted x) x.frame (depth_of x.state x.inv) id
 
 -- a type that is there, and is no pointer type
 abbrev pub is_data : Types → Option ℕ → Bool
@@ -88,7 +88,7 @@ pub record LeadsToArray (m : Memory) (q : Reference) (member : ℕ) : Type 0 whe
   pub type : ℕ
   pub named : reads (id_in q.root) m.targets ≡ Some type
   pub block : ℕ
-  pub leads : reached m.types type q.path ≡ Some block
+  pub leads : reached_type m.types type q.path ≡ Some block
   pub array : is_array_at m.types (form_of m.types block) member ≡ true
 
 -- what is due, or there is none: the fault F4; or memory ran out

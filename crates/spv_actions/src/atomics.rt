@@ -4,7 +4,7 @@ ghost use Rattle.std.specs.Result.{result_map_both};
 ghost use Rattle.spv_alu.specs.Integers.{IsWidth};
 ghost use Rattle.spv_base.specs.Answers.{Answers};
 ghost use Rattle.spv_bodies.specs.Atomics.{KeepsAtomicCompare, KeepsAtomicRead, KeepsAtomicStore, KeepsAtomicUpdate};
-ghost use Rattle.spv_base.specs.Lane.{IsLane};
+ghost use Rattle.spv_base.specs.Cell.{IsCell};
 ghost use Rattle.spv_base.specs.declared.values.Value.{Scalar, out-Value};
 ghost use Rattle.spv_state.specs.Actions.{action_of};
 ghost use Rattle.spv_actions.specs.AtomicSites as at_site;
@@ -35,9 +35,9 @@ use spv_values::{Part, Row};
 
 /// What AtomicIIncrement and AtomicIDecrement store over an old scalar.
 #[tactic(auto, unfolding(crate::specs::Atomics::atomic_row))]
-fn counted(operation: AtomicOp, old: Cell) -> Cell
+fn counted_cell(operation: AtomicOp, old: Cell) -> Cell
     requires { IsWidth old.width }
-    ensures lane { result ≡ at_site.counted (spec.atomic_row operation) old }
+    ensures lane { result ≡ at_site.counted_cell (spec.atomic_row operation) old }
     ensures width { result.width ≡ old.width }
 {
     let Cell { bits, width, .. } = old;
@@ -50,10 +50,10 @@ fn counted(operation: AtomicOp, old: Cell) -> Cell
 
 /// What an atomic stores over an old scalar by a value: AtomicExchange and AtomicIAdd to AtomicXor.
 #[tactic(auto, unfolding(crate::specs::Atomics::atomic_row, spv_alu::specs::Binary::binary_row, spv_alu::specs::Glsl::glsl_row))]
-fn updated(operation: AtomicOp, old: Cell, value: Cell) -> Cell
+fn updated_cell(operation: AtomicOp, old: Cell, value: Cell) -> Cell
     requires old { IsWidth old.width }
     requires value { value.width ≡ old.width }
-    ensures lane { result ≡ at_site.updated (spec.atomic_row operation) old value }
+    ensures lane { result ≡ at_site.updated_cell (spec.atomic_row operation) old value }
     ensures width { result.width ≡ old.width }
 {
     match operation {
@@ -73,9 +73,9 @@ fn updated(operation: AtomicOp, old: Cell, value: Cell) -> Cell
 }
 
 /// What AtomicCompareExchange stores over an old scalar: the value, where the old one equals the comparator.
-fn compared(old: Cell, value: Cell, comparator: Cell) -> Cell
+fn compared_cell(old: Cell, value: Cell, comparator: Cell) -> Cell
     requires { value.width ≡ old.width }
-    ensures lane { result ≡ spec.compared old value comparator }
+    ensures lane { result ≡ spec.compared_cell old value comparator }
     ensures width { result.width ≡ old.width }
 {
     let chosen = if old.bits == comparator.bits {
@@ -148,7 +148,7 @@ fn put(cell: Cell, row: &mut Row) -> Result<(), NoMemory>
 
 /// A fact, with nothing to run: the bits of a scalar fit its width.
 fn is_lane(cell: Cell)
-    ensures { IsLane cell }
+    ensures { IsCell cell }
 {
     let _bits = cell.bits;
 }
@@ -236,7 +236,7 @@ fn count(site: &Site, operation: AtomicOp, row: &mut Row) -> Result<Effect, Fail
 {
     let at = first_of_three(site)?;
     let target = target(site, &at)?;
-    let new = counted(operation, target.1);
+    let new = counted_cell(operation, target.1);
     Ok(exchange(site, target, new, row)?)
 }
 
@@ -254,7 +254,7 @@ fn update(site: &Site, operation: AtomicOp, row: &mut Row) -> Result<Effect, Fai
     let at = first_of_three(site)?;
     let value = scalar(site, 3)?;
     let target = target(site, &at)?;
-    let new = updated(operation, target.1, value);
+    let new = updated_cell(operation, target.1, value);
     Ok(exchange(site, target, new, row)?)
 }
 
@@ -273,7 +273,7 @@ fn compare_exchange(site: &Site, row: &mut Row) -> Result<Effect, Fail<Cause>>
     let value = scalar(site, 4)?;
     let comparator = scalar(site, 5)?;
     let target = target(site, &at)?;
-    let new = compared(target.1, value, comparator);
+    let new = compared_cell(target.1, value, comparator);
     Ok(exchange(site, target, new, row)?)
 }
 

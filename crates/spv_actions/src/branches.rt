@@ -15,7 +15,7 @@ use crate::effects::{Control, Effect, Gain};
 use crate::kept_control::{branch_is_kept, condition_is_kept, phis_are_kept, switch_is_kept};
 use crate::phis::phi_values;
 use crate::sites::Site;
-use crate::switches::switched;
+use crate::switches::switch_label;
 use spv_base::{Cell, Fail, Inst};
 use spv_index::id_operand;
 use spv_operands::laws::operands_have_shapes;
@@ -56,9 +56,9 @@ fn cell_of(part: &Part) -> Cell
 }
 
 /// The number of a scalar. F1 where it is undefined.
-fn decided(part: &Part) -> Result<u64, Fail<Cause>>
+fn deciding_number(part: &Part) -> Result<u64, Fail<Cause>>
     requires { IsSome (scalar_in (out-Value part.now)) }
-    ensures { Answers (effects.decided part.now) result }
+    ensures { Answers (effects.deciding_number part.now) result }
 {
     let cell = cell_of(part);
     if cell.defined {
@@ -69,8 +69,8 @@ fn decided(part: &Part) -> Result<u64, Fail<Cause>>
 }
 
 /// The label of a true condition, and that of a false one, 0.
-fn picked(inst: &Inst, number: u64) -> Option<u32>
-    ensures { result ≡ effects.picked inst.now number }
+fn chosen_label(inst: &Inst, number: u64) -> Option<u32>
+    ensures { result ≡ effects.chosen_label inst.now number }
 {
     if number == 0 {
         id_operand(inst, 2)
@@ -100,8 +100,8 @@ pub fn branch_conditional(site: &Site) -> Result<Effect, Fail<Cause>>
 {
     condition_is_kept(site);
     let condition = site.value(0)?;
-    let number = decided(&condition.part())?;
-    jump(site, picked(site.inst(), number))
+    let number = deciding_number(&condition.part())?;
+    jump(site, chosen_label(site.inst(), number))
 }
 
 /// OpSwitch: to the block of the case whose literal is the selector's number, and to the default where there is none. F1 where the selector
@@ -114,6 +114,6 @@ pub fn switch(site: &Site) -> Result<Effect, Fail<Cause>>
 {
     switch_is_kept(site);
     let selector = site.value(0)?;
-    let number = decided(&selector.part())?;
-    jump(site, switched(site.accepted(), site.inst(), number))
+    let number = deciding_number(&selector.part())?;
+    jump(site, switch_label(site.accepted(), site.inst(), number))
 }

@@ -32,9 +32,9 @@ fn indexes(site: &Site) -> Result<Vec<Cell>, Fail<Cause>>
 }
 
 /// The pointer that an operand is, with further indexes. F2 where one of them is not defined.
-fn chained(site: &Site, at: &Operand, indexes: &[Cell]) -> Result<Pointer, Fail<Cause>>
+fn chained_pointer(site: &Site, at: &Operand, indexes: &[Cell]) -> Result<Pointer, Fail<Cause>>
     requires { IsPlain at.now }
-    ensures { Answers (chains.chained (shown at.now) indexes.now) result }
+    ensures { Answers (chains.chained_pointer (shown at.now) indexes.now) result }
 {
     let Some(reference) = at.pointer(site.alloc()) else {
         return Err(Fail::Refused(Cause::OutOfBounds));
@@ -62,7 +62,7 @@ pub fn chain(site: &Site) -> Result<Effect, Fail<Cause>>
     let _insts = site.accepted().insts();
     let base = site.operand(0)?;
     let indexes = indexes(site)?;
-    let pointer = chained(site, &base, indexes.as_slice())?;
+    let pointer = chained_pointer(site, &base, indexes.as_slice())?;
     let boxed = Box::new(site.alloc(), pointer)?;
     Ok(Effect {
         store: None,

@@ -13,7 +13,7 @@ ghost use Rattle.spv_index.specs.Operands.{id_operand};
 ghost use Rattle.spv_results.specs.Operands.{IsOperand, known};
 ghost use Rattle.spv_state.specs.Sound.{StandsIn};
 ghost use Rattle.spv_types.specs.Shapes.{scalar_in};
-ghost use Rattle.spv_actions.specs.Branches.{picked, switched};
+ghost use Rattle.spv_actions.specs.Branches.{chosen_label, switch_label};
 ghost use Rattle.spv_actions.specs.Phis.{behind_label, first_ones, is_phi};
 ghost use Rattle.spv_actions.specs.Sites.{is_data_at};
 
@@ -35,7 +35,7 @@ pub(crate) fn condition_is_kept(site: &Site)
     requires { site.now.inst.op ≡ 250 }
     ensures data { is_data_at site.now.program.accepted site.now.inst 0 ≡ true }
     ensures scalar { (v : Value) → IsOperand site.now.program.accepted site.now.inst 0 v → is_some (scalar_in (out-Value v)) ≡ true }
-    ensures entered { (number block function : ℕ) → picked site.now.inst number ≡ Some block → StandsIn site.now.program.accepted function site.now.inst.word
+    ensures entered { (number block function : ℕ) → chosen_label site.now.inst number ≡ Some block → StandsIn site.now.program.accepted function site.now.inst.word
         → IsEntered site.now.program.accepted.insts site.now.program.accepted.flow function block }
 {
     instructions_keep_their_rules();
@@ -50,7 +50,7 @@ pub(crate) fn switch_is_kept(site: &Site)
     ensures data { is_data_at site.now.program.accepted site.now.inst 0 ≡ true }
     ensures scalar { (v : Value) → IsOperand site.now.program.accepted site.now.inst 0 v → is_some (scalar_in (out-Value v)) ≡ true }
     ensures literals { list_all is_literal (drop 2 site.now.inst.operands) ≡ true }
-    ensures entered { (number block function : ℕ) → switched site.now.program.accepted.insts site.now.inst number ≡ Some block
+    ensures entered { (number block function : ℕ) → switch_label site.now.program.accepted.insts site.now.inst number ≡ Some block
         → StandsIn site.now.program.accepted function site.now.inst.word → IsEntered site.now.program.accepted.insts site.now.program.accepted.flow function block }
 {
     instructions_keep_their_rules();

@@ -94,7 +94,7 @@ fn value_of(site: &Site, phi: &Inst, from: u32) -> Result<PhiValue, Fail<Cause>>
     let Some(id) = source_among(phi.operands.as_slice(), from) else {
         return Err(Fail::Refused(Cause::NoValue));
     };
-    let value = site.named(id)?;
+    let value = site.datum_with(id)?;
     let row = Row::of_part(site.alloc(), &value.part())?;
     Ok(PhiValue { id: phi.id, row })
 }

@@ -298,7 +298,7 @@ impl<'a> Site<'a> {
 
     /// What an id stands for, if it stands for something.
     fn found_by(&self, id: u32) -> Result<Option<Operand<'a>>, NoMemory>
-        ensures value { IfOk result (λ o. option_map shown o ≡ spec.named self.now id) }
+        ensures value { IfOk result (λ o. option_map shown o ≡ spec.value_with self.now id) }
         ensures plain { IfOk result (λ o. IfSome o IsPlain) }
     {
         let accepted = self.accepted();
@@ -313,9 +313,9 @@ impl<'a> Site<'a> {
     }
 
     /// The value of an id whose type is no pointer type. F4 where it has none.
-    pub fn named(&self, id: u32) -> Result<Datum<'a>, Fail<Cause>>
+    pub fn datum_with(&self, id: u32) -> Result<Datum<'a>, Fail<Cause>>
         requires { spec.is_data self.now.program.accepted.types (result_type self.now.program.accepted.insts id) ≡ true }
-        ensures { Finds (spec.named self.now id) result }
+        ensures { Finds (spec.value_with self.now id) result }
     {
         operands_have_shapes();
         self.is_reached();

@@ -125,9 +125,9 @@ fn case_label(width: u32, inst: &Inst, number: u64) -> Option<u32>
 }
 
 /// The label of the case of a number, else the default.
-pub(crate) fn switched(accepted: &Module, inst: &Inst, number: u64) -> Option<u32>
+pub(crate) fn switch_label(accepted: &Module, inst: &Inst, number: u64) -> Option<u32>
     requires { list_all is_literal (drop 2 inst.now.operands) ≡ true }
-    ensures { result ≡ spec.switched accepted.now.insts inst.now number }
+    ensures { result ≡ spec.switch_label accepted.now.insts inst.now number }
 {
     match case_label(selector_width(accepted, inst), inst, number) {
         Some(label) => Some(label),

@@ -1,11 +1,11 @@
 -- Numbers by their bits.
-use Rattle.std.proofs.Common.{◌≡◌, ℕ, zero, suc, ◌+◌, ◌-◌, ◌*◌, ◌/◌, ◌%◌, ◌^◌, ◌<◌, ◌≤◌, inl, inr, sym, ap, ◌∙◌, arith}
+use Rattle.std.proofs.Common.{◌≡◌, ℕ, zero, suc, ◌+◌, ◌-◌, ◌*◌, ◌/◌, ◌%◌, ◌^◌, ◌<◌, ◌≤◌, ℤ, pos, negsuc, inl, inr, sym, ap, ◌∙◌, arith}
 use Rattle.std.specs.Int.{bit_at, reverse_bits, reverse_bits_onto, w64}
 use Rattle.std.proofs.Math.Nat.{pow-suc, add_comm, mod-mod, mod-eq_of_lt}
 use Rattle.std.proofs.lemmas.Bool.{cases_eq}
-use Rattle.std.proofs.lemmas.Nat.{mul-add-lt, shr-shr, shr_below, mod_below}
+use Rattle.std.proofs.lemmas.Nat.{mul-add-lt, shr-shr, shr_below, mod_below, pow_pos}
 use Rattle.std.proofs.lemmas.Nat.Bits.{bit_at-suc, bit_at-lt, bit_at_lowest, bit_at_cat_low, bit_at_cat_high, same_from_bits_below}
-use Rattle.spv_alu.specs.Integers.{number_of_bits}
+use Rattle.spv_alu.specs.Integers.{low_bits, number_of_bits}
 
 -- a number given by its bits is below the power of their number
 pub number_of_bits_below : (k : ℕ) (bit : ℕ → ℕ) → ((i : ℕ) → bit i < 2) → number_of_bits k bit < 2 ^ k
@@ -81,3 +81,8 @@ reversed_shifted w x reversed narrow below e =
     let same : 64 - 1 - (places + i) ≡ w - 1 - i = omega arith in
     ap (λ q. q % 2) (shr-shr reversed places i)
     ∙ (ap (λ n. bit_at n (places + i)) e ∙ (reversed_low 64 x 0 (places + i) within ∙ ap (bit_at x) same)))
+
+-- the lowest bits of a number are below the power of their number
+pub low_bits_below : (w : ℕ) (z : ℤ) → low_bits w z < 2 ^ w
+low_bits_below w (pos n) = mod_below n (2 ^ w) (pow_pos w)
+low_bits_below w (negsuc n) = omega (arith, pow_pos w)

@@ -4,7 +4,7 @@ use Rattle.std.proofs.Math.Nat.{pow-suc, mod-eq_of_lt}
 use Rattle.std.proofs.Math.Pow.{pow_mono}
 use Rattle.std.proofs.lemmas.Nat.{mul-add-lt, shl_whole}
 use Rattle.std.proofs.lemmas.Nat.Bits.{bit_at-lt}
-use Rattle.spv_base.specs.Lane.{Lane, defined_lane}
+use Rattle.spv_base.specs.Cell.{Cell, defined_cell}
 use Rattle.spv_alu.specs.Integers.{number_of_bits}
 use Rattle.spv_alu.specs.Results.{integer, defined_if}
 use Rattle.spv_alu.specs.Vectors.{all_below, component_at, joined_bit, bitcast_of}
@@ -32,11 +32,11 @@ pub next_test : (holds test : Bool) (i : ℕ) (f : ℕ → Bool) → holds ≡ a
 unfolding all_below
 next_test holds test i f e g = rw (add-one i) (ap (λ b. b && test) e ∙ ap (λ b. all_below i f && b) g)
 
-pub joined_bit_below : (lanes : List Lane) (w index j : ℕ) → joined_bit lanes (index * w + j) < 2
+pub joined_bit_below : (lanes : List Cell) (w index j : ℕ) → joined_bit lanes (index * w + j) < 2
 joined_bit_below lanes w index j = bit_at-lt _ _
 
 -- the component, from all its bits
-pub cast_lane : (lanes : List Lane) (w index i bits : ℕ) (defined : Bool) (cell lane : Lane) → i ≡ w → bits ≡ number_of_bits i (λ j. joined_bit lanes (index * w + j)) → defined ≡ all_below i (λ j. (component_at lanes (index * w + j)).defined) → cell ≡ integer w (pos bits) → lane ≡ defined_if defined cell → lane ≡ bitcast_of lanes w index
+pub cast_lane : (lanes : List Cell) (w index i bits : ℕ) (defined : Bool) (cell lane : Cell) → i ≡ w → bits ≡ number_of_bits i (λ j. joined_bit lanes (index * w + j)) → defined ≡ all_below i (λ j. (component_at lanes (index * w + j)).defined) → cell ≡ integer w (pos bits) → lane ≡ defined_if defined cell → lane ≡ bitcast_of lanes w index
 unfolding bitcast_of
 cast_lane lanes w index i bits defined cell lane end e d h k =
     let f : ℕ → ℕ = λ j. joined_bit lanes (index * w + j) in
@@ -45,4 +45,4 @@ cast_lane lanes w index i bits defined cell lane end e d h k =
     let whole : bits % 2 ^ w ≡ number_of_bits w f = ap (λ n. n % 2 ^ w) same ∙ mod-eq_of_lt (number_of_bits_below w f (joined_bit_below lanes w index)) in
     k
     ∙ (ap (λ b. defined_if b cell) (d ∙ ap (λ n. all_below n g) end)
-    ∙ ap (λ l. defined_if (all_below w g) l) (h ∙ ap (λ n. defined_lane w n) whole))
+    ∙ ap (λ l. defined_if (all_below w g) l) (h ∙ ap (λ n. defined_cell w n) whole))

@@ -6,7 +6,7 @@ use Rattle.std.proofs.Math.Nat.{mod-eq_of_lt}
 use Rattle.std.proofs.lemmas.Bool.{cases_lt, lt-ltb, le-ltb, le-leb, lt-leb, and_from, and_left, and_right, cond_both}
 use Rattle.std.proofs.lemmas.Nat.{pow_pos, shr_split, mod_below}
 use Rattle.std.proofs.lemmas.Nat.Bits.{bit_at-lt, bit_at-zero, bit_at_and, bit_at_or, bit_at_not, bit_at_ones, bit_at_ones_above, bit_at_cat_low, bit_at_cat_high}
-use Rattle.spv_base.specs.Lane.{Lane, defined_lane}
+use Rattle.spv_base.specs.Cell.{Cell, defined_cell}
 use Rattle.spv_alu.specs.declared.field_op.FieldOp.{FieldOp}
 use Rattle.spv_alu.specs.declared.field_op.FieldOp.TheVariants.{BitFieldInsert}
 use Rattle.spv_alu.specs.Fields.{inserted_bit, field_row, field_result}
@@ -79,7 +79,7 @@ inserted_bit_below base insert offset count i =
     cond_both (nat_le offset i && nat_lt i (offset + count)) (bit_at insert (i - offset)) (bit_at base i) (λ n. n < 2) (λ e. bit_at-lt insert (i - offset)) (λ e. bit_at-lt base i)
 
 -- the row of the insertion, from a number that has its bits
-pub inserted_lane : (op : FieldOp) (w base insert offset count n : ℕ) (l : Lane) → op ≡ BitFieldInsert → IsWidth w → offset + count ≤ w → ((i : ℕ) → i < 64 → bit_at n i ≡ inserted_bit base insert offset count i) → l ≡ integer w (pos n) → l ≡ field_result op w base insert offset count
+pub inserted_lane : (op : FieldOp) (w base insert offset count n : ℕ) (l : Cell) → op ≡ BitFieldInsert → IsWidth w → offset + count ≤ w → ((i : ℕ) → i < 64 → bit_at n i ≡ inserted_bit base insert offset count i) → l ≡ integer w (pos n) → l ≡ field_result op w base insert offset count
 unfolding field_row
 inserted_lane op w base insert offset count n l e width within bits h =
     let f = inserted_bit base insert offset count in
@@ -89,4 +89,4 @@ inserted_lane op w base insert offset count n l e width within bits h =
     let narrow : i < 64 = omega arith in
     bit_of_low w n i lt ∙ bits i narrow) in
     let whole : number_of_bits w f % 2 ^ w ≡ number_of_bits w f = mod-eq_of_lt (number_of_bits_below w f (inserted_bit_below base insert offset count)) in
-    rw e (h ∙ (ap (λ k. defined_lane w k) (same ∙ sym whole) ∙ sym (defined_if_true (nat_le (offset + count) w) _ (le-leb (offset + count) w within))))
+    rw e (h ∙ (ap (λ k. defined_cell w k) (same ∙ sym whole) ∙ sym (defined_if_true (nat_le (offset + count) w) _ (le-leb (offset + count) w within))))

@@ -3,7 +3,7 @@ use Rattle.std.proofs.Common.{◌≡◌, ℕ, ◌+◌, ◌-◌, ◌*◌, ◌/◌
 use Rattle.std.proofs.Math.Nat.{mul_comm, div-lt_iff_lt-mul, lt_of_le_of_lt, mod-one}
 use Rattle.std.proofs.Math.Pow.{pow_mono}
 use Rattle.std.proofs.lemmas.Bool.{lt-ltb, le-ltb, cases_lt, ne_eqb}
-use Rattle.spv_base.specs.Lane.{Lane}
+use Rattle.spv_base.specs.Cell.{Cell}
 use Rattle.spv_alu.specs.Results.{defined_if}
 use Rattle.std.specs.Prelude.{unsigned_abs, suc, FitsSigned, if◌then◌else◌, ◌==◌}
 use Rattle.std.specs.Int.{Width, int_div_euclid, cast_unsigned, w64, w128}
@@ -98,7 +98,7 @@ high_half w n h e =
 
 -- ---- results
 
-pub defined_if_true : (t : Bool) (l : Lane) → t ≡ true → defined_if t l ≡ l
+pub defined_if_true : (t : Bool) (l : Cell) → t ≡ true → defined_if t l ≡ l
 defined_if_true t l h = rw h refl
 
 -- ---- shifts of signed integers

@@ -4,7 +4,7 @@ use Rattle.std.specs.Prelude.{◌≡◌, ℕ, ◌-◌, ◌*◌, ◌/◌, ◌%◌
 use Rattle.std.specs.Option.{option_map}
 use Rattle.std.specs.Int.{int_div_euclid}
 use Rattle.spv_base.specs.Entries.{reads}
-use Rattle.spv_base.specs.Lane.{Lane}
+use Rattle.spv_base.specs.Cell.{Cell}
 use Rattle.spv_alu.specs.Integers.{IsWidth, signed, int_mod}
 use Rattle.spv_alu.specs.Results.{integer, truth, defined_if}
 use Rattle.spv_alu.specs.declared.binary_op.BinaryOp.{BinaryOp}
@@ -83,7 +83,7 @@ abbrev pub has_quotient : ℕ → ℕ → ℕ → Bool
 has_quotient w a b = not (b == 0) && not (a == 2 ^ (w - 1) && b == 2 ^ w - 1)
 
 -- the result at operands with the bits a and b, where w is the width of the first
-abbrev pub binary_result : BinaryRow → ℕ → ℕ → ℕ → Lane
+abbrev pub binary_result : BinaryRow → ℕ → ℕ → ℕ → Cell
 binary_result (arithmetic f) w a b = integer w (f a b)
 binary_result (unsigned_division f) w a b = defined_if (not (b == 0)) (integer w (f a b))
 binary_result (signed_division f) w a b = defined_if (has_quotient w a b) (integer w (f (signed w a) (signed w b)))
@@ -93,7 +93,7 @@ binary_result (signed_comparison f) w a b = truth (f (signed w a) (signed w b))
 binary_result (shift f) w a b = defined_if (nat_lt b w) (integer w (f w a b))
 
 -- the operation on a lane: not defined where an operand isn't
-abbrev pub binary_lane : BinaryOp → Lane → Lane → Lane
+abbrev pub binary_lane : BinaryOp → Cell → Cell → Cell
 binary_lane op a b = defined_if (a.defined && b.defined) (binary_result (binary_row op) a.width a.bits b.bits)
 
 -- each operation under its opcode
@@ -119,5 +119,5 @@ unfoldable pub binary_width_of : ℕ → ℕ → Option ℕ
 binary_width_of number w = option_map (λ op. binary_width (binary_row op) w) (binary_op number)
 
 -- the operation of an opcode on a lane, if the opcode is one of them
-unfoldable pub binary_of : ℕ → Lane → Lane → Option Lane
+unfoldable pub binary_of : ℕ → Cell → Cell → Option Cell
 binary_of number a b = option_map (λ op. binary_lane op a b) (binary_op number)

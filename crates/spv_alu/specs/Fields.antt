@@ -3,7 +3,7 @@ use Rattle.std.specs.Prelude.{ℕ, ◌+◌, ◌-◌, ◌/◌, ◌%◌, ◌^◌, 
 use Rattle.std.specs.Int.{bit_at}
 use Rattle.std.specs.Option.{option_map}
 use Rattle.spv_base.specs.Entries.{reads}
-use Rattle.spv_base.specs.Lane.{Lane}
+use Rattle.spv_base.specs.Cell.{Cell}
 use Rattle.spv_alu.specs.Integers.{signed, number_of_bits}
 use Rattle.spv_alu.specs.Results.{integer, defined_if}
 use Rattle.spv_alu.specs.declared.field_op.FieldOp.{FieldOp}
@@ -21,7 +21,7 @@ field_row BitFieldSExtract w base insert offset count = signed count (base / 2 ^
 field_row BitFieldUExtract w base insert offset count = pos (base / 2 ^ offset % 2 ^ count)
 
 -- the result; not defined where the field isn't within the width
-abbrev pub field_result : FieldOp → ℕ → ℕ → ℕ → ℕ → ℕ → Lane
+abbrev pub field_result : FieldOp → ℕ → ℕ → ℕ → ℕ → ℕ → Cell
 field_result op w base insert offset count = defined_if (nat_le (offset + count) w) (integer w (field_row op w base insert offset count))
 
 -- whether the operands that there are are defined
@@ -31,7 +31,7 @@ field_defined BitFieldSExtract base insert offset count = base && offset && coun
 field_defined BitFieldUExtract base insert offset count = base && offset && count
 
 -- the operation on a lane: not defined where an operand isn't
-abbrev pub field_lane : FieldOp → Lane → Lane → Lane → Lane → Lane
+abbrev pub field_lane : FieldOp → Cell → Cell → Cell → Cell → Cell
 field_lane op base insert offset count =
     defined_if (field_defined op base.defined insert.defined offset.defined count.defined) (field_result op base.width base.bits insert.bits offset.bits count.bits)
 
@@ -45,5 +45,5 @@ unfoldable pub field_op : ℕ → Option FieldOp
 field_op number = reads number field_opcodes
 
 -- the operation of an opcode on a lane, if the opcode is one of them
-unfoldable pub field_of : ℕ → Lane → Lane → Lane → Lane → Option Lane
+unfoldable pub field_of : ℕ → Cell → Cell → Cell → Cell → Option Cell
 field_of number base insert offset count = option_map (λ op. field_lane op base insert offset count) (field_op number)

@@ -4,7 +4,7 @@ use Rattle.std.specs.Int.{int_min, int_max, int_signum}
 use Rattle.std.specs.Int.Count.{count_leading_zeros, count_trailing_zeros}
 use Rattle.std.specs.Option.{option_map}
 use Rattle.spv_base.specs.Entries.{reads}
-use Rattle.spv_base.specs.Lane.{Lane}
+use Rattle.spv_base.specs.Cell.{Cell}
 use Rattle.spv_alu.specs.Integers.{signed}
 use Rattle.spv_alu.specs.Results.{integer, defined_if}
 use Rattle.spv_alu.specs.declared.glsl_op.GlslOp.{GlslOp}
@@ -40,7 +40,7 @@ glsl_row FindSMsb = of_one (λ w n. highest_one w (if int_lt (signed w n) (pos 0
 glsl_row FindUMsb = of_one highest_one
 
 -- the result at operands of width w with the bits a, b and c, as many as there are
-abbrev pub glsl_result : GlslRow → ℕ → ℕ → ℕ → ℕ → Lane
+abbrev pub glsl_result : GlslRow → ℕ → ℕ → ℕ → ℕ → Cell
 glsl_result (of_one f) w a b c = integer w (f w a)
 glsl_result (of_two f) w a b c = integer w (f w a b)
 glsl_result (clamp f) w a b c = defined_if (int_le (f w b) (f w c)) (integer w (int_min (int_max (f w a) (f w b)) (f w c)))
@@ -52,7 +52,7 @@ glsl_defined (of_two f) a b c = a && b
 glsl_defined (clamp f) a b c = a && b && c
 
 -- the operation on a lane: not defined where an operand isn't
-abbrev pub glsl_lane : GlslOp → Lane → Lane → Lane → Lane
+abbrev pub glsl_lane : GlslOp → Cell → Cell → Cell → Cell
 glsl_lane op a b c =
     defined_if (glsl_defined (glsl_row op) a.defined b.defined c.defined) (glsl_result (glsl_row op) a.width a.bits b.bits c.bits)
 
@@ -67,5 +67,5 @@ unfoldable pub glsl_op : ℕ → Option GlslOp
 glsl_op number = reads number glsl_numbers
 
 -- the instruction of a number on a lane, if the number is one of them
-unfoldable pub glsl_of : ℕ → Lane → Lane → Lane → Option Lane
+unfoldable pub glsl_of : ℕ → Cell → Cell → Cell → Option Cell
 glsl_of number a b c = option_map (λ op. glsl_lane op a b c) (glsl_op number)

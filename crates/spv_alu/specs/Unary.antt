@@ -4,7 +4,7 @@ use Rattle.std.specs.Prelude.{◌≡◌, ℕ, ◌-◌, ◌^◌, ◌==◌, not, B
 use Rattle.std.specs.Option.{option_map}
 use Rattle.std.specs.Int.{bit_at}
 use Rattle.spv_base.specs.Entries.{reads}
-use Rattle.spv_base.specs.Lane.{Lane}
+use Rattle.spv_base.specs.Cell.{Cell}
 use Rattle.spv_alu.specs.Integers.{IsWidth, signed, number_of_bits}
 use Rattle.spv_alu.specs.Results.{integer, truth, defined_if}
 use Rattle.spv_alu.specs.declared.unary_op.UnaryOp.{UnaryOp}
@@ -36,13 +36,13 @@ UnaryWidths (arithmetic f) v w = (IsWidth v) × (w ≡ v)
 UnaryWidths (logical f) v w = (v ≡ 1) × (w ≡ 1)
 
 -- the result at an operand of a width with the bits n, and a width of the result
-abbrev pub unary_result : UnaryRow → ℕ → ℕ → ℕ → Lane
+abbrev pub unary_result : UnaryRow → ℕ → ℕ → ℕ → Cell
 unary_result (conversion f) v n w = integer w (f v n)
 unary_result (arithmetic f) v n w = integer w (f w n)
 unary_result (logical f) v n w = truth (f (n == 1))
 
 -- the operation on a lane: not defined where the operand isn't
-abbrev pub unary_lane : UnaryOp → Lane → ℕ → Lane
+abbrev pub unary_lane : UnaryOp → Cell → ℕ → Cell
 unary_lane op a w = defined_if a.defined (unary_result (unary_row op) a.width a.bits w)
 
 -- each operation under its opcode
@@ -60,5 +60,5 @@ abbrev pub UnaryFits : ℕ → ℕ → ℕ → Type 0
 UnaryFits number v w = IsSomeAnd (unary_op number) (λ op. UnaryWidths (unary_row op) v w)
 
 -- the operation of an opcode on a lane, if the opcode is one of them
-unfoldable pub unary_of : ℕ → Lane → ℕ → Option Lane
+unfoldable pub unary_of : ℕ → Cell → ℕ → Option Cell
 unary_of number a w = option_map (λ op. unary_lane op a w) (unary_op number)

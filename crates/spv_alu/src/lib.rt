@@ -3,7 +3,7 @@
 
 ghost use Rattle.std.specs.Prelude.{◌≡◌, Some};
 ghost use Rattle.std.specs.Option.{unwrap_or};
-ghost use Rattle.spv_base.specs.Lane.{undefined_lane};
+ghost use Rattle.spv_base.specs.Cell.{undefined_cell};
 ghost use Rattle.spv_alu.specs.Unary.{UnaryFits, unary_of};
 ghost use Rattle.spv_alu.specs.Binary.{BinaryFits, binary_of, binary_width_of};
 ghost use Rattle.spv_alu.specs.Extended.{extended_of};
@@ -75,7 +75,7 @@ pub fn select(c: Cell, a: Cell, b: Cell) -> Cell
 /// The Boolean of OpAny or OpAll on the lanes of a vector; undefined for another opcode.
 #[tactic(auto, unfolding(crate::specs::Vectors::any_all_of))]
 pub fn any_all(op: u16, lanes: &[Cell]) -> Cell
-    ensures lane { result ≡ unwrap_or (any_all_of op lanes.now) (undefined_lane 1) }
+    ensures lane { result ≡ unwrap_or (any_all_of op lanes.now) (undefined_cell 1) }
     ensures width { result.width ≡ 1 }
 {
     match VectorOp::of(op) {
@@ -89,7 +89,7 @@ pub fn any_all(op: u16, lanes: &[Cell]) -> Cell
 #[tactic(auto, unfolding(crate::specs::Fields::field_of))]
 pub fn field(op: u16, base: Cell, insert: Cell, offset: Cell, count: Cell) -> Cell
     requires { IsWidth base.width }
-    ensures lane { result ≡ unwrap_or (field_of op base insert offset count) (undefined_lane base.width) }
+    ensures lane { result ≡ unwrap_or (field_of op base insert offset count) (undefined_cell base.width) }
     ensures width { result.width ≡ base.width }
 {
     match FieldOp::of(op) {
@@ -103,7 +103,7 @@ pub fn field(op: u16, base: Cell, insert: Cell, offset: Cell, count: Cell) -> Ce
 pub fn extended(op: u16, a: Cell, b: Cell) -> (Cell, Cell)
     requires first { IsWidth a.width }
     requires second { b.width ≡ a.width }
-    ensures lanes { result ≡ unwrap_or (extended_of op a b) (undefined_lane a.width, undefined_lane a.width) }
+    ensures lanes { result ≡ unwrap_or (extended_of op a b) (undefined_cell a.width, undefined_cell a.width) }
     ensures low_width { result.0.width ≡ a.width }
     ensures high_width { result.1.width ≡ a.width }
 {
@@ -120,7 +120,7 @@ pub fn glsl(number: u32, a: Cell, b: Cell, c: Cell) -> Cell
     requires first { IsWidth a.width }
     requires second { b.width ≡ a.width }
     requires third { c.width ≡ a.width }
-    ensures lane { result ≡ unwrap_or (glsl_of number a b c) (undefined_lane a.width) }
+    ensures lane { result ≡ unwrap_or (glsl_of number a b c) (undefined_cell a.width) }
     ensures width { result.width ≡ a.width }
 {
     match GlslOp::of(number) {

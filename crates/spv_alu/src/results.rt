@@ -1,6 +1,6 @@
 //! What an operation gives on one lane.
 ghost use Rattle.std.specs.Prelude.{◌≡◌, ◌≤◌, pos};
-ghost use Rattle.spv_base.specs.Lane.{undefined_lane};
+ghost use Rattle.spv_base.specs.Cell.{undefined_cell};
 ghost use Rattle.spv_alu.specs.Integers.{IsWidth};
 ghost use Rattle.spv_alu.specs.Results.{integer, truth, defined_if};
 
@@ -41,7 +41,7 @@ pub fn truth(holds: bool) -> Cell
 /// The undefined lane of a width.
 pub fn undefined(width: u8) -> Cell
     requires { width ≤ 64 }
-    ensures { result ≡ undefined_lane width }
+    ensures { result ≡ undefined_cell width }
 {
     Cell {
         bits: 0,

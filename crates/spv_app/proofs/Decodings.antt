@@ -8,10 +8,10 @@ use Rattle.spv_base.specs.declared.instructions.Operand.TheVariants.{Id, Lit, Te
 use Rattle.spv_base.specs.declared.instructions.RawInst.{RawInst}
 use Rattle.spv_words.specs.Cuts.{StandFrom, words_in}
 use Rattle.spv_words.specs.Words.{Fit32}
-use Rattle.spv_ops.specs.declared.forms.Head.{Head}
-use Rattle.spv_ops.specs.declared.forms.Head.TheVariants as head
+use Rattle.spv_ops.specs.declared.grammar.Head.{Head}
+use Rattle.spv_ops.specs.declared.grammar.Head.TheVariants as head
 use Rattle.spv_ops.specs.Opcodes.{Row}
-use Rattle.spv_ops.specs.Forms.{row_of}
+use Rattle.spv_ops.specs.Grammar.{row_of}
 use Rattle.spv_ops.specs.Steps.{◌>>=◌}
 use Rattle.spv_ops.specs.Reading.{inst_of, insts_of}
 use Rattle.spv_ops.specs.Strings.{words_of_text}

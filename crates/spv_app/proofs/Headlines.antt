@@ -11,7 +11,7 @@ use Rattle.spv_app.specs.declared.status.Status.TheVariants.{Done, Usage, Module
 use Rattle.spv_app.specs.declared.opening.OpeningRefusal.{OpeningRefusal}
 use Rattle.spv_app.specs.Lines.{lines_of}
 use Rattle.spv_app.specs.Transcript.{transcript}
-use Rattle.spv_app.specs.CommandLine.{Names, debug_names}
+use Rattle.spv_app.specs.CommandLine.{PairNames, debug_names}
 use Rattle.spv_app.specs.CommandLoop.{Says, with_rest}
 use Rattle.spv_app.specs.Opening.{opening, refusal_line}
 use Rattle.spv_app.specs.Limits.{binary_limit, setup_limit, input_limit}
@@ -44,7 +44,7 @@ not_more m name xs limit p few more =
     let e : length more.0 ≡ length xs = ap length (same_content m name more.0 xs more.1 p) in
     omega arith
 
-not_too_long : (m : List ℕ → Option (List ℕ)) (names : Names) (binary setup : List ℕ) (before after : Library) → before.told ≡ Some m → m names.binary ≡ Some binary → m names.setup ≡ Some setup
+not_too_long : (m : List ℕ → Option (List ℕ)) (names : PairNames) (binary setup : List ℕ) (before after : Library) → before.told ≡ Some m → m names.binary ≡ Some binary → m names.setup ≡ Some setup
     → length binary ≤ binary_limit → length setup ≤ setup_limit → IsTooLong names before after → ⊥
 not_too_long m names binary setup before after told p q few_binary few_setup (inl h) = not_more m names.binary binary binary_limit p few_binary (subst (λ t. HoldsMore t names.binary binary_limit) told h.1)
 not_too_long m names binary setup before after told p q few_binary few_setup (inr h) = not_more m names.setup setup setup_limit q few_setup (subst (λ t. HoldsMore t names.setup setup_limit) told h.1)
@@ -72,7 +72,7 @@ loop_whole view SetupRefused xs got put left ok took few long says = absurd says
 loop_whole view FileFault xs got put left ok took few long says = absurd says
 loop_whole view FileTooLong xs got put left ok took few long says = absurd says
 
-module _ (m : List ℕ → Option (List ℕ)) (names : Names) (before after : Outside) (unread : Type 0) (xs held : List ℕ) (status : Status)
+module _ (m : List ℕ → Option (List ℕ)) (names : PairNames) (before after : Outside) (unread : Type 0) (xs held : List ℕ) (status : Status)
     (told : before.files.told ≡ Some m) (left_is : before.streams.left ≡ Some xs) (held_is : before.streams.held ≡ Some held)
     (binary setup : List ℕ) (binary_is : m names.binary ≡ Some binary) (setup_is : m names.setup ≡ Some setup)
     (few_binary : length binary ≤ binary_limit) (few_setup : length setup ≤ setup_limit) (few : length xs ≤ input_limit) (ok : NothingFails status) where
@@ -119,7 +119,7 @@ nothing_fails status files_old files_new reads_old reads_new writes_old writes_n
   memory = memory;
 }
 
-pub headline : (names read_names : Names) (before after : Outside) (unread : Type 0) (status : Status)
+pub headline : (names read_names : PairNames) (before after : Outside) (unread : Type 0) (status : Status)
     (m : List ℕ → Option (List ℕ)) (binary setup xs held : List ℕ)
     → read_names ≡ names → Debugged read_names before after unread status → NothingFails status
     → before.files.told ≡ Some m → m names.binary ≡ Some binary → m names.setup ≡ Some setup → length binary ≤ binary_limit → length setup ≤ setup_limit
@@ -131,11 +131,11 @@ headline names read_names before after unread status m binary setup xs held same
 
 -- ---- the words
 
-some_is : (x y : Names) → Some x ≡ Some y → x ≡ y
+some_is : (x y : PairNames) → Some x ≡ Some y → x ≡ y
 some_is x y p = cc
 
 -- four words of which the second is `debug`
-names_of_four : (words : List (String Global)) (command binary setup : String Global) (names : Names) → 4 ≤ length words → length words < 5
+names_of_four : (words : List (String Global)) (command binary setup : String Global) (names : PairNames) → 4 ≤ length words → length words < 5
     → command ≡ get_or words 1 command → binary ≡ get_or words 2 binary → setup ≡ get_or words 3 setup
     → bytes_eq (string_bytes command) (codes "debug") ≡ true → debug_names words ≡ Some names → record { binary = string_bytes binary; setup = string_bytes setup } ≡ names
 names_of_four [] command binary setup names low high c b s e n = absurd (omega arith)
@@ -150,7 +150,7 @@ names_of_four (w ∷ x ∷ y ∷ z ∷ []) command binary setup names low high c
 names_of_four (w ∷ x ∷ y ∷ z ∷ (v ∷ more)) command binary setup names low high c b s e n = absurd (omega arith)
 
 -- the names as they were lent
-pub names_lent : (words : List (String Global)) (command binary setup : String Global) (names : Names) (command_text binary_name setup_name : List ℕ) (is_debug : Bool)
+pub names_lent : (words : List (String Global)) (command binary setup : String Global) (names : PairNames) (command_text binary_name setup_name : List ℕ) (is_debug : Bool)
     → 4 ≤ length words → length words < 5
     → command ≡ get_or words 1 command → binary ≡ get_or words 2 binary → setup ≡ get_or words 3 setup
     → command_text ≡ string_bytes command → is_debug ≡ bytes_eq command_text (codes "debug") → is_debug ≡ true

@@ -7,12 +7,12 @@ abbrev pub usage_line : List ℕ
 usage_line = codes "usage: spvdbg debug MODULE SETUP | check MODULE | make N | text MODULE\n"
 
 -- the names of a module and of a setup
-pub record Names : Type 0 where
+pub record PairNames : Type 0 where
   pub binary : List ℕ
   pub setup : List ℕ
 
 -- the names, where the words are the program's name, `debug`, and the two names
-abbrev pub debug_names : List (String Global) → Option Names
+abbrev pub debug_names : List (String Global) → Option PairNames
 debug_names (program ∷ command ∷ binary ∷ setup ∷ []) =
     if bytes_eq (string_bytes command) (codes "debug") then Some (record { binary = string_bytes binary; setup = string_bytes setup }) else None
 debug_names words = None

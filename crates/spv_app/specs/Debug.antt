@@ -13,7 +13,7 @@ use Rattle.spv_app.specs.Limits.{binary_limit, setup_limit}
 use Rattle.spv_app.specs.Lines.{lines_of}
 use Rattle.spv_app.specs.Outside.{Library, Outside}
 use Rattle.spv_app.specs.Transcript.{transcript}
-use Rattle.spv_app.specs.CommandLine.{Names}
+use Rattle.spv_app.specs.CommandLine.{PairNames}
 use Rattle.spv_app.specs.CommandLoop.{Ran}
 use Rattle.spv_app.specs.Opening.{opening, refusal_line, with_journal}
 
@@ -30,18 +30,18 @@ status_of_refusal (Setup refusal) = SetupRefused
 -- ---- the pair of files
 
 -- the pair of files that was read
-pub record IsPair (told : Told) (names : Names) (binary setup : List ℕ) : Type 0 where
+pub record IsPair (told : Told) (names : PairNames) (binary setup : List ℕ) : Type 0 where
   pub binary_is : Holds told names.binary binary
   pub setup_is : Holds told names.setup setup
   pub binary_fits : length binary ≤ binary_limit
   pub setup_fits : length setup ≤ setup_limit
 
 -- The module was asked for once, and nothing else was.
-abbrev pub AsksForModule : Names → Library → Library → Type 0
+abbrev pub AsksForModule : PairNames → Library → Library → Type 0
 AsksForModule names before after = AsksFor before.asked after.asked (names.binary ∷ [])
 
 -- The module was asked for once, and then the setup once, and nothing else was.
-abbrev pub AsksForBoth : Names → Library → Library → Type 0
+abbrev pub AsksForBoth : PairNames → Library → Library → Type 0
 AsksForBoth names before after = AsksFor before.asked after.asked (names.binary ∷ (names.setup ∷ []))
 
 -- the name was read: it has a content of at most so many bytes
@@ -49,36 +49,36 @@ abbrev pub WasRead : Told → List ℕ → (limit : ℕ) → Type 0
 WasRead told name limit = (bytes : List ℕ) × Holds told name bytes × (length bytes ≤ limit)
 
 -- The file that failed last is the module's, or, where that was read, the setup's.
-abbrev pub HasFailed : Names → Library → Library → Type 0
+abbrev pub HasFailed : PairNames → Library → Library → Type 0
 HasFailed names before after =
     ((after.failed ≡ names.binary) × AsksForModule names before after)
     ⊎ ((after.failed ≡ names.setup) × WasRead before.told names.binary binary_limit × AsksForBoth names before after)
 
 -- The last reading took more bytes than the module may have, or, where that was read, the setup; and it has more where that is told.
-abbrev pub IsTooLong : Names → Library → Library → Type 0
+abbrev pub IsTooLong : PairNames → Library → Library → Type 0
 IsTooLong names before after =
     ((binary_limit < after.taken) × HoldsMore before.told names.binary binary_limit × AsksForModule names before after)
     ⊎ ((setup_limit < after.taken) × HoldsMore before.told names.setup setup_limit × WasRead before.told names.binary binary_limit × AsksForBoth names before after)
 
 -- Where memory ran out, no more was asked for.
-abbrev pub AsksForAtMost : Names → Library → Library → Type 0
+abbrev pub AsksForAtMost : PairNames → Library → Library → Type 0
 AsksForAtMost names before after = AsksFor before.asked after.asked [] ⊎ (AsksForModule names before after ⊎ AsksForBoth names before after)
 
 -- why no pair was read, or none was opened though no rule is broken
-abbrev pub SaysUnopened : Names → Library → Library → Status → Type 0
+abbrev pub SaysUnopened : PairNames → Library → Library → Status → Type 0
 SaysUnopened names before after status =
     ((status ≡ FileFault) × HasFailed names before after)
     ⊎ (((status ≡ FileTooLong) × IsTooLong names before after) ⊎ ((status ≡ NoMemory) × AsksForAtMost names before after))
 
 -- the name is one of the two
-abbrev pub IsOneOf : Option Names → List ℕ → Type 0
+abbrev pub IsOneOf : Option PairNames → List ℕ → Type 0
 IsOneOf None name = ⊥
 IsOneOf (Some names) name = (name ≡ names.binary) ⊎ (name ≡ names.setup)
 
 -- ---- a whole call of `debug`
 
 -- A run of `debug`, by what the outside tells before and after it, and whether the input was left as it was.
-pub data Debugged (names : Names) (before after : Outside) (unread : Type 0) : Status → Type 0 where
+pub data Debugged (names : PairNames) (before after : Outside) (unread : Type 0) : Status → Type 0 where
   -- no pair is opened, and none is refused: nothing is read, nothing is written, and there is no step
   Unopened : (status : Status) → SaysUnopened names before.files after.files status → unread → Keeps before.streams.held after.streams.held
       → after.streams.steps ≡ before.streams.steps → Debugged names before after unread status

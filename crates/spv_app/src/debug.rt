@@ -1,7 +1,7 @@
 //! The top call.
 ghost use Rattle.std.specs.Prelude.{◌≡◌, ◌≢◌, ◌↔◌, ◌⊎◌, ◌<◌, ◌≤◌, ◌-◌, ◌^◌, [], ◌∷◌, ◌++◌, List, ℕ, Option, Some, None, All, vec_len, length, IfOk, IfErr, IsOk, IsErrOf};
 ghost use Rattle.std.specs.Io.KnownBytes.{Appends};
-ghost use Rattle.spv_app.specs.CommandLine.{Names, debug_names, check_name, text_name, usage_line};
+ghost use Rattle.spv_app.specs.CommandLine.{PairNames, debug_names, check_name, text_name, usage_line};
 ghost use Rattle.spv_base.specs.Answers.{Answers};
 ghost use Rattle.spv_app.specs.Opening.{opening, refusal_line, viewed};
 ghost use Rattle.spv_app.specs.Debug.{Debugged, IsPair, IsOneOf, SaysLine, SaysUnopened, status_of_refusal, due_text, due_status};
@@ -226,7 +226,7 @@ pub fn debug_main<F: Files, I: Source, K: Sink, L: Ledger>(
     requires out { K.faults out.old < 2 ^ 64 - 1 }
 
     // The bytes written are those that are due: the line of the refusal, or the transcript of the whole input.
-    ensures headline { (names : Names) (m : List ℕ → Option (List ℕ)) (binary setup xs before : List ℕ)
+    ensures headline { (names : PairNames) (m : List ℕ → Option (List ℕ)) (binary setup xs before : List ℕ)
         → debug_names words.now ≡ Some names → F.contents files.old ≡ Some m → m names.binary ≡ Some binary → m names.setup ≡ Some setup
         → length binary ≤ binary_limit → length setup ≤ setup_limit
         → I.left input.old ≡ Some xs → length xs ≤ input_limit → K.taken out.old ≡ Some before
@@ -249,7 +249,7 @@ pub fn debug_main<F: Files, I: Source, K: Sink, L: Ledger>(
         → (K.taken out.new ≡ Some (before ++ text_line (texting binary))) × (result ≡ text_status (texting binary)) }
 
     // What each status says, whatever was told and whatever failed.
-    ensures debugged { (names : Names) → debug_names words.now ≡ Some names
+    ensures debugged { (names : PairNames) → debug_names words.now ≡ Some names
         → Debugged names
         (record { files = record { told = F.contents files.old; asked = F.asked files.old; taken = F.taken files.old; failed = F.failed_name files.old }; streams = record { left = I.left input.old; held = K.taken out.old; steps = steps.old } })
         (record { files = record { told = F.contents files.new; asked = F.asked files.new; taken = F.taken files.new; failed = F.failed_name files.new }; streams = record { left = I.left input.new; held = K.taken out.new; steps = steps.new } }) (input.new ≡ input.old) result }

@@ -1,3 +1,4 @@
 pub mod EntryLemmas
 pub mod PartLemmas
+pub mod OrderLemmas
 pub mod Writes

@@ -1,6 +1,6 @@
 -- The bits of a value: those of its leaves in order, the lowest first, each 0, 1 or undefined.
 use Rattle.std.specs.Prelude.{ℕ, zero, suc, ◌/◌, ◌%◌, ◌==◌, if◌then◌else◌, List, [], ◌∷◌, ◌++◌, Bool, Option, Some, None}
-use Rattle.spv_base.specs.Lane.{Lane}
+use Rattle.spv_base.specs.Cell.{Cell}
 use Rattle.spv_base.specs.declared.values.Value.{Value, fold-Value}
 use Rattle.spv_base.specs.declared.values.Value.TheOpen.{Value-F}
 
@@ -10,7 +10,7 @@ bits_of defined zero n = []
 bits_of defined (suc k) n = (if defined then Some (n % 2 == 1) else None) ∷ bits_of defined k (n / 2)
 
 -- the bits of a scalar; a Boolean, whose width is 1, has 32
-abbrev pub cell_bits : Lane → List (Option Bool)
+abbrev pub cell_bits : Cell → List (Option Bool)
 cell_bits c = bits_of c.defined (if c.width == 1 then 32 else c.width) c.bits
 
 abbrev pub joined : List (List (Option Bool)) → List (Option Bool)

@@ -12,13 +12,14 @@ pub struct Cell {
 }
 
 impl Model for Cell {
-    ghost use Rattle.spv_base.specs.Lane.{Lane, IsLane};
+    ghost use Rattle.spv_base.specs.Cell as spec;
+    ghost use Rattle.spv_base.specs.Cell.{IsCell};
 
-    ghost Value = { Lane };
+    ghost Value = { spec.Cell };
 
     ghost view = { λ c. record { bits = c.bits; width = c.width; defined = c.defined } };
 
-    ghost invariant = { λ c. IsLane (record { bits = c.bits; width = c.width; defined = c.defined }) };
+    ghost invariant = { λ c. IsCell (record { bits = c.bits; width = c.width; defined = c.defined }) };
 
     ghost inverse = { λ l. record { bits = l.bits; width = l.width; defined = l.defined } };
 }

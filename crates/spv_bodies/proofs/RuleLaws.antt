@@ -19,9 +19,10 @@ use Rattle.spv_types.specs.Build.{unless_refused}
 use Rattle.spv_types.specs.Rules.{has_runtime, is_sized_data, is_word}
 use Rattle.spv_types.specs.Types.{Types, form_of}
 use Rattle.spv_types.specs.Queries.{is_integer, is_pointer}
+use Rattle.spv_types.proofs.SoundLemmas.{impossible}
 use Rattle.spv_index.specs.Classes.{is_debug}
 use Rattle.spv_typing.specs.Fitting.{is_selectable}
-use Rattle.spv_typing.proofs.LawLemmas.{glsl_rule_is, rule_is, impossible}
+use Rattle.spv_typing.proofs.LawLemmas.{glsl_rule_is, rule_is}
 use Rattle.spv_bodies.specs.declared.rules.Rule.{Rule}
 use Rattle.spv_bodies.specs.declared.rules.Rule.TheVariants.{Free, Lanes, Extended, Memory, Atomic, Composite, Control}
 use Rattle.spv_bodies.specs.declared.rules.MemoryRule.{MemoryRule}
@@ -35,8 +36,8 @@ use Rattle.spv_bodies.specs.declared.rules.ControlRule.TheVariants.{Phi, Branch,
 use Rattle.spv_bodies.specs.Atomics.{IsOrdered, IsShared, is_ordered, is_shared, number_at, on_shared}
 use Rattle.spv_bodies.specs.Bodies.{KeepsAtomic, KeepsBody, KeepsComposite, KeepsControl, KeepsMemory, KeepsRule, bodies_of, body_breaches, breach, keeps, keeps_atomic, keeps_body, keeps_composite, keeps_control, keeps_memory}
 use Rattle.spv_bodies.specs.Calls.{are_of, called_form, function_form, parameter_type, parameters_ahead}
-use Rattle.spv_bodies.specs.Chains.{reached}
-use Rattle.spv_bodies.specs.Composites.{AreParts, Fill, IsChoice, IsPart, IsShuffle, are_elements, are_members, are_parts, fill, given, is_choice, is_part, is_shuffle, named}
+use Rattle.spv_bodies.specs.Chains.{reached_type}
+use Rattle.spv_bodies.specs.Composites.{AreParts, Fill, IsChoice, IsPart, IsShuffle, are_elements, are_members, are_parts, fill, given, is_choice, is_part, is_shuffle, named_type}
 use Rattle.spv_bodies.specs.Context.{IsConstantAt, Known, constant_at, form_at, has, is_constant_at, is_integer_at, known_of, type_at, type_in}
 use Rattle.spv_bodies.specs.Control.{are_values, firsts}
 use Rattle.spv_bodies.specs.Lanes.{count_of, types_after}
@@ -72,7 +73,7 @@ memory k i ArrayLength =
     Decides-and (is_word (form_of k.types i.ty)) _ (word (form_of k.types i.ty))
     (leading _ _ (form_at k i 0) (λ p. some _ _ (member_at k i 1 p.target) (λ ty. runtime (form_of k.types ty))))
 memory k i Chain = leading _ _ (form_at k i 0) (λ p. leading _ _ (form_of k.types i.ty) (λ q.
-    Decides-and (q.class == p.class) (has q.target (reached k p.target (drop 1 i.operands))) (equal q.class p.class) (has_is q.target (reached k p.target (drop 1 i.operands)))))
+    Decides-and (q.class == p.class) (has q.target (reached_type k p.target (drop 1 i.operands))) (equal q.class p.class) (has_is q.target (reached_type k p.target (drop 1 i.operands)))))
 
 -- ---- atomics
 
@@ -141,7 +142,7 @@ parts k os (Some (Struct ms block)) = members k ms os
 parts k os _ = no_parts
 
 part_of : (k : Known) (whole : ℕ) (os : List Operand) (ty : ℕ) → Decides (is_part k whole os ty) (IsPart k whole os ty)
-part_of k whole os ty = Decides-and (is_selectable (form_of k.types ty)) (has ty (named k whole os)) (itself _) (has_is ty (named k whole os))
+part_of k whole os ty = Decides-and (is_selectable (form_of k.types ty)) (has ty (named_type k whole os)) (itself _) (has_is ty (named_type k whole os))
 
 matching : (ts : Types) (a b : ℕ) → Decides (do_match ts a b) (Match ts a b)
 matching ts a b = Decides-or (a == b) (same_terms (term_of ts a) (term_of ts b)) (equal a b) (both_written (term_of ts a) (term_of ts b))

@@ -7,13 +7,13 @@ use Rattle.std.specs.Ordering.{is_eq}
 use Rattle.spv_index.specs.Keys.{pair_cmp}
 use Rattle.spv_index.proofs.KeyLemmas.{same_pair}
 use Rattle.spv_types.proofs.TableLemmas.{same_key}
+use Rattle.spv_types.proofs.SoundLemmas.{impossible}
 use Rattle.spv_bodies.specs.declared.terms.Node.{Node}
 use Rattle.spv_bodies.specs.declared.terms.Node.TheVariants.{Number as Single, Pair as Double}
 use Rattle.spv_bodies.specs.Matching.{Number, Pair, Term, same_term, same_terms}
 use Rattle.spv_bodies.specs.Terms.{AreDistinct, Grows, IsClass, Makes}
 use Rattle.spv_bodies.specs.Classes.{same_class}
 use Rattle.spv_bodies.proofs.TestLemmas.{equal}
-use Rattle.spv_typing.proofs.LawLemmas.{impossible}
 
 -- ---- a node more
 

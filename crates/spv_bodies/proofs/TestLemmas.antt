@@ -11,9 +11,9 @@ use Rattle.spv_types.specs.declared.forms.Form.TheVariants.{Void, Bool as Boolea
 use Rattle.spv_types.specs.declared.queries.Components.{Components}
 use Rattle.spv_types.specs.declared.queries.Pointed.{Pointed}
 use Rattle.spv_types.specs.Rules.{is_runtime, is_word}
-use Rattle.spv_types.specs.Queries.{components_in, is_boolean, is_integer, is_void, parameters_in, pointee, returned}
+use Rattle.spv_types.specs.Queries.{components_in, is_boolean, is_integer, is_void, parameters_in, pointee, return_type}
+use Rattle.spv_types.proofs.SoundLemmas.{impossible}
 use Rattle.spv_bodies.specs.Context.{IsInteger, IsPointerTo, IsVectorOf, has}
-use Rattle.spv_typing.proofs.LawLemmas.{impossible}
 
 -- ---- numbers and options
 
@@ -134,15 +134,15 @@ void f = (there f, λ e. rw e refl)
 
 -- a function type that returns a type, with a test of its parameters
 pub declaring : (T : List ℕ → Type 0) (t : List ℕ → Bool) (f : Option Form) (ty : ℕ) → ((ps : List ℕ) → Decides (t ps) (T ps))
-    → Decides (has ty (returned f) && t (parameters_in f)) ((ps : List ℕ) × (f ≡ Some (Function ty ps)) × T ps)
+    → Decides (has ty (return_type f) && t (parameters_in f)) ((ps : List ℕ) × (f ≡ Some (Function ty ps)) × T ps)
 declaring T t f ty d = (there f, back)
   where
-    there : (f : Option Form) → (has ty (returned f) && t (parameters_in f)) ≡ true → (ps : List ℕ) × (f ≡ Some (Function ty ps)) × T ps
+    there : (f : Option Form) → (has ty (return_type f) && t (parameters_in f)) ≡ true → (ps : List ℕ) × (f ≡ Some (Function ty ps)) × T ps
     there (Some (Function returns parameters)) h =
         let r = (Decides-and (returns == ty) (t parameters) (equal returns ty) (d parameters)).0 h in
         let e : returns ≡ ty = r.0 in
         (parameters, rw e refl, r.1)
     there _ h = impossible h
 
-    back : (ps : List ℕ) × (f ≡ Some (Function ty ps)) × T ps → (has ty (returned f) && t (parameters_in f)) ≡ true
+    back : (ps : List ℕ) × (f ≡ Some (Function ty ps)) × T ps → (has ty (return_type f) && t (parameters_in f)) ≡ true
     back r = rw r.1 ((Decides-and (ty == ty) (t r.0) (equal ty ty) (d r.0)).1 (refl, r.2))

@@ -2,7 +2,7 @@
 -- integer in StorageBuffer or Workgroup, scopes and semantics are constants, and a barrier's Execution is Workgroup).
 use Rattle.std.specs.Prelude.{◌≡◌, ◌⊎◌, ℕ, ◌==◌, ◌&&◌, ◌||◌, Bool, false, if◌then◌else◌, Option, Some, None}
 use Rattle.std.specs.Option.{option_and_then, option_map_or}
-use Rattle.spv_base.specs.Lane.{Lane}
+use Rattle.spv_base.specs.Cell.{Cell}
 use Rattle.spv_base.specs.declared.instructions.Inst.{Inst}
 use Rattle.spv_types.specs.Types.{form_of}
 use Rattle.spv_types.specs.declared.queries.Pointed.{Pointed}
@@ -38,7 +38,7 @@ KeepsAtomicCompare k i =
     × (IsShared k p × ((p.target ≡ i.ty) × ((HasType k i 4 p.target × HasType k i 5 p.target) × (IsOrdered k i × IsConstantAt k i 3))))
 
 -- the number of a scalar that is defined
-abbrev pub number_in : Lane → Option ℕ
+abbrev pub number_in : Cell → Option ℕ
 number_in c = if c.defined then Some c.bits else None
 
 -- the number of the constant with an id

@@ -8,7 +8,7 @@ use Rattle.spv_base.specs.declared.instructions.Operand.{Operand}
 use Rattle.spv_types.specs.declared.forms.Form.{Form}
 use Rattle.spv_types.specs.declared.forms.Form.TheVariants.{Function}
 use Rattle.spv_types.specs.Types.{form_of}
-use Rattle.spv_types.specs.Queries.{is_pointer, parameters_in, returned}
+use Rattle.spv_types.specs.Queries.{is_pointer, parameters_in, return_type}
 use Rattle.spv_index.specs.Definitions.{defining}
 use Rattle.spv_index.specs.Operands.{id_operand}
 use Rattle.spv_bodies.specs.Context.{Known, has, type_in}
@@ -60,7 +60,7 @@ KeepsCall k i =
 -- ---- the same as tests
 
 abbrev pub returns_type : Option Form → ℕ → Bool
-returns_type f ty = has ty (returned f)
+returns_type f ty = has ty (return_type f)
 
 abbrev pub keeps_function : Known → Inst → List Inst → Bool
 keeps_function k i rest = returns_type (function_form k i) i.ty && nat_le (length (parameters_in (function_form k i))) (parameters_ahead rest)

@@ -1,7 +1,7 @@
 -- The rules of access chains (SPIR-V 1.6 section 3.42.8, "OpAccessChain"). A struct is indexed by an OpConstant alone.
 use Rattle.std.specs.Prelude.{◌≡◌, ℕ, ◌-◌, ◌^◌, ◌==◌, ◌&&◌, nat_lt, Bool, false, if◌then◌else◌, List, [], ◌∷◌, drop, Option, Some, None}
 use Rattle.std.specs.Option.{option_map_or, option_and_then}
-use Rattle.spv_base.specs.Lane.{Lane}
+use Rattle.spv_base.specs.Cell.{Cell}
 use Rattle.spv_base.specs.declared.instructions.Inst.{Inst}
 use Rattle.spv_base.specs.declared.instructions.Operand.{Operand}
 use Rattle.spv_types.specs.declared.forms.Form.{Form}
@@ -15,7 +15,7 @@ use Rattle.spv_index.specs.Operands.{id_in}
 use Rattle.spv_bodies.specs.Context.{IsPointerTo, Known, PointsTo, has, pointee_at, type_of}
 
 -- a scalar's number, where it is defined and not below 0 when it is read as signed
-abbrev pub index_in : Lane → Option ℕ
+abbrev pub index_in : Cell → Option ℕ
 index_in c = if c.defined && nat_lt c.bits (2 ^ (c.width - 1)) then Some c.bits else None
 
 -- an OpConstant 43, and no other constant
@@ -43,20 +43,20 @@ abbrev pub inner : Known → ℕ → ℕ → Option ℕ
 inner k ty index = if is_integer (form_in k index) then part_by k index (form_of k.types ty) else None
 
 -- the type that some indexes reach
-abbrev pub reached : Known → ℕ → List Operand → Option ℕ
-reached k ty [] = Some ty
-reached k ty (o ∷ os) = option_and_then (λ t. reached k t os) (option_and_then (inner k ty) (id_in o))
+abbrev pub reached_type : Known → ℕ → List Operand → Option ℕ
+reached_type k ty [] = Some ty
+reached_type k ty (o ∷ os) = option_and_then (λ t. reached_type k t os) (option_and_then (inner k ty) (id_in o))
 
 -- AccessChain 65 and InBoundsAccessChain 66 (base, indexes): a pointer of the base's class to the type that the indexes reach
 abbrev pub KeepsChain : Known → Inst → Type 0
 KeepsChain k i =
     (p : Pointed) × PointsTo k i 0 p
-    × ((q : Pointed) × IsPointerTo (form_of k.types i.ty) q × ((q.class ≡ p.class) × (reached k p.target (drop 1 i.operands) ≡ Some q.target)))
+    × ((q : Pointed) × IsPointerTo (form_of k.types i.ty) q × ((q.class ≡ p.class) × (reached_type k p.target (drop 1 i.operands) ≡ Some q.target)))
 
 -- ---- the same as a test
 
 abbrev pub keeps_chain_from : Known → Inst → Pointed → Pointed → Bool
-keeps_chain_from k i p q = q.class == p.class && has q.target (reached k p.target (drop 1 i.operands))
+keeps_chain_from k i p q = q.class == p.class && has q.target (reached_type k p.target (drop 1 i.operands))
 
 abbrev pub keeps_chain : Known → Inst → Bool
 keeps_chain k i = option_map_or (λ p. option_map_or (keeps_chain_from k i p) (pointee (form_of k.types i.ty)) false) (pointee_at k i 0) false

@@ -75,13 +75,13 @@ part (Some (Struct members block)) n = member_type members n
 part _ n = None
 
 -- the part that some literals name: the whole, where there are none
-abbrev pub named : Known → ℕ → List Operand → Option ℕ
-named k ty [] = Some ty
-named k ty (o ∷ os) = option_and_then (λ t. named k t os) (option_and_then (part (form_of k.types ty)) (literal_in o))
+abbrev pub named_type : Known → ℕ → List Operand → Option ℕ
+named_type k ty [] = Some ty
+named_type k ty (o ∷ os) = option_and_then (λ t. named_type k t os) (option_and_then (part (form_of k.types ty)) (literal_in o))
 
 -- the literals name a part with a type, which is no pointer type
 abbrev pub IsPart : Known → ℕ → List Operand → ℕ → Type 0
-IsPart k whole os ty = (is_selectable (form_of k.types ty) ≡ true) × (named k whole os ≡ Some ty)
+IsPart k whole os ty = (is_selectable (form_of k.types ty) ≡ true) × (named_type k whole os ≡ Some ty)
 
 -- CompositeExtract 81 (composite, literals): the part that they name
 abbrev pub KeepsExtract : Known → Inst → Type 0
@@ -139,7 +139,7 @@ abbrev pub keeps_construct : Known → Inst → Bool
 keeps_construct k i = are_parts k i.operands (form_of k.types i.ty)
 
 abbrev pub is_part : Known → ℕ → List Operand → ℕ → Bool
-is_part k whole os ty = is_selectable (form_of k.types ty) && has ty (named k whole os)
+is_part k whole os ty = is_selectable (form_of k.types ty) && has ty (named_type k whole os)
 
 abbrev pub keeps_extract : Known → Inst → Bool
 keeps_extract k i = option_map_or (λ whole. is_part k whole (drop 1 i.operands) i.ty) (type_at k i 0) false

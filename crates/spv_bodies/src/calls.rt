@@ -8,7 +8,7 @@ use spv_base::{Inst, Operand};
 use spv_index::id_operand;
 use spv_ops::op;
 use spv_types::Form;
-use spv_types::queries::{is_pointer, parameters_in, returned};
+use spv_types::queries::{is_pointer, parameters_in, return_type};
 
 /// How many parameters stand before the first block.
 fn parameters_ahead(insts: &[Inst]) -> usize
@@ -29,7 +29,7 @@ fn parameters_ahead(insts: &[Inst]) -> usize
 fn returns_type(form: Option<&Form>, ty: u32) -> bool
     ensures { result ≡ spec.returns_type (option_copied form.entry) ty }
 {
-    returned(form) == Some(ty)
+    return_type(form) == Some(ty)
 }
 
 /// The form of the function type that an OpFunction names.

@@ -78,8 +78,8 @@ fn inner(context: &Context, ty: u32, index: u32) -> Option<u32>
 }
 
 /// The type that some indexes reach.
-fn reached(context: &Context, target: u32, indexes: &[Operand]) -> Option<u32>
-    ensures { result ≡ spec.reached context.now target indexes.now }
+fn reached_type(context: &Context, target: u32, indexes: &[Operand]) -> Option<u32>
+    ensures { result ≡ spec.reached_type context.now target indexes.now }
 {
     let mut ty = target;
     for index in indexes {
@@ -92,7 +92,7 @@ fn reached(context: &Context, target: u32, indexes: &[Operand]) -> Option<u32>
 fn keeps_chain_from(context: &Context, inst: &Inst, p: Pointed, q: Pointed) -> bool
     ensures { result ≡ spec.keeps_chain_from context.now inst.now p q }
 {
-    q.class == p.class && reached(context, p.target, operands_from(inst, 1)) == Some(q.target)
+    q.class == p.class && reached_type(context, p.target, operands_from(inst, 1)) == Some(q.target)
 }
 
 /// Whether a chain keeps its rule.

@@ -211,8 +211,8 @@ pub fn keeps_construct(context: &Context, inst: &Inst) -> bool
 }
 
 /// The part of a type that some literals name.
-fn named(context: &Context, whole: u32, literals: &[Operand]) -> Option<u32>
-    ensures { result ≡ spec.named context.now whole literals.now }
+fn named_type(context: &Context, whole: u32, literals: &[Operand]) -> Option<u32>
+    ensures { result ≡ spec.named_type context.now whole literals.now }
 {
     let mut ty = whole;
     for literal in literals {
@@ -225,7 +225,7 @@ fn named(context: &Context, whole: u32, literals: &[Operand]) -> Option<u32>
 fn is_part(context: &Context, whole: u32, literals: &[Operand], ty: u32) -> bool
     ensures { result ≡ spec.is_part context.now whole literals.now ty }
 {
-    is_selectable(context.types(), ty) && named(context, whole, literals) == Some(ty)
+    is_selectable(context.types(), ty) && named_type(context, whole, literals) == Some(ty)
 }
 
 /// Whether an extraction gives the part that it names.

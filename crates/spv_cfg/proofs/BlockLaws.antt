@@ -11,7 +11,7 @@ use Rattle.spv_index.specs.declared.positions.Stage.TheVariants.{Body}
 use Rattle.spv_index.specs.declared.positions.Position.{Position}
 use Rattle.spv_index.specs.Classes.{is_executable, is_label, is_terminator, class_of}
 use Rattle.spv_index.specs.Positions.{Stand, stands, position_after, begins_block, in_block, in_function}
-use Rattle.spv_cfg.specs.Executables.{executable_of, followed, following}
+use Rattle.spv_cfg.specs.Executables.{executable_of, followers_of, following}
 use Rattle.spv_cfg.specs.Flow.{Flow}
 use Rattle.spv_cfg.specs.Laws.{HasFirst, HasNext}
 use Rattle.spv_cfg.proofs.Walks.{stand}
@@ -88,26 +88,26 @@ earlier_differs : (word other : ℕ) → other < word → (other == word) ≡ fa
 earlier_differs word other lt = grind arith
 
 followed_at : (front : List (ℕ × ℕ)) (label word : ℕ) (es : List (ℕ × ℕ)) → AreBefore word front
-    → reads word (followed (front ++ (label, word) ∷ es)) ≡ Some (following label es)
+    → reads word (followers_of (front ++ (label, word) ∷ es)) ≡ Some (following label es)
 followed_at [] label word es before = rw (same_number word) refl
 followed_at (e ∷ front) label word es before = rw (earlier_differs word e.1 before.0) (followed_at front label word es before.1)
 
-next_among : (f : Flow) (s : Stand) (front es : List (ℕ × ℕ)) → f.nexts ≡ followed f.blocks → AreBefore s.inst.word front → Led s.position.label es
+next_among : (f : Flow) (s : Stand) (front es : List (ℕ × ℕ)) → f.nexts ≡ followers_of f.blocks → AreBefore s.inst.word front → Led s.position.label es
     → front ++ (s.position.label, s.inst.word) ∷ es ≡ f.blocks → HasNext f s
 next_among f s front es nexts before (w, more, es_are) is =
     let label : ℕ = s.position.label in
     let blocks : front ++ (label, s.inst.word) ∷ (label, w) ∷ more ≡ f.blocks = rw es_are at is in
-    let read : reads s.inst.word (followed (front ++ (label, s.inst.word) ∷ (label, w) ∷ more)) ≡ Some (following label ((label, w) ∷ more))
+    let read : reads s.inst.word (followers_of (front ++ (label, s.inst.word) ∷ (label, w) ∷ more)) ≡ Some (following label ((label, w) ∷ more))
     = followed_at front label s.inst.word ((label, w) ∷ more) before in
     let next : following label ((label, w) ∷ more) ≡ Some w = rw (same_number label) refl in
     let lt : 1 < suc (suc (length more)) = omega arith in
     let among : Contains (front ++ (label, s.inst.word) ∷ (label, w) ∷ more) (label, w) = Contains-append_right front _ (label, w) (1, lt, refl) in (
       w,
-      ap (reads s.inst.word) (nexts ∙ sym (ap followed blocks)) ∙ read ∙ ap (λ (o : Option ℕ). Some o) next,
+      ap (reads s.inst.word) (nexts ∙ sym (ap followers_of blocks)) ∙ read ∙ ap (λ (o : Option ℕ). Some o) next,
       rw blocks at among,
     )
 
-next_by_class : (r : Class) (f : Flow) (position : Position) (inst : Inst) (front es : List (ℕ × ℕ)) → f.nexts ≡ followed f.blocks → AreBefore inst.word front
+next_by_class : (r : Class) (f : Flow) (position : Position) (inst : Inst) (front es : List (ℕ × ℕ)) → f.nexts ≡ followers_of f.blocks → AreBefore inst.word front
     → (in_block (position_after position r inst).stage ≡ true → Led (position_after position r inst).label es)
     → front ++ (executable_of (record { position = position; class = r; inst = inst }) ++ es) ≡ f.blocks
     → (is_executable r && in_block position.stage) ≡ true → is_terminator r ≡ false → HasNext f (record { position = position; class = r; inst = inst })
@@ -117,7 +117,7 @@ next_by_class Executable f position inst front es nexts before led is here goes_
 next_by_class Terminator f position inst front es nexts before led is here goes_on = absurd (cc)
 next_by_class other f position inst front es nexts before led is here goes_on = absurd (cc)
 
-pub blocks_go_on : (f : Flow) (sets : List (ℕ × Bool)) (position : Position) (from : ℕ) (insts : List Inst) (front : List (ℕ × ℕ)) → f.nexts ≡ followed f.blocks
+pub blocks_go_on : (f : Flow) (sets : List (ℕ × Bool)) (position : Position) (from : ℕ) (insts : List Inst) (front : List (ℕ × ℕ)) → f.nexts ≡ followers_of f.blocks
     → Ascend from insts → AreBefore from front → IsWhole sets position insts
     → front ++ executables_from sets position insts ≡ f.blocks
     → AllByRecursion (λ (s : Stand). (is_executable s.class && in_block s.position.stage) ≡ true → is_terminator s.class ≡ false → HasNext f s) (stands sets position insts)

@@ -1,5 +1,5 @@
 -- Pairs of numbers that an order finds equal.
-use Rattle.std.proofs.Common.{◌≡◌, ◌+◌, ◌&&◌, ◌||◌, ◌∙◌, ℕ, Bool, true, false, cond, List, ◌∷◌, ◌<◌, length, get_or, max, add_comm, zero-add, sym, ⊎_elim, Option, Some, eqb, refl, ap, arith, Ordering, Less, Equal, Greater}
+use Rattle.std.proofs.Common.{◌≡◌, ◌+◌, ◌&&◌, ◌||◌, ◌∙◌, ℕ, Bool, true, false, cond, List, ◌∷◌, ◌<◌, length, get_or, max, add_comm, zero-add, sym, ⊎_elim, Option, Some, eqb, refl, ap, arith}
 use Rattle.std.specs.Option.{unwrap_or}
 use Rattle.std.specs.List.{count_by}
 use Rattle.std.proofs.lemmas.Grind.{common_steps}
@@ -7,17 +7,7 @@ use Rattle.std.specs.Ordering.{nat_cmp, ordering_then, is_eq, ord_max}
 use Rattle.std.proofs.lemmas.Bool.{cases_eq, eq-eqb, ne_eqb}
 use Rattle.std.proofs.lemmas.List.{get_or_read}
 use Rattle.std.proofs.lemmas.List.Sums.{sum_by-cons}
-
-is_eq-then : (o p : Ordering) → is_eq (ordering_then o p) ≡ (is_eq o && is_eq p)
-is_eq-then Less p = refl
-is_eq-then Equal p = refl
-is_eq-then Greater p = refl
-
-pub is_eq-nat_cmp : (x y : ℕ) → is_eq (nat_cmp x y) ≡ eqb x y
-is_eq-nat_cmp x y = grind (arith, common_steps)
-
-pub is_eq-pair : (a b t s : ℕ) → is_eq (ordering_then (nat_cmp a t) (nat_cmp b s)) ≡ (eqb a t && eqb b s)
-is_eq-pair a b t s = is_eq-then (nat_cmp a t) (nat_cmp b s) ∙ rw (is_eq-nat_cmp a t, is_eq-nat_cmp b s) refl
+use Rattle.spv_base.proofs.OrderLemmas.{is_eq-nat_cmp, is_eq-pair}
 
 -- one more pair in a set
 pub pair_step : (new old : Bool) (a b t s : ℕ) → new ≡ cond (is_eq (ordering_then (nat_cmp a t) (nat_cmp b s))) true old

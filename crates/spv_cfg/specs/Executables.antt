@@ -18,6 +18,6 @@ following label [] = None
 following label (e ∷ es) = if e.0 == label then Some e.1 else None
 
 -- each executable with the one after it in its block
-abbrev pub followed : List (ℕ × ℕ) → List (ℕ × Option ℕ)
-followed [] = []
-followed (e ∷ es) = (e.1, following e.0 es) ∷ followed es
+abbrev pub followers_of : List (ℕ × ℕ) → List (ℕ × Option ℕ)
+followers_of [] = []
+followers_of (e ∷ es) = (e.1, following e.0 es) ∷ followers_of es

@@ -2,7 +2,7 @@
 use Rattle.std.specs.Prelude.{ℕ, length, List, ◌++◌, Option, Some, None, Result, Ok, Err, nat_lt, if◌then◌else◌}
 use Rattle.spv_base.specs.declared.causes.Refusal.{Refusal}
 use Rattle.spv_base.specs.declared.instructions.Inst.{Inst}
-use Rattle.spv_cfg.specs.Executables.{executables_of, followed}
+use Rattle.spv_cfg.specs.Executables.{executables_of, followers_of}
 use Rattle.spv_cfg.specs.Lowest.{lowest}
 use Rattle.spv_cfg.specs.Layout.{layout_breaches}
 use Rattle.spv_cfg.specs.Branches.{branch_breaches}
@@ -24,7 +24,7 @@ lengths_of insts = lengths (calls_of insts) 0 (length (functions_of insts))
 abbrev pub flow_in : List Inst → Flow
 flow_in insts = record {
   blocks = executables_of insts;
-  nexts = followed (executables_of insts);
+  nexts = followers_of (executables_of insts);
   depths = depths (functions_of insts) (lengths_of insts);
   calls = calls_in insts;
 }

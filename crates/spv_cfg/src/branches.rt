@@ -7,7 +7,7 @@ ghost use Rattle.spv_cfg.specs.Branches as spec;
 
 use crate::labels::{is_target, selector_width};
 use crate::lowest::sooner;
-use crate::switches::{is_switch_right, listed, switch_targets};
+use crate::switches::{is_switch_right, label_list, switch_targets};
 use spv_base::{Inst, NoMemory};
 use spv_index::classes::Class;
 use spv_index::positions::Position;
@@ -20,8 +20,8 @@ use std::alloc::Global;
 fn both(alloc: Global, one: Option<u32>, other: Option<u32>) -> Result<Vec<u32>, NoMemory>
     ensures { IfOk result (λ labels. labels.items ≡ option_to_list one ++ option_to_list other) }
 {
-    let mut labels = listed(alloc, one)?;
-    let more = listed(alloc, other)?;
+    let mut labels = label_list(alloc, one)?;
+    let more = label_list(alloc, other)?;
     labels.extend_from_slice(more.as_slice())?;
     Ok(labels)
 }
@@ -31,7 +31,7 @@ pub fn targets_of(alloc: Global, width: u32, inst: &Inst) -> Result<Vec<u32>, No
     ensures { IfOk result (λ targets. targets.items ≡ spec.targets_of width inst.now) }
 {
     if inst.op == op::BRANCH {
-        listed(alloc, id_operand(inst, 0))
+        label_list(alloc, id_operand(inst, 0))
     } else if inst.op == op::BRANCH_CONDITIONAL {
         both(alloc, id_operand(inst, 1), id_operand(inst, 2))
     } else if inst.op == op::SWITCH {

@@ -23,8 +23,11 @@ pub fn executables_of(alloc: Global, stands: &Stands) -> Result<Vec<(u32, u32)>,
 }
 
 /// Each executable with the one after it in its block.
-pub fn followed(alloc: Global, executables: &[(u32, u32)]) -> Result<Table<Option<u32>>, NoMemory>
-    ensures { IfOk result (λ followers. followers ≡ spec.followed executables.now) }
+pub fn followers_of(
+    alloc: Global,
+    executables: &[(u32, u32)],
+) -> Result<Table<Option<u32>>, NoMemory>
+    ensures { IfOk result (λ followers. followers ≡ spec.followers_of executables.now) }
 {
     let mut followers = Vec::new(alloc);
     let mut rest = executables;

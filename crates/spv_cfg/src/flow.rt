@@ -9,7 +9,7 @@ ghost use Rattle.spv_cfg.specs.Calls.{calls_in};
 use crate::branches::branch_breach;
 use crate::calls::{Calls, call_breach, depths_of};
 use crate::edges::edges_of;
-use crate::executables::{executables_of, followed};
+use crate::executables::{executables_of, followers_of};
 use crate::layout::layout_breach;
 use crate::lowest::sooner;
 use crate::phis::phi_breach;
@@ -119,7 +119,7 @@ impl Flow {
     {
         let depths = depths_of(alloc, calls.functions(), lengths)?;
         let executables = executables_of(alloc, &index.stands())?;
-        let nexts = followed(alloc, executables.as_slice())?;
+        let nexts = followers_of(alloc, executables.as_slice())?;
         let blocks = Table::new(alloc, executables)?;
         Ok(Flow {
             blocks,

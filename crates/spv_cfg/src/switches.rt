@@ -118,7 +118,7 @@ pub fn is_switch_right(alloc: Global, width: u32, inst: &Inst) -> Result<bool, N
 }
 
 /// A label, where there is one.
-pub fn listed(alloc: Global, label: Option<u32>) -> Result<Vec<u32>, NoMemory>
+pub fn label_list(alloc: Global, label: Option<u32>) -> Result<Vec<u32>, NoMemory>
     ensures { IfOk result (λ labels. labels.items ≡ option_to_list label) }
 {
     let mut labels = Vec::new(alloc);
@@ -136,7 +136,7 @@ fn labels_in(
 ) -> Result<Vec<u32>, NoMemory>
     ensures { IfOk result (λ labels. labels.items ≡ option_to_list default ++ map (λ c. c.1) cases.now) }
 {
-    let mut labels = listed(alloc, default)?;
+    let mut labels = label_list(alloc, default)?;
     for case in cases {
         labels.push(case.1)?;
     }

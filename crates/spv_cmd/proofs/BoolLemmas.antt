@@ -1,12 +1,10 @@
 -- Tests of bytes, and of all bytes of a text.
-use Rattle.std.proofs.Common.{◌≡◌, ℕ, ◌<◌, nat_eq, length, arith, Bool, true, false, not, ◌&&◌, ◌||◌, List, [], ◌∷◌, drop, get_or, refl, ap, ◌∙◌}
+use Rattle.std.proofs.Common.{◌≡◌, ℕ, ◌<◌, nat_eq, length, arith, Bool, true, false, not, ◌||◌, List, [], ◌∷◌, refl}
 use Rattle.std.proofs.lemmas.Bool.{and_parts}
 use Rattle.std.specs.List.{list_all}
 use Rattle.std.proofs.lemmas.List.{nil_from_length}
 use Rattle.std.proofs.lemmas.Bool.Decides.{nat_tests}
-
-pub both_true : (a b : Bool) → a ≡ true → b ≡ true → (a && b) ≡ true
-both_true a b p q = ap (λ x. x && b) p ∙ q
+use Rattle.spv_line.proofs.NumberLemmas.{both_true}
 
 pub neither : (a b : Bool) → not a ≡ true → not b ≡ true → not (a || b) ≡ true
 neither true b p q = absurd (cc)
@@ -16,9 +14,6 @@ neither false b p q = q
 pub all_also : (p q : ℕ → Bool) → ((b : ℕ) → p b ≡ true → q b ≡ true) → (bs : List ℕ) → list_all p bs ≡ true → list_all q bs ≡ true
 all_also p q also [] h = refl
 all_also p q also (b ∷ bs) h = let both = and_parts (p b) (list_all p bs) h in both_true (q b) (list_all q bs) (also b both.0) (all_also p q also bs both.1)
-
-pub first_are : (a b : ℕ) (xs ys : List ℕ) → a ∷ xs ≡ b ∷ ys → (a ≡ b) × (xs ≡ ys)
-first_are a b xs ys e = (ap (λ l. get_or l 0 0) e, ap (drop 1) e)
 
 -- the test for an empty text
 pub some_when : (b : Bool) (bs : List ℕ) → b ≡ nat_eq (length bs) 0 → b ≡ false → 0 < length bs

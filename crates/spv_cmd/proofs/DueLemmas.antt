@@ -11,13 +11,13 @@ use Rattle.spv_cmd.specs.declared.command.PathText.{PathText}
 use Rattle.spv_cmd.specs.declared.command.PathText.TheVariants.{Name, Id}
 use Rattle.spv_cmd.specs.declared.command.Command.{Command}
 use Rattle.spv_line.specs.Words.{words_in}
+use Rattle.spv_line.proofs.WordsLemmas.{first_are}
 use Rattle.spv_cmd.specs.Numbers.{number_of}
 use Rattle.spv_cmd.specs.Paths.{is_mark, IsPart, AreParts, IsPath}
 use Rattle.spv_cmd.specs.Places.{IsPlace, is_no_colon}
 use Rattle.spv_cmd.specs.Grammar.{Arguments, row, spelling, IsOne, IsCount, Means, AreWords, IsLine}
 use Rattle.spv_cmd.specs.Grammar.Arguments.{none, number, count, path, place}
 use Rattle.spv_cmd.specs.Answers.{Reads, AreRefused, IsRefused, IsDue, IsAnswer, IsSplit}
-use Rattle.spv_cmd.proofs.BoolLemmas.{first_are}
 use Rattle.spv_cmd.proofs.PartLemmas.{part_some, first_part_is, one_part, name_is, name_begins}
 use Rattle.spv_cmd.proofs.PlaceLemmas.{one_cut, number_no_colon, no_colon_in}
 use Rattle.spv_cmd.proofs.KeywordLemmas.{one_keyword}

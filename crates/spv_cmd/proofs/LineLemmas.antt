@@ -7,7 +7,7 @@ use Rattle.std.proofs.lemmas.List.{length-append}
 use Rattle.std.proofs.lemmas.List.Folds.{list_all-append}
 use Rattle.std.proofs.lemmas.List.Splits.{slice_split_at, slice_split_none}
 use Rattle.std.proofs.lemmas.List.Sums.{AllPass-from_list_all}
-use Rattle.std.proofs.lemmas.Fmt.{length-decimal-le, decimal_nonempty}
+use Rattle.std.proofs.lemmas.Fmt.{length-decimal-le}
 use Rattle.std.proofs.lemmas.Bool.Decides.{nat_tests}
 use Rattle.spv_cmd.specs.declared.keywords.Keyword.{Keyword}
 use Rattle.spv_cmd.specs.declared.keywords.Keyword.TheVariants as the
@@ -18,15 +18,16 @@ use Rattle.spv_cmd.specs.declared.command.PathText.TheVariants.{Name, Id}
 use Rattle.spv_cmd.specs.declared.command.Command.{Command}
 use Rattle.spv_cmd.specs.declared.command.Command.TheVariants as command
 use Rattle.spv_line.specs.Words.{is_space, is_other, words_in}
-use Rattle.spv_cmd.specs.Numbers.{is_digit}
 use Rattle.spv_cmd.specs.Paths.{is_name, is_name_byte, is_part, is_path, part_text, parts_text, path_text}
 use Rattle.spv_cmd.specs.Places.{is_place, place_text}
 use Rattle.spv_cmd.specs.Grammar.{row, spelling, Means, AreWords, IsLine}
 use Rattle.spv_cmd.specs.Grammar.Arguments.{none, number, count, path, place}
 use Rattle.spv_cmd.specs.Lines.{written, HasForm, line_of}
-use Rattle.spv_cmd.proofs.BoolLemmas.{both_true, all_also}
+use Rattle.spv_cmd.proofs.BoolLemmas.{all_also}
 use Rattle.spv_line.proofs.WordsLemmas.{some_word}
-use Rattle.spv_cmd.proofs.NumberLemmas.{number_decimal, decimal_digits, le_true}
+use Rattle.spv_line.proofs.NumberLemmas.{both_true, decimal_digits, decimal_some, le_true}
+use Rattle.spv_line.specs.Numbers.{is_digit}
+use Rattle.spv_cmd.proofs.NumberLemmas.{number_decimal}
 use Rattle.spv_cmd.proofs.PartLemmas.{name_parts}
 use Rattle.spv_cmd.proofs.PathLemmas.{path_again}
 use Rattle.spv_cmd.proofs.PlaceLemmas.{place_again}
@@ -63,9 +64,6 @@ name_other b h = (and_parts _ _ h).0
 
 decimal_whole : (n : ℕ) → n ≤ 4294967295 → list_all is_other (decimal n) ≡ true
 decimal_whole n h = all_also is_digit is_other digit_other (decimal n) (decimal_digits n h)
-
-decimal_some : (n : ℕ) → n ≤ 4294967295 → 0 < length (decimal n)
-decimal_some n h = decimal_nonempty n (omega (arith, h))
 
 joined : (front back : List ℕ) → list_all is_other front ≡ true → list_all is_other back ≡ true → list_all is_other (front ++ back) ≡ true
 joined front back h k = list_all-append is_other front back ∙ both_true _ _ h k

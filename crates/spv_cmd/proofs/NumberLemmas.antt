@@ -1,80 +1,21 @@
--- A number that was read digit by digit, up to 2 ^ 32, is the number that the digits spell.
-use Rattle.std.proofs.Common.{◌≡◌, ℕ, ◌+◌, ◌-◌, ◌*◌, fold, decimal, subst, ◌<◌, ◌≤◌, ◌^◌, min, Bool, true, false, cond, nat_lt, nat_le, List, length, Some, None, refl, ap, ◌∙◌, arith}
-use Rattle.std.proofs.lemmas.Bool.{and_parts}
+-- Numbers that are read, and their decimal texts.
+use Rattle.std.proofs.Common.{◌≡◌, ℕ, decimal, subst, ◌<◌, ◌≤◌, ◌^◌, true, List, length, Some, arith}
 use Rattle.std.specs.List.{list_all}
-use Rattle.std.specs.Int.{IsInRange}
-use Rattle.std.proofs.lemmas.Str.Parse.{IsDigitsTest, IsNumeralModel, numerals_by_fold, digits_value_short}
-use Rattle.std.proofs.lemmas.Fmt.{digits_decimal, digits_value-decimal, decimal_nonempty, length-decimal-le}
-use Rattle.spv_cmd.proofs.BoolLemmas.{both_true}
-use Rattle.std.proofs.lemmas.Bool.Decides.{nat_tests}
-use Rattle.spv_cmd.specs.Numbers.{number_of, value_of, is_digit}
-use Rattle.spv_line.proofs.NumberLemmas.{at_most, below, all_true}
-
-pub number_is : (digits : List ℕ) (v : ℕ) → 0 < length digits → list_all is_digit digits ≡ true → v ≡ min (value_of digits) (2 ^ 32) → v ≤ 4294967295 → number_of digits ≡ Some v
-unfolding number_of
-number_is digits v some all is le =
-    let e : value_of digits ≡ v = omega arith in
-    let l : value_of digits ≤ 4294967295 = omega arith in
-    ap (λ b. cond b (Some (value_of digits)) None) (all_true _ _ _ (below 0 (length digits) some) all (at_most (value_of digits) 4294967295 l)) ∙ ap Some e
-
-some_where : (b : Bool) (v n : ℕ) → cond b (Some v) None ≡ Some n → (b ≡ true) × (v ≡ n)
-some_where true v n h = (refl, cc)
-some_where false v n h = absurd (cc)
-
-lt_true : (a b : ℕ) → nat_lt a b ≡ true → a < b
-lt_true a b h = grind (arith, nat_tests)
-
-pub le_true : (a b : ℕ) → nat_le a b ≡ true → a ≤ b
-le_true a b h = grind (arith, nat_tests)
+use Rattle.std.proofs.lemmas.Str.Parse.{digits_value_short}
+use Rattle.std.proofs.lemmas.Fmt.{length-decimal-le}
+use Rattle.spv_line.specs.Numbers.{value_of, is_digit}
+use Rattle.spv_line.proofs.NumberLemmas.{fits, own, number_parts as parts_within, number_decimal as decimal_within}
+use Rattle.spv_cmd.specs.Numbers.{number_of}
 
 -- what is read as a number
 pub number_parts : (digits : List ℕ) (n : ℕ) → number_of digits ≡ Some n → (0 < length digits) × (list_all is_digit digits ≡ true) × (value_of digits ≡ n) × (n ≤ 4294967295)
 unfolding number_of
-number_parts digits n h =
-    let one = some_where _ (value_of digits) n h in
-    let two = and_parts _ _ one.0 in
-    let three = and_parts _ _ two.1 in
-    let le : value_of digits ≤ 4294967295 = le_true _ _ three.1 in
-    (lt_true _ _ two.0, three.0, one.1, omega (arith, le, one.1))
-
--- ---- decimal texts
-
--- the test and the number of digits, as std has them
-digits_test : IsDigitsTest (λ ds. list_all is_digit ds ≡ true)
-digits_test = record {
-  empty = refl;
-  parts = λ c cs h. digit_in c cs (and_parts (is_digit c) (list_all is_digit cs) h);
-  more = λ c cs r h. both_true (is_digit c) (list_all is_digit cs) (in_digit c r) h;
-}
-  where
-    digit_in : (c : ℕ) (cs : List ℕ) → (is_digit c ≡ true) × (list_all is_digit cs ≡ true) → IsInRange 48 57 c × (list_all is_digit cs ≡ true)
-    digit_in c cs h = let both = and_parts _ _ h.0 in let low = le_true 48 c both.0 in let high = lt_true c 58 both.1 in ((low, omega (arith, high)), h.1)
-
-    in_digit : (c : ℕ) → IsInRange 48 57 c → is_digit c ≡ true
-    in_digit c r = both_true _ _ (at_most 48 c r.0) (below c 58 (omega (arith, r.1)))
-
-own : IsNumeralModel (λ ds. list_all is_digit ds ≡ true) value_of
-own = numerals_by_fold _ digits_test (λ n ds. fold (λ m b. 10 * m + (b - 48)) n ds) (record {
-  empty = λ n. refl;
-  more = λ n c cs r. ap (λ m. fold (λ m b. 10 * m + (b - 48)) m cs) (step n c);
-})
-  where
-    step : (n c : ℕ) → 10 * n + (c - 48) ≡ n * 10 + (c - 48)
-    step n c = omega arith
-
-fits : (n : ℕ) → n ≤ 4294967295 → n < 2 ^ 64
-fits n h = omega arith
-
-pub decimal_digits : (n : ℕ) → n ≤ 4294967295 → list_all is_digit (decimal n) ≡ true
-decimal_digits n h = digits_decimal own n (fits n h)
+number_parts digits n h = parts_within 4294967295 digits n h
 
 -- a decimal text is read as its number
 pub number_decimal : (n : ℕ) → n ≤ 4294967295 → number_of (decimal n) ≡ Some n
 unfolding number_of
-number_decimal n h =
-    let value : value_of (decimal n) ≡ n = digits_value-decimal own n (fits n h) in
-    let le : value_of (decimal n) ≤ 4294967295 = omega (arith, value) in
-    ap (λ b. cond b (Some (value_of (decimal n))) None) (all_true _ _ _ (below 0 (length (decimal n)) (decimal_nonempty n (fits n h))) (decimal_digits n h) (at_most (value_of (decimal n)) 4294967295 le)) ∙ ap Some value
+number_decimal n h = decimal_within n h
 
 -- the decimal text of a number has no more bytes than what it was read from
 pub decimal_short : (digits : List ℕ) (n : ℕ) → number_of digits ≡ Some n → length (decimal n) ≤ length digits

@@ -10,10 +10,13 @@ use Rattle.spv_cmd.specs.declared.command.PathPart.{PathPart}
 use Rattle.spv_cmd.specs.declared.command.PathPart.TheVariants.{Member, Index}
 use Rattle.spv_cmd.specs.declared.command.PathText.{PathText}
 use Rattle.spv_cmd.specs.declared.command.PathText.TheVariants.{Name, Id}
-use Rattle.spv_cmd.specs.Numbers.{number_of, is_digit}
+use Rattle.spv_cmd.specs.Numbers.{number_of}
 use Rattle.spv_cmd.specs.Paths.{is_name_byte, is_name, is_mark, IsPart, AreParts, IsPath}
-use Rattle.spv_cmd.proofs.BoolLemmas.{both_true, neither, all_also, first_are}
+use Rattle.spv_cmd.proofs.BoolLemmas.{neither, all_also}
 use Rattle.spv_cmd.proofs.NumberLemmas.{number_parts}
+use Rattle.spv_line.proofs.NumberLemmas.{both_true}
+use Rattle.spv_line.proofs.WordsLemmas.{first_are}
+use Rattle.spv_line.specs.Numbers.{is_digit}
 
 -- ---- bytes that begin no part
 

@@ -8,9 +8,8 @@ use Rattle.spv_cmd.specs.declared.command.PathPart.TheVariants.{Member, Index}
 use Rattle.spv_cmd.specs.declared.command.PathText.{PathText}
 use Rattle.spv_cmd.specs.declared.command.PathText.TheVariants.{Name, Id}
 use Rattle.spv_cmd.specs.Paths.{IsPart, AreParts, IsPath, is_name, is_part, is_path, part_text, parts_text, path_text}
-use Rattle.spv_cmd.proofs.BoolLemmas.{both_true}
-use Rattle.spv_cmd.proofs.NumberLemmas.{number_parts, number_decimal, decimal_short, le_true}
-use Rattle.spv_line.proofs.NumberLemmas.{at_most}
+use Rattle.spv_cmd.proofs.NumberLemmas.{number_parts, number_decimal, decimal_short}
+use Rattle.spv_line.proofs.NumberLemmas.{at_most, both_true, le_true}
 
 part_form : (part : PathPart) (text : List ℕ) → IsPart part text → (is_part part ≡ true) × (length (part_text part) ≤ length text)
 part_form (Member name) text h = (h.1, omega (arith, ap length h.0))

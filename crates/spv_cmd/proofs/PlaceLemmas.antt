@@ -6,11 +6,13 @@ use Rattle.std.proofs.lemmas.List.{take-append-drop, length-append, same_from_pu
 use Rattle.std.proofs.lemmas.List.Folds.{list_all-append}
 use Rattle.std.proofs.lemmas.Bool.Decides.{nat_tests}
 use Rattle.spv_line.specs.Words.{is_other}
-use Rattle.spv_line.proofs.NumberLemmas.{at_most}
-use Rattle.spv_cmd.specs.Numbers.{number_of, is_digit}
+use Rattle.spv_line.proofs.NumberLemmas.{at_most, both_true, le_true}
+use Rattle.spv_line.proofs.WordsLemmas.{first_are}
+use Rattle.spv_line.specs.Numbers.{is_digit}
+use Rattle.spv_cmd.specs.Numbers.{number_of}
 use Rattle.spv_cmd.specs.Places.{IsPlace, is_place, place_text, is_no_colon, EndsInColon}
-use Rattle.spv_cmd.proofs.BoolLemmas.{both_true, all_also, first_are}
-use Rattle.spv_cmd.proofs.NumberLemmas.{number_parts, number_decimal, decimal_short, le_true}
+use Rattle.spv_cmd.proofs.BoolLemmas.{all_also}
+use Rattle.spv_cmd.proofs.NumberLemmas.{number_parts, number_decimal, decimal_short}
 
 digit_no_colon : (b : ℕ) → is_digit b ≡ true → is_no_colon b ≡ true
 digit_no_colon b h = grind (arith, nat_tests)

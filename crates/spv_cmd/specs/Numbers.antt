@@ -1,15 +1,7 @@
--- Numbers in a line: what decimal digits spell.
-use Rattle.std.specs.Prelude.{ℕ, ◌+◌, ◌-◌, ◌*◌, nat_lt, nat_le, ◌&&◌, Bool, if◌then◌else◌, List, length, Option, Some, None, fold}
-use Rattle.std.specs.List.{list_all}
-
--- the digits `0` to `9` are the bytes 48 to 57
-abbrev pub is_digit : ℕ → Bool
-is_digit b = nat_le 48 b && nat_lt b 58
-
--- the number that digits spell
-abbrev pub value_of : List ℕ → ℕ
-value_of digits = fold (λ n b. 10 * n + (b - 48)) 0 digits
+-- Numbers in a line.
+use Rattle.std.specs.Prelude.{ℕ, List, Option}
+use Rattle.spv_line.specs.Numbers.{number_of as number_within}
 
 -- the number of one or more digits, where it is at most 2^32 - 1; leading zeros are read
 unfoldable pub number_of : List ℕ → Option ℕ
-number_of digits = if nat_lt 0 (length digits) && (list_all is_digit digits && nat_le (value_of digits) 4294967295) then Some (value_of digits) else None
+number_of digits = number_within 4294967295 digits

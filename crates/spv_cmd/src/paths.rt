@@ -127,7 +127,7 @@ fn id(digits: &[u8]) -> Result<PathText, Fail<CmdRefusal>>
 
 /// A path that begins with a name.
 #[tactic(auto, using(crate::proofs::PartLemmas::named_is, crate::proofs::PartLemmas::no_name, crate::proofs::PartLemmas::no_parts))]
-fn named(alloc: Global, text: &[u8]) -> Result<PathText, Fail<CmdRefusal>>
+fn name_path(alloc: Global, text: &[u8]) -> Result<PathText, Fail<CmdRefusal>>
     requires { (rest : List ℕ) → text.now ≢ 37 ∷ rest }
     ensures { Reads (λ path. IsPath path text.now) result }
 {
@@ -153,7 +153,7 @@ pub fn path(alloc: Global, text: &[u8]) -> Result<PathText, Fail<CmdRefusal>>
             if *first == b'%' {
                 id(rest)
             } else {
-                named(alloc, text)
+                name_path(alloc, text)
             }
         }
     }

@@ -1,16 +1,17 @@
 -- Constituents of the types of a form's parts fill the form, one after another.
 use Rattle.std.proofs.Common.{List, None, Option, Some, [], ap, arith, false, length, map, option_map, refl, replicate, slice_get, subst, suc, sym, true, zero, ℕ, ◌+◌, ◌∙◌, ◌∷◌, ◌≡◌}
 use Rattle.std.specs.List.{flat_map}
-use Rattle.spv_base.specs.Lane.{Lane}
+use Rattle.spv_base.specs.Cell.{Cell}
 use Rattle.spv_base.specs.declared.instructions.Inst.{Inst}
 use Rattle.spv_base.specs.declared.instructions.Operand.{Operand}
 use Rattle.spv_types.specs.declared.forms.Form.{Form}
 use Rattle.spv_types.specs.declared.forms.Form.TheVariants.{Void, Bool as Boolean, Int, Vector, Array, Runtime, Struct, Pointer, Function}
 use Rattle.spv_types.specs.declared.forms.Member.{Member}
+use Rattle.spv_types.proofs.SoundLemmas.{impossible}
 use Rattle.std.specs.Option.{option_map_or}
 use Rattle.spv_index.specs.Definitions.{result_type}
 use Rattle.spv_index.specs.Operands.{id_in}
-use Rattle.spv_typing.proofs.LawLemmas.{equal, parts, impossible}
+use Rattle.spv_typing.proofs.LawLemmas.{equal, parts}
 use Rattle.spv_consts.specs.Context.{Context}
 use Rattle.spv_consts.specs.State.{State, given_cells, is_operand, operand_cells}
 use Rattle.spv_consts.specs.Overrides.{is_same}
@@ -47,7 +48,7 @@ many [] = refl
 many (p ∷ ps) = ap suc (many ps)
 
 module _ (m : Context) (s : State) (word : ℕ) (operands : OperandsFillTypes m s word) where
-  abbrev cells_in : Operand → List Lane
+  abbrev cells_in : Operand → List Cell
   cells_in o = given_cells m s (id_in o)
 
   part_fills : (part : Option ℕ) (ty : ℕ) (o : Option ℕ) → part ≡ Some ty → keeps_part m s word part o ≡ true → FillType s.types ty (given_cells m s o)

@@ -6,7 +6,7 @@ use Rattle.std.specs.Prelude.{if◌then◌else◌, nat_lt, ◌||◌}
 use Rattle.std.specs.List.{flat_map}
 use Rattle.std.specs.Option.{IsSomeAnd, is_some, option_and_then, option_map, option_map_or}
 use Rattle.spv_base.specs.Entries.{reads}
-use Rattle.spv_base.specs.Lane.{Lane}
+use Rattle.spv_base.specs.Cell.{Cell}
 use Rattle.spv_base.specs.declared.instructions.Inst.{Inst}
 use Rattle.spv_base.specs.declared.instructions.Operand.{Operand}
 use Rattle.spv_types.specs.declared.forms.Form.{Form}
@@ -15,12 +15,13 @@ use Rattle.spv_types.specs.Constants.{is_constant}
 use Rattle.spv_types.specs.Laws.{IsAmong}
 use Rattle.spv_types.specs.Rules.{is_sized_data}
 use Rattle.spv_types.specs.Types.{Types, form_of}
+use Rattle.spv_types.proofs.SoundLemmas.{impossible}
 use Rattle.spv_index.specs.Definitions.{defining, result_type, type_in}
 use Rattle.spv_alu.specs.Results.{integer, truth}
 use Rattle.spv_consts.specs.Table.{Row}
 use Rattle.spv_consts.specs.Context.{Context, has_undef_before, is_undef_before}
 use Rattle.spv_consts.specs.State.{State, given_cells, is_operand, operand_cells}
-use Rattle.spv_consts.specs.Values.{blank_lane, leaf_widths, null_of, undefined_of}
+use Rattle.spv_consts.specs.Values.{blank_cell, leaf_widths, null_of, undefined_of}
 use Rattle.spv_consts.specs.Literals.{integer_width, keeps_literal, literal_number, word_count}
 use Rattle.spv_consts.specs.Operations.{lane_width, scalar_width}
 use Rattle.spv_consts.specs.Overrides.{is_same}
@@ -33,7 +34,6 @@ use Rattle.spv_consts.proofs.ValueFills.{constant_rules}
 use Rattle.spv_consts.proofs.WalkPlaces.{IsPlaced}
 use Rattle.spv_consts.proofs.WalkSteps.{Follows}
 use Rattle.spv_consts.proofs.WalkConstants.{constant_among, operands_fill}
-use Rattle.spv_typing.proofs.LawLemmas.{impossible}
 
 -- ---- what a form but for its length tells
 
@@ -103,8 +103,8 @@ module _ (m : Context) (front : List Inst) (i : Inst) (s t : State) (follows : F
       lanes_alike s.types t.types scalars_alike (form_of s.types q)
       ∙ sym (lanes_erased t.types (form_of s.types q)) ∙ ap (lane_width t.types) (sym (grows.forms q)) ∙ lanes_erased t.types (form_of t.types q)
 
-  blanks_same : (defined : Bool) (q : ℕ) → IsAmong s.types s.known q → map (blank_lane defined) (leaf_widths s.types q) ≡ map (blank_lane defined) (leaf_widths t.types q)
-  blanks_same defined q among = ap (map (blank_lane defined)) (sym (grows.widths q among))
+  blanks_same : (defined : Bool) (q : ℕ) → IsAmong s.types s.known q → map (blank_cell defined) (leaf_widths s.types q) ≡ map (blank_cell defined) (leaf_widths t.types q)
+  blanks_same defined q among = ap (map (blank_cell defined)) (sym (grows.widths q among))
 
   -- ---- operands
 
@@ -173,8 +173,8 @@ module _ (m : Context) (front : List Inst) (i : Inst) (s t : State) (follows : F
     kind : keeps_kind m s i ≡ true
     kind = (and_parts (is_sized_data s.types i.ty) (keeps_kind m s i) (constant_rules m s i constant rules)).1
 
-    of_cells : (leaves : List Lane) → cells_of m s i ≡ leaves → Has k i leaves
-    of_cells leaves same = has ∙ ap (λ (cs : List Lane). Some (record { ty = i.ty; cells = cs })) same
+    of_cells : (leaves : List Cell) → cells_of m s i ≡ leaves → Has k i leaves
+    of_cells leaves same = has ∙ ap (λ (cs : List Cell). Some (record { ty = i.ty; cells = cs })) same
 
     composite : keeps_composite m s i (form_of s.types i.ty) ≡ true → flat_map (λ (o : Operand). given_cells m s (id_in o)) i.operands ≡ constituents m k i
     composite h =
@@ -182,7 +182,7 @@ module _ (m : Context) (front : List Inst) (i : Inst) (s t : State) (follows : F
         parts_same (form_of s.types i.ty) 0 i.operands p.1
 
     -- the lane of a literal, by what is made of it
-    number : (lane_of : Lane → Lane) → keeps_literal (integer_width (form_of s.types i.ty)) i.operands ≡ true
+    number : (lane_of : Cell → Cell) → keeps_literal (integer_width (form_of s.types i.ty)) i.operands ≡ true
         → ((width n : ℕ) → integer_width (form_of s.types i.ty) ≡ Some width → literal_number width i.operands ≡ Some n → cells_of m s i ≡ lane_of (integer width (pos n)) ∷ [])
         → IsSomeAnd (literal k i) (λ lane. Has k i (lane_of lane ∷ []))
     number lane_of h same = by_width (integer_width (form_of s.types i.ty)) refl h
@@ -193,7 +193,7 @@ module _ (m : Context) (front : List Inst) (i : Inst) (s t : State) (follows : F
             let later : integer_width (form_of t.types i.ty) ≡ Some width = sym (widths_alike i.ty) ∙ e in
             let is : literal k i ≡ Some (integer width (pos n)) =
             ap (option_and_then (λ w. option_map (λ x. integer w (pos x)) (literal_number w i.operands))) later ∙ ap (option_map (λ x. integer width (pos x))) g in
-            subst (λ (o : Option Lane). IsSomeAnd o (λ lane. Has k i (lane_of lane ∷ []))) (sym is) (of_cells (lane_of (integer width (pos n)) ∷ []) (same width n e g))
+            subst (λ (o : Option Cell). IsSomeAnd o (λ lane. Has k i (lane_of lane ∷ []))) (sym is) (of_cells (lane_of (integer width (pos n)) ∷ []) (same width n e g))
 
         by_width : (o : Option ℕ) → integer_width (form_of s.types i.ty) ≡ o → keeps_literal o i.operands ≡ true → IsSomeAnd (literal k i) (λ lane. Has k i (lane_of lane ∷ []))
         by_width None e h = impossible h
@@ -203,7 +203,7 @@ module _ (m : Context) (front : List Inst) (i : Inst) (s t : State) (follows : F
     operation h same = by_opcode (opcode_of i) h same
       where
         by_result : (op : ℕ) → result_of m k i op ≡ Some (computed_cells m s i op) → cells_of m s i ≡ computed_cells m s i op → IsSomeAnd (result_of m k i op) (Has k i)
-        by_result op is e = subst (λ (o : Option (List Lane)). IsSomeAnd o (Has k i)) (sym is) (of_cells (computed_cells m s i op) e)
+        by_result op is e = subst (λ (o : Option (List Cell)). IsSomeAnd o (Has k i)) (sym is) (of_cells (computed_cells m s i op) e)
 
         by_opcode : (o : Option ℕ) → option_map_or (keeps_opcode m s i) o false ≡ true → cells_of m s i ≡ option_map_or (computed_cells m s i) o [] → IsSomeAnd (option_and_then (result_of m k i) o) (Has k i)
         by_opcode None h e = impossible h

@@ -1,10 +1,9 @@
 -- What the operations on lanes give: a lane of the result's width, from lanes of widths that the operation takes.
-use Rattle.std.proofs.Common.{◌≡◌, ℕ, ◌^◌, ◌<◌, ◌≤◌, ◌==◌, ℤ, pos, negsuc, Bool, true, false, Option, Some, None, refl, sym, subst, arith}
+use Rattle.std.proofs.Common.{◌≡◌, ℕ, ◌≤◌, ◌==◌, ℤ, Bool, true, false, Option, Some, None, refl, sym, subst, arith}
 use Rattle.std.specs.Prelude.{◌&&◌, if◌then◌else◌, nat_le, nat_lt}
 use Rattle.std.specs.Option.{option_map, option_map_or, unwrap_or}
-use Rattle.std.proofs.lemmas.Nat.{mod_below, pow_pos}
-use Rattle.spv_base.specs.Lane.{Lane, undefined_lane}
-use Rattle.spv_alu.specs.Integers.{low_bits}
+use Rattle.std.proofs.lemmas.Nat.{pow_pos}
+use Rattle.spv_base.specs.Cell.{Cell, undefined_cell}
 use Rattle.spv_alu.specs.Results.{defined_if, integer, truth}
 use Rattle.spv_alu.specs.declared.unary_op.UnaryOp.{UnaryOp}
 use Rattle.spv_alu.specs.declared.binary_op.BinaryOp.{BinaryOp}
@@ -12,9 +11,11 @@ use Rattle.spv_alu.specs.Unary.{UnaryRow, conversion, arithmetic, logical, unary
 use Rattle.spv_alu.specs.Unary as unary
 use Rattle.spv_alu.specs.Binary.{BinaryRow, binary_of, binary_op, binary_result, binary_row, binary_width}
 use Rattle.spv_alu.specs.Binary as binary
-use Rattle.spv_typing.proofs.LawLemmas.{equal, parts, same, impossible}
+use Rattle.spv_alu.proofs.BitNumbers.{low_bits_below}
+use Rattle.spv_typing.proofs.LawLemmas.{equal, parts, same}
 use Rattle.spv_consts.specs.Laws.{HasWidth}
 use Rattle.spv_consts.specs.Lanes.{binary_lane, is_lane_width, pair_takes, row_takes, select_lane, takes_one, unary_lane}
+use Rattle.spv_types.proofs.SoundLemmas.{impossible}
 
 -- ---- tests
 
@@ -26,10 +27,6 @@ narrow w h = most (parts (nat_lt 0 w) (nat_le w 64) h).1
 
 -- ---- results
 
-low_bits_below : (w : ℕ) (z : ℤ) → low_bits w z < 2 ^ w
-low_bits_below w (pos n) = mod_below n (2 ^ w) (pow_pos w)
-low_bits_below w (negsuc n) = omega (arith, pow_pos w)
-
 pub integer_has_width : (w : ℕ) (z : ℤ) → w ≤ 64 → HasWidth w (integer w z)
 integer_has_width w z h = (refl, record { narrow = h; fits = low_bits_below w z; zero = λ e. absurd (cc) })
 
@@ -37,7 +34,7 @@ pub truth_has_width : (b : Bool) → HasWidth 1 (truth b)
 truth_has_width true = (refl, record { narrow = omega arith; fits = omega arith; zero = λ e. absurd (cc) })
 truth_has_width false = (refl, record { narrow = omega arith; fits = omega arith; zero = λ e. absurd (cc) })
 
-pub defined_has_width : (test : Bool) (w : ℕ) (c : Lane) → HasWidth w c → HasWidth w (defined_if test c)
+pub defined_has_width : (test : Bool) (w : ℕ) (c : Cell) → HasWidth w c → HasWidth w (defined_if test c)
 defined_has_width true w c h = h
 defined_has_width false w c h = (h.0, record { narrow = h.1.narrow; fits = pow_pos c.width; zero = λ e. refl })
 
@@ -53,12 +50,12 @@ unary_result_fits (logical f) v n w h =
     let e : w ≡ 1 = equal w 1 (parts (v == 1) (w == 1) h).1 in
     subst (λ k. HasWidth k (truth (f (n == 1)))) (sym e) (truth_has_width (f (n == 1)))
 
-pub unary_has_width : (op w : ℕ) (a : Lane) → takes_one op a.width w ≡ true → HasWidth w (unary_lane op w a)
+pub unary_has_width : (op w : ℕ) (a : Cell) → takes_one op a.width w ≡ true → HasWidth w (unary_lane op w a)
 unfolding unary_of
 unary_has_width op w a h = rw h (by_operation (unary_op op) h)
   where
     by_operation : (o : Option UnaryOp) → option_map_or (λ o. row_takes (unary_row o) a.width w) o false ≡ true
-        → HasWidth w (unwrap_or (option_map (λ o. unary.unary_lane o a w) o) (undefined_lane a.width))
+        → HasWidth w (unwrap_or (option_map (λ o. unary.unary_lane o a w) o) (undefined_cell a.width))
     by_operation None h = impossible h
     by_operation (Some o) h = defined_has_width a.defined w _ (unary_result_fits (unary_row o) a.width a.bits w h)
 
@@ -80,12 +77,12 @@ takes_pair row v w u = pair_takes row v w && binary_width row v == u
 abbrev pub takes_pair_of : ℕ → ℕ → ℕ → ℕ → Bool
 takes_pair_of op v w u = option_map_or (λ o. takes_pair (binary_row o) v w u) (binary_op op) false
 
-pub binary_has_width : (op u : ℕ) (a b : Lane) → takes_pair_of op a.width b.width u ≡ true → HasWidth u (binary_lane op a b)
+pub binary_has_width : (op u : ℕ) (a b : Cell) → takes_pair_of op a.width b.width u ≡ true → HasWidth u (binary_lane op a b)
 unfolding binary_of
 binary_has_width op u a b h = by_operation (binary_op op) h
   where
     by_operation : (o : Option BinaryOp) → option_map_or (λ o. takes_pair (binary_row o) a.width b.width u) o false ≡ true
-        → HasWidth u (if option_map_or (λ o. pair_takes (binary_row o) a.width b.width) o false then unwrap_or (option_map (λ o. binary.binary_lane o a b) o) (undefined_lane a.width) else undefined_lane a.width)
+        → HasWidth u (if option_map_or (λ o. pair_takes (binary_row o) a.width b.width) o false then unwrap_or (option_map (λ o. binary.binary_lane o a b) o) (undefined_cell a.width) else undefined_cell a.width)
     by_operation None h = impossible h
     by_operation (Some o) h =
         let p = parts (pair_takes (binary_row o) a.width b.width) (binary_width (binary_row o) a.width == u) h in
@@ -95,7 +92,7 @@ binary_has_width op u a b h = by_operation (binary_op op) h
 
 -- ---- Select
 
-pub select_has_width : (w : ℕ) (c a b : Lane) → HasWidth w a → HasWidth w b → HasWidth w (select_lane c a b)
+pub select_has_width : (w : ℕ) (c a b : Cell) → HasWidth w a → HasWidth w b → HasWidth w (select_lane c a b)
 select_has_width w c a b h g =
     let e : (b.width == a.width) ≡ true = rw (h.0, g.0) (same w) in
     rw e (defined_has_width (c.defined && a.defined && b.defined) w _ (chosen (c.bits == 1)))

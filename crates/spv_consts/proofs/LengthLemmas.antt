@@ -3,7 +3,7 @@ use Rattle.std.proofs.Common.{◌≡◌, ◌≢◌, ◌∙◌, ℕ, zero, suc, �
 use Rattle.std.proofs.Math.Path.{fun_ext}
 use Rattle.std.specs.Prelude.{int_le, nat_le, nat_lt, ◌&&◌, if◌then◌else◌}
 use Rattle.std.specs.Option.{option_map, option_map_or}
-use Rattle.spv_base.specs.Lane.{Lane}
+use Rattle.spv_base.specs.Cell.{Cell}
 use Rattle.spv_base.specs.Entries.{writes}
 use Rattle.spv_types.specs.declared.forms.Form.{Form}
 use Rattle.spv_types.specs.declared.limits.Limit.{Limit}
@@ -93,7 +93,7 @@ next_is n None h = cc
 next_is n (Some m) h = let e : m ≡ n = same_id m n (sym h) in ap Some e
 
 -- a number of at least 1 isn't 0
-pub length_positive : (sign : ℕ) (c : Lane) → int_le (pos 1) (number_in sign c) ≡ true → 1 ≤ c.bits
+pub length_positive : (sign : ℕ) (c : Cell) → int_le (pos 1) (number_in sign c) ≡ true → 1 ≤ c.bits
 unfolding signed
 length_positive sign c h = read (sign == 1 && nat_le 1 c.width) h
   where

@@ -4,9 +4,10 @@ use Rattle.std.specs.Prelude.{◌&&◌, ◌||◌, not}
 use Rattle.std.specs.Option.{option_and_then, option_map, option_map_or}
 use Rattle.spv_base.specs.declared.instructions.Inst.{Inst}
 use Rattle.spv_base.specs.declared.instructions.Operand.{Operand}
-use Rattle.spv_base.specs.Lane.{Lane}
+use Rattle.spv_base.specs.Cell.{Cell}
 use Rattle.spv_types.specs.Types.{form_of}
 use Rattle.spv_types.specs.Laws.{AreSound}
+use Rattle.spv_types.proofs.SoundLemmas.{impossible}
 use Rattle.spv_index.specs.Definitions.{result_type}
 use Rattle.spv_index.specs.Operands.{id_in, id_operand}
 use Rattle.spv_typing.specs.declared.lanes.Element.{Element}
@@ -18,7 +19,7 @@ use Rattle.spv_typing.specs.declared.lanes.Lanes.{Lanes}
 use Rattle.spv_typing.specs.Lanes.{lanes_at, lanes_of, repeated}
 use Rattle.spv_typing.specs.Laws.{IsCondition, IsTyped}
 use Rattle.spv_typing.specs.Rules.{is_constant_operation, is_constant_rule, operand_count, rule_count, rule_of}
-use Rattle.spv_typing.proofs.LawLemmas.{equal, parts, rule_is, impossible}
+use Rattle.spv_typing.proofs.LawLemmas.{equal, parts, rule_is}
 use Rattle.spv_consts.specs.Context.{Context}
 use Rattle.spv_consts.specs.Evaluation.{binary_cells, computed_cells, operand_at, select_cells, unary_cells}
 use Rattle.spv_consts.specs.Lanes.{binary_lane, is_lane_width, select_lane, takes_one, unary_lane}
@@ -100,7 +101,7 @@ module _ (m : Context) (s : State) (i : Inst) (op : ℕ) (sound : AreSound s.typ
       by_type (Some t) e h = (t, e, h)
 
   -- leaves fill the type with an id
-  abbrev Fits : ℕ → List Lane → Type 0
+  abbrev Fits : ℕ → List Cell → Type 0
   Fits id cs = FillType s.types id cs
 
   -- those of an operand fill its type
@@ -108,10 +109,10 @@ module _ (m : Context) (s : State) (i : Inst) (op : ℕ) (sound : AreSound s.typ
   FitsAt k = (t : ℕ) → own k ≡ Some t → Fits t (operand_at m s i (1 + k))
 
   -- as many as its lanes
-  pub lanes_fill : (id n : ℕ) (e : Element) → lanes_of s.types id ≡ Some (repeated n e) → (cs : List Lane) → Fits id cs → Fill (replicate n (width_of e)) cs
+  pub lanes_fill : (id n : ℕ) (e : Element) → lanes_of s.types id ≡ Some (repeated n e) → (cs : List Cell) → Fits id cs → Fill (replicate n (width_of e)) cs
   lanes_fill id n e l cs h = subst (λ (ws : List ℕ). Fill ws cs) (are_lanes s.types sound id n e l).leaves h
 
-  fill_lanes : (id n : ℕ) (e : Element) → lanes_of s.types id ≡ Some (repeated n e) → (cs : List Lane) → Fill (replicate n (width_of e)) cs → Fits id cs
+  fill_lanes : (id n : ℕ) (e : Element) → lanes_of s.types id ≡ Some (repeated n e) → (cs : List Cell) → Fill (replicate n (width_of e)) cs → Fits id cs
   fill_lanes id n e l cs h = subst (λ (ws : List ℕ). Fill ws cs) (sym (are_lanes s.types sound id n e l).leaves) h
 
   -- ---- unary and binary operations
@@ -126,7 +127,7 @@ module _ (m : Context) (s : State) (i : Inst) (op : ℕ) (sound : AreSound s.typ
       fill_lanes i.ty n e r (unary_cells m s i op)
       (fill_one (unary_lane op (lane_width s.types (form_of s.types i.ty))) (width_of f) (width_of e) n (keeps result.width (takes result.wide first.wide)) (operand_at m s i 1) (lanes_fill t.0 n f t.2 (operand_at m s i 1) (h t.0 t.1)))
     where
-      keeps : lane_width s.types (form_of s.types i.ty) ≡ width_of e → takes_one op (width_of f) (width_of e) ≡ true → (c : Lane) → HasWidth (width_of f) c
+      keeps : lane_width s.types (form_of s.types i.ty) ≡ width_of e → takes_one op (width_of f) (width_of e) ≡ true → (c : Cell) → HasWidth (width_of f) c
           → HasWidth (width_of e) (unary_lane op (lane_width s.types (form_of s.types i.ty)) c)
       keeps w t c g = rw w (unary_has_width op (width_of e) c (rw g.0 t))
 
@@ -142,20 +143,20 @@ module _ (m : Context) (s : State) (i : Inst) (op : ℕ) (sound : AreSound s.typ
       (fill_two (binary_lane op) (width_of f) (width_of g) (width_of e) n (keeps (take first.wide second.wide)) (operand_at m s i 1) (operand_at m s i 2)
       (lanes_fill t.0 n f t.2 (operand_at m s i 1) (h t.0 t.1)) (lanes_fill u.0 n g u.2 (operand_at m s i 2) (k u.0 u.1)))
     where
-      keeps : takes_pair_of op (width_of f) (width_of g) (width_of e) ≡ true → (c d : Lane) → HasWidth (width_of f) c → HasWidth (width_of g) d → HasWidth (width_of e) (binary_lane op c d)
+      keeps : takes_pair_of op (width_of f) (width_of g) (width_of e) ≡ true → (c d : Cell) → HasWidth (width_of f) c → HasWidth (width_of g) d → HasWidth (width_of e) (binary_lane op c d)
       keeps t c d p q = binary_has_width op (width_of e) c d (rw (p.0, q.0) t)
 
   -- ---- Select
 
-  choose : (w : ℕ) (t c d : Lane) → HasWidth 1 t → HasWidth w c → HasWidth w d → HasWidth w (select_lane t c d)
+  choose : (w : ℕ) (t c d : Cell) → HasWidth 1 t → HasWidth w c → HasWidth w d → HasWidth w (select_lane t c d)
   choose w t c d _ h g = select_has_width w t c d h g
 
-  one_chosen : (ts xs ys : List Lane) → Fill (1 ∷ []) ts → (ws : List ℕ) → Fill ws xs → Fill ws ys → Fill ws (selected ts xs ys)
+  one_chosen : (ts xs ys : List Cell) → Fill (1 ∷ []) ts → (ws : List ℕ) → Fill ws xs → Fill ws ys → Fill ws (selected ts xs ys)
   one_chosen [] xs ys h ws f g = absurd h
   one_chosen (t ∷ []) xs ys h ws f g = fill_pair (select_lane t) (λ w c d. select_has_width w t c d) ws xs ys f g
   one_chosen (t ∷ u ∷ ts) xs ys h ws f g = absurd h.1
 
-  each_chosen : (n w : ℕ) (ts xs ys : List Lane) → 2 ≤ n → Fill (replicate n 1) ts → Fill (replicate n w) xs → Fill (replicate n w) ys → Fill (replicate n w) (selected ts xs ys)
+  each_chosen : (n w : ℕ) (ts xs ys : List Cell) → 2 ≤ n → Fill (replicate n 1) ts → Fill (replicate n w) xs → Fill (replicate n w) ys → Fill (replicate n w) (selected ts xs ys)
   each_chosen n w [] xs ys l h f g = fill_three select_lane 1 w n (choose w) [] xs ys h f g
   each_chosen zero w (t ∷ []) xs ys l h f g = absurd h
   each_chosen (suc zero) w (t ∷ []) xs ys l h f g = absurd (omega (arith, l))

@@ -12,12 +12,13 @@ use Rattle.spv_alu.specs.Binary as binary
 use Rattle.spv_typing.specs.declared.rules.Rule.{Rule}
 use Rattle.spv_typing.specs.declared.rules.Rule.TheVariants.{Convert, Bitcast, Integer, Integers, Clamp, Shift, Boolean, Booleans, Reduce, Compare, Extended, Select, InsertField, ExtractField}
 use Rattle.spv_typing.specs.Rules.{rule_of, rules}
-use Rattle.spv_typing.proofs.LawLemmas.{both, equal, parts, same, impossible}
+use Rattle.spv_typing.proofs.LawLemmas.{both, equal, parts, same}
 use Rattle.spv_consts.specs.Context.{Context}
 use Rattle.spv_consts.specs.Evaluation.{binary_cells, computed_cells, select_cells, unary_cells}
 use Rattle.spv_consts.specs.Lanes.{is_lane_width, row_takes, takes_one}
 use Rattle.spv_consts.specs.State.{State}
 use Rattle.spv_consts.proofs.LaneFills.{takes_pair, takes_pair_of}
+use Rattle.spv_types.proofs.SoundLemmas.{impossible}
 
 -- ---- kinds of rows
 

@@ -7,10 +7,11 @@ use Rattle.spv_index.specs.Operands.{id_operand}
 use Rattle.std.proofs.Common.{Bool, List, None, Option, Some, [], ap, arith, false, map, refl, replicate, suc, sym, true, zero, ℕ, ◌+◌, ◌<◌, ◌==◌, ◌∙◌, ◌∷◌, ◌≡◌}
 use Rattle.std.specs.Prelude.{◌&&◌, if◌then◌else◌, not, unwrap_or}
 use Rattle.std.specs.Option.{is_some, option_and_then, option_map, option_map_or}
-use Rattle.spv_base.specs.Lane.{Lane, undefined_lane}
+use Rattle.spv_base.specs.Cell.{Cell, undefined_cell}
 use Rattle.spv_base.specs.declared.instructions.Inst.{Inst}
 use Rattle.spv_types.specs.Types.{form_of}
 use Rattle.spv_types.specs.Laws.{AreSound}
+use Rattle.spv_types.proofs.SoundLemmas.{impossible}
 use Rattle.spv_index.specs.Definitions.{result_type}
 use Rattle.spv_alu.specs.declared.unary_op.UnaryOp.{UnaryOp}
 use Rattle.spv_alu.specs.declared.binary_op.BinaryOp.{BinaryOp}
@@ -25,7 +26,7 @@ use Rattle.spv_typing.specs.declared.rules.Rule.TheVariants.{Convert, Bitcast, I
 use Rattle.spv_typing.specs.Lanes.{lanes_at, lanes_of, repeated}
 use Rattle.spv_typing.specs.Laws.{IsTyped}
 use Rattle.spv_typing.specs.Rules.{is_constant_rule, rule_count}
-use Rattle.spv_typing.proofs.LawLemmas.{parts, impossible}
+use Rattle.spv_typing.proofs.LawLemmas.{parts}
 use Rattle.spv_consts.specs.Constants.{Known, chosen, leaves_if, leaves_of, operand, result_of}
 use Rattle.spv_consts.specs.Context.{Context}
 use Rattle.spv_consts.specs.Evaluation.{binary_cells, computed_cells, operand_at, select_cells, unary_cells}
@@ -42,22 +43,22 @@ use Rattle.spv_consts.proofs.ScalarTypes.{AreLanes, are_lanes, width_of}
 
 -- ---- lanes of widths that an operation takes
 
-one_agrees : (op w : ℕ) (u : UnaryOp) (a : Lane) → unary_op op ≡ Some u → takes_one op a.width w ≡ true → unary_lane op w a ≡ unary.unary_lane u a w
+one_agrees : (op w : ℕ) (u : UnaryOp) (a : Cell) → unary_op op ≡ Some u → takes_one op a.width w ≡ true → unary_lane op w a ≡ unary.unary_lane u a w
 unfolding unary_of
 one_agrees op w u a e h = by_operation (unary_op op) e h
   where
     by_operation : (o : Option UnaryOp) → o ≡ Some u → option_map_or (λ o. row_takes (unary_row o) a.width w) o false ≡ true
-        → (if option_map_or (λ o. row_takes (unary_row o) a.width w) o false then unwrap_or (option_map (λ o. unary.unary_lane o a w) o) (undefined_lane a.width) else undefined_lane a.width)
+        → (if option_map_or (λ o. row_takes (unary_row o) a.width w) o false then unwrap_or (option_map (λ o. unary.unary_lane o a w) o) (undefined_cell a.width) else undefined_cell a.width)
         ≡ unary.unary_lane u a w
     by_operation None e h = impossible h
     by_operation (Some o) e h = let same : o ≡ u = cc in rw h (ap (λ (q : UnaryOp). unary.unary_lane q a w) same)
 
-two_agree : (op v : ℕ) (u : BinaryOp) (a b : Lane) → binary_op op ≡ Some u → takes_pair_of op a.width b.width v ≡ true → binary_lane op a b ≡ binary.binary_lane u a b
+two_agree : (op v : ℕ) (u : BinaryOp) (a b : Cell) → binary_op op ≡ Some u → takes_pair_of op a.width b.width v ≡ true → binary_lane op a b ≡ binary.binary_lane u a b
 unfolding binary_of
 two_agree op v u a b e h = by_operation (binary_op op) e h
   where
     by_operation : (o : Option BinaryOp) → o ≡ Some u → option_map_or (λ o. takes_pair (binary_row o) a.width b.width v) o false ≡ true
-        → (if option_map_or (λ o. pair_takes (binary_row o) a.width b.width) o false then unwrap_or (option_map (λ o. binary.binary_lane o a b) o) (undefined_lane a.width) else undefined_lane a.width)
+        → (if option_map_or (λ o. pair_takes (binary_row o) a.width b.width) o false then unwrap_or (option_map (λ o. binary.binary_lane o a b) o) (undefined_cell a.width) else undefined_cell a.width)
         ≡ binary.binary_lane u a b
     by_operation None e h = impossible h
     by_operation (Some o) e h =
@@ -67,12 +68,12 @@ two_agree op v u a b e h = by_operation (binary_op op) e h
 
 -- ---- rows of them
 
-each_agrees : (f g : Lane → Lane) (v n : ℕ) → ((c : Lane) → HasWidth v c → f c ≡ g c) → (cs : List Lane) → Fill (replicate n v) cs → map f cs ≡ map g cs
+each_agrees : (f g : Cell → Cell) (v n : ℕ) → ((c : Cell) → HasWidth v c → f c ≡ g c) → (cs : List Cell) → Fill (replicate n v) cs → map f cs ≡ map g cs
 each_agrees f g v n agrees [] h = refl
 each_agrees f g v zero agrees (c ∷ cs) h = absurd h
 each_agrees f g v (suc n) agrees (c ∷ cs) h = rw (agrees c h.0, each_agrees f g v n agrees cs h.1) refl
 
-pairs_agree : (f g : Lane → Lane → Lane) (v w n : ℕ) → ((c d : Lane) → HasWidth v c → HasWidth w d → f c d ≡ g c d) → (cs ds : List Lane) → Fill (replicate n v) cs → Fill (replicate n w) ds
+pairs_agree : (f g : Cell → Cell → Cell) (v w n : ℕ) → ((c d : Cell) → HasWidth v c → HasWidth w d → f c d ≡ g c d) → (cs ds : List Cell) → Fill (replicate n v) cs → Fill (replicate n w) ds
     → by_two f cs ds ≡ by_two g cs ds
 pairs_agree f g v w n agree [] ds h k = refl
 pairs_agree f g v w n agree (c ∷ cs) [] h k = refl
@@ -81,26 +82,26 @@ pairs_agree f g v w (suc n) agree (c ∷ cs) (d ∷ ds) h k = rw (agree c d h.0 
 
 -- ---- Select
 
-selects : (c a b : Lane) (w : ℕ) → HasWidth w a → HasWidth w b → select_of c a b ≡ select_lane c a b
+selects : (c a b : Cell) (w : ℕ) → HasWidth w a → HasWidth w b → select_of c a b ≡ select_lane c a b
 selects c a b w h g = let same : (b.width == a.width) ≡ true = rw (h.0, g.0) (eq-eqb w w refl) in rw same refl
 
-both_same : (a b : Lane) (xs ys : List Lane) → a ≡ b → xs ≡ ys → a ∷ xs ≡ b ∷ ys
+both_same : (a b : Cell) (xs ys : List Cell) → a ≡ b → xs ≡ ys → a ∷ xs ≡ b ∷ ys
 both_same a b xs ys e f = rw (e, f) refl
 
-pairs_selected : (c : Lane) (ws : List ℕ) (xs ys : List Lane) → Fill ws xs → Fill ws ys → by_two (select_of c) xs ys ≡ by_two (select_lane c) xs ys
+pairs_selected : (c : Cell) (ws : List ℕ) (xs ys : List Cell) → Fill ws xs → Fill ws ys → by_two (select_of c) xs ys ≡ by_two (select_lane c) xs ys
 pairs_selected c ws [] ys h g = refl
 pairs_selected c ws (x ∷ xs) [] h g = refl
 pairs_selected c [] (x ∷ xs) (y ∷ ys) h g = absurd h
 pairs_selected c (w ∷ ws) (x ∷ xs) (y ∷ ys) h g = both_same (select_of c x y) (select_lane c x y) _ _ (selects c x y w h.0 g.0) (pairs_selected c ws xs ys h.1 g.1)
 
-each_selected : (cs : List Lane) (ws : List ℕ) (xs ys : List Lane) → Fill ws xs → Fill ws ys → by_three select_of cs xs ys ≡ by_three select_lane cs xs ys
+each_selected : (cs : List Cell) (ws : List ℕ) (xs ys : List Cell) → Fill ws xs → Fill ws ys → by_three select_of cs xs ys ≡ by_three select_lane cs xs ys
 each_selected [] ws xs ys h g = refl
 each_selected (c ∷ cs) ws [] ys h g = refl
 each_selected (c ∷ cs) ws (x ∷ xs) [] h g = refl
 each_selected (c ∷ cs) [] (x ∷ xs) (y ∷ ys) h g = absurd h
 each_selected (c ∷ cs) (w ∷ ws) (x ∷ xs) (y ∷ ys) h g = both_same (select_of c x y) (select_lane c x y) _ _ (selects c x y w h.0 g.0) (each_selected cs ws xs ys h.1 g.1)
 
-rows_selected : (cs : List Lane) (ws : List ℕ) (xs ys : List Lane) → Fill ws xs → Fill ws ys → chosen cs xs ys ≡ selected cs xs ys
+rows_selected : (cs : List Cell) (ws : List ℕ) (xs ys : List Cell) → Fill ws xs → Fill ws ys → chosen cs xs ys ≡ selected cs xs ys
 rows_selected [] ws xs ys h g = refl
 rows_selected (c ∷ []) ws xs ys h g = pairs_selected c ws xs ys h g
 rows_selected (c ∷ d ∷ cs) ws xs ys h g = each_selected (c ∷ d ∷ cs) ws xs ys h g
@@ -132,13 +133,13 @@ module _ (m : Context) (s : State) (i : Inst) (op : ℕ) (sound : AreSound s.typ
     abbrev IsGood : ℕ → Type 0
     IsGood n = ((t : ℕ) → given n ≡ Some t → FillType s.types t (operand_at m s i (1 + n))) × (operand_at m s i (1 + n) ≡ operand m k i (1 + n))
 
-    one_result : (u : UnaryOp) (cells : List Lane) → (op == 169) ≡ false → unary_op op ≡ Some u → map (λ a. unary.unary_lane u a (lane_width k.0 (form_of k.0 i.ty))) (operand m k i 1) ≡ cells → result_of m k i op ≡ Some cells
+    one_result : (u : UnaryOp) (cells : List Cell) → (op == 169) ≡ false → unary_op op ≡ Some u → map (λ a. unary.unary_lane u a (lane_width k.0 (form_of k.0 i.ty))) (operand m k i 1) ≡ cells → result_of m k i op ≡ Some cells
     one_result u cells other e h = rw (other, e) (ap Some h)
 
-    two_result : (u : BinaryOp) (cells : List Lane) → (op == 169) ≡ false → unary_op op ≡ None → binary_op op ≡ Some u → by_two (binary.binary_lane u) (operand m k i 1) (operand m k i 2) ≡ cells → result_of m k i op ≡ Some cells
+    two_result : (u : BinaryOp) (cells : List Cell) → (op == 169) ≡ false → unary_op op ≡ None → binary_op op ≡ Some u → by_two (binary.binary_lane u) (operand m k i 1) (operand m k i 2) ≡ cells → result_of m k i op ≡ Some cells
     two_result u cells other none e h = rw (other, none, e) (ap Some h)
 
-    select_result : (cells : List Lane) → (op == 169) ≡ true → chosen (operand m k i 1) (operand m k i 2) (operand m k i 3) ≡ cells → result_of m k i op ≡ Some cells
+    select_result : (cells : List Cell) → (op == 169) ≡ true → chosen (operand m k i 1) (operand m k i 2) (operand m k i 3) ≡ cells → result_of m k i op ≡ Some cells
     select_result cells e h = rw e (ap Some h)
 
     one_given : (test : UnaryRow → Bool) → computes_one test op ≡ true → (n : ℕ) (e f : Element) → lanes_of s.types i.ty ≡ Some (repeated n e) → lanes_at s.types (given 0) ≡ Some (repeated n f)
@@ -158,13 +159,13 @@ module _ (m : Context) (s : State) (i : Inst) (op : ℕ) (sound : AreSound s.typ
         first : AreLanes s.types at.0 n f
         first = are_lanes s.types sound at.0 n f at.2
 
-        agrees : (u : UnaryOp) → unary_op op ≡ Some u → (c : Lane) → HasWidth (width_of f) c → unary_lane op (lane_width s.types (form_of s.types i.ty)) c ≡ unary.unary_lane u c (lane_width s.types (form_of s.types i.ty))
+        agrees : (u : UnaryOp) → unary_op op ≡ Some u → (c : Cell) → HasWidth (width_of f) c → unary_lane op (lane_width s.types (form_of s.types i.ty)) c ≡ unary.unary_lane u c (lane_width s.types (form_of s.types i.ty))
         agrees u is c h = one_agrees op (lane_width s.types (form_of s.types i.ty)) u c is (rw (h.0, result.width) (takes result.wide first.wide))
 
         same : (u : UnaryOp) → unary_op op ≡ Some u → map (λ c. unary.unary_lane u c (lane_width k.0 (form_of k.0 i.ty))) (operand m k i 1) ≡ unary_cells m s i op
         same u is =
             ap (λ (w : ℕ). map (λ c. unary.unary_lane u c w) (operand m k i 1)) (sym wide)
-            ∙ ap (λ (cs : List Lane). map (λ c. unary.unary_lane u c (lane_width s.types (form_of s.types i.ty))) cs) (sym good.1)
+            ∙ ap (λ (cs : List Cell). map (λ c. unary.unary_lane u c (lane_width s.types (form_of s.types i.ty))) cs) (sym good.1)
             ∙ sym (each_agrees (unary_lane op (lane_width s.types (form_of s.types i.ty))) (λ c. unary.unary_lane u c (lane_width s.types (form_of s.types i.ty))) (width_of f) n
             (agrees u is) (operand_at m s i 1) (lanes_fill m s i op sound at.0 n f at.2 (operand_at m s i 1) (good.0 at.0 at.1)))
 
@@ -189,13 +190,13 @@ module _ (m : Context) (s : State) (i : Inst) (op : ℕ) (sound : AreSound s.typ
         second : AreLanes s.types behind.0 n g
         second = are_lanes s.types sound behind.0 n g behind.2
 
-        agree : (u : BinaryOp) → binary_op op ≡ Some u → (c d : Lane) → HasWidth (width_of f) c → HasWidth (width_of g) d → binary_lane op c d ≡ binary.binary_lane u c d
+        agree : (u : BinaryOp) → binary_op op ≡ Some u → (c d : Cell) → HasWidth (width_of f) c → HasWidth (width_of g) d → binary_lane op c d ≡ binary.binary_lane u c d
         agree u is c d h j = two_agree op (width_of e) u c d is (rw (h.0, j.0) (take first.wide second.wide))
 
         same : (u : BinaryOp) → binary_op op ≡ Some u → by_two (binary.binary_lane u) (operand m k i 1) (operand m k i 2) ≡ binary_cells m s i op
         same u is =
-            ap (λ (cs : List Lane). by_two (binary.binary_lane u) cs (operand m k i 2)) (sym good.1)
-            ∙ ap (λ (cs : List Lane). by_two (binary.binary_lane u) (operand_at m s i 1) cs) (sym next.1)
+            ap (λ (cs : List Cell). by_two (binary.binary_lane u) cs (operand m k i 2)) (sym good.1)
+            ∙ ap (λ (cs : List Cell). by_two (binary.binary_lane u) (operand_at m s i 1) cs) (sym next.1)
             ∙ sym (pairs_agree (binary_lane op) (binary.binary_lane u) (width_of f) (width_of g) n (agree u is) (operand_at m s i 1) (operand_at m s i 2)
             (lanes_fill m s i op sound at.0 n f at.2 (operand_at m s i 1) (good.0 at.0 at.1)) (lanes_fill m s i op sound behind.0 n g behind.2 (operand_at m s i 2) (next.0 behind.0 behind.1)))
 
@@ -203,9 +204,9 @@ module _ (m : Context) (s : State) (i : Inst) (op : ℕ) (sound : AreSound s.typ
         → operand_at m s i 1 ≡ operand m k i 1 → operand_at m s i 2 ≡ operand m k i 2 → operand_at m s i 3 ≡ operand m k i 3 → result_of m k i op ≡ Some (select_cells m s i)
     select_given is h g a b c =
         select_result (select_cells m s i) is
-        (ap (λ (cs : List Lane). chosen cs (operand m k i 2) (operand m k i 3)) (sym a)
-        ∙ ap (λ (cs : List Lane). chosen (operand_at m s i 1) cs (operand m k i 3)) (sym b)
-        ∙ ap (λ (cs : List Lane). chosen (operand_at m s i 1) (operand_at m s i 2) cs) (sym c)
+        (ap (λ (cs : List Cell). chosen cs (operand m k i 2) (operand m k i 3)) (sym a)
+        ∙ ap (λ (cs : List Cell). chosen (operand_at m s i 1) cs (operand m k i 3)) (sym b)
+        ∙ ap (λ (cs : List Cell). chosen (operand_at m s i 1) (operand_at m s i 2) cs) (sym c)
         ∙ rows_selected (operand_at m s i 1) (leaf_widths s.types i.ty) (operand_at m s i 2) (operand_at m s i 3) h g)
 
     -- ---- by the rule

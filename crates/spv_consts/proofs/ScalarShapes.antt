@@ -1,14 +1,13 @@
 -- Lanes that are scalars of a width: blank ones, literals, overrides and Booleans.
 use Rattle.std.proofs.Common.{◌≡◌, ℕ, ◌^◌, ◌<◌, ◌≤◌, min, Bool, true, false, Some, ℤ, pos, negsuc, refl, arith}
 use Rattle.std.proofs.lemmas.Nat.{mod_below, pow_pos}
-use Rattle.spv_base.specs.Lane.{IsLane, Lane, undefined_lane}
+use Rattle.spv_base.specs.Cell.{IsCell, Cell, undefined_cell}
 use Rattle.spv_base.specs.declared.values.Value.{Scalar}
 use Rattle.spv_base.proofs.PartLemmas.{out_scalar}
-use Rattle.spv_types.specs.Rules.{is_width}
 use Rattle.spv_types.specs.Shapes.{IsScalar}
 use Rattle.spv_alu.specs.Integers.{low_bits}
 use Rattle.spv_alu.specs.Results.{integer, truth}
-use Rattle.spv_consts.specs.Values.{blank_lane}
+use Rattle.spv_consts.specs.Values.{blank_cell}
 
 -- ---- tests and numbers
 
@@ -17,15 +16,11 @@ some_same n k e = cc
 
 -- ---- lanes
 
-pub is_scalar : (c : Lane) (width : ℕ) → c.width ≡ width → IsLane c → IsScalar width (Scalar c)
+pub is_scalar : (c : Cell) (width : ℕ) → c.width ≡ width → IsCell c → IsScalar width (Scalar c)
 is_scalar c width same lane = rw out_scalar (same, lane)
 
--- no integer is wider than 64 bits
-pub width_narrow : (width : ℕ) → is_width width ≡ true → width ≤ 64
-width_narrow width h = grind arith
-
 -- a lane of zeros
-pub blank_is_lane : (defined : Bool) (width : ℕ) → IsLane (blank_lane defined width)
+pub blank_is_lane : (defined : Bool) (width : ℕ) → IsCell (blank_cell defined width)
 blank_is_lane defined width = record {
   narrow = omega arith;
   fits = pow_pos (min width 64);
@@ -37,16 +32,16 @@ low_bits_fit : (width : ℕ) (z : ℤ) → low_bits width z < 2 ^ width
 low_bits_fit width (pos n) = mod_below n (2 ^ width) (pow_pos width)
 low_bits_fit width (negsuc n) = let positive : 0 < 2 ^ width = pow_pos width in omega arith
 
-pub integer_is_lane : (width : ℕ) (z : ℤ) → width ≤ 64 → IsLane (integer width z)
+pub integer_is_lane : (width : ℕ) (z : ℤ) → width ≤ 64 → IsCell (integer width z)
 integer_is_lane width z narrow = record {
   narrow = narrow;
   fits = low_bits_fit width z;
   zero = λ e. absurd (cc);
 }
 
-pub truth_is_lane : (b : Bool) → IsLane (truth b)
+pub truth_is_lane : (b : Bool) → IsCell (truth b)
 truth_is_lane true = record { narrow = omega arith; fits = omega arith; zero = λ e. absurd (cc) }
 truth_is_lane false = record { narrow = omega arith; fits = omega arith; zero = λ _. refl }
 
-pub undefined_is_lane : IsLane (undefined_lane 1)
+pub undefined_is_lane : IsCell (undefined_cell 1)
 undefined_is_lane = record { narrow = omega arith; fits = omega arith; zero = λ _. refl }

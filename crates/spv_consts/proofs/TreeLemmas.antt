@@ -4,7 +4,7 @@ use Rattle.std.proofs.Common.{◌≡◌, ◌∙◌, ℕ, zero, suc, ◌==◌, Bo
 use Rattle.std.proofs.Math.Path.{fun_ext}
 use Rattle.std.specs.List.{All, AllZip, flat_map}
 use Rattle.std.proofs.lemmas.List.Elements.{All-cons, All-nil}
-use Rattle.spv_base.specs.Lane.{Lane}
+use Rattle.spv_base.specs.Cell.{Cell}
 use Rattle.spv_base.specs.declared.values.Root.{Root}
 use Rattle.spv_base.specs.declared.values.Value.{Value, Scalar, List as Many}
 use Rattle.spv_base.proofs.PartLemmas.{out_scalar, is_many}
@@ -18,7 +18,8 @@ use Rattle.spv_types.specs.Shapes.{HasShape, shape_step}
 use Rattle.spv_types.specs.Laws.{AreByForms, AreComplete, AreSound, ComesBefore, IsAmong}
 use Rattle.spv_types.proofs.RowLemmas.{leaves_many, scalar_row}
 use Rattle.spv_types.proofs.DataLemmas.{scalar_data, member_data, sized_data}
-use Rattle.spv_typing.proofs.LawLemmas.{parts, impossible}
+use Rattle.spv_types.proofs.SoundLemmas.{impossible}
+use Rattle.spv_typing.proofs.LawLemmas.{parts}
 use Rattle.spv_consts.specs.Laws.{FillType, HasWidth, IsRowAt}
 use Rattle.spv_consts.specs.Trees.{Reader, read_among, read_list, read_none, read_parts, read_scalar, read_step, value_at}
 use Rattle.spv_consts.specs.Values.{leaf_widths, part_types, widths_step}
@@ -59,7 +60,7 @@ parts_data ts (Function returns parameters) k index part h = cc
 
 -- ---- readers by forms
 
-parts_same : (g h : ℕ → Reader) (types : List ℕ) → ((index part : ℕ) → slice_get types index ≡ Some part → g part ≡ h part) → (cs : List Lane) → read_parts g types cs ≡ read_parts h types cs
+parts_same : (g h : ℕ → Reader) (types : List ℕ) → ((index part : ℕ) → slice_get types index ≡ Some part → g part ≡ h part) → (cs : List Cell) → read_parts g types cs ≡ read_parts h types cs
 parts_same g h [] same cs = refl
 parts_same g h (t ∷ types) same cs =
     let first : g t cs ≡ h t cs = ap (λ (r : Reader). r cs) (same 0 t refl) in
@@ -67,7 +68,7 @@ parts_same g h (t ∷ types) same cs =
     rw (first, rest) refl
 
 list_same : (g h : ℕ → Reader) (types : List ℕ) → ((index part : ℕ) → slice_get types index ≡ Some part → g part ≡ h part) → read_list g types ≡ read_list h types
-list_same g h types same = fun_ext (λ cs. ap (λ (r : List Value × List Lane). (Many r.0, r.1)) (parts_same g h types same cs))
+list_same g h types same = fun_ext (λ cs. ap (λ (r : List Value × List Cell). (Many r.0, r.1)) (parts_same g h types same cs))
 
 step_same : (f : Form) (g h : ℕ → Reader) → ((index part : ℕ) → slice_get (part_types f) index ≡ Some part → g part ≡ h part) → read_step g f ≡ read_step h f
 step_same Void g h same = list_same g h [] same
@@ -84,28 +85,28 @@ step_same (Function returns parameters) g h same = list_same g h [] same
 
 -- a reader gives off leaves that go with widths a value of a shape with these leaves, and leaves what is behind them
 abbrev pub ReadsAs : Reader → (Value → Type 0) → List ℕ → Type 0
-ReadsAs read shape ws = (cs more : List Lane) → Fill ws cs → shape (read (cs ++ more)).0 × (leaves (read (cs ++ more)).0 ≡ cs) × ((read (cs ++ more)).1 ≡ more)
+ReadsAs read shape ws = (cs more : List Cell) → Fill ws cs → shape (read (cs ++ more)).0 × (leaves (read (cs ++ more)).0 ≡ cs) × ((read (cs ++ more)).1 ≡ more)
 
-scalar_reads : (w : ℕ) (P : Value → Type 0) → ((c : Lane) → HasWidth w c → P (Scalar c)) → ReadsAs read_scalar P (w ∷ [])
+scalar_reads : (w : ℕ) (P : Value → Type 0) → ((c : Cell) → HasWidth w c → P (Scalar c)) → ReadsAs read_scalar P (w ∷ [])
 scalar_reads w P is [] more h = absurd h
 scalar_reads w P is (c ∷ []) more h = (is c h.0, scalar_row (Scalar c) c (out_scalar c), refl)
 scalar_reads w P is (c ∷ d ∷ cs) more h = absurd h.1
 
 module _ (read : ℕ → Reader) (shape : ℕ → Value → Type 0) (widths : ℕ → List ℕ) where
-  abbrev PartsRead : List ℕ → List Lane → List Lane → Type 0
+  abbrev PartsRead : List ℕ → List Cell → List Cell → Type 0
   PartsRead types cs more =
       AllZip shape types (read_parts read types (cs ++ more)).0 × (flat_map leaves (read_parts read types (cs ++ more)).0 ≡ cs) × ((read_parts read types (cs ++ more)).1 ≡ more)
 
-  part_read : (t : ℕ) (types : List ℕ) (ds es more cs : List Lane) → cs ≡ ds ++ es
+  part_read : (t : ℕ) (types : List ℕ) (ds es more cs : List Cell) → cs ≡ ds ++ es
       → shape t (read t (ds ++ (es ++ more))).0 × (leaves (read t (ds ++ (es ++ more))).0 ≡ ds) × ((read t (ds ++ (es ++ more))).1 ≡ es ++ more)
       → PartsRead types es more → PartsRead (t ∷ types) cs more
-  part_read t types ds es more cs same first rest = subst (λ (xs : List Lane). PartsRead (t ∷ types) xs more) (sym same) joined
+  part_read t types ds es more cs same first rest = subst (λ (xs : List Cell). PartsRead (t ∷ types) xs more) (sym same) joined
     where
       joined : PartsRead (t ∷ types) (ds ++ es) more
       joined = rw (append_assoc ds es more, first.2) (((first.0, rest.0), rw (first.1, rest.1) refl, rest.2))
 
   parts_read : (types : List ℕ) → ((index part : ℕ) → slice_get types index ≡ Some part → ReadsAs (read part) (shape part) (widths part))
-      → (cs more : List Lane) → Fill (flat_map widths types) cs → PartsRead types cs more
+      → (cs more : List Cell) → Fill (flat_map widths types) cs → PartsRead types cs more
   parts_read [] each [] more h = (tt, refl, refl)
   parts_read [] each (c ∷ cs) more h = absurd h
   parts_read (t ∷ types) each cs more h =
@@ -193,10 +194,10 @@ module _ (ts : Types) (roots : Root → Option ℕ) (n : ℕ) (sound : AreSound 
           let r = form_reads ts roots reader (HasShape ts roots) (leaf_widths ts) f d (λ unset. complete id known (subst IsUnset (sym is) unset)) each cs more fill in
           rw (reader_by_form id f is) ((forms id f _ is).1 r.0, r.1, r.2)
 
-  pub row_is : (id : ℕ) → IsAmong ts n id → is_data (form_of ts id) ≡ true → (cs : List Lane) → FillType ts id cs → IsRowAt ts roots id cs
+  pub row_is : (id : ℕ) → IsAmong ts n id → is_data (form_of ts id) ≡ true → (cs : List Cell) → FillType ts id cs → IsRowAt ts roots id cs
   unfolding value_at
   row_is id among is_made cs h =
       let r = reads_among n id among among is_made cs [] h in
-      let Reads : List Lane → Type 0 = λ xs. HasShape ts roots id (reader id xs).0 × (leaves (reader id xs).0 ≡ cs) in
+      let Reads : List Cell → Type 0 = λ xs. HasShape ts roots id (reader id xs).0 × (leaves (reader id xs).0 ≡ cs) in
       let whole : Reads cs = subst Reads (append-nil cs) (r.0, r.1) in
       record { shape = whole.0; leaves_are = whole.1 }

@@ -3,7 +3,7 @@ use Rattle.std.proofs.Common.{Bool, List, None, Option, Some, [], false, length,
 use Rattle.std.specs.Prelude.{if◌then◌else◌}
 use Rattle.std.specs.List.{flat_map}
 use Rattle.std.specs.Option.{is_some, option_map_or}
-use Rattle.spv_base.specs.Lane.{IsLane, Lane, undefined_lane}
+use Rattle.spv_base.specs.Cell.{IsCell, Cell, undefined_cell}
 use Rattle.spv_base.specs.declared.instructions.Inst.{Inst}
 use Rattle.spv_base.specs.declared.instructions.Operand.{Operand}
 use Rattle.spv_types.specs.declared.forms.Form.{Form}
@@ -14,8 +14,10 @@ use Rattle.spv_types.specs.Constants.{is_constant}
 use Rattle.spv_types.specs.Rules.{is_sized_data, is_width}
 use Rattle.spv_types.specs.Laws.{AreSound}
 use Rattle.spv_types.specs.Queries.{is_boolean}
+use Rattle.spv_types.proofs.SoundLemmas.{impossible}
+use Rattle.spv_types.proofs.DataLemmas.{width_narrow}
 use Rattle.spv_alu.specs.Results.{integer, truth}
-use Rattle.spv_typing.proofs.LawLemmas.{equal, parts, impossible}
+use Rattle.spv_typing.proofs.LawLemmas.{equal, parts}
 use Rattle.spv_consts.specs.Context.{Context}
 use Rattle.spv_consts.specs.State.{State, given_cells}
 use Rattle.spv_consts.specs.Values.{blank_of, leaf_widths, null_of, widths_step}
@@ -27,7 +29,7 @@ use Rattle.spv_consts.specs.Evaluation.{cells_of, computed_cells, operation_cell
 use Rattle.spv_consts.specs.Laws.{FillType, OperandsFillTypes}
 use Rattle.spv_consts.proofs.FillLemmas.{Fill, fill_blank}
 use Rattle.spv_consts.proofs.WidthLemmas.{widths_by_form, widths_narrow}
-use Rattle.spv_consts.proofs.ScalarShapes.{integer_is_lane, truth_is_lane, undefined_is_lane, width_narrow}
+use Rattle.spv_consts.proofs.ScalarShapes.{integer_is_lane, truth_is_lane, undefined_is_lane}
 use Rattle.spv_consts.proofs.CompositeFills.{composite_fills}
 use Rattle.spv_consts.proofs.OperationFills.{computed_fills}
 
@@ -38,16 +40,16 @@ blanks_fill ts defined id sound = fill_blank defined (leaf_widths ts id) (widths
 -- ---- scalars
 
 -- a lane of a width
-abbrev IsLaneOf : ℕ → Lane → Type 0
-IsLaneOf width c = (c.width ≡ width) × IsLane c
+abbrev IsLaneOf : ℕ → Cell → Type 0
+IsLaneOf width c = (c.width ≡ width) × IsCell c
 
 -- an override keeps the width
-overridden_is_lane : (width : ℕ) (c : Lane) (o : Option ℤ) → IsLaneOf width c → IsLaneOf width (overridden c o)
+overridden_is_lane : (width : ℕ) (c : Cell) (o : Option ℤ) → IsLaneOf width c → IsLaneOf width (overridden c o)
 overridden_is_lane width c None h = h
 overridden_is_lane width c (Some n) h = (h.0, integer_is_lane c.width n h.1.narrow)
 
 -- a Boolean constant's lane by two tests, or that of a literal
-abbrev lane_by : Bool → Bool → Lane → Lane
+abbrev lane_by : Bool → Bool → Cell → Cell
 lane_by holds fails literal = if holds then truth true else (if fails then truth false else literal)
 
 boolean_lane : (holds fails : Bool) (words : List Operand) → IsLaneOf 1 (lane_by holds fails (literal_lane None words))
@@ -56,10 +58,10 @@ boolean_lane false true words = (refl, truth_is_lane false)
 boolean_lane false false words = (refl, undefined_is_lane)
 
 -- the opcode of an integer constant is none of the Booleans'
-abbrev lane_for : ℕ → Lane → Lane
+abbrev lane_for : ℕ → Cell → Cell
 lane_for op literal = lane_by (op == 41 || op == 48) (op == 42 || op == 49) literal
 
-number_lane : (op : ℕ) (literal : Lane) → is_number op ≡ true → lane_for op literal ≡ literal
+number_lane : (op : ℕ) (literal : Cell) → is_number op ≡ true → lane_for op literal ≡ literal
 number_lane op literal h = either (op == 43) refl h
   where
     at : (n : ℕ) → op ≡ n → lane_for n literal ≡ literal → lane_for op literal ≡ literal
@@ -75,7 +77,7 @@ literal_fills widths Void words o h = impossible h
 literal_fills widths Boolean words o h = impossible h
 literal_fills widths (Int width sign) words o h = by_width (is_width width) refl h
   where
-    by_number : (n : Option ℕ) → is_width width ≡ true → is_some n ≡ true → Fill (width ∷ []) (overridden (option_map_or (λ k. integer width (pos k)) n (undefined_lane width)) o ∷ [])
+    by_number : (n : Option ℕ) → is_width width ≡ true → is_some n ≡ true → Fill (width ∷ []) (overridden (option_map_or (λ k. integer width (pos k)) n (undefined_cell width)) o ∷ [])
     by_number None e h = impossible h
     by_number (Some n) e h = (overridden_is_lane width (integer width (pos n)) o (refl, integer_is_lane width (pos n) (width_narrow width e)), tt)
 
@@ -105,10 +107,10 @@ boolean_fills widths (Function returns parameters) holds fails words o h = impos
 
 module _ (m : Context) (s : State) (i : Inst) (sound : AreSound s.types) where
   -- leaves fill the constant's type
-  abbrev Fits : List Lane → Type 0
+  abbrev Fits : List Cell → Type 0
   Fits cs = FillType s.types i.ty cs
 
-  by_form : (f : Form) → form_of s.types i.ty ≡ Some f → (cs : List Lane) → Fill (widths_step (leaf_widths s.types) f) cs → Fits cs
+  by_form : (f : Form) → form_of s.types i.ty ≡ Some f → (cs : List Cell) → Fill (widths_step (leaf_widths s.types) f) cs → Fits cs
   by_form f is cs h = subst (λ (ws : List ℕ). Fill ws cs) (sym (widths_by_form s.types sound i.ty f is)) h
 
   composite : OperandsFillTypes m s i.word → keeps_composite m s i (form_of s.types i.ty) ≡ true → Fits (flat_map (λ (o : Operand). given_cells m s (id_in o)) i.operands)
@@ -120,7 +122,7 @@ module _ (m : Context) (s : State) (i : Inst) (sound : AreSound s.types) where
 
   number : is_number i.op ≡ true → (n : Option ℤ) → keeps_literal (integer_width (form_of s.types i.ty)) i.operands ≡ true → Fits (overridden (scalar_lane s i) n ∷ [])
   number is n h =
-      subst (λ (c : Lane). Fits (overridden c n ∷ [])) (sym (number_lane i.op (literal_lane (integer_width (form_of s.types i.ty)) i.operands) is)) (at (form_of s.types i.ty) refl h)
+      subst (λ (c : Cell). Fits (overridden c n ∷ [])) (sym (number_lane i.op (literal_lane (integer_width (form_of s.types i.ty)) i.operands) is)) (at (form_of s.types i.ty) refl h)
     where
       at : (o : Option Form) → form_of s.types i.ty ≡ o → keeps_literal (integer_width o) i.operands ≡ true → Fits (overridden (literal_lane (integer_width o) i.operands) n ∷ [])
       at None e h = impossible h

@@ -119,8 +119,8 @@ type_small s i comes_next h = rw comes_next at h
 constants_few : (s : State) (i : Inst) → is_next s i.id ≡ false → is_constant i.op ≡ true → passes_limit s i ≡ false → cells_with s i.ty ≤ 4194304
 constants_few s i other constant h = let small : nat_lt 4194304 (cells_with s i.ty) ≡ false = rw (other, constant) at h in ltb-false 4194304 (cells_with s i.ty) small
 
-uncut : (a b : ℕ) → min (a + b) (2 ^ 64 - 1) ≤ 4194304 → min (a + b) (2 ^ 64 - 1) ≡ a + b
-uncut a b le = omega arith
+unsaturated : (a b : ℕ) → min (a + b) (2 ^ 64 - 1) ≤ 4194304 → min (a + b) (2 ^ 64 - 1) ≡ a + b
+unsaturated a b le = omega arith
 
 -- ---- the types of constants
 
@@ -224,7 +224,7 @@ constant_entered m front i s limited place form aside constant rules none = reco
     small = constants_few s i aside constant none
 
     whole : cells_with s i.ty ≡ s.cells + (limit_among s.types s.known i.ty).cells
-    whole = uncut s.cells (limit_among s.types s.known i.ty).cells small
+    whole = unsaturated s.cells (limit_among s.types s.known i.ty).cells small
 
     together : constant_cells s.types (s.values ++ (i.id, value_of m s i) ∷ []) ≡ cells_with s i.ty
     together =

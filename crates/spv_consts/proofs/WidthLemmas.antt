@@ -13,9 +13,9 @@ use Rattle.spv_types.specs.Shapes.{part_type}
 use Rattle.spv_types.specs.Laws.{AreSound, ComesBefore}
 use Rattle.spv_types.proofs.TypeLemmas.{in_first-found, number_lt}
 use Rattle.spv_types.proofs.ShapeLemmas.{form_number}
+use Rattle.spv_types.proofs.DataLemmas.{width_narrow}
 use Rattle.spv_typing.proofs.LawLemmas.{parts}
 use Rattle.spv_consts.specs.Values.{leaf_widths, own_width, part_types, widths_among, widths_step}
-use Rattle.spv_consts.proofs.ScalarShapes.{width_narrow}
 
 -- ---- the parts of a form, listed
 

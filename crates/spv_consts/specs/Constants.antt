@@ -6,7 +6,7 @@ use Rattle.std.specs.Prelude.{◌≡◌, ℕ, ◌==◌, if◌then◌else◌, tru
 use Rattle.std.specs.List.{AllByRecursion, flat_map}
 use Rattle.std.specs.Option.{IsSomeAnd, option_and_then, option_map, option_map_or, option_or}
 use Rattle.spv_base.specs.Entries.{reads}
-use Rattle.spv_base.specs.Lane.{Lane}
+use Rattle.spv_base.specs.Cell.{Cell}
 use Rattle.spv_base.specs.declared.instructions.Inst.{Inst}
 use Rattle.spv_base.specs.declared.instructions.Operand.{Operand}
 use Rattle.spv_types.specs.Constants.{is_constant}
@@ -29,38 +29,38 @@ abbrev pub Known : Type 0
 Known = Types × Constants
 
 -- the leaves of an operand: those of the constant with its id; of an OpUndef they are those of its type, all undefined
-abbrev pub leaves_of : Context → Known → ℕ → List Lane
+abbrev pub leaves_of : Context → Known → ℕ → List Cell
 leaves_of m k id = option_map_or (λ (r : Row). r.cells) (reads id k.1) (option_map_or (undefined_of k.0) (result_type m.all id) [])
 
 -- and none of what is no id
-abbrev pub leaves_if : Context → Known → Option ℕ → List Lane
+abbrev pub leaves_if : Context → Known → Option ℕ → List Cell
 leaves_if m k o = option_map_or (leaves_of m k) o []
 
 -- those of the operand at a place
-abbrev pub operand : Context → Known → Inst → ℕ → List Lane
+abbrev pub operand : Context → Known → Inst → ℕ → List Cell
 operand m k i place = leaves_if m k (id_operand i place)
 
 -- those of all constituents, one behind the other
-abbrev pub constituents : Context → Known → Inst → List Lane
+abbrev pub constituents : Context → Known → Inst → List Cell
 constituents m k i = flat_map (λ (o : Operand). leaves_if m k (id_in o)) i.operands
 
 -- the lane of a literal of an integer type: as many of its low-order bits as the type is wide
-abbrev pub literal : Known → Inst → Option Lane
+abbrev pub literal : Known → Inst → Option Cell
 literal k i = option_and_then (λ width. option_map (λ n. integer width (pos n)) (literal_number width i.operands)) (integer_width (form_of k.0 i.ty))
 
 -- the lane of a specialization constant: its own, or the number that overrides it
-abbrev pub specialized : Context → Inst → Lane → Lane
+abbrev pub specialized : Context → Inst → Cell → Cell
 specialized m i lane = overridden lane (override_of m.all m.held i)
 
 -- OpSelect: one condition for all leaves, or one for each
-abbrev pub chosen : List Lane → List Lane → List Lane → List Lane
+abbrev pub chosen : List Cell → List Cell → List Cell → List Cell
 chosen [] xs ys = []
 chosen (c ∷ []) xs ys = by_two (select_of c) xs ys
 chosen (c ∷ d ∷ cs) xs ys = by_three select_of (c ∷ d ∷ cs) xs ys
 
 -- What an opcode gives of the operands behind it, lane by lane as in a function: OpSelect 169, the unary operations, and the
 -- binary ones.
-abbrev pub result_of : Context → Known → Inst → ℕ → Option (List Lane)
+abbrev pub result_of : Context → Known → Inst → ℕ → Option (List Cell)
 result_of m k i op =
     if op == 169 then Some (chosen (operand m k i 1) (operand m k i 2) (operand m k i 3))
     else option_or
@@ -68,7 +68,7 @@ result_of m k i op =
     (option_map (λ o. by_two (binary_lane o) (operand m k i 1) (operand m k i 2)) (binary_op op))
 
 -- the row under an instruction's id is of its type, and has these leaves
-abbrev pub Has : Known → Inst → List Lane → Type 0
+abbrev pub Has : Known → Inst → List Cell → Type 0
 Has k i leaves = reads i.id k.1 ≡ Some (record { ty = i.ty; cells = leaves })
 
 -- The row of a constant: OpConstantTrue 41, OpConstantFalse 42, OpConstant 43, OpConstantComposite 44, OpConstantNull 46,

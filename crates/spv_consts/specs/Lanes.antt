@@ -2,7 +2,7 @@
 -- to 3.42.15). Lanes of widths that the operation does not take, which types that fit never have, give an undefined lane.
 use Rattle.std.specs.Prelude.{ℕ, ◌==◌, ◌&&◌, nat_lt, nat_le, if◌then◌else◌, Bool, false}
 use Rattle.std.specs.Option.{option_map_or, unwrap_or}
-use Rattle.spv_base.specs.Lane.{Lane, undefined_lane}
+use Rattle.spv_base.specs.Cell.{Cell, undefined_cell}
 use Rattle.spv_alu.specs.Unary.{UnaryRow, conversion, arithmetic, logical, unary_op, unary_of, unary_row}
 use Rattle.spv_alu.specs.Binary.{BinaryRow, binary_op, binary_of, binary_row}
 use Rattle.spv_alu.specs.Binary as binary
@@ -35,13 +35,13 @@ abbrev pub takes_two : ℕ → ℕ → ℕ → Bool
 takes_two op v w = option_map_or (λ o. pair_takes (binary_row o) v w) (binary_op op) false
 
 -- a unary operation, with a result of a width
-abbrev pub unary_lane : ℕ → ℕ → Lane → Lane
-unary_lane op width a = if takes_one op a.width width then unwrap_or (unary_of op a width) (undefined_lane a.width) else undefined_lane a.width
+abbrev pub unary_lane : ℕ → ℕ → Cell → Cell
+unary_lane op width a = if takes_one op a.width width then unwrap_or (unary_of op a width) (undefined_cell a.width) else undefined_cell a.width
 
 -- a binary operation
-abbrev pub binary_lane : ℕ → Lane → Lane → Lane
-binary_lane op a b = if takes_two op a.width b.width then unwrap_or (binary_of op a b) (undefined_lane a.width) else undefined_lane a.width
+abbrev pub binary_lane : ℕ → Cell → Cell → Cell
+binary_lane op a b = if takes_two op a.width b.width then unwrap_or (binary_of op a b) (undefined_cell a.width) else undefined_cell a.width
 
 -- Select: the first lane where the condition is true, else the second
-abbrev pub select_lane : Lane → Lane → Lane → Lane
-select_lane condition a b = if b.width == a.width then select_of condition a b else undefined_lane a.width
+abbrev pub select_lane : Cell → Cell → Cell → Cell
+select_lane condition a b = if b.width == a.width then select_of condition a b else undefined_cell a.width

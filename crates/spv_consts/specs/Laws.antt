@@ -3,7 +3,7 @@ use Rattle.std.specs.Option.{option_map}
 use Rattle.std.specs.Prelude.{◌≡◌, ℕ, true, List, Option, Some, IsSome}
 use Rattle.std.specs.List.{AllByRecursion, AllZip}
 use Rattle.spv_base.specs.Entries.{reads}
-use Rattle.spv_base.specs.Lane.{IsLane, Lane}
+use Rattle.spv_base.specs.Cell.{IsCell, Cell}
 use Rattle.spv_base.specs.declared.instructions.Inst.{Inst}
 use Rattle.spv_base.specs.declared.values.Root.{Root}
 use Rattle.spv_types.specs.Constants.{is_constant}
@@ -18,11 +18,11 @@ use Rattle.spv_consts.specs.Context.{Context}
 use Rattle.spv_consts.specs.State.{State, is_operand, operand_cells}
 
 -- a lane of a width, whose number fits it, and is 0 where it is undefined
-abbrev pub HasWidth : ℕ → Lane → Type 0
-HasWidth width c = (c.width ≡ width) × IsLane c
+abbrev pub HasWidth : ℕ → Cell → Type 0
+HasWidth width c = (c.width ≡ width) × IsCell c
 
 -- leaves fill a type: there is one for each of its leaves, of that width
-abbrev pub FillType : Types → ℕ → List Lane → Type 0
+abbrev pub FillType : Types → ℕ → List Cell → Type 0
 FillType ts id cells = AllZip HasWidth (leaf_widths ts id) cells
 
 -- each operand of a constant at a word fills its type
@@ -30,7 +30,7 @@ abbrev pub OperandsFillTypes : Context → State → ℕ → Type 0
 OperandsFillTypes m s word = (id ty : ℕ) → is_operand m s word id ≡ true → result_type m.all id ≡ Some ty → FillType s.types ty (operand_cells m s id)
 
 -- leaves are those of a value of the shape of a type
-pub record IsRowAt (ts : Types) (roots : Root → Option ℕ) (id : ℕ) (cells : List Lane) : Type 0 where
+pub record IsRowAt (ts : Types) (roots : Root → Option ℕ) (id : ℕ) (cells : List Cell) : Type 0 where
   pub shape : HasShape ts roots id (value_at ts id cells)
   pub leaves_are : leaves (value_at ts id cells) ≡ cells
 

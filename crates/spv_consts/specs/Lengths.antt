@@ -2,7 +2,7 @@
 -- OpTypeArray).
 use Rattle.std.specs.Prelude.{ℕ, ℤ, pos, int_le, nat_le, nat_lt, ◌==◌, ◌&&◌, if◌then◌else◌, Bool, true, false, Option, Some, None}
 use Rattle.std.specs.Option.{option_and_then}
-use Rattle.spv_base.specs.Lane.{Lane}
+use Rattle.spv_base.specs.Cell.{Cell}
 use Rattle.spv_base.specs.declared.instructions.Inst.{Inst}
 use Rattle.spv_types.specs.declared.forms.Form.{Form}
 use Rattle.spv_types.specs.declared.forms.Form.TheVariants.{Void, Bool as Boolean, Int, Vector, Array, Runtime, Struct, Pointer, Function}
@@ -32,11 +32,11 @@ abbrev pub sign_at : Types → Option ℕ → Option ℕ
 sign_at ts ty = option_and_then (λ id. sign_of (form_of ts id)) ty
 
 -- the number of a lane, read as signed where the sign is 1
-abbrev pub number_in : ℕ → Lane → ℤ
+abbrev pub number_in : ℕ → Cell → ℤ
 number_in sign c = if sign == 1 && nat_le 1 c.width then signed c.width c.bits else pos c.bits
 
 -- a defined number of at least 1, which its bits are
-abbrev pub lane_length : ℕ → Lane → Option ℕ
+abbrev pub lane_length : ℕ → Cell → Option ℕ
 lane_length sign c = if c.defined && int_le (pos 1) (number_in sign c) then Some c.bits else None
 
 -- the length that the constant with an id gives

@@ -2,7 +2,7 @@
 -- 32 and two for 64, the low-order word first. Of a narrower integer the other bits are not looked at.
 use Rattle.std.specs.Option.{is_some, option_and_then, option_map, option_map_or}
 use Rattle.std.specs.Prelude.{Bool, List, None, Option, Some, false, if◌then◌else◌, length, nat_le, pos, slice_get, ℕ, ◌&&◌, ◌*◌, ◌+◌, ◌==◌, ◌^◌}
-use Rattle.spv_base.specs.Lane.{Lane, undefined_lane}
+use Rattle.spv_base.specs.Cell.{Cell, undefined_cell}
 use Rattle.spv_base.specs.declared.instructions.Operand.{Operand}
 use Rattle.spv_types.specs.declared.forms.Form.{Form}
 use Rattle.spv_types.specs.declared.forms.Form.TheVariants.{Void, Bool as Boolean, Int, Vector, Array, Runtime, Struct, Pointer, Function}
@@ -42,6 +42,6 @@ keeps_literal None words = false
 keeps_literal (Some width) words = length words == word_count width && is_some (literal_number width words)
 
 -- the lane of a literal: the low-order bits of its number; an undefined one of what is no literal, or of no integer type
-abbrev pub literal_lane : Option ℕ → List Operand → Lane
-literal_lane None words = undefined_lane 1
-literal_lane (Some width) words = option_map_or (λ n. integer width (pos n)) (literal_number width words) (undefined_lane width)
+abbrev pub literal_lane : Option ℕ → List Operand → Cell
+literal_lane None words = undefined_cell 1
+literal_lane (Some width) words = option_map_or (λ n. integer width (pos n)) (literal_number width words) (undefined_cell width)

@@ -1,7 +1,7 @@
 -- The leaves that an operation of OpSpecConstantOp gives: lane by lane, where a scalar condition of Select chooses for each leaf
 -- of any value (SPIR-V 1.6 sections 3.42.7, OpSpecConstantOp, and 3.42.15, OpSelect).
 use Rattle.std.specs.Prelude.{ℕ, min, List, [], ◌∷◌, Option, Some, None}
-use Rattle.spv_base.specs.Lane.{Lane}
+use Rattle.spv_base.specs.Cell.{Cell}
 use Rattle.spv_types.specs.declared.forms.Form.{Form}
 use Rattle.spv_types.specs.declared.forms.Form.TheVariants.{Void, Bool as Boolean, Int, Vector, Array, Runtime, Struct, Pointer, Function}
 use Rattle.spv_types.specs.Types.{Types, form_of}
@@ -10,24 +10,24 @@ use Rattle.spv_consts.specs.declared.operations.PairOp.TheVariants.{Binary, Sele
 use Rattle.spv_consts.specs.Lanes.{binary_lane, select_lane}
 
 -- an operation on two lanes
-abbrev pub lane_of : PairOp → Lane → Lane → Lane
+abbrev pub lane_of : PairOp → Cell → Cell → Cell
 lane_of (Binary op) a b = binary_lane op a b
 lane_of (Select condition) a b = select_lane condition a b
 
 -- a function of two lanes, and of three, on rows, as far as all of them go
-abbrev pub by_two : (Lane → Lane → Lane) → List Lane → List Lane → List Lane
+abbrev pub by_two : (Cell → Cell → Cell) → List Cell → List Cell → List Cell
 by_two f [] ys = []
 by_two f (x ∷ xs) [] = []
 by_two f (x ∷ xs) (y ∷ ys) = f x y ∷ by_two f xs ys
 
-abbrev pub by_three : (Lane → Lane → Lane → Lane) → List Lane → List Lane → List Lane → List Lane
+abbrev pub by_three : (Cell → Cell → Cell → Cell) → List Cell → List Cell → List Cell → List Cell
 by_three f [] ys zs = []
 by_three f (x ∷ xs) [] zs = []
 by_three f (x ∷ xs) (y ∷ ys) [] = []
 by_three f (x ∷ xs) (y ∷ ys) (z ∷ zs) = f x y z ∷ by_three f xs ys zs
 
 -- Select: one condition for all leaves, or one for each
-abbrev pub selected : List Lane → List Lane → List Lane → List Lane
+abbrev pub selected : List Cell → List Cell → List Cell → List Cell
 selected [] xs ys = []
 selected (c ∷ []) xs ys = by_two (select_lane c) xs ys
 selected (c ∷ d ∷ cs) xs ys = by_three select_lane (c ∷ d ∷ cs) xs ys

@@ -3,7 +3,7 @@
 use Rattle.std.specs.Prelude.{ℕ, ◌-◌, ◌^◌, ◌==◌, ◌&&◌, ◌||◌, not, if◌then◌else◌, Bool, false, ℤ, pos, neg_ℤ, int_le, List, [], ◌∷◌, Option, Some, None}
 use Rattle.std.specs.List.{list_any}
 use Rattle.std.specs.Option.{option_map_or, option_and_then}
-use Rattle.spv_base.specs.Lane.{Lane}
+use Rattle.spv_base.specs.Cell.{Cell}
 use Rattle.spv_base.specs.Entries.{reads}
 use Rattle.spv_base.specs.declared.instructions.Inst.{Inst}
 use Rattle.spv_types.specs.declared.forms.Form.{Form}
@@ -71,6 +71,6 @@ abbrev pub override_of : List Inst → Numbers → Inst → Option ℤ
 override_of all held i = option_and_then (λ spec. reads spec held) (spec_id_of all i)
 
 -- a constant's lane, or the low-order bits of the number that overrides it
-abbrev pub overridden : Lane → Option ℤ → Lane
+abbrev pub overridden : Cell → Option ℤ → Cell
 overridden lane None = lane
 overridden lane (Some n) = integer lane.width n

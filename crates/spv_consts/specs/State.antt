@@ -3,7 +3,7 @@
 use Rattle.std.specs.Prelude.{ℕ, ◌||◌, Bool, false, List, [], Option}
 use Rattle.std.specs.Option.{is_some, option_map_or}
 use Rattle.spv_base.specs.Entries.{reads}
-use Rattle.spv_base.specs.Lane.{Lane}
+use Rattle.spv_base.specs.Cell.{Cell}
 use Rattle.spv_types.specs.Types.{Types, is_number, number_of}
 use Rattle.spv_index.specs.Definitions.{result_type}
 use Rattle.spv_consts.specs.Table.{Constants, Row}
@@ -25,12 +25,12 @@ abbrev pub is_operand : Context → State → ℕ → ℕ → Bool
 is_operand m s word id = is_some (reads id s.values) || has_undef_before m word id
 
 -- the leaves of its value, which for an OpUndef is the undefined one of its type
-abbrev pub operand_cells : Context → State → ℕ → List Lane
+abbrev pub operand_cells : Context → State → ℕ → List Cell
 operand_cells m s id = option_map_or (λ (r : Row). r.cells) (reads id s.values) (option_map_or (undefined_of s.types) (result_type m.all id) [])
 
 -- an operand that may not be there, or be no id
 abbrev pub is_given : Context → State → ℕ → Option ℕ → Bool
 is_given m s word o = option_map_or (is_operand m s word) o false
 
-abbrev pub given_cells : Context → State → Option ℕ → List Lane
+abbrev pub given_cells : Context → State → Option ℕ → List Cell
 given_cells m s o = option_map_or (operand_cells m s) o []

@@ -6,7 +6,7 @@ use Rattle.std.specs.Option.{option_map_or}
 use Rattle.spv_base.specs.declared.instructions.Inst.{Inst}
 use Rattle.spv_base.specs.declared.causes.Refusal.{Refusal}
 use Rattle.spv_types.specs.declared.limits.Limit.{Limit}
-use Rattle.spv_types.specs.Cuts.{cut}
+use Rattle.spv_types.specs.Saturation.{saturated}
 use Rattle.spv_types.specs.Types.{form_of}
 use Rattle.spv_types.specs.Constants.{is_constant}
 use Rattle.spv_types.specs.Limits.{limit_among, limit_step}
@@ -26,7 +26,7 @@ is_great_type s id = option_map_or (λ f. is_great (limit_step (limit_among s.ty
 
 -- the cells of all constants with one more, of a type
 abbrev pub cells_with : State → ℕ → ℕ
-cells_with s ty = cut (s.cells + (limit_among s.types s.known ty).cells)
+cells_with s ty = saturated (s.cells + (limit_among s.types s.known ty).cells)
 
 -- an instruction passes a limit: the type that comes next, or a constant with which all have more than 4,194,304 cells
 abbrev pub passes_limit : State → Inst → Bool

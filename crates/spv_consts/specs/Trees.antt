@@ -1,6 +1,6 @@
 -- The value that a row is at a type: its leaves in order, and its parts of the types of the type's parts.
 use Rattle.std.specs.Prelude.{ℕ, List, [], ◌∷◌, length}
-use Rattle.spv_base.specs.Lane.{Lane, undefined_lane}
+use Rattle.spv_base.specs.Cell.{Cell, undefined_cell}
 use Rattle.spv_base.specs.declared.values.Value.{Value, Scalar, List as Many}
 use Rattle.spv_types.specs.declared.forms.Form.{Form}
 use Rattle.spv_types.specs.declared.forms.Form.TheVariants.{Void, Bool as Boolean, Int, Vector, Array, Runtime, Struct, Pointer, Function}
@@ -10,14 +10,14 @@ use Rattle.spv_consts.specs.Table.{Row}
 
 -- what reads a value off the front of some leaves, and gives the leaves behind it
 abbrev pub Reader : Type 0
-Reader = List Lane → Value × List Lane
+Reader = List Cell → Value × List Cell
 
 abbrev pub read_scalar : Reader
-read_scalar [] = (Scalar (undefined_lane 1), [])
+read_scalar [] = (Scalar (undefined_cell 1), [])
 read_scalar (c ∷ cs) = (Scalar c, cs)
 
 -- values of some types, one after another
-abbrev pub read_parts : (ℕ → Reader) → List ℕ → List Lane → List Value × List Lane
+abbrev pub read_parts : (ℕ → Reader) → List ℕ → List Cell → List Value × List Cell
 read_parts read [] cs = ([], cs)
 read_parts read (t ∷ ts) cs = ((read t cs).0 ∷ (read_parts read ts (read t cs).1).0, (read_parts read ts (read t cs).1).1)
 
@@ -42,7 +42,7 @@ unfoldable pub read_among : Types → ℕ → ℕ → Reader
 read_among = in_first read_none read_step
 
 -- the value of a type with these leaves
-unfoldable pub value_at : Types → ℕ → List Lane → Value
+unfoldable pub value_at : Types → ℕ → List Cell → Value
 value_at ts id cells = (read_among ts (length ts) id cells).0
 
 -- the value of a constant

@@ -2,7 +2,7 @@
 -- and 3.42.7, OpConstantNull): each leaf has the number 0, and is defined in the one and undefined in the other.
 use Rattle.std.specs.Prelude.{ℕ, min, Bool, true, false, List, [], ◌∷◌, ◌++◌, map, length, replicate, unwrap_or}
 use Rattle.std.specs.List.{flat_map}
-use Rattle.spv_base.specs.Lane.{Lane}
+use Rattle.spv_base.specs.Cell.{Cell}
 use Rattle.spv_types.specs.declared.forms.Form.{Form}
 use Rattle.spv_types.specs.declared.forms.Form.TheVariants.{Void, Bool as Boolean, Int, Vector, Array, Runtime, Struct, Pointer, Function}
 use Rattle.spv_types.specs.declared.forms.Member.{Member}
@@ -44,15 +44,15 @@ unfoldable pub leaf_widths : Types → ℕ → List ℕ
 leaf_widths ts id = widths_among ts (length ts) id
 
 -- a lane of zeros, defined or not; no lane is wider than 64 bits
-abbrev pub blank_lane : Bool → ℕ → Lane
-blank_lane defined width = record { bits = 0; width = min width 64; defined = defined }
+abbrev pub blank_cell : Bool → ℕ → Cell
+blank_cell defined width = record { bits = 0; width = min width 64; defined = defined }
 
 -- the row of a type whose leaves are all 0, defined or not
-abbrev pub blank_of : Bool → Types → ℕ → List Lane
-blank_of defined ts id = map (blank_lane defined) (leaf_widths ts id)
+abbrev pub blank_of : Bool → Types → ℕ → List Cell
+blank_of defined ts id = map (blank_cell defined) (leaf_widths ts id)
 
-abbrev pub null_of : Types → ℕ → List Lane
+abbrev pub null_of : Types → ℕ → List Cell
 null_of = blank_of true
 
-abbrev pub undefined_of : Types → ℕ → List Lane
+abbrev pub undefined_of : Types → ℕ → List Cell
 undefined_of = blank_of false

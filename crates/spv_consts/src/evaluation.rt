@@ -101,7 +101,7 @@ fn binary(
 }
 
 /// The cells of an OpSpecConstantOp, by its opcode.
-fn computed(
+fn computed_cells(
     alloc: Global,
     walk: &Walk,
     context: &Context,
@@ -129,7 +129,7 @@ fn operation(
     ensures { IfOk result (λ cells. cells.items ≡ spec.operation_cells context.now walk.now inst.now) }
 {
     match opcode_of(inst) {
-        Some(opcode) => computed(alloc, walk, context, inst, opcode),
+        Some(opcode) => computed_cells(alloc, walk, context, inst, opcode),
         None => Ok(Vec::new(alloc)),
     }
 }

@@ -3,14 +3,14 @@ ghost use Rattle.std.specs.Prelude.{◌≡◌, ◌++◌, ◌+◌, ◌*◌, ◌�
 ghost use Rattle.std.specs.List.{flat_map};
 ghost use Rattle.spv_types.specs.declared.forms.Member.{Member as Part};
 ghost use Rattle.spv_consts.specs.Copies.{copies};
-ghost use Rattle.spv_consts.specs.Values.{blank_lane, blank_of, widths_among, widths_step};
+ghost use Rattle.spv_consts.specs.Values.{blank_cell, blank_of, widths_among, widths_step};
 
 use spv_base::{Cell, NoMemory};
 use spv_types::{Form, Member, TypeTable};
 
 /// A lane of zeros, defined or not.
-fn blank_lane(defined: bool, width: u32) -> Cell
-    ensures { result ≡ blank_lane defined width }
+fn blank_cell(defined: bool, width: u32) -> Cell
+    ensures { result ≡ blank_cell defined width }
 {
     Cell {
         bits: 0,
@@ -56,7 +56,7 @@ impl<'a> Blanks<'a> {
     #[tactic(auto, using(crate::proofs::ValueLemmas::widths_among_is))]
     #[cycle(blanks)]
     fn among(&self, cells: &mut Vec<Cell>, limit: usize, ty: u32) -> Result<(), NoMemory>
-        ensures { OnOk result (cells.new.items ≡ cells.old.items ++ map (blank_lane self.now.defined) (widths_among self.now.types.now limit ty)) }
+        ensures { OnOk result (cells.new.items ≡ cells.old.items ++ map (blank_cell self.now.defined) (widths_among self.now.types.now limit ty)) }
     {
         match self.types.found(limit, ty) {
             Some((n, form)) => self.of_form(cells, n, form),
@@ -67,17 +67,19 @@ impl<'a> Blanks<'a> {
     /// Appends the row of a form whose parts are among the first types.
     #[cycle(blanks)]
     fn of_form(&self, cells: &mut Vec<Cell>, limit: usize, form: &Form) -> Result<(), NoMemory>
-        ensures { OnOk result (cells.new.items ≡ cells.old.items ++ map (blank_lane self.now.defined) (widths_step (widths_among self.now.types.now limit) form.now)) }
+        ensures { OnOk result (cells.new.items ≡ cells.old.items ++ map (blank_cell self.now.defined) (widths_step (widths_among self.now.types.now limit) form.now)) }
     {
         match form {
-            Form::Bool => Ok(cells.push(blank_lane(self.defined, 1))?),
-            Form::Int { width, .. } => Ok(cells.push(blank_lane(self.defined, *width))?),
-            Form::Vector { component, count } => self.repeated(cells, limit, *component, *count),
+            Form::Bool => Ok(cells.push(blank_cell(self.defined, 1))?),
+            Form::Int { width, .. } => Ok(cells.push(blank_cell(self.defined, *width))?),
+            Form::Vector { component, count } => self.repeated_cells(
+                cells, limit, *component, *count,
+            ),
             Form::Array {
                 element,
                 length,
                 ..
-            } => self.repeated(cells, limit, *element, length.unwrap_or(0)),
+            } => self.repeated_cells(cells, limit, *element, length.unwrap_or(0)),
             Form::Struct { members, .. } => self.of_members(cells, limit, members.as_slice()),
             Form::Void | Form::Runtime { .. } | Form::Pointer { .. } | Form::Function { .. } => {
                 Ok(())
@@ -87,14 +89,14 @@ impl<'a> Blanks<'a> {
 
     /// Appends the row of a type among the first so many times.
     #[cycle(blanks)]
-    fn repeated(
+    fn repeated_cells(
         &self,
         cells: &mut Vec<Cell>,
         limit: usize,
         ty: u32,
         count: u32,
     ) -> Result<(), NoMemory>
-        ensures { OnOk result (cells.new.items ≡ cells.old.items ++ copies count (map (blank_lane self.now.defined) (widths_among self.now.types.now limit ty))) }
+        ensures { OnOk result (cells.new.items ≡ cells.old.items ++ copies count (map (blank_cell self.now.defined) (widths_among self.now.types.now limit ty))) }
     {
         if count == 0 {
             return Ok(());
@@ -112,7 +114,7 @@ impl<'a> Blanks<'a> {
         limit: usize,
         members: &[Member],
     ) -> Result<(), NoMemory>
-        ensures { OnOk result (cells.new.items ≡ cells.old.items ++ flat_map (λ (m : Part). map (blank_lane self.now.defined) (widths_among self.now.types.now limit m.ty)) members.now) }
+        ensures { OnOk result (cells.new.items ≡ cells.old.items ++ flat_map (λ (m : Part). map (blank_cell self.now.defined) (widths_among self.now.types.now limit m.ty)) members.now) }
     {
         for member in members {
             self.among(cells, limit, member.ty)?;

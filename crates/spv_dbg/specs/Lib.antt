@@ -1,7 +1,7 @@
 pub mod Kinds
 pub mod Literals
 pub mod Marks
-pub mod Cuts
+pub mod Saturation
 pub mod Forming
 pub mod Places
 pub mod Sources

@@ -2,7 +2,7 @@
 use Rattle.std.specs.Prelude.{ℕ, ◌==◌, if◌then◌else◌, List, Option, Some, None}
 use Rattle.std.specs.Option.{option_and_then}
 use Rattle.spv_base.specs.Entries.{reads}
-use Rattle.spv_base.specs.Lane.{Lane}
+use Rattle.spv_base.specs.Cell.{Cell}
 use Rattle.spv_base.specs.declared.instructions.Inst.{Inst}
 use Rattle.spv_types.specs.Types.{Types, form_of}
 use Rattle.spv_types.specs.Queries.{is_integer}
@@ -12,7 +12,7 @@ use Rattle.spv_consts.specs.Table.{Row, only}
 use Rattle.spv_valid.specs.Acceptance.{Accepted}
 
 -- the number of a scalar of 32 bits, read as unsigned; an undefined one has the number 0
-abbrev pub word_in : Lane → Option ℕ
+abbrev pub word_in : Cell → Option ℕ
 word_in c = if c.width == 32 then Some c.bits else None
 
 -- the number of a constant, where its type is an integer of 32 bits

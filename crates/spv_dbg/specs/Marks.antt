@@ -54,12 +54,12 @@ is_one_of numbers n = list_any (λ k. k == n) numbers
 abbrev pub nothing : Measure
 nothing = record { bits = 0; nesting = 0 }
 
-abbrev pub measured : Mark → Measure
-measured k = record { bits = k.bits; nesting = k.nesting }
+abbrev pub measure_in : Mark → Measure
+measure_in k = record { bits = k.bits; nesting = k.nesting }
 
 -- those of an earlier type
 abbrev pub part : Accepted → Marks → ℕ → Measure
-part m marks id = option_map_or measured (known m marks id) nothing
+part m marks id = option_map_or measure_in (known m marks id) nothing
 
 abbrev pub count_of : Accepted → ℕ → ℕ
 count_of m id = unwrap_or (literal_of m id) 0
@@ -71,7 +71,7 @@ product m (id ∷ ids) = count_of m id * product m ids
 
 -- what a Member has; one that is no TypeMember (11) is skipped
 abbrev pub member_in : Mark → Measure
-member_in k = if k.number == 11 then measured k else nothing
+member_in k = if k.number == 11 then measure_in k else nothing
 
 abbrev pub member : Accepted → Marks → ℕ → Measure
 member m marks id = option_map_or member_in (known m marks id) nothing

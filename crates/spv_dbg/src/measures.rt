@@ -1,7 +1,7 @@
 //! How many bits the values of debug types have, and how deep the types are nested. Numbers stop at the greatest u64.
 ghost use Rattle.std.specs.Prelude.{◌≡◌, ◌*◌, ◌<◌, drop, length};
-ghost use Rattle.spv_types.specs.Cuts.{cut};
-ghost use Rattle.spv_dbg.specs.Cuts.{cut_measure};
+ghost use Rattle.spv_types.specs.Saturation.{saturated};
+ghost use Rattle.spv_dbg.specs.Saturation.{saturated_measure};
 ghost use Rattle.spv_dbg.specs.Marks as spec;
 
 use crate::insts::operand;
@@ -30,8 +30,8 @@ pub(crate) fn operands_from(ids: &[u32], n: usize) -> &[u32]
     ids.get(n..).unwrap_or(&[])
 }
 
-fn measured(mark: Mark) -> Measure
-    ensures { result ≡ spec.measured mark }
+fn measure_in(mark: Mark) -> Measure
+    ensures { result ≡ spec.measure_in mark }
 {
     Measure {
         bits: mark.bits,
@@ -44,7 +44,7 @@ fn part(module: &Module, marks: &[Option<Mark>], id: u32) -> Measure
     ensures { result ≡ spec.part module.now marks.now id }
 {
     match known(module, marks, id) {
-        Some(mark) => measured(mark),
+        Some(mark) => measure_in(mark),
         None => NOTHING,
     }
 }
@@ -57,7 +57,7 @@ fn count_of(module: &Module, id: u32) -> u64
 
 /// A number times the product of some Counts.
 fn times(module: &Module, base: u64, counts: &[u32]) -> u64
-    ensures { result ≡ cut (base * spec.product module.now counts.now) }
+    ensures { result ≡ saturated (base * spec.product module.now counts.now) }
 {
     let mut bits = base;
     for id in counts {
@@ -71,14 +71,14 @@ fn member(module: &Module, marks: &[Option<Mark>], id: u32) -> Measure
     ensures { result ≡ spec.member module.now marks.now id }
 {
     match known(module, marks, id) {
-        Some(mark) if mark.number == TYPE_MEMBER => measured(mark),
+        Some(mark) if mark.number == TYPE_MEMBER => measure_in(mark),
         Some(_) | None => NOTHING,
     }
 }
 
 /// The sum of the bits of some members, and the greatest of their nestings.
 fn members(module: &Module, marks: &[Option<Mark>], ids: &[u32]) -> Measure
-    ensures { result ≡ cut_measure (spec.members module.now marks.now ids.now) }
+    ensures { result ≡ saturated_measure (spec.members module.now marks.now ids.now) }
 {
     let mut all = NOTHING;
     for id in ids {
@@ -93,7 +93,7 @@ fn members(module: &Module, marks: &[Option<Mark>], ids: &[u32]) -> Measure
 
 /// A type over another one, so many times.
 fn over(times: u64, base: Measure) -> Measure
-    ensures { result ≡ cut_measure (spec.over times 1 base) }
+    ensures { result ≡ saturated_measure (spec.over times 1 base) }
 {
     Measure {
         bits: base.bits.saturating_mul(times),
@@ -103,7 +103,7 @@ fn over(times: u64, base: Measure) -> Measure
 
 /// An array of a type.
 fn array(module: &Module, counts: &[u32], base: Measure) -> Measure
-    ensures { result ≡ cut_measure (spec.over (spec.product module.now counts.now) (length counts.now) base) }
+    ensures { result ≡ saturated_measure (spec.over (spec.product module.now counts.now) (length counts.now) base) }
 {
     Measure {
         bits: times(module, base.bits, counts),
@@ -119,7 +119,7 @@ pub(crate) fn measure_of(
     number: u32,
     ids: &[u32],
 ) -> Measure
-    ensures { result ≡ cut_measure (spec.measure_of module.now marks.now number ids.now) }
+    ensures { result ≡ saturated_measure (spec.measure_of module.now marks.now number ids.now) }
 {
     match number {
         TYPE_BASIC => Measure {

@@ -1,6 +1,6 @@
 //! The texts of source files.
 ghost use Rattle.std.specs.Prelude.{◌≡◌, ◌≤◌, ◌++◌, IfOk, OnOk, length, map};
-ghost use Rattle.spv_types.specs.Cuts.{cut};
+ghost use Rattle.spv_types.specs.Saturation.{saturated};
 ghost use Rattle.spv_dbg.specs.Seen.{seen, seen_in};
 ghost use Rattle.spv_dbg.specs.Sources as spec;
 
@@ -38,7 +38,7 @@ pub(crate) fn text_of(strings: &Keyed<Bytes>, id: u32) -> &[u8]
 
 /// How many bytes the Texts of each SourceContinued before the next Source have.
 fn continuation_len(strings: &Keyed<Bytes>, insts: &[DebugInst]) -> u64
-    ensures { result ≡ cut (length (spec.continuation strings.now insts.now)) }
+    ensures { result ≡ saturated (length (spec.continuation strings.now insts.now)) }
 {
     let mut len = 0u64;
     for debug in insts {
@@ -55,7 +55,7 @@ fn continuation_len(strings: &Keyed<Bytes>, insts: &[DebugInst]) -> u64
 
 /// How many bytes are joined for a text, where these debug instructions stand behind its Source.
 fn joined_len(strings: &Keyed<Bytes>, id: u32, behind: &[DebugInst]) -> u64
-    ensures { result ≡ cut (spec.joined strings.now id behind.now) }
+    ensures { result ≡ saturated (spec.joined strings.now id behind.now) }
 {
     let more = continuation_len(strings, behind);
     if more == 0 {

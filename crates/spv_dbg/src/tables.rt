@@ -62,32 +62,45 @@ fn words_of(alloc: Global, insts: &[DebugInst]) -> Result<Vec<u32>, NoMemory>
     Ok(insts.iter().map(|debug| debug.word).collect(alloc)?)
 }
 
-/// The numbers of these debug instructions by their ids, and by their words.
-fn numbers_of(alloc: Global, insts: &[DebugInst]) -> Result<(Table<usize>, Table<usize>), NoMemory>
-    ensures by_id { IfOk result (λ tables. tables.0 ≡ places_from 0 (map (λ d. d.id) insts.now)) }
-    ensures by_word { IfOk result (λ tables. tables.1 ≡ places_from 0 (map (λ d. d.word) insts.now)) }
+/// The numbers of debug instructions by their ids, and by their words.
+#[derive(Drop)]
+struct Numbers {
+    by_id: Table<usize>,
+    by_word: Table<usize>,
+}
+
+fn numbers_of(alloc: Global, insts: &[DebugInst]) -> Result<Numbers, NoMemory>
+    ensures by_id { IfOk result (λ numbers. numbers.by_id ≡ places_from 0 (map (λ d. d.id) insts.now)) }
+    ensures by_word { IfOk result (λ numbers. numbers.by_word ≡ places_from 0 (map (λ d. d.word) insts.now)) }
 {
     let ids = ids_of(alloc, insts)?;
     let by_id = places_of(alloc, ids.as_slice())?;
     let words = words_of(alloc, insts)?;
     let by_word = places_of(alloc, words.as_slice())?;
-    Ok((by_id, by_word))
+    Ok(Numbers { by_id, by_word })
 }
 
 /// The strings of a module, the texts of its source files, and their numbers by the names of the files.
-fn texts_of(
-    alloc: Global,
-    debug: &[DebugInst],
-    insts: &[Inst],
-) -> Result<(Keyed<Bytes>, Vec<Source>, Names), NoMemory>
-    ensures strings { IfOk result (λ texts. texts.0 ≡ spec.strings_of insts.now) }
-    ensures sources { IfOk result (λ texts. map (seen texts.0) texts.1.items ≡ debug_sources texts.0 debug.now ++ op_sources_in insts.now) }
-    ensures names { IfOk result (λ texts. (file : List ℕ) → number_under texts.2 file ≡ number_from 0 (has_name texts.0 file) (keys_of texts.1.items)) }
+#[derive(Drop)]
+struct Texts {
+    strings: Keyed<Bytes>,
+    sources: Vec<Source>,
+    names: Names,
+}
+
+fn texts_of(alloc: Global, debug: &[DebugInst], insts: &[Inst]) -> Result<Texts, NoMemory>
+    ensures strings { IfOk result (λ texts. texts.strings ≡ spec.strings_of insts.now) }
+    ensures sources { IfOk result (λ texts. map (seen texts.strings) texts.sources.items ≡ debug_sources texts.strings debug.now ++ op_sources_in insts.now) }
+    ensures names { IfOk result (λ texts. (file : List ℕ) → number_under texts.names file ≡ number_from 0 (has_name texts.strings file) (keys_of texts.sources.items)) }
 {
     let strings = strings_of(alloc, insts)?;
     let sources = sources_of(alloc, &strings, debug, insts)?;
     let names = names_of(alloc, &strings, sources.as_slice())?;
-    Ok((strings, sources, names))
+    Ok(Texts {
+        strings,
+        sources,
+        names,
+    })
 }
 
 /// The debug instruction with a number.
@@ -109,9 +122,13 @@ impl DebugTables {
             ignored,
         } = records_of(alloc, module)?;
         let inlined = inlined_of(alloc, module, marks.as_slice())?;
-        let (by_id, by_word) = numbers_of(alloc, insts.as_slice())?;
+        let Numbers { by_id, by_word } = numbers_of(alloc, insts.as_slice())?;
         let constants = constants_of(alloc, module)?;
-        let (strings, sources, names) = texts_of(alloc, insts.as_slice(), module.insts())?;
+        let Texts {
+            strings,
+            sources,
+            names,
+        } = texts_of(alloc, insts.as_slice(), module.insts())?;
         Ok(DebugTables {
             insts,
             by_id,

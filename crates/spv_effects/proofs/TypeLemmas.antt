@@ -5,7 +5,7 @@ use Rattle.std.proofs.lemmas.Bool.Decides.{nat_tests}
 use Rattle.std.proofs.lemmas.List.Elements.{All-cons, All-head, All-map, All-nil, All-tail, All-weaker}
 use Rattle.std.specs.List.{All, flat_map}
 use Rattle.std.specs.Option.{IsSomeAnd, option_and_then}
-use Rattle.spv_base.specs.Lane.{IsLane, Lane}
+use Rattle.spv_base.specs.Cell.{IsCell, Cell}
 use Rattle.spv_base.specs.Parts.{parts_in}
 use Rattle.spv_base.specs.declared.values.Root.{Root}
 use Rattle.spv_base.specs.declared.values.Value.{Value, Scalar, List as Many, out-Value}
@@ -24,21 +24,21 @@ use Rattle.spv_types.proofs.ShapeLemmas.{shapes_are_by_forms}
 use Rattle.spv_effects.specs.LaneTypes.{HasLaneType, IsLaneForm, scalar_width}
 use Rattle.spv_effects.specs.Lanes.{AreLanes, AreScalars, of_lanes}
 
-abbrev pub HasWidth : ℕ → Lane → Type 0
-HasWidth w c = (c.width ≡ w) × IsLane c
+abbrev pub HasWidth : ℕ → Cell → Type 0
+HasWidth w c = (c.width ≡ w) × IsCell c
 
 -- a value that is n scalars of a width
 pub record IsOfLanes (w n : ℕ) (v : Value) : Type 0 where
   pub scalars : AreScalars w n (leaves v)
   pub value : of_lanes (leaves v) ≡ v
 
-pub scalars_are_lanes : (w n : ℕ) (cs : List Lane) → AreScalars w n cs → AreLanes w n cs
-scalars_are_lanes w n cs s = record { count = s.count; widths = All-weaker (HasWidth w) (λ (c : Lane). c.width ≡ w) (λ c h. h.0) cs s.fit }
+pub scalars_are_lanes : (w n : ℕ) (cs : List Cell) → AreScalars w n cs → AreLanes w n cs
+scalars_are_lanes w n cs s = record { count = s.count; widths = All-weaker (HasWidth w) (λ (c : Cell). c.width ≡ w) (λ c h. h.0) cs s.fit }
 
 -- ---- from a shape
 
 record IsOneLane (w : ℕ) (v : Value) : Type 0 where
-  lane : Lane
+  lane : Cell
   is : v ≡ Scalar lane
   row : leaves v ≡ lane ∷ []
   fits : HasWidth w lane
@@ -46,7 +46,7 @@ record IsOneLane (w : ℕ) (v : Value) : Type 0 where
 one_lane : (w : ℕ) (v : Value) → IsScalar w v → IsOneLane w v
 one_lane w v h = go (out-Value v) refl h
   where
-    go : (o : Value-F Value) → out-Value v ≡ o → IsSomeAnd (scalar_in o) (λ c. (c.width ≡ w) × IsLane c) → IsOneLane w v
+    go : (o : Value-F Value) → out-Value v ≡ o → IsSomeAnd (scalar_in o) (λ c. (c.width ≡ w) × IsCell c) → IsOneLane w v
     go (Value-F.Scalar c) e s = record { lane = c; is = scalar_by v c e; row = scalar_row v c e; fits = s }
     go (Value-F.List vs) e s = absurd s
     go (Value-F.Ptr p) e s = absurd s
@@ -55,7 +55,7 @@ scalar_lanes : (w : ℕ) (v : Value) → IsScalar w v → IsOfLanes w 1 v
 unfolding of_lanes
 scalar_lanes w v h =
     let s = one_lane w v h in
-    let P : Lane → Type 0 = HasWidth w in
+    let P : Cell → Type 0 = HasWidth w in
     record {
       scalars = record { count = ap length s.row; fit = subst (All P) (sym s.row) (All-cons P s.lane [] s.fits (All-nil P)) };
       value = ap of_lanes s.row ∙ sym s.is;
@@ -71,15 +71,15 @@ one_lanes w shape [] each all = record { values = refl; count = refl; fit = All-
 one_lanes w shape (v ∷ vs) each all =
     let s = one_lane w v (each v (All-head shape v vs all)) in
     let rest = one_lanes w shape vs each (All-tail shape v vs all) in
-    let P : Lane → Type 0 = HasWidth w in
-    let row : flat_map leaves (v ∷ vs) ≡ s.lane ∷ flat_map leaves vs = ap (λ (t : List Lane). t ++ flat_map leaves vs) s.row in
+    let P : Cell → Type 0 = HasWidth w in
+    let row : flat_map leaves (v ∷ vs) ≡ s.lane ∷ flat_map leaves vs = ap (λ (t : List Cell). t ++ flat_map leaves vs) s.row in
     record {
       values = ap (map Scalar) row ∙ ap (λ (t : List Value). Scalar s.lane ∷ t) rest.values ∙ ap (λ (u : Value). u ∷ vs) (sym s.is);
       count = ap length row ∙ ap suc rest.count;
       fit = subst (All P) (sym row) (All-cons P s.lane (flat_map leaves vs) s.fits rest.fit);
     }
 
-pub several : (cs : List Lane) → 2 ≤ length cs → of_lanes cs ≡ Many (map Scalar cs)
+pub several : (cs : List Cell) → 2 ≤ length cs → of_lanes cs ≡ Many (map Scalar cs)
 unfolding of_lanes
 several [] h = absurd (omega arith)
 several (c ∷ []) h = absurd (omega arith)
@@ -143,7 +143,7 @@ value_lanes ts roots id w n v sound h t = lanes_by ts roots sound id t.form t.is
 
 -- ---- to a shape
 
-pub is_scalar_of : (w : ℕ) (c : Lane) → HasWidth w c → IsScalar w (Scalar c)
+pub is_scalar_of : (w : ℕ) (c : Cell) → HasWidth w c → IsScalar w (Scalar c)
 is_scalar_of w c h = rw (out_scalar c) h
 
 scalar_shape : (ts : Types) (roots : Root → Option ℕ) (shape : ℕ → Value → Type 0) (f : Form) (w : ℕ) (v : Value) → scalar_width f ≡ Some w → IsScalar w v → shape_step ts roots shape f v
@@ -164,16 +164,16 @@ scalar_has ts roots sound id w e v h = go (form_of ts id) refl e
     go None g k = cc
     go (Some f) g k = (shapes_are_by_forms ts roots sound id f v g).1 (scalar_shape ts roots (HasShape ts roots) f w v k h)
 
-many_have : (w : ℕ) (shape : Value → Type 0) (cs : List Lane) → ((v : Value) → IsScalar w v → shape v) → All (HasWidth w) cs → All shape (map Scalar cs)
-many_have w shape cs each fit = All-map shape Scalar cs (All-weaker (HasWidth w) (λ (c : Lane). shape (Scalar c)) (λ c h. each (Scalar c) (is_scalar_of w c h)) cs fit)
+many_have : (w : ℕ) (shape : Value → Type 0) (cs : List Cell) → ((v : Value) → IsScalar w v → shape v) → All (HasWidth w) cs → All shape (map Scalar cs)
+many_have w shape cs each fit = All-map shape Scalar cs (All-weaker (HasWidth w) (λ (c : Cell). shape (Scalar c)) (λ c h. each (Scalar c) (is_scalar_of w c h)) cs fit)
 
-one_has : (w n : ℕ) (cs : List Lane) → n ≡ 1 → AreScalars w n cs → IsScalar w (of_lanes cs)
+one_has : (w n : ℕ) (cs : List Cell) → n ≡ 1 → AreScalars w n cs → IsScalar w (of_lanes cs)
 unfolding of_lanes
 one_has w n [] e s = let h = s.count in absurd (omega arith)
 one_has w n (c ∷ []) e s = is_scalar_of w c (All-head (HasWidth w) c [] s.fit)
 one_has w n (c ∷ (d ∷ cs)) e s = let h = s.count in absurd (omega arith)
 
-shape_by : (ts : Types) (roots : Root → Option ℕ) → AreSound ts → (id : ℕ) (f : Form) → form_of ts id ≡ Some f → (w n : ℕ) (cs : List Lane) → IsLaneForm ts f w n → AreScalars w n cs → shape_step ts roots (HasShape ts roots) f (of_lanes cs)
+shape_by : (ts : Types) (roots : Root → Option ℕ) → AreSound ts → (id : ℕ) (f : Form) → form_of ts id ≡ Some f → (w n : ℕ) (cs : List Cell) → IsLaneForm ts f w n → AreScalars w n cs → shape_step ts roots (HasShape ts roots) f (of_lanes cs)
 shape_by ts roots sound id Void is w n cs l s = absurd l
 shape_by ts roots sound id Boolean is w n cs l s = subst (λ (k : ℕ). IsScalar k (of_lanes cs)) l.0 (one_has w n cs l.1 s)
 shape_by ts roots sound id (Int width sign) is w n cs l s = subst (λ (k : ℕ). IsScalar k (of_lanes cs)) l.0 (one_has w n cs l.1 s)
@@ -188,6 +188,6 @@ shape_by ts roots sound id (Struct members block) is w n cs l s = absurd l
 shape_by ts roots sound id (Pointer class target) is w n cs l s = absurd l
 shape_by ts roots sound id (Function returns parameters) is w n cs l s = absurd l
 
-pub lanes_shape : (ts : Types) (roots : Root → Option ℕ) (id w n : ℕ) (cs : List Lane) → AreSound ts → HasLaneType ts id w n → AreScalars w n cs → HasShape ts roots id (of_lanes cs)
+pub lanes_shape : (ts : Types) (roots : Root → Option ℕ) (id w n : ℕ) (cs : List Cell) → AreSound ts → HasLaneType ts id w n → AreScalars w n cs → HasShape ts roots id (of_lanes cs)
 lanes_shape ts roots id w n cs sound t s =
     (shapes_are_by_forms ts roots sound id t.form (of_lanes cs) t.is).1 (shape_by ts roots sound id t.form t.is w n cs t.lanes s)

@@ -4,7 +4,7 @@ use Rattle.std.specs.Prelude.{ℕ, List}
 use Rattle.spv_alu.specs.Glsl.{glsl_lane}
 use Rattle.spv_alu.specs.Integers.{IsWidth}
 use Rattle.spv_alu.specs.declared.glsl_op.GlslOp.{GlslOp}
-use Rattle.spv_base.specs.Lane.{Lane}
+use Rattle.spv_base.specs.Cell.{Cell}
 use Rattle.spv_base.specs.declared.values.Value.{Value}
 use Rattle.spv_effects.specs.Lanes.{AreLanes, of_lanes, zip3}
 use Rattle.spv_types.specs.Rows.{leaves}
@@ -13,7 +13,7 @@ abbrev pub glsl_value : GlslOp → Value → Value → Value → Value
 glsl_value op a b c = of_lanes (zip3 (glsl_lane op) (leaves a) (leaves b) (leaves c))
 
 -- three times n integers of one width
-pub record MayJoin (cs ds es : List Lane) (n : ℕ) : Type 0 where
+pub record MayJoin (cs ds es : List Cell) (n : ℕ) : Type 0 where
   pub width : ℕ
   pub fits : IsWidth width
   pub first : AreLanes width n cs

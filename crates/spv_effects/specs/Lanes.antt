@@ -4,30 +4,30 @@
 -- An operation on each lane is `map` of one operand's lanes, `zip2` of two operands' and `zip3` of three operands'.
 use Rattle.std.specs.Prelude.{◌≡◌, ℕ, List, [], ◌∷◌, length, map, slice_index_or}
 use Rattle.std.specs.List.{All}
-use Rattle.spv_base.specs.Lane.{IsLane, Lane, undefined_lane}
+use Rattle.spv_base.specs.Cell.{IsCell, Cell, undefined_cell}
 use Rattle.spv_base.specs.declared.values.Value.{Value, Scalar, List as Many}
 use Rattle.spv_types.specs.Rows.{leaves}
 
-unfoldable pub of_lanes : List Lane → Value
+unfoldable pub of_lanes : List Cell → Value
 of_lanes [] = Many []
 of_lanes (c ∷ []) = Scalar c
 of_lanes (c ∷ (d ∷ cs)) = Many (map Scalar (c ∷ (d ∷ cs)))
 
-abbrev pub lane_of : Value → Lane
-lane_of v = slice_index_or (leaves v) 0 (undefined_lane 0)
+abbrev pub lane_of : Value → Cell
+lane_of v = slice_index_or (leaves v) 0 (undefined_cell 0)
 
-abbrev pub zip3 : (Lane → Lane → Lane → Lane) → List Lane → List Lane → List Lane → List Lane
+abbrev pub zip3 : (Cell → Cell → Cell → Cell) → List Cell → List Cell → List Cell → List Cell
 zip3 f [] ys zs = []
 zip3 f (x ∷ xs) [] zs = []
 zip3 f (x ∷ xs) (y ∷ ys) [] = []
 zip3 f (x ∷ xs) (y ∷ ys) (z ∷ zs) = f x y z ∷ zip3 f xs ys zs
 
 -- n lanes of a width
-pub record AreLanes (w n : ℕ) (cs : List Lane) : Type 0 where
+pub record AreLanes (w n : ℕ) (cs : List Cell) : Type 0 where
   pub count : length cs ≡ n
-  pub widths : All (λ (c : Lane). c.width ≡ w) cs
+  pub widths : All (λ (c : Cell). c.width ≡ w) cs
 
 -- the same, each with a number that fits the width
-pub record AreScalars (w n : ℕ) (cs : List Lane) : Type 0 where
+pub record AreScalars (w n : ℕ) (cs : List Cell) : Type 0 where
   pub count : length cs ≡ n
-  pub fit : All (λ (c : Lane). (c.width ≡ w) × IsLane c) cs
+  pub fit : All (λ (c : Cell). (c.width ≡ w) × IsCell c) cs

@@ -3,19 +3,19 @@
 -- either object's leaf isn't.
 use Rattle.std.specs.Prelude.{◌≡◌, ◌⊎◌, ℕ, List, [], ◌∷◌, length, map, replicate}
 use Rattle.spv_alu.specs.Select.{select_of}
-use Rattle.spv_base.specs.Lane.{Lane}
+use Rattle.spv_base.specs.Cell.{Cell}
 use Rattle.spv_base.specs.declared.values.Value.{Value}
 use Rattle.spv_effects.specs.Forms.{with_leaves}
 use Rattle.spv_effects.specs.Lanes.{zip3}
 use Rattle.spv_types.specs.Rows.{leaves}
 
 -- the condition of each of n leaves
-abbrev pub conditions : List Lane → ℕ → List Lane
+abbrev pub conditions : List Cell → ℕ → List Cell
 conditions [] n = []
 conditions (c ∷ []) n = replicate n c
 conditions (c ∷ (d ∷ cs)) n = c ∷ (d ∷ cs)
 
-abbrev pub selected : List Lane → List Lane → List Lane → List Lane
+abbrev pub selected : List Cell → List Cell → List Cell → List Cell
 selected cs xs ys = zip3 select_of (conditions cs (length xs)) xs ys
 
 -- the result, of the form of the first object
@@ -23,11 +23,11 @@ abbrev pub select_value : Value → Value → Value → Value
 select_value c a b = with_leaves a (selected (leaves c) (leaves a) (leaves b))
 
 -- two rows of n leaves of the same widths
-pub record AreAlike (xs ys : List Lane) (n : ℕ) : Type 0 where
+pub record AreAlike (xs ys : List Cell) (n : ℕ) : Type 0 where
   pub count : length xs ≡ n
-  pub widths : map (λ (x : Lane). x.width) xs ≡ map (λ (y : Lane). y.width) ys
+  pub widths : map (λ (x : Cell). x.width) xs ≡ map (λ (y : Cell). y.width) ys
 
 -- one condition, or n, and two objects of n leaves
-pub record MaySelect (cs xs ys : List Lane) (n : ℕ) : Type 0 where
+pub record MaySelect (cs xs ys : List Cell) (n : ℕ) : Type 0 where
   pub governs : (length cs ≡ 1) ⊎ (length cs ≡ n)
   pub objects : AreAlike xs ys n

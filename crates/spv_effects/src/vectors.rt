@@ -2,7 +2,7 @@
 //! Instructions").
 ghost use Rattle.std.specs.Prelude.{◌≡◌, ◌<◌, length, map};
 ghost use Rattle.spv_alu.specs.Vectors.{component_width};
-ghost use Rattle.spv_base.specs.Lane.{undefined_lane};
+ghost use Rattle.spv_base.specs.Cell.{undefined_cell};
 ghost use Rattle.spv_effects.specs.Vectors.{component, extract_dynamic_value, insert_dynamic_value, shuffle_value, shuffled, with_component};
 ghost use Rattle.spv_types.specs.Rows.{leaves};
 
@@ -32,7 +32,7 @@ pub fn extract_dynamic(vector: &Part, index: &Part, into: &mut Row)
 #[tactic(auto, using(crate::proofs::VectorLemmas::first_width))]
 fn none_of(cells: &[Cell]) -> Cell
     requires { 0 < length cells.now }
-    ensures { result ≡ undefined_lane (component_width cells.now) }
+    ensures { result ≡ undefined_cell (component_width cells.now) }
 {
     defined_if(false, cells[0])
 }
@@ -82,7 +82,7 @@ fn insert_component(vector: &[Cell], component: Cell, index: Cell, into: &mut [C
 /// An undefined component for each one of a vector.
 fn undefine(vector: &[Cell], into: &mut [Cell])
     requires { length into.old ≡ length vector.now }
-    ensures { into.new ≡ map (λ d. undefined_lane d.width) vector.now }
+    ensures { into.new ≡ map (λ d. undefined_cell d.width) vector.now }
 {
     for i in 0..into.len() {
         into[i] = defined_if(false, vector[i]);

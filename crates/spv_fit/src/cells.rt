@@ -6,7 +6,7 @@ ghost use Rattle.spv_base.specs.Answers.{Answers};
 ghost use Rattle.spv_index.specs.Definitions.{holds};
 ghost use Rattle.spv_index.specs.Keys.{pair_cmp};
 ghost use Rattle.spv_index.specs.Operands.{literal_operand};
-ghost use Rattle.spv_types.specs.Cuts.{cut};
+ghost use Rattle.spv_types.specs.Saturation.{saturated};
 ghost use Rattle.spv_types.specs.Leaves.{leaf_of};
 ghost use Rattle.spv_types.specs.Types.{form_of};
 ghost use Rattle.spv_fit.specs.Given as bytes;
@@ -38,17 +38,17 @@ fn elements_in(size: u64, at: u32, stride: Option<u32>) -> u64
 }
 
 /// The leaves of a type that has a number of them, or the greatest u64 where there are more.
-#[tactic(auto, using(crate::proofs::CellLemmas::cut_or_none))]
+#[tactic(auto, using(crate::proofs::CellLemmas::saturated_or_none))]
 fn leaves_of(types: &TypeTable, ty: u32) -> u64
-    ensures { result ≡ cut (due.leaves_of types.now ty) }
+    ensures { result ≡ saturated (due.leaves_of types.now ty) }
 {
     types.cells(ty).unwrap_or(0)
 }
 
 /// The leaves of a runtime array that begins at a place of so many bytes, or the greatest u64.
-#[tactic(auto, using(crate::proofs::CellLemmas::cut_times))]
+#[tactic(auto, using(crate::proofs::CellLemmas::saturated_times))]
 fn array_cells(types: &TypeTable, size: u64, at: u32, form: Option<&Form>) -> u64
-    ensures { result ≡ cut (due.array_cells types.now size at (option_copied form.entry)) }
+    ensures { result ≡ saturated (due.array_cells types.now size at (option_copied form.entry)) }
 {
     match form {
         Some(Form::Runtime { element, stride }) => {
@@ -59,17 +59,17 @@ fn array_cells(types: &TypeTable, size: u64, at: u32, form: Option<&Form>) -> u6
 }
 
 /// The leaves before a member, or the greatest u64.
-#[tactic(auto, using(crate::proofs::CellLemmas::cut_or_none))]
+#[tactic(auto, using(crate::proofs::CellLemmas::saturated_or_none))]
 fn leaves_before(types: &TypeTable, ty: u32, n: usize) -> u64
-    ensures { result ≡ cut (unwrap_or (leaf_of types.now ty (n ∷ [])) 0) }
+    ensures { result ≡ saturated (unwrap_or (leaf_of types.now ty (n ∷ [])) 0) }
 {
     types.leaf(ty, &[n as u64]).unwrap_or(0)
 }
 
 /// The leaves of members of which number `n` is the last and a runtime array, or the greatest u64.
-#[tactic(auto, using(crate::proofs::CellLemmas::cut_plus))]
+#[tactic(auto, using(crate::proofs::CellLemmas::saturated_plus))]
 fn last_cells(types: &TypeTable, size: u64, ty: u32, n: usize, last: &Member) -> u64
-    ensures { result ≡ cut (due.last_cells types.now size ty n last.now) }
+    ensures { result ≡ saturated (due.last_cells types.now size ty n last.now) }
 {
     let own = array_cells(types, size, last.offset.unwrap_or(0), types.form(last.ty));
     leaves_before(types, ty, n).saturating_add(own)
@@ -77,7 +77,7 @@ fn last_cells(types: &TypeTable, size: u64, ty: u32, n: usize, last: &Member) ->
 
 /// The leaves of a struct that ends with a runtime array, or the greatest u64.
 fn open_cells(types: &TypeTable, size: u64, ty: u32, members: &[Member]) -> u64
-    ensures { result ≡ cut (option_map_or (due.last_cells types.now size ty (length members.now - 1)) (slice_get members.now (length members.now - 1)) 0) }
+    ensures { result ≡ saturated (option_map_or (due.last_cells types.now size ty (length members.now - 1)) (slice_get members.now (length members.now - 1)) 0) }
 {
     match members.last() {
         Some(last) => last_cells(types, size, ty, members.len().saturating_sub(1), last),
@@ -87,7 +87,7 @@ fn open_cells(types: &TypeTable, size: u64, ty: u32, members: &[Member]) -> u64
 
 /// The leaves of a struct of a type that has no number of them, or the greatest u64.
 fn struct_cells(types: &TypeTable, size: u64, ty: u32) -> u64
-    ensures { result ≡ cut (due.open_cells types.now size ty (form_of types.now ty)) }
+    ensures { result ≡ saturated (due.open_cells types.now size ty (form_of types.now ty)) }
 {
     match types.form(ty) {
         Some(Form::Struct { members, .. }) => open_cells(types, size, ty, members.as_slice()),
@@ -96,9 +96,9 @@ fn struct_cells(types: &TypeTable, size: u64, ty: u32) -> u64
 }
 
 /// The leaves of a block of a type with so many bytes, or the greatest u64.
-#[tactic(auto, using(crate::proofs::CellLemmas::cut_some, crate::proofs::CellLemmas::cut_none))]
+#[tactic(auto, using(crate::proofs::CellLemmas::saturated_some, crate::proofs::CellLemmas::saturated_none))]
 fn block_cells(types: &TypeTable, size: u64, ty: u32) -> u64
-    ensures { result ≡ cut (due.block_cells types.now size ty) }
+    ensures { result ≡ saturated (due.block_cells types.now size ty) }
 {
     match types.cells(ty) {
         Some(cells) => cells,
@@ -108,7 +108,7 @@ fn block_cells(types: &TypeTable, size: u64, ty: u32) -> u64
 
 /// The leaves of what a pointer type points to, or the greatest u64.
 fn target_cells(types: &TypeTable, form: Option<&Form>) -> u64
-    ensures { result ≡ cut (due.target_cells types.now (option_copied form.entry)) }
+    ensures { result ≡ saturated (due.target_cells types.now (option_copied form.entry)) }
 {
     match form {
         Some(Form::Pointer { target, .. }) => leaves_of(types, *target),
@@ -118,7 +118,7 @@ fn target_cells(types: &TypeTable, form: Option<&Form>) -> u64
 
 /// The leaves of the block that a pointer type points to, of bytes that are given, or the greatest u64.
 fn given_cells(types: &TypeTable, form: Option<&Form>, given: Option<Given>) -> u64
-    ensures { result ≡ cut (due.given_cells types.now (option_copied form.entry) given) }
+    ensures { result ≡ saturated (due.given_cells types.now (option_copied form.entry) given) }
 {
     match (form, given) {
         (Some(Form::Pointer { target, .. }), Some(given)) => block_cells(
@@ -146,7 +146,7 @@ fn shared_cells(
     inst: &Inst,
 ) -> u64
     requires { (set binding : ℕ) → get pair_cmp pairs.now (set, binding) ≡ bytes.given_at setup.now.buffers set binding }
-    ensures { result ≡ cut (due.shared_cells index.now.insts types.now setup.now inst.now) }
+    ensures { result ≡ saturated (due.shared_cells index.now.insts types.now setup.now inst.now) }
 {
     if is_block_variable(inst) {
         given_cells(
@@ -163,7 +163,7 @@ fn shared_cells(
 
 /// The leaves of a variable that each invocation has, or the greatest u64.
 fn own_cells(types: &TypeTable, inst: &Inst) -> u64
-    ensures { result ≡ cut (due.own_cells types.now inst.now) }
+    ensures { result ≡ saturated (due.own_cells types.now inst.now) }
 {
     if is_variable_of(inst, storage_class::INPUT) || is_variable_of(inst, storage_class::PRIVATE) {
         target_cells(types, types.form(inst.ty))
@@ -181,7 +181,7 @@ fn all_shared(
     insts: &[Inst],
 ) -> u64
     requires { (set binding : ℕ) → get pair_cmp pairs.now (set, binding) ≡ bytes.given_at setup.now.buffers set binding }
-    ensures { result ≡ cut (due.all_shared index.now.insts types.now setup.now insts.now) }
+    ensures { result ≡ saturated (due.all_shared index.now.insts types.now setup.now insts.now) }
 {
     let mut cells: u64 = 0;
     for inst in insts {
@@ -192,7 +192,7 @@ fn all_shared(
 
 /// The leaves of the variables that each invocation has, of some instructions, or the greatest u64.
 fn all_own(types: &TypeTable, insts: &[Inst]) -> u64
-    ensures { result ≡ cut (due.all_own types.now insts.now) }
+    ensures { result ≡ saturated (due.all_own types.now insts.now) }
 {
     let mut cells: u64 = 0;
     for inst in insts {
@@ -202,7 +202,7 @@ fn all_own(types: &TypeTable, insts: &[Inst]) -> u64
 }
 
 /// The cells of so many invocations, of which the frames of one have so many at most, or the greatest u64.
-#[tactic(auto, using(crate::proofs::CellLemmas::cut_plus, crate::proofs::CellLemmas::cut_times))]
+#[tactic(auto, using(crate::proofs::CellLemmas::saturated_plus, crate::proofs::CellLemmas::saturated_times))]
 fn cells_in(
     index: &Index,
     types: &TypeTable,
@@ -212,7 +212,7 @@ fn cells_in(
     frames: u64,
 ) -> u64
     requires { (set binding : ℕ) → get pair_cmp pairs.now (set, binding) ≡ bytes.given_at setup.now.buffers set binding }
-    ensures { result ≡ cut (due.cells_in index.now.insts types.now setup.now invocations frames) }
+    ensures { result ≡ saturated (due.cells_in index.now.insts types.now setup.now invocations frames) }
 {
     let each = all_own(types, index.insts()).saturating_add(frames);
     let shared = all_shared(index, types, setup, pairs, index.insts());

@@ -2,7 +2,7 @@
 use Rattle.std.proofs.Common.{◌≡◌, ◌∙◌, ℕ, zero, suc, ◌+◌, List, [], ◌∷◌, ◌++◌, Some, map, length, replicate, refl, sym, ap, subst, arith, slice_get}
 use Rattle.std.specs.List.{flat_map}
 use Rattle.std.proofs.lemmas.List.{length-replicate, replicate-append-replicate}
-use Rattle.spv_base.specs.Lane.{Lane, undefined_lane}
+use Rattle.spv_base.specs.Cell.{Cell, undefined_cell}
 use Rattle.spv_base.specs.declared.values.Value.{Value, Scalar, List as Many}
 use Rattle.spv_base.proofs.PartLemmas.{out_scalar}
 use Rattle.spv_types.specs.Rows.{leaves}
@@ -60,26 +60,26 @@ slot_is rs slots k s e apart h =
 
 -- ---- the row without values
 
-scalars : (cs : List Lane) → flat_map leaves (map Scalar cs) ≡ cs
+scalars : (cs : List Cell) → flat_map leaves (map Scalar cs) ≡ cs
 scalars [] = refl
-scalars (c ∷ cs) = rw (scalar_row (Scalar c) c (out_scalar c)) (ap (λ (x : List Lane). c ∷ x) (scalars cs))
+scalars (c ∷ cs) = rw (scalar_row (Scalar c) c (out_scalar c)) (ap (λ (x : List Cell). c ∷ x) (scalars cs))
 
-register_row : (r : ℕ × ℕ) → leaves (blank_register r) ≡ replicate r.1 (undefined_lane 1)
-register_row r = leaves_many (map Scalar (replicate r.1 (undefined_lane 1))) ∙ scalars (replicate r.1 (undefined_lane 1))
+register_row : (r : ℕ × ℕ) → leaves (blank_register r) ≡ replicate r.1 (undefined_cell 1)
+register_row r = leaves_many (map Scalar (replicate r.1 (undefined_cell 1))) ∙ scalars (replicate r.1 (undefined_cell 1))
 
-registers_row : (rs : Rooms) → flat_map leaves (map blank_register rs) ≡ replicate (total rs) (undefined_lane 1)
+registers_row : (rs : Rooms) → flat_map leaves (map blank_register rs) ≡ replicate (total rs) (undefined_cell 1)
 registers_row [] = refl
 registers_row (r ∷ rs) =
-    ap (λ (x : List Lane). x ++ flat_map leaves (map blank_register rs)) (register_row r)
-    ∙ ap (λ (x : List Lane). replicate r.1 (undefined_lane 1) ++ x) (registers_row rs)
-    ∙ replicate-append-replicate r.1 (total rs) (undefined_lane 1)
+    ap (λ (x : List Cell). x ++ flat_map leaves (map blank_register rs)) (register_row r)
+    ∙ ap (λ (x : List Cell). replicate r.1 (undefined_cell 1) ++ x) (registers_row rs)
+    ∙ replicate-append-replicate r.1 (total rs) (undefined_cell 1)
 
-pub blank_row : (rs : Rooms) → leaves (blank_of rs) ≡ replicate (total rs) (undefined_lane 1)
+pub blank_row : (rs : Rooms) → leaves (blank_of rs) ≡ replicate (total rs) (undefined_cell 1)
 blank_row rs = leaves_many (map blank_register rs) ∙ registers_row rs
 
 -- cells, as the row without values
-pub blank_cells : (rs : Rooms) (v : Value) (n : ℕ) (cells : List Lane) → v ≡ blank_of rs → n ≡ total rs → cells ≡ replicate n (undefined_lane 1) → leaves v ≡ cells
-blank_cells rs v n cells e count all = ap leaves e ∙ blank_row rs ∙ ap (λ (m : ℕ). replicate m (undefined_lane 1)) (sym count) ∙ sym all
+pub blank_cells : (rs : Rooms) (v : Value) (n : ℕ) (cells : List Cell) → v ≡ blank_of rs → n ≡ total rs → cells ≡ replicate n (undefined_cell 1) → leaves v ≡ cells
+blank_cells rs v n cells e count all = ap leaves e ∙ blank_row rs ∙ ap (λ (m : ℕ). replicate m (undefined_cell 1)) (sym count) ∙ sym all
 
 pub blank_is : (rs : Rooms) (v : Value) → v ≡ blank_of rs → v ≡ Many (trees v)
 blank_is rs v e = e ∙ ap Many (sym (trees_many (map blank_register rs))) ∙ ap (λ (x : Value). Many (trees x)) (sym e)
@@ -87,7 +87,7 @@ blank_is rs v e = e ∙ ap Many (sym (trees_many (map blank_register rs))) ∙ a
 sizes_are : (rs : Rooms) → map cells_in (map blank_register rs) ≡ sizes rs
 sizes_are [] = refl
 sizes_are (r ∷ rs) =
-    let long : cells_in (blank_register r) ≡ r.1 = ap length (register_row r) ∙ length-replicate r.1 (undefined_lane 1) in
+    let long : cells_in (blank_register r) ≡ r.1 = ap length (register_row r) ∙ length-replicate r.1 (undefined_cell 1) in
     ap (λ (x : ℕ). x ∷ map cells_in (map blank_register rs)) long ∙ ap (λ (x : List ℕ). r.1 ∷ x) (sizes_are rs)
 
 pub blank_sizes : (rs : Rooms) (v : Value) → v ≡ blank_of rs → map cells_in (trees v) ≡ sizes rs

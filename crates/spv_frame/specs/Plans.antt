@@ -1,6 +1,6 @@
 -- What a plan keeps.
 use Rattle.std.specs.Prelude.{◌≡◌, ◌+◌, ℕ, suc, List, [], ◌∷◌, Some, map, replicate, slice_get}
-use Rattle.spv_base.specs.Lane.{undefined_lane}
+use Rattle.spv_base.specs.Cell.{undefined_cell}
 use Rattle.spv_base.specs.declared.values.Value.{Value, Scalar, List as Many}
 use Rattle.spv_frame.specs.declared.slots.Place.{Place}
 use Rattle.spv_frame.specs.declared.slots.Slot.{Slot}
@@ -31,7 +31,7 @@ total (r ∷ rs) = r.1 + total rs
 -- ---- the row of a frame in which no register has a value
 
 abbrev pub blank_register : ℕ × ℕ → Value
-blank_register r = Many (map Scalar (replicate r.1 (undefined_lane 1)))
+blank_register r = Many (map Scalar (replicate r.1 (undefined_cell 1)))
 
 abbrev pub blank_of : Rooms → Value
 blank_of rs = Many (map blank_register rs)

@@ -10,7 +10,7 @@ use Rattle.spv_base.specs.Order.{Ascend}
 use Rattle.spv_base.specs.declared.instructions.Inst.{Inst}
 use Rattle.spv_ops.specs.Module.{Decoded, IsDecoded}
 use Rattle.spv_index.specs.Operands.{id_operand}
-use Rattle.spv_index.specs.Contents.{named}
+use Rattle.spv_index.specs.Contents.{name_target}
 use Rattle.spv_index.specs.Definitions.{defining, has_result, holds, is_id, names_it, number_from, number_of, stands_at}
 use Rattle.spv_index.specs.Firsts.{AreFirsts, slot}
 use Rattle.spv_index.proofs.FirstLemmas.{first_from-map, led, number_from_same}
@@ -50,16 +50,16 @@ held : (id : ℕ) (o : Option ℕ) → 0 < id → (unwrap_or o 0 == id) ≡ hold
 held id None some = grind arith
 held id (Some x) some = refl
 
-named_it : (id : ℕ) (i : Inst) → 0 < id → (named i == id) ≡ names_it id i
+named_it : (id : ℕ) (i : Inst) → 0 < id → (name_target i == id) ≡ names_it id i
 named_it id i some = go (i.op == 5) where
   go : (b : Bool) → ((if b then unwrap_or (id_operand i 0) 0 else 0) == id) ≡ (b && holds id (id_operand i 0))
   go true = held id (id_operand i 0) some
   go false = grind arith
 
-pub names_by : (insts : List Inst) (numbers : List (Option ℕ)) → AreFirsts (map named insts) numbers
+pub names_by : (insts : List Inst) (numbers : List (Option ℕ)) → AreFirsts (map name_target insts) numbers
     → (id : ℕ) → 0 < id → id < 1048576 → slot numbers id ≡ number_from 0 (names_it id) insts
 names_by insts numbers are id some small =
-    are.firsts id small ∙ first_from-map 0 named insts id ∙ number_from_same 0 (λ i. named i == id) (names_it id) insts (λ i. named_it id i some)
+    are.firsts id small ∙ first_from-map 0 name_target insts id ∙ number_from_same 0 (λ i. name_target i == id) (names_it id) insts (λ i. named_it id i some)
 
 -- ---- what an id or a word is told by
 

@@ -10,8 +10,8 @@ use Rattle.spv_index.specs.Classes.{sets_of}
 use Rattle.spv_index.specs.Positions.{standing, stands_of}
 
 -- the id that an OpName names, and 0 for other instructions
-abbrev pub named : Inst → ℕ
-named i = if i.op == 5 then unwrap_or (id_operand i 0) 0 else 0
+abbrev pub name_target : Inst → ℕ
+name_target i = if i.op == 5 then unwrap_or (id_operand i 0) 0 else 0
 
 -- the numbers of instructions by what they define, by their words, by what they name and by the keys of decorations, and where the functions
 -- begin

@@ -11,7 +11,7 @@ use std::alloc::Global;
 use std::collections::BTreeMap;
 
 /// The target and the decoration of an OpDecorate.
-fn decorated(inst: &Inst) -> Option<(u32, u32)>
+fn decoration_key(inst: &Inst) -> Option<(u32, u32)>
     ensures { (id kind : ℕ) → decorates id kind inst.now ≡ is_pair id kind result }
 {
     if inst.op != op::DECORATE {
@@ -46,7 +46,7 @@ pub(crate) fn decorations_of(
     let mut n = insts.len();
     'back: while n > 0 {
         n -= 1;
-        if let Some(key) = decorated(&insts[n]) {
+        if let Some(key) = decoration_key(&insts[n]) {
             map.insert(key, n as u32)?;
         }
     }

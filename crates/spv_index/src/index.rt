@@ -103,8 +103,8 @@ fn numbers_by_word(alloc: Global, insts: &[Inst]) -> Result<Vec<Option<u32>>, No
 }
 
 /// The id that an OpName names, and 0 for other instructions.
-fn named(inst: &Inst) -> u32
-    ensures { result ≡ contents.named inst.now }
+fn name_target(inst: &Inst) -> u32
+    ensures { result ≡ contents.name_target inst.now }
 {
     if inst.op == op::NAME {
         id_operand(inst, 0).unwrap_or(0)
@@ -115,9 +115,9 @@ fn named(inst: &Inst) -> u32
 
 /// The ids that OpNames name, and 0 for other instructions.
 fn named_ids(alloc: Global, insts: &[Inst]) -> Result<Vec<u32>, NoMemory>
-    ensures { IfOk result (λ ids. ids.items ≡ map contents.named insts.now) }
+    ensures { IfOk result (λ ids. ids.items ≡ map contents.name_target insts.now) }
 {
-    Ok(insts.iter().map(|inst| named(inst)).collect(alloc)?)
+    Ok(insts.iter().map(|inst| name_target(inst)).collect(alloc)?)
 }
 
 /// By id, the number of the OpName for it.

@@ -6,7 +6,7 @@ use Rattle.std.specs.List.{All}
 use Rattle.std.proofs.Math.Nat.{div-le_self}
 use Rattle.std.proofs.lemmas.Nat.{mod_below}
 use Rattle.std.proofs.lemmas.List.Elements.{All-cons, All-nil}
-use Rattle.spv_base.specs.Lane.{IsLane, defined_lane}
+use Rattle.spv_base.specs.Cell.{IsCell, defined_cell}
 use Rattle.spv_base.specs.declared.values.Value.{Value}
 use Rattle.spv_base.proofs.PartLemmas.{is_many}
 use Rattle.spv_types.specs.declared.forms.Form.{Form}
@@ -18,9 +18,10 @@ use Rattle.spv_types.specs.Shapes.{HasShape}
 use Rattle.spv_types.specs.Types.{Types, form_of}
 use Rattle.spv_types.proofs.ShapeLemmas.{shapes_are_by_forms}
 use Rattle.spv_types.proofs.TypeLemmas.{number_same}
+use Rattle.spv_types.proofs.SoundLemmas.{impossible}
 use Rattle.spv_consts.proofs.ScalarShapes.{is_scalar}
 use Rattle.spv_mem.specs.Targets.{elements_in}
-use Rattle.spv_mem.proofs.BlankLemmas.{impossible, scalar_last}
+use Rattle.spv_mem.proofs.BlankLemmas.{scalar_last}
 use Rattle.spv_start.specs.BuiltIns.{Three, built_in, global_id, local_id, three_of, three_words, value_of_three, word}
 use Rattle.spv_start.specs.declared.built_ins.Invocation.{Invocation}
 use Rattle.spv_initial.specs.Values.{AreNarrow, IsNarrow}
@@ -32,13 +33,13 @@ three_elements : (o : Option Three) (v : Value) → value_of_three o ≡ Some v 
 three_elements None v h = absurd (cc)
 three_elements (Some n) v h =
     let same : three_words n ≡ v = cc in
-    sym (ap elements_in (sym same) ∙ three_last (defined_lane 32 n.0) (defined_lane 32 n.1) (defined_lane 32 n.2))
+    sym (ap elements_in (sym same) ∙ three_last (defined_cell 32 n.0) (defined_cell 32 n.1) (defined_cell 32 n.2))
 
 pub built_in_elements : (i : Invocation) (kind : ℕ) (v : Value) → built_in i kind ≡ Some v → 0 ≡ elements_in v
 built_in_elements i kind v h = by_test (kind == 29) h
   where
     by_test : (b : Bool) → (if b then Some (word i.index) else value_of_three (three_of i kind)) ≡ Some v → 0 ≡ elements_in v
-    by_test true g = let same : word i.index ≡ v = cc in sym (ap elements_in (sym same) ∙ scalar_last (defined_lane 32 i.index))
+    by_test true g = let same : word i.index ≡ v = cc in sym (ap elements_in (sym same) ∙ scalar_last (defined_cell 32 i.index))
     by_test false g = three_elements (three_of i kind) v g
 
 -- ---- numbers of 32 bits
@@ -86,7 +87,7 @@ three_narrow i kind n narrow x y h = at_first (kind == 24) h
 
 -- ---- shapes
 
-word_lane : (n : ℕ) → n < 2 ^ 32 → IsLane (defined_lane 32 n)
+word_lane : (n : ℕ) → n < 2 ^ 32 → IsCell (defined_cell 32 n)
 word_lane n h = record { narrow = omega arith; fits = h; zero = λ e. absurd (cc) }
 
 word_shape : (ts : Types) (id n : ℕ) → AreSound ts → is_word (form_of ts id) ≡ true → n < 2 ^ 32 → HasShape ts no_roots id (word n)
@@ -98,7 +99,7 @@ word_shape ts id n sound h low = by_form (form_of ts id) refl h
     by_form (Some Boolean) e g = impossible g
     by_form (Some (Int width sign)) e g =
         let same : width ≡ 32 = number_same width 32 g in
-        (shapes_are_by_forms ts no_roots sound id (Int width sign) (word n) e).1 (is_scalar (defined_lane 32 n) width (sym same) (word_lane n low))
+        (shapes_are_by_forms ts no_roots sound id (Int width sign) (word n) e).1 (is_scalar (defined_cell 32 n) width (sym same) (word_lane n low))
     by_form (Some (Vector component count)) e g = impossible g
     by_form (Some (Array element len stride)) e g = impossible g
     by_form (Some (Runtime element stride)) e g = impossible g

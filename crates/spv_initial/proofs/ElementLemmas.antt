@@ -2,7 +2,7 @@
 use Rattle.std.proofs.Common.{◌≡◌, ◌∙◌, ℕ, zero, suc, ◌+◌, ◌-◌, true, List, [], ◌∷◌, length, slice_get, Option, Some, None, refl, sym, ap, zero-add, arith}
 use Rattle.std.specs.Prelude.{unwrap_or}
 use Rattle.std.specs.Option.{option_map_or}
-use Rattle.spv_base.specs.Lane.{Lane, undefined_lane}
+use Rattle.spv_base.specs.Cell.{Cell, undefined_cell}
 use Rattle.spv_base.specs.declared.values.Value.{Scalar, List as Many}
 use Rattle.spv_types.specs.declared.forms.Form.{Form}
 use Rattle.spv_types.specs.declared.forms.Form.TheVariants.{Void, Bool as Boolean, Int, Vector, Array, Runtime, Struct, Pointer, Function}
@@ -12,17 +12,18 @@ use Rattle.spv_types.specs.Places.{scalar_bytes}
 use Rattle.spv_types.specs.Rules.{is_block}
 use Rattle.spv_types.specs.Types.{Types, form_of, found_among}
 use Rattle.spv_types.proofs.CountedLemmas.{FoundAt, form_found, found_at}
+use Rattle.spv_types.proofs.SoundLemmas.{impossible}
 use Rattle.spv_start.specs.Blocks.{Reader, elements_in as elements_within, read_among, read_members, read_row, read_step, value_in}
 use Rattle.spv_start.specs.Numbers.{scalar_at}
 use Rattle.spv_start.proofs.BlockLemmas.{found_value, read_among_is}
 use Rattle.spv_mem.specs.Blanks.{part_count}
 use Rattle.spv_mem.specs.Targets.{count_in, elements_in, last_of}
-use Rattle.spv_mem.proofs.BlankLemmas.{impossible, many_last, many_count, scalar_count}
+use Rattle.spv_mem.proofs.BlankLemmas.{many_last, many_count, scalar_count}
 use Rattle.spv_initial.specs.Elements.{array_elements, last_count, member_count}
 
 -- ---- built-in values
 
-pub three_last : (a b c : Lane) → elements_in (Many (Scalar a ∷ Scalar b ∷ Scalar c ∷ [])) ≡ 0
+pub three_last : (a b c : Cell) → elements_in (Many (Scalar a ∷ Scalar b ∷ Scalar c ∷ [])) ≡ 0
 three_last a b c = many_last (Scalar a ∷ Scalar b ∷ Scalar c ∷ []) ∙ scalar_count c
 
 -- ---- values that are read from bytes
@@ -37,7 +38,7 @@ members_length read at (m ∷ ms) = ap suc (members_length read at ms)
 
 count_step : (ts : Types) (bytes : List ℕ) (size : ℕ) (read : ℕ → Reader) (f : Form) (at : ℕ) → count_in (read_step ts bytes size read f at) ≡ part_count (array_elements size at f) f
 count_step ts bytes size read Void at = many_count []
-count_step ts bytes size read Boolean at = scalar_count (undefined_lane 1)
+count_step ts bytes size read Boolean at = scalar_count (undefined_cell 1)
 count_step ts bytes size read (Int width sign) at = scalar_count (scalar_at bytes at width)
 count_step ts bytes size read (Vector component count) at =
     many_count (read_row (read component) at (scalar_bytes (form_of ts component)) count) ∙ row_length (read component) at (scalar_bytes (form_of ts component)) count

@@ -3,7 +3,7 @@ use Rattle.std.proofs.Common.{◌≡◌, ◌∙◌, ℕ, zero, suc, List, [], �
 use Rattle.std.specs.Prelude.{unwrap_or}
 use Rattle.std.specs.Option.{option_map_or}
 use Rattle.std.proofs.lemmas.List.{length-map, length-replicate}
-use Rattle.spv_base.specs.Lane.{Lane, undefined_lane}
+use Rattle.spv_base.specs.Cell.{Cell, undefined_cell}
 use Rattle.spv_base.specs.declared.values.Value.{Value, List as Many}
 use Rattle.spv_types.specs.declared.forms.Form.{Form}
 use Rattle.spv_types.specs.declared.forms.Form.TheVariants.{Void, Bool as Boolean, Int, Vector, Array, Runtime, Struct, Pointer, Function}
@@ -23,11 +23,11 @@ last_in [] = None
 last_in (t ∷ []) = Some t
 last_in (t ∷ u ∷ types) = last_in (u ∷ types)
 
-parts_length : (read : ℕ → Reader) (types : List ℕ) (cs : List Lane) → length (read_parts read types cs).0 ≡ length types
+parts_length : (read : ℕ → Reader) (types : List ℕ) (cs : List Cell) → length (read_parts read types cs).0 ≡ length types
 parts_length read [] cs = refl
 parts_length read (t ∷ types) cs = ap suc (parts_length read types (read t cs).1)
 
-last_parts : (read : ℕ → Reader) (count : ℕ → ℕ) → ((t : ℕ) (cs : List Lane) → count_in (read t cs).0 ≡ count t) → (types : List ℕ) (cs : List Lane)
+last_parts : (read : ℕ → Reader) (count : ℕ → ℕ) → ((t : ℕ) (cs : List Cell) → count_in (read t cs).0 ≡ count t) → (types : List ℕ) (cs : List Cell)
     → option_map_or count_in (last_of (read_parts read types cs).0) 0 ≡ option_map_or count (last_in types) 0
 last_parts read count each [] cs = refl
 last_parts read count each (t ∷ []) cs = each t cs
@@ -46,14 +46,14 @@ last_member [] = refl
 last_member (m ∷ []) = refl
 last_member (m ∷ k ∷ ms) = last_member (k ∷ ms)
 
-scalar_off : (cs : List Lane) → (count_in (read_scalar cs).0 ≡ 0) × (elements_in (read_scalar cs).0 ≡ 0)
-scalar_off [] = (scalar_count (undefined_lane 1), scalar_last (undefined_lane 1))
+scalar_off : (cs : List Cell) → (count_in (read_scalar cs).0 ≡ 0) × (elements_in (read_scalar cs).0 ≡ 0)
+scalar_off [] = (scalar_count (undefined_cell 1), scalar_last (undefined_cell 1))
 scalar_off (c ∷ cs) = (scalar_count c, scalar_last c)
 
-many_off : (read : ℕ → Reader) (types : List ℕ) (cs : List Lane) → count_in (Many (read_parts read types cs).0) ≡ length types
+many_off : (read : ℕ → Reader) (types : List ℕ) (cs : List Cell) → count_in (Many (read_parts read types cs).0) ≡ length types
 many_off read types cs = many_count (read_parts read types cs).0 ∙ parts_length read types cs
 
-count_off : (read : ℕ → Reader) (f : Form) (cs : List Lane) → count_in (read_step read f cs).0 ≡ part_count 0 f
+count_off : (read : ℕ → Reader) (f : Form) (cs : List Cell) → count_in (read_step read f cs).0 ≡ part_count 0 f
 count_off read Void cs = many_count []
 count_off read Boolean cs = (scalar_off cs).0
 count_off read (Int width sign) cs = (scalar_off cs).0
@@ -64,7 +64,7 @@ count_off read (Struct members block) cs = many_off read (map (λ (m : Member). 
 count_off read (Pointer class target) cs = many_count []
 count_off read (Function returns parameters) cs = many_count []
 
-last_off : (read : ℕ → Reader) (count : ℕ → ℕ) → ((t : ℕ) (cs : List Lane) → count_in (read t cs).0 ≡ count t) → (f : Form) (cs : List Lane)
+last_off : (read : ℕ → Reader) (count : ℕ → ℕ) → ((t : ℕ) (cs : List Cell) → count_in (read t cs).0 ≡ count t) → (f : Form) (cs : List Cell)
     → elements_in (read_step read f cs).0 ≡ option_map_or count (last_part 0 f) 0
 last_off read count each Void cs = many_last []
 last_off read count each Boolean cs = (scalar_off cs).1
@@ -86,7 +86,7 @@ abbrev found_off : Types → Option (ℕ × Form) → Reader
 found_off ts None cs = (Many [], cs)
 found_off ts (Some f) cs = read_step (read_among ts f.0) f.1 cs
 
-off_is : (ts : Types) (n id : ℕ) (cs : List Lane) → read_among ts n id cs ≡ found_off ts (found_among ts n id) cs
+off_is : (ts : Types) (n id : ℕ) (cs : List Cell) → read_among ts n id cs ≡ found_off ts (found_among ts n id) cs
 unfolding read_among
 off_is ts n id cs = ap (λ (r : Reader). r cs) (in_first-is {A = Reader} read_none read_step ts n id) ∙ found (found_among ts n id)
   where
@@ -98,16 +98,16 @@ off_is ts n id cs = ap (λ (r : Reader). r cs) (in_first-is {A = Reader} read_no
 abbrev parts_among : Types → ℕ → ℕ → ℕ
 parts_among ts n part = option_map_or (λ (g : ℕ × Form). part_count 0 g.1) (found_among ts n part) 0
 
-count_off_among : (ts : Types) (n id : ℕ) (cs : List Lane) → count_in (read_among ts n id cs).0 ≡ parts_among ts n id
-count_off_among ts n id cs = ap (λ (p : Value × List Lane). count_in p.0) (off_is ts n id cs) ∙ found (found_among ts n id)
+count_off_among : (ts : Types) (n id : ℕ) (cs : List Cell) → count_in (read_among ts n id cs).0 ≡ parts_among ts n id
+count_off_among ts n id cs = ap (λ (p : Value × List Cell). count_in p.0) (off_is ts n id cs) ∙ found (found_among ts n id)
   where
     found : (o : Option (ℕ × Form)) → count_in (found_off ts o cs).0 ≡ option_map_or (λ (g : ℕ × Form). part_count 0 g.1) o 0
     found None = many_count []
     found (Some f) = count_off (read_among ts f.0) f.1 cs
 
-pub constant_elements : (ts : Types) (id : ℕ) (cells : List Lane) → elements_in (value_at ts id cells) ≡ option_map_or (part_parts ts) (found_among ts (length ts) id) 0
+pub constant_elements : (ts : Types) (id : ℕ) (cells : List Cell) → elements_in (value_at ts id cells) ≡ option_map_or (part_parts ts) (found_among ts (length ts) id) 0
 unfolding value_at
-constant_elements ts id cells = ap (λ (p : Value × List Lane). elements_in p.0) (off_is ts (length ts) id cells) ∙ found (found_among ts (length ts) id)
+constant_elements ts id cells = ap (λ (p : Value × List Cell). elements_in p.0) (off_is ts (length ts) id cells) ∙ found (found_among ts (length ts) id)
   where
     found : (o : Option (ℕ × Form)) → elements_in (found_off ts o cells).0 ≡ option_map_or (part_parts ts) o 0
     found None = many_last []

@@ -8,7 +8,7 @@ use Rattle.std.specs.Option.{MatchOption, is_some, option_map, option_map_or}
 use Rattle.std.proofs.Math.Nat.{pow-suc}
 use Rattle.std.proofs.lemmas.List.Elements.{All-cons, All-nil}
 use Rattle.std.proofs.lemmas.Option.{unwrap_or-slice_get}
-use Rattle.spv_base.specs.Lane.{Lane, defined_lane, undefined_lane}
+use Rattle.spv_base.specs.Cell.{Cell, defined_cell, undefined_cell}
 use Rattle.spv_base.specs.declared.values.Value.{Value, Scalar}
 use Rattle.spv_base.proofs.PartLemmas.{is_many}
 use Rattle.spv_types.specs.declared.forms.Form.{Form}
@@ -24,12 +24,13 @@ use Rattle.spv_types.specs.Types.{Types, form_of, in_first, is_number, number_of
 use Rattle.spv_types.proofs.CountedLemmas.{cells_whole}
 use Rattle.spv_types.proofs.ShapeLemmas.{among_is, form_number}
 use Rattle.spv_types.proofs.TypeLemmas.{in_first-found, number_lt, number_same}
-use Rattle.spv_types.proofs.DataLemmas.{scalar_data, member_data, sized_data}
-use Rattle.spv_consts.proofs.ScalarShapes.{is_scalar as scalar_is, undefined_is_lane, width_narrow}
+use Rattle.spv_types.proofs.DataLemmas.{scalar_data, member_data, sized_data, width_narrow}
+use Rattle.spv_types.proofs.SoundLemmas.{impossible}
+use Rattle.spv_consts.proofs.ScalarShapes.{is_scalar as scalar_is, undefined_is_lane}
 use Rattle.spv_start.specs.Blocks.{Reader, elements_in, read_among, read_members, read_none, read_row, read_step, value_in}
 use Rattle.spv_start.specs.Numbers.{byte_at, number_at, scalar_at}
 use Rattle.spv_mem.specs.Targets.{end_open, is_counted, is_open_array, is_open_block, may_be_target}
-use Rattle.spv_mem.proofs.BlankLemmas.{impossible, both_there, product_there}
+use Rattle.spv_mem.proofs.BlankLemmas.{both_there, product_there}
 use Rattle.spv_initial.proofs.ElementLemmas.{row_length}
 
 -- ---- numbers
@@ -74,9 +75,9 @@ bits_below bytes small at width h = by_case (width_cases width h)
 
 scalar_shape : (bytes : List ℕ) → AreBytes bytes → (at width : ℕ) → is_width width ≡ true → IsScalar width (Scalar (scalar_at bytes at width))
 scalar_shape bytes small at width h =
-    let c : Lane = defined_lane width (number_at bytes at (width / 8)) in
-    let is : scalar_at bytes at width ≡ c = ap (λ (b : Bool). if b then defined_lane width (number_at bytes at (width / 8)) else undefined_lane 1) h in
-    subst (λ (x : Lane). IsScalar width (Scalar x)) (sym is)
+    let c : Cell = defined_cell width (number_at bytes at (width / 8)) in
+    let is : scalar_at bytes at width ≡ c = ap (λ (b : Bool). if b then defined_cell width (number_at bytes at (width / 8)) else undefined_cell 1) h in
+    subst (λ (x : Cell). IsScalar width (Scalar x)) (sym is)
     (scalar_is c width refl (record { narrow = width_narrow width h; fits = bits_below bytes small at width h; zero = λ e. absurd (cc) }))
 
 -- ---- values
@@ -102,7 +103,7 @@ module _ (ts : Types) (bytes : List ℕ) (size : ℕ) (small : AreBytes bytes) (
   pub form_shape : Each → (f : Form) → keeps_form ts f ≡ true → is_data (Some f) ≡ true → is_some (cells_step cells f) ≡ true → (at : ℕ)
       → shape_step ts no_roots shape f (read_step ts bytes size read f at)
   form_shape each Void k d c at = impossible d
-  form_shape each Boolean k d c at = scalar_is (undefined_lane 1) 1 refl undefined_is_lane
+  form_shape each Boolean k d c at = scalar_is (undefined_cell 1) 1 refl undefined_is_lane
   form_shape each (Int width sign) k d c at = scalar_shape bytes small at width (and_parts (is_width width) _ k).0
   form_shape each (Vector component count) k d c at =
       let stride : ℕ = scalar_bytes (form_of ts component) in

@@ -13,6 +13,7 @@ use Rattle.spv_base.specs.Variables.{Roots}
 use Rattle.spv_base.specs.declared.instructions.Inst.{Inst}
 use Rattle.spv_base.specs.declared.values.Value.{Value}
 use Rattle.spv_base.specs.contracts.values.Value.{the_row}
+use Rattle.spv_base.proofs.EntryLemmas.{length_change}
 use Rattle.spv_types.specs.Laws.{AreSound}
 use Rattle.spv_types.specs.Rows.{no_roots}
 use Rattle.spv_types.specs.Shapes.{HasShape}
@@ -124,11 +125,6 @@ shared_next a s ds k d m new b inside is so_far more =
 
 abbrev pub own_of : Accepted → Settings → ℕ → Declared → Option (ℕ × Value)
 own_of a s n d = root d (own_value a s n d)
-
-pub length_change : {A : Type 0} (i : ℕ) (f : A → A) (xs : List A) → length (change i f xs) ≡ length xs
-length_change i f [] = refl
-length_change zero f (x ∷ xs) = refl
-length_change (suc i) f (x ∷ xs) = ap suc (length_change i f xs)
 
 get_change : {A : Type 0} (i : ℕ) (f : A → A) (xs : List A) → slice_get (change i f xs) i ≡ option_map f (slice_get xs i)
 get_change i f [] = refl

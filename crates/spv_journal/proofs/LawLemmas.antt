@@ -1,26 +1,24 @@
 -- Each change of a state, and the entry that undoes it.
-use Rattle.std.proofs.Common.{◌≡◌, ◌≢◌, ◌∙◌, ℕ, zero, suc, ◌-◌, ◌<◌, ◌≤◌, true, List, [], ◌∷◌, ◌++◌, Option, Some, None, IsSome, length, length-set, option_map, replicate, slice_get, slice_set, take, refl, sym, ap, subst, arith}
-use Rattle.std.proofs.lemmas.List.{length-replicate}
-use Rattle.std.specs.List.{list_all}
+use Rattle.std.proofs.Common.{◌≡◌, ◌≢◌, ◌∙◌, ℕ, zero, suc, ◌-◌, ◌<◌, ◌≤◌, true, List, [], ◌∷◌, ◌++◌, Option, Some, None, IsSome, length, length-set, option_map, slice_get, slice_set, take, refl, sym, ap, subst, arith}
 use Rattle.std.specs.Option.{IsSomeAnd, option_map_or}
 use Rattle.spv_base.specs.Entries.{change}
 use Rattle.spv_base.specs.Variables.{Roots}
 use Rattle.spv_base.specs.declared.values.PassedEvent.{PassedEvent}
 use Rattle.spv_base.specs.declared.values.Pointer.{Pointer}
 use Rattle.spv_base.specs.declared.values.Value.{Value}
-use Rattle.spv_base.proofs.EntryLemmas.{change_back}
+use Rattle.spv_base.proofs.EntryLemmas.{change_back, length_change}
 use Rattle.spv_frame.specs.Frames.{Held as Frame}
 use Rattle.spv_frame.specs.Numbers.{HoldsPointer, HoldsValue, with_pointer, with_value}
 use Rattle.spv_frame.specs.Stacks.{Stacked, on_top, top}
 use Rattle.spv_frame.proofs.RegisterLemmas.{put_back}
 use Rattle.spv_mem.specs.Memory.{AreVariables, Levels}
 use Rattle.spv_statuses.specs.Group.{all_wait_at}
-use Rattle.spv_statuses.specs.Invocations.{IsWithin, is_passed, waits_at}
+use Rattle.spv_statuses.specs.Invocations.{IsWithin}
 use Rattle.spv_statuses.specs.declared.invocations.Status.{Status}
-use Rattle.spv_statuses.specs.declared.invocations.Status.TheVariants.{Arrived, Finished, Passed, Ready}
+use Rattle.spv_statuses.proofs.CountLemmas.{passed_all, waits_again}
 use Rattle.spv_state.specs.State.{State, append_event, drop_event, on_frame, on_frames, open_barrier, pop_frame, push_frame, set_status, top_of, with_pc, with_top, without_last, without_locals, without_top}
 use Rattle.spv_state.proofs.ChangeLemmas.{without_is, some_frames}
-use Rattle.spv_state.proofs.Lists.{change_here, length_change}
+use Rattle.spv_state.proofs.Lists.{change_here}
 use Rattle.spv_journal.specs.Undo.{HasRooms, HasTop, Undoes}
 use Rattle.spv_journal.specs.declared.entries.Entry.TheVariants.{Leaf, Part, NoValue, CellRegister, RowRegister, PointerRegister, FramePushed, FramePopped, PcMoved, EventAppended, StatusChanged, BarrierOpened}
 use Rattle.spv_journal.specs.declared.entries.Entry.{Entry}
@@ -117,20 +115,6 @@ set_back : {A : Type 0} (xs : List A) (i : ℕ) (x y : A) → slice_get xs i ≡
 set_back [] i x y h = refl
 set_back (z ∷ zs) zero x y h = let e : x ≡ z = cc in ap (λ w. w ∷ zs) e
 set_back (z ∷ zs) (suc i) x y h = ap (λ ws. z ∷ ws) (set_back zs i x y h)
-
-passed_all : (n : ℕ) → list_all is_passed (replicate n Passed) ≡ true
-passed_all zero = refl
-passed_all (suc n) = passed_all n
-
-waits_same : (ss : List Status) (word : ℕ) → list_all (waits_at word) ss ≡ true → replicate (length ss) (Arrived word) ≡ ss
-waits_same [] word h = refl
-waits_same (Ready ∷ ss) word h = cc
-waits_same (Arrived at ∷ ss) word h = grind (arith, waits_same ss word, h)
-waits_same (Passed ∷ ss) word h = cc
-waits_same (Finished ∷ ss) word h = cc
-
-waits_again : (ss : List Status) (word : ℕ) → list_all (waits_at word) ss ≡ true → replicate (length (replicate (length ss) Passed)) (Arrived word) ≡ ss
-waits_again ss word h = ap (λ (n : ℕ). replicate n (Arrived word)) (length-replicate (length ss) Passed) ∙ waits_same ss word h
 
 pub status_undone : (i : ℕ) (status old : Status) (s : State) → i < length s.statuses.list → slice_get s.statuses.list i ≡ Some old → IsWithin s.statuses.words old → Undoes i (StatusChanged old) s (set_status i status s)
 status_undone i status old s inside was within = record {

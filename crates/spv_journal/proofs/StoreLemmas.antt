@@ -6,7 +6,7 @@ use Rattle.std.proofs.Props.{props}
 use Rattle.std.proofs.Math.Seq.{drop-append-add, drop-append_seam, take-append_seam}
 use Rattle.std.proofs.lemmas.List.{length-take-le}
 use Rattle.spv_base.specs.Entries.{reads, writes}
-use Rattle.spv_base.specs.Lane.{Lane}
+use Rattle.spv_base.specs.Cell.{Cell}
 use Rattle.spv_base.specs.Parts.{part_at, with_part}
 use Rattle.spv_base.specs.Variables.{Roots}
 use Rattle.spv_base.specs.declared.values.Pointer.{Pointer}
@@ -16,7 +16,7 @@ use Rattle.spv_base.specs.declared.values.Value.{Value}
 use Rattle.spv_base.proofs.EntryLemmas.{change_back, writes_back}
 use Rattle.spv_base.proofs.PartLemmas.{slice_get-set_same}
 use Rattle.spv_types.specs.Rows.{leaves, no_roots}
-use Rattle.spv_types.specs.Shapes.{HasShape, reached}
+use Rattle.spv_types.specs.Shapes.{HasShape, reached_type}
 use Rattle.spv_types.proofs.RowChanges.{put_back, put_is_there, put_twice}
 use Rattle.spv_types.proofs.RowShapes.{shapes_keep}
 use Rattle.spv_values.specs.Places.{IsRowAt}
@@ -137,7 +137,7 @@ may_after m i p u w h is may = ∥∥₁_elim is (hlevel props) (λ (k : IsMemor
         let same_targets : (stored i p u m).targets ≡ m.targets = ap (λ (n : Memory). n.targets) (after m i p u w x).is ∙ types.1 in
         let typed : reads (id_in p.root) m.targets ≡ Some ty = ap (reads (id_in p.root)) (sym same_targets) ∙ named in
         let value : root_value m i p.root ≡ Some x.value = rw x.list x.variable in
-        let reach' : reached m.types ty p.path ≡ Some t = subst (λ ts. reached ts ty p.path ≡ Some t) same_types reach in
+        let reach' : reached_type m.types ty p.path ≡ Some t = subst (λ ts. reached_type ts ty p.path ≡ Some t) same_types reach in
         let put = a ty x.value typed value t w reach' x.part in
         let var = k.variables i p.root x.roots x.list (id_in p.root) x.value x.variable in
         let one : var.type ≡ ty = let e = var.named in cc in
@@ -169,7 +169,7 @@ row_stays v path n k u h long = by_part (part_at v path) refl h.there
     front : length (take n (leaves v)) ≡ n
     front = let w = h.within in length-take-le n (leaves v) (omega arith)
 
-    rest : List Lane
+    rest : List Cell
     rest = leaves u ++ drop (n + k) (leaves v)
 
     before : take n (leaves (with_part v path u)) ≡ take n (leaves v)
@@ -201,8 +201,8 @@ row_stays v path n k u h long = by_part (part_at v path) refl h.there
               let same : u ≡ x = let one = sym there ∙ at in cc in
               ap (take k) at_it ∙ subst (λ (m : ℕ). take m rest ≡ leaves u) long (take-append_seam (leaves u) (drop (n + k) (leaves v))) ∙ ap leaves same;
           written = λ x.
-              ap leaves (put_twice path v w u x e) ∙ h.written x ∙ ap (λ (ls : List Lane). ls ++ (leaves x ++ drop (n + k) (leaves v))) (sym before)
-              ∙ ap (λ (ls : List Lane). take n (leaves (with_part v path u)) ++ (leaves x ++ ls)) (sym after_it);
+              ap leaves (put_twice path v w u x e) ∙ h.written x ∙ ap (λ (ls : List Cell). ls ++ (leaves x ++ drop (n + k) (leaves v))) (sym before)
+              ∙ ap (λ (ls : List Cell). take n (leaves (with_part v path u)) ++ (leaves x ++ ls)) (sym after_it);
         }
 
 pub names_after : (m : Memory) (i : ℕ) (p : Pointer) (u w : Value) (n k : ℕ) → load_of m i p ≡ Some w → length (leaves u) ≡ k → NamesRow m i p n k → NamesRow (stored i p u m) i p n k

@@ -1,6 +1,6 @@
 -- Marks of events, and the changes that lie in them.
 use Rattle.std.specs.Prelude.{◌≡◌, ℕ, List, [], ◌∷◌, ◌++◌, Bool, true, false, ⊤}
-use Rattle.spv_base.specs.Lane.{IsLane, Lane}
+use Rattle.spv_base.specs.Cell.{IsCell, Cell}
 use Rattle.spv_base.specs.declared.happenings.Happening.{Happening}
 use Rattle.spv_base.specs.declared.values.Root.{Root}
 use Rattle.spv_base.specs.declared.values.Value.{Value}
@@ -22,7 +22,7 @@ abbrev pub happening_in : MarkData → Happening
 happening_in m = record { inv = m.inv; kind = m.kind; word = m.word; root = m.root; line = m.line }
 
 -- the cell
-abbrev pub cell_in : MarkData → Lane
+abbrev pub cell_in : MarkData → Cell
 cell_in m = record { bits = m.bits; width = m.width; defined = m.defined }
 
 -- a mark of no changes
@@ -69,9 +69,9 @@ items_of m word (Variable root) tree = moved m word ++ variable_item root tree �
 items_of m word (Status status) tree = StatusChanged status ∷ moved m word
 
 -- the tree is of the one cell that the register or the variable had
-abbrev pub IsTree : Change → Lane → Value → Type 0
-IsTree (Register number) cell tree = IsLane cell × (leaves tree ≡ cell ∷ [])
-IsTree (Variable root) cell tree = IsLane cell × (leaves tree ≡ cell ∷ [])
+abbrev pub IsTree : Change → Cell → Value → Type 0
+IsTree (Register number) cell tree = IsCell cell × (leaves tree ≡ cell ∷ [])
+IsTree (Variable root) cell tree = IsCell cell × (leaves tree ≡ cell ∷ [])
 IsTree _ cell tree = ⊤
 
 -- one change more

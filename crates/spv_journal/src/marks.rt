@@ -2,7 +2,7 @@
 ghost use Rattle.std.specs.Prelude.{◌≡◌, ◌<◌, ◌≤◌, ◌∷◌, ◌++◌, [], OnOk, if◌then◌else◌, true};
 ghost use Rattle.std.specs.Option.{option_to_list};
 ghost use Rattle.std.specs.VecDeque.{deque_capacity, deque_len};
-ghost use Rattle.spv_base.specs.Lane.{IsLane};
+ghost use Rattle.spv_base.specs.Cell.{IsCell};
 ghost use Rattle.spv_journal.specs.Marks.{cell_in, happening_in, is_change, items_of, data_of, register_item, variable_item, with_item};
 ghost use Rattle.spv_journal.specs.Rings.{mark_size};
 ghost use Rattle.spv_journal.specs.Undo.{CanUndoAll, undo_all};
@@ -122,7 +122,7 @@ impl MarkData {
     /// The cell.
     #[inline(always)]
     fn cell(&self) -> Cell
-        requires { IsLane (cell_in self.now) }
+        requires { IsCell (cell_in self.now) }
         ensures { result ≡ cell_in self.now }
     {
         Cell {

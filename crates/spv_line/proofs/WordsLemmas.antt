@@ -116,3 +116,6 @@ only_first text word rest h none = record {
   whole = h.whole;
   within = omega (arith, h.within);
 }
+
+pub first_are : (a b : ℕ) (xs ys : List ℕ) → a ∷ xs ≡ b ∷ ys → (a ≡ b) × (xs ≡ ys)
+first_are a b xs ys e = (ap (λ l. get_or l 0 0) e, ap (drop 1) e)

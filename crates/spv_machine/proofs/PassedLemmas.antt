@@ -4,6 +4,7 @@ use Rattle.std.proofs.lemmas.Bool.Decides.{nat_tests}
 use Rattle.std.proofs.lemmas.List.{length-map, nil_from_length}
 use Rattle.std.specs.Option.{IsSomeAnd, option_map_or}
 use Rattle.spv_base.specs.declared.values.PassedEvent.{PassedEvent}
+use Rattle.spv_base.proofs.EntryLemmas.{length_change}
 use Rattle.spv_valid.specs.Acceptance.{Accepted}
 use Rattle.spv_frame.specs.Frames.{Held as Frame}
 use Rattle.spv_frame.specs.Stacks.{Stacked}
@@ -12,7 +13,7 @@ use Rattle.spv_state.specs.Events.{IsReadable, IsReadableAt, captured, captures_
 use Rattle.spv_state.specs.Sound.{IsSoundFrame}
 use Rattle.spv_state.specs.State.{State, append_event, depth_of, on_frame, on_frames, top_of, with_pc}
 use Rattle.spv_state.proofs.EventLemmas.{passed_is, readable}
-use Rattle.spv_state.proofs.Lists.{change_same, length_change}
+use Rattle.spv_state.proofs.Lists.{change_same}
 use Rattle.spv_machine.specs.Weights.{events_before}
 use Rattle.spv_machine.proofs.Phis.{on_frame_still, on_frame_twice}
 use Rattle.spv_machine.proofs.ReachedLemmas.{frame_changed}

@@ -3,11 +3,12 @@ use Rattle.std.proofs.Common.{◌≡◌, ◌∙◌, ℕ, ◌-◌, ◌<◌, List,
 use Rattle.std.proofs.lemmas.Option.{slice_get_within}
 use Rattle.std.specs.Option.{option_map, option_map_or}
 use Rattle.spv_base.specs.Entries.{change}
-use Rattle.spv_base.specs.Lane.{Lane}
+use Rattle.spv_base.specs.Cell.{Cell}
 use Rattle.spv_base.specs.declared.instructions.Inst.{Inst}
 use Rattle.spv_base.specs.declared.values.Pointer.{Pointer}
 use Rattle.spv_base.specs.declared.values.Value.{Value, Scalar, out-Value, the_lemmas}
 use Rattle.spv_base.specs.declared.values.Value.TheOpen.{Value-F}
+use Rattle.spv_base.proofs.EntryLemmas.{length_change}
 use Rattle.spv_index.specs.Definitions.{at, result_type}
 use Rattle.spv_types.specs.Rows.{no_roots}
 use Rattle.spv_types.specs.Shapes.{HasShape, pointer_in}
@@ -31,7 +32,7 @@ use Rattle.spv_state.specs.Program.{Program}
 use Rattle.spv_state.specs.Sound.{StandsAs}
 use Rattle.spv_state.specs.State.{State, frames_of, on_frame, on_frames, put_store, top_of, with_register}
 use Rattle.spv_state.proofs.AcceptedLemmas.{IsKnown, known_as}
-use Rattle.spv_state.proofs.Lists.{change_here, changed_at, length_change}
+use Rattle.spv_state.proofs.Lists.{change_here, changed_at}
 use Rattle.spv_state.proofs.Stands.{Stood, stand_inst, stood}
 use Rattle.spv_machine.specs.Reached.{IsHeld, IsReached}
 use Rattle.spv_machine.specs.Step.{put_result}
@@ -78,7 +79,7 @@ given_behind CodeGive store gain v w x given one other = ap (λ (y : Value). Lea
 given_behind CodeWait store gain v w x given one other = refl
 
 -- a value that a register takes from the row is no pointer
-pub scalar_plain : (v : Value) (c : Lane) → v ≡ Scalar c → pointer_in (out-Value v) ≡ None
+pub scalar_plain : (v : Value) (c : Cell) → v ≡ Scalar c → pointer_in (out-Value v) ≡ None
 scalar_plain v c is = search (rules, the_lemmas)
 
 -- ---- the register

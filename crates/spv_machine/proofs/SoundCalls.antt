@@ -6,6 +6,7 @@ use Rattle.std.specs.Option.{option_map_or}
 use Rattle.spv_base.specs.Entries.{change}
 use Rattle.spv_base.specs.Variables.{Roots}
 use Rattle.spv_base.specs.declared.instructions.Inst.{Inst}
+use Rattle.spv_base.proofs.EntryLemmas.{length_change}
 use Rattle.spv_mem.specs.Memory.{Levels}
 use Rattle.spv_frame.specs.Frames.{Held as Frame}
 use Rattle.spv_frame.specs.Stacks.{Stacked, top}
@@ -18,7 +19,7 @@ use Rattle.spv_state.specs.Program.{Program}
 use Rattle.spv_state.specs.Roots.{IsRooted}
 use Rattle.spv_state.specs.Sound.{HasVariables, IsCallOf, IsSound, IsSoundFrame, IsSoundStack}
 use Rattle.spv_state.specs.State.{State, frames_of, pop_frame, push_frame, set_status, top_of, with_top, without_last, without_locals, without_top}
-use Rattle.spv_state.proofs.Lists.{change_none, changed_at, length_change, set_is_change}
+use Rattle.spv_state.proofs.Lists.{change_none, changed_at, set_is_change}
 use Rattle.spv_state.proofs.RootLemmas.{ids_taken, rooted_more, rooted_stays}
 use Rattle.spv_machine.proofs.Depths.{AreCalls, AreSoundFrames, frames_within}
 use Rattle.spv_machine.proofs.SoundStacks.{AreSoundStacks, one_changed}

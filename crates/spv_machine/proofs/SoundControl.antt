@@ -3,6 +3,7 @@ use Rattle.std.proofs.Common.{◌≡◌, ◌∙◌, ℕ, zero, suc, ◌-◌, ◌
 use Rattle.std.specs.Option.{is_some, option_and_then, option_map_or}
 use Rattle.spv_base.specs.Entries.{change, reads}
 use Rattle.spv_base.specs.declared.instructions.Inst.{Inst}
+use Rattle.spv_base.proofs.EntryLemmas.{length_change}
 use Rattle.spv_index.specs.Classes.{class_of, is_terminator, sets_of}
 use Rattle.spv_index.specs.Definitions.{at}
 use Rattle.spv_mem.specs.Memory.{Levels}
@@ -21,7 +22,7 @@ use Rattle.spv_actions.proofs.SoundFrames.{moved_kept}
 use Rattle.spv_machine.proofs.SoundStacks.{AreSoundStacks, one_changed, top_kept}
 use Rattle.spv_state.proofs.EventRoots.{passed_rooted}
 use Rattle.spv_state.proofs.AcceptedLemmas.{IsKnown, goes_on}
-use Rattle.spv_state.proofs.Lists.{change_none, length_change, set_is_change}
+use Rattle.spv_state.proofs.Lists.{change_none, set_is_change}
 use Rattle.spv_state.proofs.OperandRoots.{frame_there}
 use Rattle.spv_state.proofs.RootLemmas.{rooted_moved}
 use Rattle.spv_state.proofs.StartSound.{passed_sound}

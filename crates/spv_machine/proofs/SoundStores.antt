@@ -10,6 +10,7 @@ use Rattle.spv_base.specs.declared.values.Pointer.{Pointer}
 use Rattle.spv_base.specs.declared.values.Root.{Root}
 use Rattle.spv_base.specs.declared.values.Root.TheVariants.{Shared, Private, Local}
 use Rattle.spv_base.specs.declared.values.Value.{Value}
+use Rattle.spv_base.proofs.EntryLemmas.{length_change}
 use Rattle.spv_mem.specs.Memory.{Held as Memory, Levels, id_in, roots_in, stored, with_level, with_roots}
 use Rattle.spv_mem.specs.Roots.{put_in}
 use Rattle.spv_frame.specs.Frames.{Held as Frame}
@@ -21,7 +22,7 @@ use Rattle.spv_state.specs.Roots.{ids_in as keys}
 use Rattle.spv_state.specs.Sound.{HasVariables, IsSound, IsSoundStack}
 use Rattle.spv_state.specs.State.{State, put_store}
 use Rattle.spv_state.proofs.Entries.{keys_stay}
-use Rattle.spv_state.proofs.Lists.{change_here, change_other, changed_from, length_change}
+use Rattle.spv_state.proofs.Lists.{change_here, change_other, changed_from}
 
 -- ---- the variables of frames are those that they were
 

@@ -57,7 +57,7 @@ fn fault(cause: Cause, inv: u32, word: u32) -> Fault
 }
 
 /// The instruction that a Ready invocation has reached.
-fn reached<'a>(m: &'a Runnable, whole: &Whole, inv: u32) -> &'a Inst
+fn due_inst<'a>(m: &'a Runnable, whole: &Whole, inv: u32) -> &'a Inst
     requires inv { inv < length whole.now.statuses.list }
     requires ready { slice_get whole.now.statuses.list inv ≡ Some Status.Ready }
     requires sound { IsSound m.now whole.now }
@@ -142,7 +142,7 @@ fn ready(
     let accepted = m.accepted();
     let _insts = accepted.insts();
     let whole = recorded.whole();
-    let inst = reached(m, whole, inv);
+    let inst = due_inst(m, whole, inv);
     if let Some(step) = cell_due(alloc, m, whole, inv, inst) {
         return Ok(cell_event(m, recorded, inv, inst, step));
     }
@@ -316,7 +316,7 @@ fn ready_fault(
         defined: false,
     };
     let mut row = Row::of_cell(alloc, blank)?;
-    let inst = reached(m, whole, inv);
+    let inst = due_inst(m, whole, inv);
     match due(alloc, m, whole, inv, inst, &mut row) {
         Ok(_effect) => Ok(None),
         Err(Fail::Refused(cause)) => Ok(Some(fault(cause, inv, inst.word))),

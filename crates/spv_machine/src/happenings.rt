@@ -56,7 +56,7 @@ pub(crate) fn written(accepted: &Module, inv: u32, word: u32, root: Root) -> Hap
 }
 
 /// The event of what an effect stores.
-fn stored(accepted: &Module, inv: u32, word: u32, effect: &Effect) -> Happening
+fn store_happening(accepted: &Module, inv: u32, word: u32, effect: &Effect) -> Happening
     ensures { (v : Value) → result ≡ spec.stored_at accepted.now inv word (shown effect.now v).store }
 {
     match &effect.store {
@@ -90,7 +90,7 @@ pub(crate) fn happening_of(
     ensures { (v : Value) → result ≡ spec.happening_of accepted.now whole.now inv word (shown effect.now v) }
 {
     match &effect.control {
-        Control::Next => stored(accepted, inv, word, effect),
+        Control::Next => store_happening(accepted, inv, word, effect),
         Control::Wait => arrival(inv, word, whole.statuses().all_wait_with(inv, word)),
         Control::Jump { .. } | Control::Enter(_) | Control::Leave | Control::Give => {
             plain(inv, word)

@@ -5,7 +5,7 @@ use Rattle.std.proofs.lemmas.Bool.{and_parts, ltb-true, lt-ltb}
 use Rattle.spv_base.specs.declared.causes.Refusal.{Refusal}
 use Rattle.spv_base.specs.declared.instructions.Inst.{Inst}
 use Rattle.spv_ops.specs.Encoding.{raw_of, IsInst}
-use Rattle.spv_ops.specs.Forms.{row_of}
+use Rattle.spv_ops.specs.Grammar.{row_of}
 use Rattle.spv_ops.specs.Opcodes.{table}
 use Rattle.spv_ops.specs.Reading.{inst_of, inst_by, operands_of, part_at}
 use Rattle.spv_ops.specs.Strings.{text_at, text_len, text_bytes, is_padded}

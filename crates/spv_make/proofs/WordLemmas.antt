@@ -6,7 +6,7 @@ use Rattle.std.proofs.lemmas.Bool.{lt-ltb}
 use Rattle.byteorder.specs.Endian.{little_bytes}
 use Rattle.spv_base.specs.declared.causes.NoMemory.{NoMemory}
 use Rattle.spv_ops.specs.Encoding.{raw_of}
-use Rattle.spv_ops.specs.Forms.{row_of}
+use Rattle.spv_ops.specs.Grammar.{row_of}
 use Rattle.spv_ops.specs.Opcodes.{table}
 use Rattle.spv_words.specs.Header.{HasHeader}
 use Rattle.spv_words.specs.Words.{words_of}

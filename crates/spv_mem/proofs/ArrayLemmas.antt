@@ -19,7 +19,7 @@ use Rattle.spv_types.specs.Cells.{cells_of, cells_step, members_cells}
 use Rattle.spv_types.specs.Laws.{AreSound}
 use Rattle.spv_types.specs.Rows.{no_roots}
 use Rattle.spv_types.specs.Rules.{is_runtime}
-use Rattle.spv_types.specs.Shapes.{HasShape, part_type, reached}
+use Rattle.spv_types.specs.Shapes.{HasShape, part_type, reached_type}
 use Rattle.spv_types.proofs.CellLemmas.{added_is}
 use Rattle.spv_types.proofs.RowCounts.{many_is, times_is}
 use Rattle.spv_types.proofs.ShapeLemmas.{shapes_are_by_forms}
@@ -88,25 +88,25 @@ module _ (ts : Types) (sound : AreSound ts) where
     type : ℕ
     is : form_of ts t ≡ Some form
     part : part_type form i ≡ Some type
-    rest : reached ts type path ≡ Some b
+    rest : reached_type ts type path ≡ Some b
 
-  step_is : (t i b : ℕ) (path : List ℕ) → reached ts t (i ∷ path) ≡ Some b → Step t i b path
-  unfolding reached
+  step_is : (t i b : ℕ) (path : List ℕ) → reached_type ts t (i ∷ path) ≡ Some b → Step t i b path
+  unfolding reached_type
   step_is t i b path h = outer (form_of ts t) refl h
     where
-      inner : (f : Form) → form_of ts t ≡ Some f → (o : Option ℕ) → part_type f i ≡ o → option_and_then (λ p. reached ts p path) o ≡ Some b → Step t i b path
+      inner : (f : Form) → form_of ts t ≡ Some f → (o : Option ℕ) → part_type f i ≡ o → option_and_then (λ p. reached_type ts p path) o ≡ Some b → Step t i b path
       inner f e None g h = absurd cc
       inner f e (Some p) g h = record { form = f; type = p; is = e; part = g; rest = h }
 
-      outer : (o : Option Form) → form_of ts t ≡ o → option_and_then (λ p. reached ts p path) (option_and_then (λ f. part_type f i) o) ≡ Some b → Step t i b path
+      outer : (o : Option Form) → form_of ts t ≡ o → option_and_then (λ p. reached_type ts p path) (option_and_then (λ f. part_type f i) o) ≡ Some b → Step t i b path
       outer None e h = absurd cc
       outer (Some f) e h = inner f e (part_type f i) refl h
 
-  reached_nil : (t b : ℕ) → reached ts t [] ≡ Some b → t ≡ b
-  unfolding reached
+  reached_nil : (t b : ℕ) → reached_type ts t [] ≡ Some b → t ≡ b
+  unfolding reached_type
   reached_nil t b h = cc
 
-  reached_counted : (path : List ℕ) (t b : ℕ) → is_counted ts t ≡ true → reached ts t path ≡ Some b → is_counted ts b ≡ true
+  reached_counted : (path : List ℕ) (t b : ℕ) → is_counted ts t ≡ true → reached_type ts t path ≡ Some b → is_counted ts b ≡ true
   reached_counted [] t b h g = subst (λ (x : ℕ). is_counted ts x ≡ true) (reached_nil t b g) h
   reached_counted (i ∷ path) t b h g =
       let s = step_is t i b path g in
@@ -159,7 +159,7 @@ module _ (ts : Types) (sound : AreSound ts) where
   member_kind (k ∷ l ∷ ms) (suc i) m h g = member_kind (l ∷ ms) i m (both_true (is_counted ts k.ty) (end_open ts (l ∷ ms)) h).1 g
 
   -- no block with a runtime array lies in the runtime array of another
-  no_block_in : (path : List ℕ) (t b k : ℕ) → is_open_array ts (form_of ts t) ≡ true → reached ts t path ≡ Some b → is_array_at ts (form_of ts b) k ≡ true → ⊥
+  no_block_in : (path : List ℕ) (t b k : ℕ) → is_open_array ts (form_of ts t) ≡ true → reached_type ts t path ≡ Some b → is_array_at ts (form_of ts b) k ≡ true → ⊥
   no_block_in [] t b k opens g array =
       let a = array_is ts no_roots sound t opens in
       let e = reached_nil t b g in
@@ -178,11 +178,11 @@ module _ (ts : Types) (sound : AreSound ts) where
       no_block b k (reached_counted path s.type b (subst (λ (x : ℕ). is_counted ts x ≡ true) same a.counted) s.rest) array
 
 -- the elements of the runtime array that a block has
-count_at : (ts : Types) (path : List ℕ) (id b k : ℕ) (v : Value) → Fits ts id v → reached ts id path ≡ Some b → is_array_at ts (form_of ts b) k ≡ true
+count_at : (ts : Types) (path : List ℕ) (id b k : ℕ) (v : Value) → Fits ts id v → reached_type ts id path ≡ Some b → is_array_at ts (form_of ts b) k ≡ true
     → option_map count_in (part_at v (path ++ k ∷ [])) ≡ Some (elements_in v)
 count_at ts path id b k v f r array = go (is_counted ts id) refl
   where
-    whole : (path : List ℕ) → is_counted ts id ≡ false → reached ts id path ≡ Some b → option_map count_in (part_at v (path ++ k ∷ [])) ≡ Some (elements_in v)
+    whole : (path : List ℕ) → is_counted ts id ≡ false → reached_type ts id path ≡ Some b → option_map count_in (part_at v (path ++ k ∷ [])) ≡ Some (elements_in v)
     whole [] e r =
         let o = block_is ts no_roots f.sound id (open_target ts no_roots f.sound id e f.may) in
         let many = many_is (AllZip (λ (m : Member). HasShape ts no_roots m.ty) o.members) v ((shapes_are_by_forms ts no_roots f.sound id (Struct o.members o.block) v o.form).0 f.shape) in

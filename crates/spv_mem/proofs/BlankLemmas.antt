@@ -10,7 +10,7 @@ use Rattle.std.proofs.lemmas.Nat.{pow_pos}
 use Rattle.std.proofs.Math.Logic.{∥∥₁_map}
 use Rattle.std.proofs.lemmas.Bool.{and_parts, lt-ltb}
 use Rattle.spv_base.specs.Entries.{reads}
-use Rattle.spv_base.specs.Lane.{IsLane, Lane, undefined_lane}
+use Rattle.spv_base.specs.Cell.{IsCell, Cell, undefined_cell}
 use Rattle.spv_base.specs.declared.values.Value.{Value, Scalar, List as Many, the_lemmas}
 use Rattle.spv_base.proofs.PartLemmas.{out_many, out_scalar, is_many}
 use Rattle.spv_types.specs.declared.forms.Form.{Form}
@@ -26,13 +26,11 @@ use Rattle.spv_types.proofs.CountedLemmas.{cells_whole}
 use Rattle.spv_types.proofs.RowLemmas.{leaves_many}
 use Rattle.spv_types.proofs.ShapeLemmas.{among_is, form_number}
 use Rattle.spv_types.proofs.TypeLemmas.{in_first-found, in_first-is, number_lt}
-use Rattle.spv_types.proofs.DataLemmas.{scalar_data, member_data, sized_data}
+use Rattle.spv_types.proofs.DataLemmas.{scalar_data, member_data, sized_data, width_narrow}
+use Rattle.spv_types.proofs.SoundLemmas.{impossible}
 use Rattle.spv_mem.specs.Blanks.{blank_among, blank_in, blank_of, blank_step, if_any, last_part, part_count}
 use Rattle.spv_mem.specs.Memory.{Held, IsMemory, IsVariable}
 use Rattle.spv_mem.specs.Targets.{count_in, elements_in, end_open, is_counted, is_open_array, is_open_block, last_of, may_be_target}
-
-pub impossible : {A : Type 0} → false ≡ true → A
-impossible h = absurd (grind arith)
 
 -- ---- by forms
 
@@ -42,38 +40,34 @@ blank_among_is ts e n id = in_first-is (Many []) (blank_step e) ts n id
 
 -- ---- rows
 
-pub scalar_leaves : (c : Lane) → leaves (Scalar c) ≡ c ∷ []
+pub scalar_leaves : (c : Cell) → leaves (Scalar c) ≡ c ∷ []
 unfolding leaves
 scalar_leaves c = search (rules, the_lemmas)
 
-pub no_leaves : (xs : List Lane) → xs ≡ xs ++ leaves (Many [])
+pub no_leaves : (xs : List Cell) → xs ≡ xs ++ leaves (Many [])
 no_leaves xs = rw (leaves_many []) (sym (append-nil xs))
 
-pub none_blank : (ts : Types) (e n id : ℕ) (xs : List Lane) → found_among ts n id ≡ None → xs ≡ xs ++ leaves (blank_among ts e n id)
+pub none_blank : (ts : Types) (e n id : ℕ) (xs : List Cell) → found_among ts n id ≡ None → xs ≡ xs ++ leaves (blank_among ts e n id)
 none_blank ts e n id xs none = rw (blank_among_is ts e n id, none) (no_leaves xs)
 
 -- one more of equal values
-pub equal_more : (v : Value) (new old first : List Lane) (n : ℕ) → new ≡ old ++ leaves v → old ≡ first ++ flat_map leaves (replicate n v) → new ≡ first ++ flat_map leaves (replicate (n + 1) v)
+pub equal_more : (v : Value) (new old first : List Cell) (n : ℕ) → new ≡ old ++ leaves v → old ≡ first ++ flat_map leaves (replicate n v) → new ≡ first ++ flat_map leaves (replicate (n + 1) v)
 equal_more v new old first n is before =
-    is ∙ ap (λ (cs : List Lane). cs ++ leaves v) before ∙ flat_map_more leaves first (replicate n v) v ∙ ap (λ (vs : List Value). first ++ flat_map leaves vs) (replicate_more n v)
+    is ∙ ap (λ (cs : List Cell). cs ++ leaves v) before ∙ flat_map_more leaves first (replicate n v) v ∙ ap (λ (vs : List Value). first ++ flat_map leaves vs) (replicate_more n v)
 
 each_leaves : (f : Member → Value) (ms : List Member) → flat_map leaves (map f ms) ≡ flat_map (λ (m : Member). leaves (f m)) ms
 each_leaves f [] = refl
-each_leaves f (m ∷ ms) = ap (λ (cs : List Lane). leaves (f m) ++ cs) (each_leaves f ms)
+each_leaves f (m ∷ ms) = ap (λ (cs : List Cell). leaves (f m) ++ cs) (each_leaves f ms)
 
 pub member_leaves : (f : Member → Value) (ms : List Member) → leaves (Many (map f ms)) ≡ flat_map (λ (m : Member). leaves (f m)) ms
 member_leaves f ms = leaves_many (map f ms) ∙ each_leaves f ms
 
 -- ---- shapes
 
--- no integer is wider than 64 bits
-width_narrow : (width : ℕ) → is_width width ≡ true → width ≤ 64
-width_narrow width h = grind arith
-
-undefined_is_lane : (width : ℕ) → width ≤ 64 → IsLane (undefined_lane width)
+undefined_is_lane : (width : ℕ) → width ≤ 64 → IsCell (undefined_cell width)
 undefined_is_lane width narrow = record { narrow = narrow; fits = pow_pos width; zero = λ _. refl }
 
-undefined_is_scalar : (width lane : ℕ) → lane ≡ width → width ≤ 64 → IsScalar width (Scalar (undefined_lane lane))
+undefined_is_scalar : (width lane : ℕ) → lane ≡ width → width ≤ 64 → IsScalar width (Scalar (undefined_cell lane))
 undefined_is_scalar width lane same narrow = rw (out_scalar, same) (refl, undefined_is_lane width narrow)
 
 -- two numbers whose sum is there
@@ -249,13 +243,13 @@ last_member (m ∷ k ∷ ms) v = last_member (k ∷ ms) v
 pub many_last : (vs : List Value) → elements_in (Many vs) ≡ option_map_or count_in (last_of vs) 0
 many_last vs = rw out_many refl
 
-pub scalar_last : (c : Lane) → elements_in (Scalar c) ≡ 0
+pub scalar_last : (c : Cell) → elements_in (Scalar c) ≡ 0
 scalar_last c = rw out_scalar refl
 
 last_step : (e : ℕ) (v : ℕ → Value) (f : Form) → elements_in (blank_step e v f) ≡ option_map_or (λ part. count_in (v part)) (last_part e f) 0
 last_step e v Void = many_last []
-last_step e v Boolean = scalar_last (undefined_lane 1)
-last_step e v (Int width sign) = scalar_last (undefined_lane (min width 64))
+last_step e v Boolean = scalar_last (undefined_cell 1)
+last_step e v (Int width sign) = scalar_last (undefined_cell (min width 64))
 last_step e v (Vector component count) = many_last (replicate count (v component)) ∙ any_last count component v
 last_step e v (Array element len stride) = many_last (replicate (unwrap_or len 0) (v element)) ∙ any_last (unwrap_or len 0) element v
 last_step e v (Runtime element stride) = many_last (replicate e (v element)) ∙ any_last e element v
@@ -266,13 +260,13 @@ last_step e v (Function returns parameters) = many_last []
 pub many_count : (vs : List Value) → count_in (Many vs) ≡ length vs
 many_count vs = rw out_many refl
 
-pub scalar_count : (c : Lane) → count_in (Scalar c) ≡ 0
+pub scalar_count : (c : Cell) → count_in (Scalar c) ≡ 0
 scalar_count c = rw out_scalar refl
 
 count_step : (e : ℕ) (v : ℕ → Value) (f : Form) → count_in (blank_step e v f) ≡ part_count e f
 count_step e v Void = many_count []
-count_step e v Boolean = scalar_count (undefined_lane 1)
-count_step e v (Int width sign) = scalar_count (undefined_lane (min width 64))
+count_step e v Boolean = scalar_count (undefined_cell 1)
+count_step e v (Int width sign) = scalar_count (undefined_cell (min width 64))
 count_step e v (Vector component count) = many_count (replicate count (v component)) ∙ length-replicate count (v component)
 count_step e v (Array element len stride) = many_count (replicate (unwrap_or len 0) (v element)) ∙ length-replicate (unwrap_or len 0) (v element)
 count_step e v (Runtime element stride) = many_count (replicate e (v element)) ∙ length-replicate e (v element)

@@ -6,7 +6,7 @@ use Rattle.std.specs.List.{All, AllZip}
 use Rattle.std.proofs.Math.Logic.{∥∥₁_elim}
 use Rattle.std.proofs.Props.{props}
 use Rattle.std.proofs.lemmas.List.Elements.{All-head, All-tail}
-use Rattle.spv_base.specs.Lane.{Lane}
+use Rattle.spv_base.specs.Cell.{Cell}
 use Rattle.spv_base.specs.Parts.{part_at, parts_in, with_part}
 use Rattle.spv_base.specs.declared.values.Pointer.{Pointer as Reference}
 use Rattle.spv_base.specs.declared.values.Root.{Root}
@@ -20,7 +20,7 @@ use Rattle.spv_types.specs.Types.{Types, form_of}
 use Rattle.spv_types.specs.Cells.{cells_of, cells_step, members_cells}
 use Rattle.spv_types.specs.Laws.{AreSound}
 use Rattle.spv_types.specs.Rows.{leaves, no_roots}
-use Rattle.spv_types.specs.Shapes.{HasShape, pointer_in, reached, scalar_in, shape_step}
+use Rattle.spv_types.specs.Shapes.{HasShape, pointer_in, reached_type, scalar_in, shape_step}
 use Rattle.spv_types.proofs.CellLemmas.{added_is}
 use Rattle.spv_types.proofs.RowCounts.{many_is, shapes_count, times_is}
 use Rattle.spv_types.proofs.RowPlaces.{changed, has_part}
@@ -37,7 +37,7 @@ use Rattle.spv_mem.proofs.PartLemmas.{Found, NotFound, names}
 many_count : (v : Value) (vs : List Value) → out-Value v ≡ Value-F.List vs → count_in v ≡ length vs
 many_count v vs e = rw e refl
 
-scalar_count : (P : Lane → Type 0) (v : Value) → IsSomeAnd (scalar_in (out-Value v)) P → count_in v ≡ 0
+scalar_count : (P : Cell → Type 0) (v : Value) → IsSomeAnd (scalar_in (out-Value v)) P → count_in v ≡ 0
 scalar_count P v h = level (out-Value v) refl h
   where
     level : (l : Value-F Value) → out-Value v ≡ l → IsSomeAnd (scalar_in l) P → option_map_or length (parts_in l) 0 ≡ 0
@@ -66,7 +66,7 @@ last_count vs = option_map_or count_in (last_of vs) 0
 many_elements : (v : Value) (vs : List Value) → out-Value v ≡ Value-F.List vs → elements_in v ≡ last_count vs
 many_elements v vs e = rw e refl
 
-scalar_elements : (P : Lane → Type 0) (v : Value) → IsSomeAnd (scalar_in (out-Value v)) P → elements_in v ≡ 0
+scalar_elements : (P : Cell → Type 0) (v : Value) → IsSomeAnd (scalar_in (out-Value v)) P → elements_in v ≡ 0
 scalar_elements P v h = level (out-Value v) refl h
   where
     level : (l : Value-F Value) → out-Value v ≡ l → IsSomeAnd (scalar_in l) P → option_map_or last_count (parts_in l) 0 ≡ 0
@@ -190,9 +190,9 @@ module _ (ts : Types) (roots : Root → Option ℕ) (sound : AreSound ts) where
       ap count_in (changed x i path p.values p.part u p.is p.at) ∙ many_count _ (slice_set p.values i (with_part p.part path u)) (out_many (slice_set p.values i (with_part p.part path u)))
       ∙ length-set p.values i (with_part p.part path u) ∙ sym (many_count x p.values p.is)
 
-  pub elements_kept : (path : List ℕ) (id t : ℕ) (v w u : Value) → HasShape ts roots id v → reached ts id path ≡ Some t → part_at v path ≡ Some w → is_counted ts t ≡ true → HasShape ts roots t u
+  pub elements_kept : (path : List ℕ) (id t : ℕ) (v w u : Value) → HasShape ts roots id v → reached_type ts id path ≡ Some t → part_at v path ≡ Some w → is_counted ts t ≡ true → HasShape ts roots t u
       → elements_in (with_part v path u) ≡ elements_in v
-  unfolding reached
+  unfolding reached_type
   elements_kept [] id t v w u shape r g counted s =
       let e : id ≡ t = cc in
       elements_same t u v counted s (subst (λ (k : ℕ). HasShape ts roots k v) e shape)
@@ -208,7 +208,7 @@ module _ (ts : Types) (roots : Root → Option ℕ) (sound : AreSound ts) where
 -- the part that is there, with its type, and what is put in its place
 pub record Put (ts : Types) (id : ℕ) (v : Value) (path : List ℕ) (w u : Value) : Type 0 where
   pub type : ℕ
-  pub typed : reached ts id path ≡ Some type
+  pub typed : reached_type ts id path ≡ Some type
   pub counted : is_counted ts type ≡ true
   pub old : HasShape ts no_roots type w
   pub new : HasShape ts no_roots type u

@@ -3,7 +3,7 @@ use Rattle.std.proofs.Common.{◌≡◌, ◌∙◌, ◌⊎◌, ℕ, ◌+◌, ◌
 use Rattle.std.specs.Prelude.{if◌then◌else◌}
 use Rattle.std.specs.Option.{IsSomeAnd, option_map, option_map_or, option_and_then}
 use Rattle.std.specs.List.{All, AllZip, flat_map}
-use Rattle.spv_base.specs.Lane.{Lane}
+use Rattle.spv_base.specs.Cell.{Cell}
 use Rattle.spv_base.specs.Parts.{part_at, parts_in}
 use Rattle.spv_base.specs.declared.values.Pointer.{Pointer as Reference}
 use Rattle.spv_base.specs.declared.values.Root.{Root}
@@ -18,7 +18,7 @@ use Rattle.spv_types.specs.Laws.{AreSound}
 use Rattle.spv_types.specs.Leaves.{element_part, leaf_of, member_part, part_of}
 use Rattle.spv_types.specs.Rows.{leaves}
 use Rattle.spv_types.specs.Rules.{is_runtime}
-use Rattle.spv_types.specs.Shapes.{HasShape, part_type, pointer_in, reached, scalar_in, shape_step}
+use Rattle.spv_types.specs.Shapes.{HasShape, part_type, pointer_in, reached_type, scalar_in, shape_step}
 use Rattle.spv_types.proofs.RowCounts.{many_is, times_is}
 use Rattle.spv_types.proofs.RowLemmas.{many_row}
 use Rattle.spv_types.proofs.ShapeLemmas.{shapes_are_by_forms}
@@ -41,12 +41,12 @@ leaf_nil : (ts : Types) (id : ℕ) → leaf_of ts id [] ≡ Some 0
 unfolding leaf_of
 leaf_nil ts id = refl
 
-reached_cons : (ts : Types) (id i t : ℕ) (f : Form) (path : List ℕ) → form_of ts id ≡ Some f → part_type f i ≡ Some t → reached ts id (i ∷ path) ≡ reached ts t path
-unfolding reached
+reached_cons : (ts : Types) (id i t : ℕ) (f : Form) (path : List ℕ) → form_of ts id ≡ Some f → part_type f i ≡ Some t → reached_type ts id (i ∷ path) ≡ reached_type ts t path
+unfolding reached_type
 reached_cons ts id i t f path is at = rw (is, at) refl
 
-reached_nil : (ts : Types) (id : ℕ) → reached ts id [] ≡ Some id
-unfolding reached
+reached_nil : (ts : Types) (id : ℕ) → reached_type ts id [] ≡ Some id
+unfolding reached_type
 reached_nil ts id = refl
 
 pub part_cons : (v u : Value) (vs : List Value) (i : ℕ) (path : List ℕ) → out-Value v ≡ Value-F.List vs → slice_get vs i ≡ Some u → part_at v (i ∷ path) ≡ part_at u path
@@ -58,7 +58,7 @@ part_none v i path h = rw h refl
 no_item : (v : Value) (vs : List Value) (i : ℕ) → out-Value v ≡ Value-F.List vs → slice_get vs i ≡ None → item_at v i ≡ None
 no_item v vs i e g = rw (e, g) refl
 
-scalar_none : (P : Lane → Type 0) (v : Value) (i : ℕ) → IsSomeAnd (scalar_in (out-Value v)) P → item_at v i ≡ None
+scalar_none : (P : Cell → Type 0) (v : Value) (i : ℕ) → IsSomeAnd (scalar_in (out-Value v)) P → item_at v i ≡ None
 scalar_none P v i h = level (out-Value v) refl h
   where
     level : (l : Value-F Value) → out-Value v ≡ l → IsSomeAnd (scalar_in l) P → option_and_then (λ vs. slice_get vs i) (parts_in l) ≡ None
@@ -82,7 +82,7 @@ pub record Found (ts : Types) (id : ℕ) (path : List ℕ) (v : Value) : Type 0 
   pub type : ℕ
   pub part : Value
   pub leaf : leaf_of ts id path ≡ Some before
-  pub typed : reached ts id path ≡ Some type
+  pub typed : reached_type ts id path ≡ Some type
   pub is : part_at v path ≡ Some part
   pub size : (is_counted ts type ≡ true) ⊎ (before + length (leaves part) ≡ length (leaves v))
 
@@ -95,7 +95,7 @@ pub record FoundWhole (ts : Types) (id : ℕ) (path : List ℕ) (v : Value) : Ty
   pub type : ℕ
   pub part : Value
   pub leaf : leaf_of ts id path ≡ Some before
-  pub typed : reached ts id path ≡ Some type
+  pub typed : reached_type ts id path ≡ Some type
   pub is : part_at v path ≡ Some part
   pub counted : is_counted ts type ≡ true
 

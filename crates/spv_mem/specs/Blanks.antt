@@ -3,7 +3,7 @@
 use Rattle.std.specs.Prelude.{ℕ, min, nat_lt, if◌then◌else◌, [], map, length, replicate, unwrap_or, Option, Some, None}
 use Rattle.std.specs.Option.{option_and_then}
 use Rattle.spv_base.specs.Entries.{reads}
-use Rattle.spv_base.specs.Lane.{undefined_lane}
+use Rattle.spv_base.specs.Cell.{undefined_cell}
 use Rattle.spv_base.specs.declared.values.Value.{Value, Scalar, List as Many}
 use Rattle.spv_types.specs.declared.forms.Form.{Form}
 use Rattle.spv_types.specs.declared.forms.Form.TheVariants.{Void, Bool as Boolean, Int, Vector, Array, Runtime, Struct, Pointer, Function}
@@ -15,8 +15,8 @@ use Rattle.spv_mem.specs.Memory.{Held}
 -- The value of a form, where blank gives those of its parts. No integer is wider than 64 bits, and what is no data has no parts.
 abbrev pub blank_step : ℕ → (ℕ → Value) → Form → Value
 blank_step n blank Void = Many []
-blank_step n blank Boolean = Scalar (undefined_lane 1)
-blank_step n blank (Int width sign) = Scalar (undefined_lane (min width 64))
+blank_step n blank Boolean = Scalar (undefined_cell 1)
+blank_step n blank (Int width sign) = Scalar (undefined_cell (min width 64))
 blank_step n blank (Vector component count) = Many (replicate count (blank component))
 blank_step n blank (Array element length stride) = Many (replicate (unwrap_or length 0) (blank element))
 blank_step n blank (Runtime element stride) = Many (replicate n (blank element))

@@ -13,10 +13,10 @@ use Rattle.spv_base.specs.declared.values.Pointer.{Pointer}
 use Rattle.spv_base.specs.declared.values.Root.{Root}
 use Rattle.spv_base.specs.declared.values.Root.TheVariants.{Shared, Private, Local}
 use Rattle.spv_base.specs.declared.values.Value.{Value, Scalar, out-Value}
-use Rattle.spv_base.specs.Lane.{Lane}
+use Rattle.spv_base.specs.Cell.{Cell}
 use Rattle.spv_types.specs.Laws.{AreSound}
 use Rattle.spv_types.specs.Rows.{no_roots}
-use Rattle.spv_types.specs.Shapes.{HasShape, reached, scalar_in}
+use Rattle.spv_types.specs.Shapes.{HasShape, reached_type, scalar_in}
 use Rattle.spv_types.specs.Types.{Types, form_of}
 use Rattle.spv_mem.specs.Roots.{put_in}
 use Rattle.spv_mem.specs.Targets.{MayBePut, is_array_at, may_be_target}
@@ -146,14 +146,14 @@ abbrev pub IsScalarAt : Held → ℕ → Pointer → Type 0
 IsScalarAt m i p = (w : Value) → load_of m i p ≡ Some w → IsSome (scalar_in (out-Value w))
 
 -- the scalar that a pointer names, or OutOfBounds where there is none
-abbrev pub LoadsCell : Held → ℕ → Pointer → Result Lane MemErr → Type 0
+abbrev pub LoadsCell : Held → ℕ → Pointer → Result Cell MemErr → Type 0
 LoadsCell m i p (Ok c) = load_of m i p ≡ Some (Scalar c)
 LoadsCell m i p (Err UndefinedIndex) = ⊥
 LoadsCell m i p (Err OutOfBounds) = load_of m i p ≡ None
 LoadsCell m i p (Err NoMemory) = ⊥
 
 -- The scalar that a pointer names, which is exchanged with c. Where there is none, the answer is OutOfBounds, and nothing changes.
-abbrev pub StoresCell : Held → ℕ → Pointer → Lane → Held → Result Lane MemErr → Type 0
+abbrev pub StoresCell : Held → ℕ → Pointer → Cell → Held → Result Cell MemErr → Type 0
 StoresCell m i p c new (Ok d) = (load_of m i p ≡ Some (Scalar d)) × (new ≡ stored i p (Scalar c) m)
 StoresCell m i p c new (Err UndefinedIndex) = ⊥
 StoresCell m i p c new (Err OutOfBounds) = (load_of m i p ≡ None) × (new ≡ m)
@@ -174,5 +174,5 @@ pub record NamesArray (m : Held) (p : Pointer) (k : ℕ) : Type 0 where
   pub type : ℕ
   pub named : reads id m.targets ≡ Some type
   pub block : ℕ
-  pub leads : reached m.types type p.path ≡ Some block
+  pub leads : reached_type m.types type p.path ≡ Some block
   pub array : is_array_at m.types (form_of m.types block) k ≡ true

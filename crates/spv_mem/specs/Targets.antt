@@ -10,7 +10,7 @@ use Rattle.spv_types.specs.Cells.{cells_of}
 use Rattle.spv_types.specs.Laws.{AreSound}
 use Rattle.spv_types.specs.Rows.{no_roots}
 use Rattle.spv_types.specs.Rules.{is_runtime}
-use Rattle.spv_types.specs.Shapes.{HasShape, reached}
+use Rattle.spv_types.specs.Shapes.{HasShape, reached_type}
 use Rattle.spv_types.specs.Types.{Types, form_of}
 
 -- the values of a type have one number of leaves
@@ -62,7 +62,7 @@ pub record Fits (ts : Types) (id : ℕ) (v : Value) : Type 0 where
 -- a value that may be put where a path leads in a value of a type, if it leads anywhere: of the part's type, which has no
 -- runtime array in it
 abbrev pub MayBePut : Types → ℕ → Value → List ℕ → Value → Type 0
-MayBePut ts id v path u = (t : ℕ) (w : Value) → reached ts id path ≡ Some t → part_at v path ≡ Some w → (is_counted ts t ≡ true) × HasShape ts no_roots t u
+MayBePut ts id v path u = (t : ℕ) (w : Value) → reached_type ts id path ≡ Some t → part_at v path ≡ Some w → (is_counted ts t ≡ true) × HasShape ts no_roots t u
 
 -- ---- paths into the runtime array
 

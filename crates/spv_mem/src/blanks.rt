@@ -1,7 +1,7 @@
 //! Variables that begin undefined.
 ghost use Rattle.std.specs.Prelude.{◌≡◌, ◌++◌, IfOk, IfSome, OnOk, min, replicate};
 ghost use Rattle.std.specs.List.{flat_map};
-ghost use Rattle.spv_base.specs.Lane.{undefined_lane};
+ghost use Rattle.spv_base.specs.Cell.{undefined_cell};
 ghost use Rattle.spv_mem.specs.Blanks.{blank_among, blank_in, blank_of, blank_step, if_any, last_part, part_count};
 ghost use Rattle.spv_mem.specs.Memory.{IsVariable};
 ghost use Rattle.spv_mem.specs.Targets.{elements_in};
@@ -18,7 +18,7 @@ use std::alloc::Global;
 
 /// The undefined scalar of a width in bits, or of the widest where there is none so wide.
 fn undefined(width: u32) -> Cell
-    ensures { result ≡ undefined_lane (min width 64) }
+    ensures { result ≡ undefined_cell (min width 64) }
 {
     Cell {
         bits: 0,
@@ -72,13 +72,20 @@ impl<'a> Blank<'a> {
         match form {
             Form::Bool => Ok(cells.push(undefined(1))?),
             Form::Int { width, .. } => Ok(cells.push(undefined(*width))?),
-            Form::Vector { component, count } => self.repeated(cells, limit, *component, *count),
+            Form::Vector { component, count } => self.repeated_cells(
+                cells, limit, *component, *count,
+            ),
             Form::Array {
                 element,
                 length,
                 ..
-            } => self.repeated(cells, limit, *element, length.unwrap_or(0)),
-            Form::Runtime { element, .. } => self.repeated(cells, limit, *element, self.elements),
+            } => self.repeated_cells(cells, limit, *element, length.unwrap_or(0)),
+            Form::Runtime { element, .. } => self.repeated_cells(
+                cells,
+                limit,
+                *element,
+                self.elements,
+            ),
             Form::Struct { members, .. } => self.of_members(cells, limit, members.as_slice()),
             Form::Void => Ok(()),
             Form::Pointer { .. } => Ok(()),
@@ -88,7 +95,7 @@ impl<'a> Blank<'a> {
 
     /// Appends the row of a type among the first so many times.
     #[cycle(blanks)]
-    fn repeated(
+    fn repeated_cells(
         &self,
         cells: &mut Vec<Cell>,
         limit: usize,

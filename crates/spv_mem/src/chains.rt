@@ -42,7 +42,7 @@ fn extended(index: Cell) -> u64
 }
 
 /// The pointer with further indexes.
-fn chained(alloc: Global, p: &Pointer, indexes: &[Cell]) -> Result<Pointer, NoMemory>
+fn chained_pointer(alloc: Global, p: &Pointer, indexes: &[Cell]) -> Result<Pointer, NoMemory>
     ensures { IfOk result (λ q. q ≡ record { root = p.now.root; path = extend p.now.path indexes.now }) }
 {
     let mut path = p.path.copy(alloc)?;
@@ -61,7 +61,7 @@ pub fn chain(alloc: Global, p: &Pointer, indexes: &[Cell]) -> Result<Pointer, Me
     if !all_defined(indexes) {
         return Err(MemErr::UndefinedIndex);
     }
-    match chained(alloc, p, indexes) {
+    match chained_pointer(alloc, p, indexes) {
         Ok(pointer) => Ok(pointer),
         Err(NoMemory) => Err(MemErr::NoMemory),
     }

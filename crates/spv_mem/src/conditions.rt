@@ -2,7 +2,7 @@
 ghost use Rattle.std.specs.Prelude.{◌≡◌, ◌↔◌, ◌<◌, ℕ, IfSome, IsTrue, None, Some, length, option_copied, slice_get};
 ghost use Rattle.spv_base.specs.Entries.{reads};
 ghost use Rattle.spv_base.specs.Variables.{Roots};
-ghost use Rattle.spv_base.specs.Lane.{IsLane, Lane};
+ghost use Rattle.spv_base.specs.Cell.{IsCell, Cell};
 ghost use Rattle.spv_base.specs.declared.values.Root.TheVariants.{Shared};
 ghost use Rattle.spv_base.specs.declared.values.Value.{Scalar};
 ghost use Rattle.spv_mem.specs.Conditions.{integer_width, width_at};
@@ -10,7 +10,7 @@ ghost use Rattle.spv_mem.specs.Memory.{AreTargets, HasRoom, IsScalarAt, MayBeTar
 ghost use Rattle.spv_mem.specs.Targets.{end_open, is_open_array, is_open_block, may_be_target};
 ghost use Rattle.spv_types.specs.Laws.{AreSound};
 
-use crate::places::{is_array_at, reached};
+use crate::places::{is_array_at, reached_type};
 use crate::storage::{Memory, id_in};
 use spv_base::{Pointer, Root};
 use spv_types::{Form, Member, TypeTable};
@@ -82,12 +82,12 @@ impl Memory {
     pub fn integer_width(&self, p: &Pointer) -> Option<u32>
         ensures width { result ≡ width_at self.now p.now }
         ensures scalar { IfSome result (λ width. (i : ℕ) → IsScalarAt self.now i p.now) }
-        ensures may { IfSome result (λ width. (i : ℕ) (c : Lane) → c.width ≡ width → IsLane c → ∥ MayStore self.now i p.now (Scalar c) ∥₁) }
+        ensures may { IfSome result (λ width. (i : ℕ) (c : Cell) → c.width ≡ width → IsCell c → ∥ MayStore self.now i p.now (Scalar c) ∥₁) }
     {
         let types = self.types.as_ref();
         let id = id_in(p.root);
         let target = self.targets.get(id)?;
-        let ty = reached(types, target.ty, p.path.as_slice())?;
+        let ty = reached_type(types, target.ty, p.path.as_slice())?;
         integer_width(types.form(ty))
     }
 
@@ -113,7 +113,7 @@ impl Memory {
         let Some(target) = self.targets.get(id) else {
             return false;
         };
-        match reached(types, target.ty, p.path.as_slice()) {
+        match reached_type(types, target.ty, p.path.as_slice()) {
             Some(block) => is_array_at(types, types.form(block), u64::from(member)),
             None => false,
         }

@@ -47,7 +47,7 @@ impl Levels {
     pub(crate) fn copy(&self, alloc: Global) -> Result<Levels, NoMemory>
         ensures { IfOk result (λ levels. levels ≡ self.now) }
     {
-        listed(alloc, self.list.as_slice(), self.room)
+        levels_with(alloc, self.list.as_slice(), self.room)
     }
 
     /// The locals of a depth.
@@ -117,7 +117,7 @@ impl Levels {
 }
 
 /// Copies of locals, with room for so many.
-fn listed(alloc: Global, lists: &[Locals], room: u32) -> Result<Levels, NoMemory>
+fn levels_with(alloc: Global, lists: &[Locals], room: u32) -> Result<Levels, NoMemory>
     ensures { IfOk result (λ levels. levels ≡ record { list = lists.now; room = room }) }
 {
     let mut levels = Levels::new(alloc, room)?;

@@ -1,7 +1,7 @@
 //! Where the part that a path names lies in the row of a variable.
 ghost use Rattle.std.specs.Prelude.{◌≡◌};
 ghost use Rattle.spv_mem.specs.Targets.{element_index, is_array_at};
-ghost use Rattle.spv_types.specs.Shapes.{part_type, reached};
+ghost use Rattle.spv_types.specs.Shapes.{part_type, reached_type};
 ghost use Rattle.std.specs.Option.{option_and_then};
 ghost use Rattle.std.specs.Prelude.{option_copied};
 ghost use Rattle.spv_types.specs.Rules.{is_runtime};
@@ -29,14 +29,14 @@ fn part_type(form: Option<&Form>, i: u64) -> Option<u32>
 }
 
 /// The type of the part that a path names.
-#[tactic(auto, unfolding(spv_types::specs::Shapes::reached))]
-pub(crate) fn reached(types: &TypeTable, ty: u32, path: &[u64]) -> Option<u32>
-    ensures { result ≡ reached types.now ty path.now }
+#[tactic(auto, unfolding(spv_types::specs::Shapes::reached_type))]
+pub(crate) fn reached_type(types: &TypeTable, ty: u32, path: &[u64]) -> Option<u32>
+    ensures { result ≡ reached_type types.now ty path.now }
 {
     let Some((first, rest)) = path.split_first() else {
         return Some(ty);
     };
-    reached(types, part_type(types.form(ty), *first)?, rest)
+    reached_type(types, part_type(types.form(ty), *first)?, rest)
 }
 
 /// Whether a type is a runtime array.

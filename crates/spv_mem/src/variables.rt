@@ -4,11 +4,11 @@ ghost use Rattle.std.specs.Option.{MatchOption, option_map_or};
 ghost use Rattle.spv_base.specs.Parts.{part_at};
 ghost use Rattle.spv_mem.specs.Targets.{Exchanges, Fits, MayBePut, elements_in, is_past};
 ghost use Rattle.spv_types.specs.Cells.{cells_of};
-ghost use Rattle.spv_types.specs.Cuts.{cut};
+ghost use Rattle.spv_types.specs.Saturation.{saturated};
 ghost use Rattle.spv_types.specs.Rows.{leaves};
 ghost use Rattle.spv_values.specs.Places.{IsRowAt};
 
-use crate::places::{Place, element_index, reached};
+use crate::places::{Place, element_index, reached_type};
 use spv_base::{Cell, NoMemory, Path};
 use spv_types::TypeTable;
 use spv_values::{Part, Row};
@@ -116,7 +116,7 @@ impl Variable {
             return None;
         }
         let start = types.leaf(ty, indexes)? as usize;
-        let part = reached(types, ty, indexes)?;
+        let part = reached_type(types, ty, indexes)?;
         let len = part_len(types, part, cells - start);
         Some(Place { start, len })
     }
@@ -147,7 +147,7 @@ impl Variable {
 
 /// How many cells a part of a type has, where so many are left if the type does not tell it.
 fn part_len(types: &TypeTable, part: u32, left: usize) -> usize
-    ensures { result ≡ option_map_or cut (cells_of types.now part) left }
+    ensures { result ≡ option_map_or saturated (cells_of types.now part) left }
 {
     match types.cells(part) {
         Some(cells) => cells as usize,

@@ -2,7 +2,7 @@
 use Rattle.std.proofs.Common.{◌≡◌, ◌∙◌, ℕ, true, false, List, [], length, Option, Some, None, refl, ap, rules}
 use Rattle.std.proofs.lemmas.Bool.{both_ways}
 use Rattle.std.specs.Option.{IsSomeAnd, is_some, option_map_or}
-use Rattle.spv_base.specs.Lane.{Lane}
+use Rattle.spv_base.specs.Cell.{Cell}
 use Rattle.spv_base.specs.Parts.{parts_in}
 use Rattle.spv_base.specs.declared.values.Pointer.{Pointer as Reference}
 use Rattle.spv_base.specs.declared.values.Root.{Root}
@@ -14,7 +14,7 @@ use Rattle.spv_types.specs.declared.forms.Form.TheVariants.{Void, Bool as Boolea
 use Rattle.spv_types.specs.Laws.{AreSound}
 use Rattle.spv_types.specs.Queries.{is_pointer}
 use Rattle.spv_types.specs.Rows.{no_roots}
-use Rattle.spv_types.specs.Shapes.{HasShape, LeadsTo, pointer_in, reached, scalar_in, shape_step}
+use Rattle.spv_types.specs.Shapes.{HasShape, LeadsTo, pointer_in, reached_type, scalar_in, shape_step}
 use Rattle.spv_types.specs.Types.{Types, form_of, found_among}
 use Rattle.spv_types.proofs.ShapeLemmas.{shapes_are_by_forms}
 use Rattle.spv_mem.specs.Blanks.{blank_among, blank_of, blank_step}
@@ -30,11 +30,11 @@ out_pointer p = search (rules, the_lemmas)
 many_plain : (vs : List Value) → is_some (pointer_of (Many vs)) ≡ false
 many_plain vs = rw (out_many vs) refl
 
-scalar_plain : (c : Lane) → is_some (pointer_of (Scalar c)) ≡ false
+scalar_plain : (c : Cell) → is_some (pointer_of (Scalar c)) ≡ false
 scalar_plain c = rw (out_scalar c) refl
 
 -- a value with a scalar or with parts is no pointer
-no_scalar : (u : Value-F Value) (P : Lane → Type 0) → IsSomeAnd (scalar_in u) P → is_some (pointer_in u) ≡ false
+no_scalar : (u : Value-F Value) (P : Cell → Type 0) → IsSomeAnd (scalar_in u) P → is_some (pointer_in u) ≡ false
 no_scalar (Value-F.Scalar c) P h = refl
 no_scalar (Value-F.List vs) P h = refl
 no_scalar (Value-F.Ptr p) P h = absurd h
@@ -117,7 +117,7 @@ module _ (ts : Types) (sound : AreSound ts) where
   -- the pointer to a whole variable leads to what its root's type is
   pub whole_shape : (roots : Root → Option ℕ) (id class target : ℕ) (r : Root) → form_of ts id ≡ Some (Pointer class target) → roots r ≡ Some target
       → HasShape ts roots id (Ptr (record { root = r; path = [] }))
-  unfolding reached
+  unfolding reached_type
   whole_shape roots id class target r is named =
       (shapes_are_by_forms ts roots sound id (Pointer class target) (Ptr (record { root = r; path = [] })) is).1 (leads target r named)
     where

@@ -12,13 +12,13 @@ use Rattle.spv_base.specs.declared.instructions.Inst.{Inst}
 use Rattle.spv_base.specs.declared.instructions.Operand.{Operand}
 use Rattle.spv_base.specs.declared.instructions.Operand.TheVariants.{Id, Lit, Text}
 use Rattle.spv_base.specs.declared.instructions.RawInst.{RawInst}
-use Rattle.spv_ops.specs.declared.forms.Head.{Head}
-use Rattle.spv_ops.specs.declared.forms.Head.TheVariants as head
-use Rattle.spv_ops.specs.declared.reading.WrongForm.{WrongForm}
+use Rattle.spv_ops.specs.declared.grammar.Head.{Head}
+use Rattle.spv_ops.specs.declared.grammar.Head.TheVariants as head
+use Rattle.spv_ops.specs.declared.reading.WrongOperands.{WrongOperands}
 use Rattle.spv_ops.specs.Opcodes.{Row}
-use Rattle.spv_ops.specs.Forms.{row_of}
+use Rattle.spv_ops.specs.Grammar.{row_of}
 use Rattle.spv_ops.specs.Steps.{◌>>=◌}
-use Rattle.spv_ops.specs.Reading.{head_at, operands_of, inst_by, inst_in, inst_of, insts_of, or_wrong_form, unknown_opcode, wrong_form}
+use Rattle.spv_ops.specs.Reading.{head_at, operands_of, inst_by, inst_in, inst_of, insts_of, or_wrong_operands, unknown_opcode, wrong_operands}
 use Rattle.spv_ops.specs.Encoding.{words_of_head, words_of_operands, words_after_first, raw_of, words_of_raw, HasHead, HasNoZero, HasBytes, IsFormed, IsInst, IsRefused}
 use Rattle.spv_ops.proofs.StringLaws.{AreWords, IsText}
 use Rattle.spv_ops.proofs.OperandLaws.{AreSound, bind_ok, operands_take, operands_again}
@@ -50,7 +50,7 @@ sound_both (Text bytes ∷ operands) h k = (text_both bytes h.0 k.0, sound_both 
 abbrev Heads : Type 0
 Heads = ℕ × ℕ × List ℕ
 
-abbrev done : Heads → Result Heads WrongForm
+abbrev done : Heads → Result Heads WrongOperands
 done x = Ok x
 
 ok_is : (x y : Heads) → done x ≡ done y → x ≡ y
@@ -90,10 +90,10 @@ pub record IsRead (raw : RawInst) (inst : Inst) : Type 0 where
 abbrev inst_ok : Inst → Result Inst Refusal
 inst_ok inst = Ok inst
 
-inst_is : (x y : Inst) → Path (Result Inst WrongForm) (Ok x) (Ok y) → x ≡ y
+inst_is : (x y : Inst) → Path (Result Inst WrongOperands) (Ok x) (Ok y) → x ≡ y
 inst_is x y e = cc
 
-or_ok : (word : ℕ) (read : Result Inst WrongForm) (inst : Inst) → or_wrong_form word read ≡ inst_ok inst → read ≡ Ok inst
+or_ok : (word : ℕ) (read : Result Inst WrongOperands) (inst : Inst) → or_wrong_operands word read ≡ inst_ok inst → read ≡ Ok inst
 or_ok word (Ok x) inst e = cc
 or_ok word (Err d) inst e = absurd cc
 
@@ -123,7 +123,7 @@ by_takes raw row inst opcode short fits e =
         row = row;
         opcode = opcode;
         head = h.has_head;
-        operands = o.has_form;
+        operands = o.follows;
         texts = texts.0;
         count = subst (λ (r : RawInst). length (words_of_raw r) ≤ 65535) (sym raw_same) (omega arith);
       };
@@ -136,11 +136,11 @@ in_takes None raw inst opcode fits e = absurd cc
 in_takes (Some row) raw inst opcode fits e =
     elim (cases_lt (length raw.rest) 65535) [
       | inl short ↦
-          let is : inst_in (Some row) raw ≡ or_wrong_form raw.word (inst_by row raw) = rw (lt-ltb (length raw.rest) 65535 short) refl in
+          let is : inst_in (Some row) raw ≡ or_wrong_operands raw.word (inst_by row raw) = rw (lt-ltb (length raw.rest) 65535 short) refl in
           by_takes raw row inst opcode short fits (or_ok raw.word (inst_by row raw) inst (sym is ∙ e))
       | inr long ↦
-          let is : inst_in (Some row) raw ≡ Err (wrong_form raw.word) = rw (le-ltb (length raw.rest) 65535 long) refl in
-          let wrong : Err (wrong_form raw.word) ≡ inst_ok inst = sym is ∙ e in absurd cc
+          let is : inst_in (Some row) raw ≡ Err (wrong_operands raw.word) = rw (le-ltb (length raw.rest) 65535 long) refl in
+          let wrong : Err (wrong_operands raw.word) ≡ inst_ok inst = sym is ∙ e in absurd cc
     ]
 
 -- an instruction that was read has these words
@@ -148,7 +148,7 @@ pub inst_takes : (raw : RawInst) (inst : Inst) → AreWords raw.rest → inst_of
 unfolding inst_of
 inst_takes raw inst fits e = in_takes (row_of raw.op) raw inst refl fits e
 
--- what is read by a form has it
+-- what is read by a grammar follows it
 pub by_formed : (raw : RawInst) (row : Row) (inst : Inst) → row_of raw.op ≡ Some row → AreWords raw.rest → inst_by row raw ≡ Ok inst → IsFormed inst
 unfolding inst_by
 by_formed raw row inst opcode fits e =
@@ -158,7 +158,7 @@ by_formed raw row inst opcode fits e =
     let o = operands_take row.3 row.4 a.0.2 b.0 h.more_fit b.1 in
     let texts = sound_parts b.0 o.sound in
     subst IsFormed (inst_is (made raw a.0.0 a.0.1 b.0) inst b.2)
-    (record { row = row; opcode = opcode; head = h.has_head; operands = o.has_form; texts = texts.0 })
+    (record { row = row; opcode = opcode; head = h.has_head; operands = o.follows; texts = texts.0 })
 
 by_again : (raw : RawInst) (row : Row) (inst : Inst) → raw.word ≡ inst.word → raw.op ≡ inst.op → raw.rest ≡ words_of_head row.2 inst.ty inst.id ++ words_of_operands inst.operands
     → HasHead row.2 inst.ty inst.id → operands_of row.3 row.4 (words_of_operands inst.operands) ≡ Ok inst.operands → inst_by row raw ≡ Ok inst
@@ -181,7 +181,7 @@ pub raw_op : (inst : Inst) → (raw_of inst).op ≡ inst.op
 unfolding raw_of
 raw_op inst = refl
 
--- the words of an instruction of a form are read by that form as that instruction
+-- the words of an instruction of a grammar are read by that grammar as that instruction
 pub formed_again : (row : Row) (inst : Inst) → row_of inst.op ≡ Some row → IsFormed inst → AllByRecursion HasBytes inst.operands → inst_by row (raw_of inst) ≡ Ok inst
 unfolding raw_of
 formed_again row inst opcode is bytes =
@@ -207,24 +207,24 @@ only raw result given i is bytes e = subst (λ (due : Result Inst Refusal). Answ
 refusal_is : (x y : Refusal) → Path (Result Inst Refusal) (Err x) (Err y) → y ≡ x
 refusal_is x y e = cc
 
-or_err : (word : ℕ) (read : Result Inst WrongForm) (refusal : Refusal) → Path (Result Inst Refusal) (or_wrong_form word read) (Err refusal) → refusal ≡ wrong_form word
+or_err : (word : ℕ) (read : Result Inst WrongOperands) (refusal : Refusal) → Path (Result Inst Refusal) (or_wrong_operands word read) (Err refusal) → refusal ≡ wrong_operands word
 or_err word (Ok x) refusal e = absurd cc
-or_err word (Err d) refusal e = refusal_is (wrong_form word) refusal e
+or_err word (Err d) refusal e = refusal_is (wrong_operands word) refusal e
 
 -- a refusal, by whether the opcode is in the table
 in_refuses : (o : Option Row) (raw : RawInst) (refusal : Refusal) → inst_in o raw ≡ Err refusal
-    → ((o ≡ None) × (refusal ≡ unknown_opcode raw.word)) ⊎ (IsSome o × (refusal ≡ wrong_form raw.word))
+    → ((o ≡ None) × (refusal ≡ unknown_opcode raw.word)) ⊎ (IsSome o × (refusal ≡ wrong_operands raw.word))
 in_refuses None raw refusal e = inl (refl, refusal_is (unknown_opcode raw.word) refusal e)
 in_refuses (Some row) raw refusal e =
     inr (
       refl,
       elim (cases_lt (length raw.rest) 65535) [
         | inl short ↦
-            let is : inst_in (Some row) raw ≡ or_wrong_form raw.word (inst_by row raw) = rw (lt-ltb (length raw.rest) 65535 short) refl in
+            let is : inst_in (Some row) raw ≡ or_wrong_operands raw.word (inst_by row raw) = rw (lt-ltb (length raw.rest) 65535 short) refl in
             or_err raw.word (inst_by row raw) refusal (sym is ∙ e)
         | inr long ↦
-            let is : inst_in (Some row) raw ≡ Err (wrong_form raw.word) = rw (le-ltb (length raw.rest) 65535 long) refl in
-            refusal_is (wrong_form raw.word) refusal (sym is ∙ e)
+            let is : inst_in (Some row) raw ≡ Err (wrong_operands raw.word) = rw (le-ltb (length raw.rest) 65535 long) refl in
+            refusal_is (wrong_operands raw.word) refusal (sym is ∙ e)
       ],
     )
 
@@ -290,14 +290,14 @@ by_stands row raw inst e =
     let rest = bind_ok (operands_of row.3 row.4 head.0.2) (λ operands. Ok (record { word = raw.word; op = raw.op; ty = head.0.0; id = head.0.1; operands = operands })) inst head.2 in
     word_is (record { word = raw.word; op = raw.op; ty = head.0.0; id = head.0.1; operands = rest.0 }) inst rest.2
   where
-    word_is : (x y : Inst) → Path (Result Inst WrongForm) (Ok x) (Ok y) → y.word ≡ x.word
+    word_is : (x y : Inst) → Path (Result Inst WrongOperands) (Ok x) (Ok y) → y.word ≡ x.word
     word_is x y same = cc
 
 in_stands : (o : Option Row) (raw : RawInst) (inst : Inst) → inst_in o raw ≡ Ok inst → inst.word ≡ raw.word
 in_stands None raw inst e = absurd cc
 in_stands (Some row) raw inst e = by_length (nat_lt (length raw.rest) 65535) e
   where
-    by_length : (b : Bool) → (if b then or_wrong_form raw.word (inst_by row raw) else Err (wrong_form raw.word)) ≡ Ok inst → inst.word ≡ raw.word
+    by_length : (b : Bool) → (if b then or_wrong_operands raw.word (inst_by row raw) else Err (wrong_operands raw.word)) ≡ Ok inst → inst.word ≡ raw.word
     by_length true is = by_stands row raw inst (or_ok raw.word (inst_by row raw) inst is)
     by_length false is = absurd cc
 

@@ -7,16 +7,16 @@ use Rattle.std.proofs.lemmas.Bool.Decides.{eqb_tells}
 use Rattle.std.proofs.lemmas.List.{append-nil, nil_from_length, take_more}
 use Rattle.spv_base.specs.declared.instructions.Operand.{Operand}
 use Rattle.spv_base.specs.declared.instructions.Operand.TheVariants.{Id, Lit, Text}
-use Rattle.spv_ops.specs.declared.forms.Part.{Part}
-use Rattle.spv_ops.specs.declared.forms.Part.TheVariants as part
-use Rattle.spv_ops.specs.declared.forms.Rest.{Rest}
-use Rattle.spv_ops.specs.declared.forms.Rest.TheVariants as rest
-use Rattle.spv_ops.specs.declared.reading.WrongForm.{WrongForm}
+use Rattle.spv_ops.specs.declared.grammar.Part.{Part}
+use Rattle.spv_ops.specs.declared.grammar.Part.TheVariants as part
+use Rattle.spv_ops.specs.declared.grammar.Rest.{Rest}
+use Rattle.spv_ops.specs.declared.grammar.Rest.TheVariants as rest
+use Rattle.spv_ops.specs.declared.reading.WrongOperands.{WrongOperands}
 use Rattle.spv_ops.specs.Steps.{◌>>=◌, before}
 use Rattle.spv_ops.specs.Strings.{words_of_text, text_at}
 use Rattle.spv_ops.specs.Rests.{is_rest, rest_operands}
 use Rattle.spv_ops.specs.Reading.{word_at, memory_operands_at, part_at, ends_at, operands_of}
-use Rattle.spv_ops.specs.Encoding.{words_of_operand, words_of_operands, IsPart, EndsAt, HasForm, HasBytes}
+use Rattle.spv_ops.specs.Encoding.{words_of_operand, words_of_operands, IsPart, EndsAt, FollowsGrammar, HasBytes}
 use Rattle.spv_ops.proofs.StringLaws.{AreWords, IsText, text_takes, text_again}
 
 -- a text of bytes that are not zero
@@ -31,13 +31,13 @@ AreSound = AllByRecursion IsSound
 abbrev Front : Type 0
 Front = List Operand × List ℕ
 
-abbrev done : Front → Result Front WrongForm
+abbrev done : Front → Result Front WrongOperands
 done x = Ok x
 
 ok_is : (x y : Front) → done x ≡ done y → x ≡ y
 ok_is x y e = cc
 
-abbrev all : List Operand → Result (List Operand) WrongForm
+abbrev all : List Operand → Result (List Operand) WrongOperands
 all operands = Ok operands
 
 all_is : (x y : List Operand) → all x ≡ all y → x ≡ y
@@ -192,11 +192,11 @@ part_again part.MemoryOperands operands words is =
       | inr aligned ↦ subst (ReadsPart part.MemoryOperands words) (sym aligned.2) (λ sound. memory_aligned is.0 (aligned.1 ∷ words) is.1 (ne_eqb _ _ aligned.0))
     ]
 
--- ---- forms
+-- ---- grammars
 
 -- what was read of all words
 pub record TakesAll (parts : List Part) (r : Rest) (words : List ℕ) (operands : List Operand) : Type 0 where
-  pub has_form : HasForm parts r operands
+  pub follows : FollowsGrammar parts r operands
   pub spelled : words ≡ words_of_operands operands
   pub sound : AreSound operands
 
@@ -204,7 +204,7 @@ guard_ended : (b : Bool) (x y : List Operand) → cond b (all x) (Err (record {}
 guard_ended true x y e = (refl, all_is x y e)
 guard_ended false x y e = absurd cc
 
-before_ok : (front : List Operand) (read : Result (List Operand) WrongForm) (y : List Operand) → before front read ≡ all y → (more : List Operand) × (read ≡ all more) × (front ++ more ≡ y)
+before_ok : (front : List Operand) (read : Result (List Operand) WrongOperands) (y : List Operand) → before front read ≡ all y → (more : List Operand) × (read ≡ all more) × (front ++ more ≡ y)
 before_ok front (Ok more) y e = (more, refl, all_is (front ++ more) y e)
 before_ok front (Err d) y e = absurd cc
 
@@ -234,20 +234,20 @@ spelled_both : (words rest : List ℕ) (first more : List Operand) → words ≡
 spelled_both words rest first more one two =
     one ∙ ap (λ (ws : List ℕ). words_of_operands first ++ ws) two ∙ sym (words_of_operands-append first more)
 
-with_part : (part : Part) (parts : List Part) (r : Rest) (first more : List Operand) → IsPart part first → HasForm parts r more → HasForm (part ∷ parts) r (first ++ more)
+with_part : (part : Part) (parts : List Part) (r : Rest) (first more : List Operand) → IsPart part first → FollowsGrammar parts r more → FollowsGrammar (part ∷ parts) r (first ++ more)
 with_part part parts r first more is has = inr (first, more, is, has, refl)
 
 pub operands_take : (parts : List Part) (r : Rest) (words : List ℕ) (operands : List Operand) → AreWords words → operands_of parts r words ≡ Ok operands → TakesAll parts r words operands
 unfolding operands_of
 operands_take [] r words operands fits e =
     let g = guard_ended (is_rest r words) (rest_operands r words) operands e in
-    subst (TakesAll [] r words) g.1 (record { has_form = (words, g.0, refl); spelled = sym (words_of_rest r words); sound = rest_is_sound r words })
+    subst (TakesAll [] r words) g.1 (record { follows = (words, g.0, refl); spelled = sym (words_of_rest r words); sound = rest_is_sound r words })
 operands_take (part ∷ parts) r words operands fits e =
     elim (tells (ends_at part words)) [
       | inl here ↦
           let ends = ends_here part words here in
           let nothing : [] ≡ operands = all_is [] operands (sym (of_here part parts r words here) ∙ e) in
-          subst (TakesAll (part ∷ parts) r words) nothing (record { has_form = inl ends.0; spelled = ends.1; sound = tt })
+          subst (TakesAll (part ∷ parts) r words) nothing (record { follows = inl ends.0; spelled = ends.1; sound = tt })
       | inr goes ↦
           let b = bind_ok (part_at part words) (λ first. before first.0 (operands_of parts r first.1)) operands (sym (of_part part parts r words goes) ∙ e) in
           let first = part_takes part words b.0 fits b.1 in
@@ -255,7 +255,7 @@ operands_take (part ∷ parts) r words operands fits e =
           let more = operands_take parts r b.0.1 m.0 first.more_fit m.1 in
           subst (TakesAll (part ∷ parts) r words) m.2
           (record {
-            has_form = with_part part parts r b.0.0 m.0 first.is more.has_form;
+            follows = with_part part parts r b.0.0 m.0 first.is more.follows;
             spelled = spelled_both words b.0.1 b.0.0 m.0 first.parts more.spelled;
             sound = sound_both b.0.0 m.0 first.sound more.sound;
           })
@@ -272,7 +272,7 @@ ended_again part.String parts r operands ends = absurd ends
 ended_again part.MayEnd parts r operands ends = subst (ReadsAll (part.MayEnd ∷ parts) r) (sym ends) (λ sound. refl)
 ended_again part.MemoryOperands parts r operands ends = absurd ends
 
-pub operands_again : (parts : List Part) (r : Rest) (operands : List Operand) → HasForm parts r operands → ReadsAll parts r operands
+pub operands_again : (parts : List Part) (r : Rest) (operands : List Operand) → FollowsGrammar parts r operands → ReadsAll parts r operands
 unfolding operands_of
 operands_again [] r operands (words, is, e) = subst (ReadsAll [] r) (sym e) (λ sound. rw (words_of_rest r words, is) refl)
 operands_again (part ∷ parts) r operands (inl ends) = ended_again part parts r operands ends

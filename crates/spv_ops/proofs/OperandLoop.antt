@@ -5,34 +5,34 @@ use Rattle.spv_base.specs.Answers.{Answers}
 use Rattle.spv_base.specs.declared.causes.Fail.{Fail}
 use Rattle.spv_base.specs.declared.causes.Fail.TheVariants.{Refused, NoMemory}
 use Rattle.spv_base.specs.declared.instructions.Operand.{Operand}
-use Rattle.spv_ops.specs.declared.forms.Part.{Part}
-use Rattle.spv_ops.specs.declared.forms.Rest.{Rest}
-use Rattle.spv_ops.specs.declared.reading.WrongForm.{WrongForm}
+use Rattle.spv_ops.specs.declared.grammar.Part.{Part}
+use Rattle.spv_ops.specs.declared.grammar.Rest.{Rest}
+use Rattle.spv_ops.specs.declared.reading.WrongOperands.{WrongOperands}
 use Rattle.spv_ops.specs.Steps.{◌>>=◌, after, before}
 use Rattle.spv_ops.specs.Rests.{is_rest, rest_operands}
 use Rattle.spv_ops.specs.Reading.{part_at, ends_at, operands_of}
 
 abbrev Operands : Type 0
-Operands = Result (List Operand) WrongForm
+Operands = Result (List Operand) WrongOperands
 
 before-before : (front piece : List Operand) (read : Operands) → before front (before piece read) ≡ before (front ++ piece) read
 before-before front piece (Ok x) = ap (λ (ops : List Operand). Ok ops) (sym (append_assoc front piece x))
 before-before front piece (Err e) = refl
 
-abbrev done : List Operand × List ℕ → Result (List Operand × List ℕ) WrongForm
+abbrev done : List Operand × List ℕ → Result (List Operand × List ℕ) WrongOperands
 done x = Ok x
 
 ok_is : (x y : List Operand × List ℕ) → done x ≡ done y → x ≡ y
 ok_is x y e = cc
 
 -- the step of a part that was read
-steps : (front : List Operand) (read : Result (List Operand × List ℕ) WrongForm) (new : List Operand) (left : List ℕ) (more : List ℕ → Operands)
+steps : (front : List Operand) (read : Result (List Operand × List ℕ) WrongOperands) (new : List Operand) (left : List ℕ) (more : List ℕ → Operands)
     → after front read ≡ Ok (new, left) → before front (read >>= λ first. before first.0 (more first.1)) ≡ before new (more left)
 steps front (Ok x) new left more e =
     before-before front x.0 (more x.1) ∙ ap (λ (p : List Operand × List ℕ). before p.0 (more p.1)) (ok_is (front ++ x.0, x.1) (new, left) e)
 steps front (Err d) new left more e = absurd cc
 
-stops : (front : List Operand) (read : Result (List Operand × List ℕ) WrongForm) (e : WrongForm) (more : List ℕ → Operands)
+stops : (front : List Operand) (read : Result (List Operand × List ℕ) WrongOperands) (e : WrongOperands) (more : List ℕ → Operands)
     → after front read ≡ Err e → before front (read >>= λ first. before first.0 (more first.1)) ≡ Err e
 stops front (Ok x) e more h = absurd cc
 stops front (Err d) e more h = cc
@@ -49,7 +49,7 @@ goes_on front new parts i d rest words left total lt goes read so_far =
     sym step ∙ so_far
 
 -- a part that was not read
-pub ends : (e : Fail WrongForm) (front : List Operand) (parts : List Part) (i : ℕ) (d : Part) (rest : Rest) (words : List ℕ) (total : Operands)
+pub ends : (e : Fail WrongOperands) (front : List Operand) (parts : List Part) (i : ℕ) (d : Part) (rest : Rest) (words : List ℕ) (total : Operands)
     → i < length parts → ends_at (get_or parts i d) words ≡ false
     → Answers {T = List Operand × List ℕ} (after front (part_at (get_or parts i d) words)) (Err e)
     → before front (operands_of (drop i parts) rest words) ≡ total → Answers {T = List Operand} total (Err e)

@@ -4,12 +4,12 @@ use Rattle.std.specs.Prelude.{◌==◌, ◌&&◌}
 use Rattle.std.specs.List.{AllByRecursion}
 use Rattle.std.proofs.lemmas.Bool.{ne_eqb, eqb-true}
 use Rattle.std.proofs.lemmas.Bool.Decides.{eqb_tells}
-use Rattle.spv_ops.specs.declared.reading.WrongForm.{WrongForm}
+use Rattle.spv_ops.specs.declared.reading.WrongOperands.{WrongOperands}
 use Rattle.spv_ops.specs.Steps.{◌>>=◌}
 use Rattle.spv_ops.specs.Strings.{word_of, words_of_text, text_len, text_bytes, is_padded, text_at}
 
 abbrev Read : Type 0
-Read = Result (List ℕ × List ℕ) WrongForm
+Read = Result (List ℕ × List ℕ) WrongOperands
 
 -- each number is a word
 abbrev pub AreWords : List ℕ → Type 0

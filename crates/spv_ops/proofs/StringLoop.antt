@@ -3,12 +3,12 @@ use Rattle.std.proofs.Common.{◌≡◌, ℕ, suc, ◌+◌, ◌-◌, ◌<◌, �
 use Rattle.std.specs.Prelude.{◌==◌}
 use Rattle.std.proofs.lemmas.List.{drop_all, take_all, length-drop}
 use Rattle.std.proofs.lemmas.Bool.{ne_eqb}
-use Rattle.spv_ops.specs.declared.reading.WrongForm.{WrongForm}
+use Rattle.spv_ops.specs.declared.reading.WrongOperands.{WrongOperands}
 use Rattle.spv_ops.specs.Steps.{◌>>=◌, after}
 use Rattle.spv_ops.specs.Strings.{text_len, text_bytes, is_padded, text_at}
 
 abbrev Read : Type 0
-Read = Result (List ℕ × List ℕ) WrongForm
+Read = Result (List ℕ × List ℕ) WrongOperands
 
 regroup : (front piece : List ℕ) (read : Read) → after front (read >>= λ more. Ok (piece ++ more.0, more.1)) ≡ after (front ++ piece) read
 regroup front piece (Ok x) = ap (λ (bytes : List ℕ). Ok (bytes, x.1)) (sym (append_assoc front piece x.0))

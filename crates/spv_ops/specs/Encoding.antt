@@ -8,20 +8,20 @@ use Rattle.spv_base.specs.declared.instructions.Inst.{Inst}
 use Rattle.spv_base.specs.declared.instructions.Operand.{Operand}
 use Rattle.spv_base.specs.declared.instructions.Operand.TheVariants.{Id, Lit, Text}
 use Rattle.spv_base.specs.declared.instructions.RawInst.{RawInst}
-use Rattle.spv_ops.specs.declared.forms.Head.{Head}
-use Rattle.spv_ops.specs.declared.forms.Head.TheVariants as head
-use Rattle.spv_ops.specs.declared.forms.Part.{Part}
-use Rattle.spv_ops.specs.declared.forms.Part.TheVariants as part
-use Rattle.spv_ops.specs.declared.forms.Rest.{Rest}
+use Rattle.spv_ops.specs.declared.grammar.Head.{Head}
+use Rattle.spv_ops.specs.declared.grammar.Head.TheVariants as head
+use Rattle.spv_ops.specs.declared.grammar.Part.{Part}
+use Rattle.spv_ops.specs.declared.grammar.Part.TheVariants as part
+use Rattle.spv_ops.specs.declared.grammar.Rest.{Rest}
 use Rattle.spv_ops.specs.Opcodes.{Row}
-use Rattle.spv_ops.specs.Forms.{row_of}
-use Rattle.spv_ops.specs.Reading.{unknown_opcode, wrong_form}
+use Rattle.spv_ops.specs.Grammar.{row_of}
+use Rattle.spv_ops.specs.Reading.{unknown_opcode, wrong_operands}
 use Rattle.spv_ops.specs.Rests.{is_rest, rest_operands}
 use Rattle.spv_ops.specs.Strings.{words_of_text}
 
 -- ---- words
 
--- the words of an operand; they do not depend on the form
+-- the words of an operand; they do not depend on the grammar
 abbrev pub words_of_operand : Operand → List ℕ
 words_of_operand (Id id) = id ∷ []
 words_of_operand (Lit literal) = literal ∷ []
@@ -57,7 +57,7 @@ words_of_raw raw = ((length raw.rest + 1) * 65536 + raw.op) ∷ raw.rest
 abbrev pub encoding : Inst → List ℕ
 encoding inst = words_of_raw (raw_of inst)
 
--- ---- forms
+-- ---- grammars
 
 -- these are the operands of a part
 abbrev pub IsPart : Part → List Operand → Type 0
@@ -77,13 +77,13 @@ EndsAt part.String operands = ⊥
 EndsAt part.MayEnd operands = operands ≡ []
 EndsAt part.MemoryOperands operands = ⊥
 
--- these operands have the form
-abbrev pub HasForm : List Part → Rest → List Operand → Type 0
-HasForm [] rest operands = (words : List ℕ) × IsTrue (is_rest rest words) × (operands ≡ rest_operands rest words)
-HasForm (part ∷ parts) rest operands = EndsAt part operands
-    ⊎ ((first more : List Operand) × IsPart part first × HasForm parts rest more × (operands ≡ first ++ more))
+-- these operands follow the grammar
+abbrev pub FollowsGrammar : List Part → Rest → List Operand → Type 0
+FollowsGrammar [] rest operands = (words : List ℕ) × IsTrue (is_rest rest words) × (operands ≡ rest_operands rest words)
+FollowsGrammar (part ∷ parts) rest operands = EndsAt part operands
+    ⊎ ((first more : List Operand) × IsPart part first × FollowsGrammar parts rest more × (operands ≡ first ++ more))
 
--- a result type and a result id are 0 where the form has none
+-- a result type and a result id are 0 where the grammar has none
 abbrev pub HasHead : Head → ℕ → ℕ → Type 0
 HasHead head.Plain ty id = (ty ≡ 0) × (id ≡ 0)
 HasHead head.Result ty id = ty ≡ 0
@@ -101,12 +101,12 @@ HasBytes (Id id) = Unit {0}
 HasBytes (Lit literal) = Unit {0}
 HasBytes (Text bytes) = AllByRecursion (λ byte. byte < 256) bytes
 
--- an instruction of its opcode's form, however many words it would have
+-- an instruction of its opcode's grammar, however many words it would have
 pub record IsFormed (inst : Inst) : Type 0 where
   pub row : Row
   pub opcode : row_of inst.op ≡ Some row
   pub head : HasHead row.2 inst.ty inst.id
-  pub operands : HasForm row.3 row.4 inst.operands
+  pub operands : FollowsGrammar row.3 row.4 inst.operands
   pub texts : AllByRecursion HasNoZero inst.operands
 
 -- an instruction that has words
@@ -114,7 +114,7 @@ pub record IsInst (inst : Inst) : Type 0 where
   pub row : Row
   pub opcode : row_of inst.op ≡ Some row
   pub head : HasHead row.2 inst.ty inst.id
-  pub operands : HasForm row.3 row.4 inst.operands
+  pub operands : FollowsGrammar row.3 row.4 inst.operands
   pub texts : AllByRecursion HasNoZero inst.operands
   pub count : length (encoding inst) ≤ 65535
 
@@ -125,5 +125,5 @@ IsNoInst raw = (inst : Inst) → IsInst inst → AllByRecursion HasBytes inst.op
 -- why words are refused: the opcode is not in the table, or it is and no instruction has them
 abbrev pub IsRefused : RawInst → Fail Refusal → Type 0
 IsRefused raw (Refused refusal) = ((row_of raw.op ≡ None) × (refusal ≡ unknown_opcode raw.word))
-    ⊎ (IsSome (row_of raw.op) × IsNoInst raw × (refusal ≡ wrong_form raw.word))
+    ⊎ (IsSome (row_of raw.op) × IsNoInst raw × (refusal ≡ wrong_operands raw.word))
 IsRefused raw NoMemory = Unit {0}

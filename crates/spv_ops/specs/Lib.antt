@@ -1,5 +1,5 @@
 pub mod Opcodes
-pub mod Forms
+pub mod Grammar
 pub mod Steps
 pub mod Strings
 pub mod Rests

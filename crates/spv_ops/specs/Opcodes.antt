@@ -1,17 +1,17 @@
--- The opcodes that are read, each with its form (SPIR-V 1.6 section 3, Instructions), a line for each form.
+-- The opcodes that are read, each with its grammar (SPIR-V 1.6 section 3, Instructions), a line for each grammar.
 use Rattle.std.specs.Prelude.{ℕ, List, [], ◌∷◌, ◌++◌, map, codes}
-use Rattle.spv_ops.specs.declared.forms.Head.{Head}
-use Rattle.spv_ops.specs.declared.forms.Head.TheVariants.{Plain, Result, TypedResult}
-use Rattle.spv_ops.specs.declared.forms.Part.{Part}
-use Rattle.spv_ops.specs.declared.forms.Part.TheVariants.{Id, Literal, String, MayEnd, MemoryOperands}
-use Rattle.spv_ops.specs.declared.forms.Rest.{Rest}
-use Rattle.spv_ops.specs.declared.forms.Rest.TheVariants.{Nothing, Ids, Literals, IdPairs, LoopControl, Decoration, ExecutionMode, ExecutionModeIds}
+use Rattle.spv_ops.specs.declared.grammar.Head.{Head}
+use Rattle.spv_ops.specs.declared.grammar.Head.TheVariants.{Plain, Result, TypedResult}
+use Rattle.spv_ops.specs.declared.grammar.Part.{Part}
+use Rattle.spv_ops.specs.declared.grammar.Part.TheVariants.{Id, Literal, String, MayEnd, MemoryOperands}
+use Rattle.spv_ops.specs.declared.grammar.Rest.{Rest}
+use Rattle.spv_ops.specs.declared.grammar.Rest.TheVariants.{Nothing, Ids, Literals, IdPairs, LoopControl, Decoration, ExecutionMode, ExecutionModeIds}
 
--- an opcode: its number, its name, what stands before the operands, the parts of its form, what stands after them
+-- an opcode: its number, its name, what stands before the operands, the parts of its grammar, what stands after them
 abbrev pub Row : Type 0
 Row = ℕ × List ℕ × Head × List Part × Rest
 
--- these opcodes have this form
+-- these opcodes have this grammar
 abbrev pub each : Head → List Part → Rest → List (ℕ × List ℕ) → List Row
 each head parts rest opcodes = map (λ opcode. (opcode.0, opcode.1, head, parts, rest)) opcodes
 

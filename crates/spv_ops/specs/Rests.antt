@@ -1,9 +1,9 @@
--- The words after the parts of a form, up to the end of the instruction (SPIR-V 1.6 section 3: Execution Mode, Decoration, Loop Control).
+-- The words after the parts of a grammar, up to the end of the instruction (SPIR-V 1.6 section 3: Execution Mode, Decoration, Loop Control).
 use Rattle.std.specs.Prelude.{ℕ, ◌/◌, ◌%◌, ◌==◌, nat_lt, count_ones, Bool, true, false, ◌&&◌, ◌||◌, List, [], ◌∷◌, length, map, if◌then◌else◌}
 use Rattle.spv_base.specs.declared.instructions.Operand.{Operand}
 use Rattle.spv_base.specs.declared.instructions.Operand.TheVariants.{Id, Lit}
-use Rattle.spv_ops.specs.declared.forms.Rest.{Rest}
-use Rattle.spv_ops.specs.declared.forms.Rest.TheVariants as rest
+use Rattle.spv_ops.specs.declared.grammar.Rest.{Rest}
+use Rattle.spv_ops.specs.declared.grammar.Rest.TheVariants as rest
 
 -- SpecId, ArrayStride, BuiltIn, Binding, DescriptorSet and Offset have one literal
 abbrev pub has_one_literal : ℕ → Bool

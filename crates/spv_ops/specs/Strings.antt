@@ -2,7 +2,7 @@
 use Rattle.std.specs.Prelude.{ℕ, ◌+◌, ◌*◌, ◌/◌, ◌%◌, ◌==◌, Bool, List, [], ◌∷◌, ◌++◌, take, drop, Result, Ok, Err, if◌then◌else◌}
 use Rattle.std.specs.List.{list_all}
 use Rattle.std.specs.Int.{w32, to_le_bytes}
-use Rattle.spv_ops.specs.declared.reading.WrongForm.{WrongForm}
+use Rattle.spv_ops.specs.declared.reading.WrongOperands.{WrongOperands}
 use Rattle.spv_ops.specs.Steps.{◌>>=◌}
 
 -- a word of four bytes
@@ -35,7 +35,7 @@ unfoldable pub is_padded : ℕ → Bool
 is_padded word = list_all (λ byte. byte == 0) (drop (text_len word) (to_le_bytes w32 word))
 
 -- the string at the front of these words, and the words after it
-unfoldable pub text_at : List ℕ → Result (List ℕ × List ℕ) WrongForm
+unfoldable pub text_at : List ℕ → Result (List ℕ × List ℕ) WrongOperands
 text_at [] = Err (record {})
 text_at (word ∷ words) =
     if text_len word == 4 then (text_at words >>= λ more. Ok (text_bytes word ++ more.0, more.1))

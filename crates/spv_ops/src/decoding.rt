@@ -6,9 +6,9 @@ ghost use Rattle.spv_ops.specs.Encoding.{HasBytes, IsInst, IsRefused, raw_of};
 ghost use Rattle.spv_ops.specs.Reading.{inst_by, inst_of, insts_of};
 ghost use Rattle.spv_ops.specs.Steps.{seen};
 
-use crate::forms::Opcode;
+use crate::grammar::Opcode;
 use crate::opcodes::opcode_of;
-use crate::reading::{WrongForm, head_at, operands_of};
+use crate::reading::{WrongOperands, head_at, operands_of};
 use spv_base::{Fail, Inst, RawInst, Refusal};
 use std::alloc::Global;
 
@@ -21,7 +21,7 @@ pub const WRONG_FORM: u8 = 7;
 /// An instruction has at most this many words, with its first (SPIR-V 1.6 section 2.3).
 pub const MOST_WORDS: usize = 65535;
 
-/// The instruction that words are by the form of an opcode.
+/// The instruction that words are by the grammar of an opcode.
 #[tactic(auto, unfolding(crate::specs::Reading::inst_by))]
 pub fn inst_by(
     alloc: Global,
@@ -29,7 +29,7 @@ pub fn inst_by(
     word: u32,
     op: u16,
     words: &[u32],
-) -> Result<Inst, Fail<WrongForm>>
+) -> Result<Inst, Fail<WrongOperands>>
     ensures { Answers (inst_by (opcode.entry.0, opcode.entry.1.now, opcode.entry.2, opcode.entry.3.now, opcode.entry.4) (record { word = word; op = op; rest = words.now })) result }
 {
     let (_, _, head, parts, rest) = opcode;
@@ -55,16 +55,16 @@ fn inst_at(alloc: Global, word: u32, op: u16, words: &[u32]) -> Result<Inst, Fai
             word,
         }));
     };
-    let wrong_form = Refusal {
+    let wrong_operands = Refusal {
         code: WRONG_FORM,
         word,
     };
     if words.len() >= MOST_WORDS {
-        return Err(Fail::Refused(wrong_form));
+        return Err(Fail::Refused(wrong_operands));
     }
     match inst_by(alloc, opcode, word, op, words) {
         Ok(inst) => Ok(inst),
-        Err(Fail::Refused(WrongForm)) => Err(Fail::Refused(wrong_form)),
+        Err(Fail::Refused(WrongOperands)) => Err(Fail::Refused(wrong_operands)),
         Err(Fail::NoMemory) => Err(Fail::NoMemory),
     }
 }

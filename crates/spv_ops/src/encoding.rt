@@ -4,14 +4,14 @@ ghost use Rattle.std.specs.List.{AllByRecursion};
 ghost use Rattle.spv_base.specs.declared.instructions.RawInst.{RawInst};
 ghost use Rattle.spv_ops.specs.Strings.{words_of_text};
 ghost use Rattle.spv_ops.specs.Reading.{inst_of};
-ghost use Rattle.spv_ops.specs.Forms.{row_of};
+ghost use Rattle.spv_ops.specs.Grammar.{row_of};
 ghost use Rattle.spv_ops.specs.Encoding.{head_of, words_of_head, words_of_operand, words_of_operands, HasBytes, IsFormed, IsInst, raw_of};
 
 use crate::comparing::is_same_inst;
 use crate::decoding::{decode, inst_by};
-use crate::forms::{Head, Opcode};
+use crate::grammar::{Head, Opcode};
 use crate::opcodes::opcode_of;
-use crate::reading::WrongForm;
+use crate::reading::WrongOperands;
 use spv_base::{Fail, Inst, NoMemory, Operand, RawInst, Words};
 use std::alloc::Global;
 
@@ -83,7 +83,7 @@ fn head_of(op: u16) -> Head
     }
 }
 
-/// The words that the opcode's form gives, whether the operands have the form or not.
+/// The words that the opcode's grammar gives, whether the operands follow it or not.
 fn raw_of(alloc: Global, i: &Inst) -> Result<RawInst, NoMemory>
     ensures { IfOk result (λ r. (r ≡ raw_of i.now) × AllByRecursion HasBytes i.now.operands) }
 {
@@ -106,7 +106,7 @@ pub fn encode(alloc: Global, i: &Inst) -> Result<RawInst, NoMemory>
     raw_of(alloc, i)
 }
 
-/// The words of an instruction, or none where the opcode is not in the table, the operands have not its form, a text
+/// The words of an instruction, or none where the opcode is not in the table, the operands do not follow its grammar, a text
 /// has a zero byte, or there are more than 65,535 words.
 pub fn try_encode(alloc: Global, i: &Inst) -> Result<Option<RawInst>, NoMemory>
     ensures some { IfOk result (λ found. IfSome found (λ r. IsInst i.now × (r ≡ raw_of i.now))) }
@@ -124,7 +124,7 @@ pub fn try_encode(alloc: Global, i: &Inst) -> Result<Option<RawInst>, NoMemory>
     Ok(Some(raw))
 }
 
-/// Whether the words of an instruction are read by the form of its opcode as that instruction.
+/// Whether the words of an instruction are read by the grammar of its opcode as that instruction.
 fn is_read_again(
     alloc: Global,
     opcode: Opcode,
@@ -140,12 +140,12 @@ fn is_read_again(
 {
     match inst_by(alloc, opcode, word, op, words) {
         Ok(read) => Ok(is_same_inst(&read, i)),
-        Err(Fail::Refused(WrongForm)) => Ok(false),
+        Err(Fail::Refused(WrongOperands)) => Ok(false),
         Err(Fail::NoMemory) => Err(NoMemory),
     }
 }
 
-/// Whether the result type, the result id and the operands have the form of the opcode, and no text a zero byte, however
+/// Whether the result type, the result id and the operands follow the grammar of the opcode, and no text a zero byte, however
 /// many words the instruction would have (SPIR-V 1.6 section 2.3).
 pub fn is_formed(alloc: Global, i: &Inst) -> Result<bool, NoMemory>
     ensures { IfOk result (λ formed. IsTrue formed ↔ IsFormed i.now) }

@@ -1,4 +1,4 @@
-//! Instructions and their words: reading and writing by the forms of the opcodes (SPIR-V 1.6 section 3, Instructions).
+//! Instructions and their words: reading and writing by the grammars of the opcodes (SPIR-V 1.6 section 3, Instructions).
 #![tactic(auto)]
 
 pub mod addressing_model;
@@ -10,8 +10,8 @@ pub mod decoration;
 mod encoding;
 pub mod execution_mode;
 pub mod execution_model;
-mod forms;
 pub mod glsl;
+mod grammar;
 pub mod memory_model;
 mod module;
 pub mod op;
@@ -25,6 +25,6 @@ pub use decoding::{
     decode, decode_all, instructions_stand_at_their_words, one_list_reading, one_reading,
 };
 pub use encoding::{encode, is_formed, try_encode};
-pub use forms::{Head, Opcode, Part, Rest};
+pub use grammar::{Head, Opcode, Part, Rest};
 pub use module::{DecodedModule, GREATEST_BOUND, WORD_LIMIT};
 pub use opcodes::{all_opcodes, opcode_of};

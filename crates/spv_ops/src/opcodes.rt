@@ -1,19 +1,19 @@
-//! The opcodes that are read, each with its form (SPIR-V 1.6 section 3, Instructions): the table of `specs/Opcodes.antt`,
+//! The opcodes that are read, each with its grammar (SPIR-V 1.6 section 3, Instructions): the table of `specs/Opcodes.antt`,
 //! which it is proved to be.
 ghost use Rattle.std.specs.Prelude.{◌≡◌, map};
 ghost use Rattle.std.specs.Option.{option_map};
-ghost use Rattle.spv_ops.specs.Forms.{row_with, row_of};
+ghost use Rattle.spv_ops.specs.Grammar.{row_with, row_of};
 ghost use Rattle.spv_ops.specs.Opcodes.{table};
 
-use crate::forms::Head::{Plain, Result, TypedResult as Typed};
-use crate::forms::Opcode;
-use crate::forms::Part::{Id, Literal, MayEnd, MemoryOperands, String};
-use crate::forms::Rest::{
+use crate::grammar::Head::{Plain, Result, TypedResult as Typed};
+use crate::grammar::Opcode;
+use crate::grammar::Part::{Id, Literal, MayEnd, MemoryOperands, String};
+use crate::grammar::Rest::{
     Decoration, ExecutionMode, ExecutionModeIds, IdPairs, Ids, Literals, LoopControl, Nothing,
 };
 use crate::op::*;
 
-/// Each opcode that is read, with its form.
+/// Each opcode that is read, with its grammar.
 const OPCODES: [Opcode; 135] = [
     (NOP, "Nop", Plain, &[], Nothing),
     (FUNCTION_END, "FunctionEnd", Plain, &[], Nothing),
@@ -435,7 +435,7 @@ fn found_in(mut table: &'static [Opcode], number: u16) -> Option<Opcode>
     None
 }
 
-/// Each opcode that is read, with its form.
+/// Each opcode that is read, with its grammar.
 pub fn all_opcodes() -> &'static [Opcode]
     ensures { map (λ o. (o.0, o.1.now, o.2, o.3.now, o.4)) result.now ≡ table }
 {

@@ -1,4 +1,4 @@
-//! Reading operands by a form.
+//! Reading operands by a grammar.
 ghost use Rattle.std.specs.Prelude.{◌≡◌, ◌≤◌, ◌==◌};
 ghost use Rattle.std.specs.List.{list_all};
 ghost use Rattle.spv_base.specs.Answers.{Answers};
@@ -6,31 +6,31 @@ ghost use Rattle.spv_ops.specs.Strings.{text_len, is_padded, text_at};
 ghost use Rattle.spv_ops.specs.Reading.{word_at, memory_operands_at, part_at, ends_at, operands_of, head_at};
 ghost use Rattle.spv_ops.specs.Steps.{seen, after};
 
-use crate::forms::{Head, Part, Rest};
+use crate::grammar::{Head, Part, Rest};
 use crate::rests::{is_rest, push_rest};
 use spv_base::{Fail, Operand, Operands, Text};
 use std::alloc::Global;
 
-/// The words are not of the form.
+/// The words are not of the grammar.
 #[derive(Clone, Copy)]
-pub struct WrongForm;
+pub struct WrongOperands;
 
-impl From<WrongForm> for Fail<WrongForm> {
+impl From<WrongOperands> for Fail<WrongOperands> {
     ghost use Rattle.std.specs.Prelude.{◌≡◌};
     ghost use Rattle.spv_base.specs.declared.causes.Fail.TheVariants.{Refused};
 
     ghost from_gives = { λ refusal e. e ≡ Refused refusal };
 
-    fn from(refusal: WrongForm) -> Fail<WrongForm> {
+    fn from(refusal: WrongOperands) -> Fail<WrongOperands> {
         Fail::Refused(refusal)
     }
 }
 
-fn word_at(words: &[u32]) -> Result<(u32, &[u32]), Fail<WrongForm>>
+fn word_at(words: &[u32]) -> Result<(u32, &[u32]), Fail<WrongOperands>>
     ensures { Answers (word_at words.now) (seen (λ x. (x.0, x.1.now)) result) }
 {
     match words {
-        [] => Err(Fail::Refused(WrongForm)),
+        [] => Err(Fail::Refused(WrongOperands)),
         [word, rest @ ..] => Ok((*word, rest)),
     }
 }
@@ -67,7 +67,7 @@ fn is_padded(word: u32) -> bool
     all_zero(&word.to_le_bytes()[text_len(word)..])
 }
 
-fn text_at(alloc: Global, words: &[u32]) -> Result<(Text, &[u32]), Fail<WrongForm>>
+fn text_at(alloc: Global, words: &[u32]) -> Result<(Text, &[u32]), Fail<WrongOperands>>
     ensures { Answers (text_at words.now) (seen (λ x. (x.0, x.1.now)) result) }
 {
     let mut bytes = Vec::new(alloc);
@@ -76,25 +76,25 @@ fn text_at(alloc: Global, words: &[u32]) -> Result<(Text, &[u32]), Fail<WrongFor
         bytes.extend_from_slice(&word.to_le_bytes()[..len])?;
         if len != 4 {
             if !is_padded(*word) {
-                return Err(Fail::Refused(WrongForm));
+                return Err(Fail::Refused(WrongOperands));
             }
             return Ok((Text::from_vec(bytes), &words[i + 1..]));
         }
     }
-    Err(Fail::Refused(WrongForm))
+    Err(Fail::Refused(WrongOperands))
 }
 
 fn take_memory_operands<'a>(
     operands: &mut Operands,
     words: &'a [u32],
-) -> Result<&'a [u32], Fail<WrongForm>>
+) -> Result<&'a [u32], Fail<WrongOperands>>
     ensures { Answers (after operands.old (memory_operands_at words.now)) (seen (λ rest. (operands.new, rest.now)) result) }
 {
     let [mask, rest @ ..] = words else {
-        return Err(Fail::Refused(WrongForm));
+        return Err(Fail::Refused(WrongOperands));
     };
     if 7 < *mask {
-        return Err(Fail::Refused(WrongForm));
+        return Err(Fail::Refused(WrongOperands));
     }
     operands.push(Operand::Lit(*mask))?;
     if *mask & 2 == 0 {
@@ -112,7 +112,7 @@ fn take_part<'a>(
     operands: &mut Operands,
     part: Part,
     words: &'a [u32],
-) -> Result<&'a [u32], Fail<WrongForm>>
+) -> Result<&'a [u32], Fail<WrongOperands>>
     ensures { Answers (after operands.old (part_at part words.now)) (seen (λ rest. (operands.new, rest.now)) result) }
 {
     match part {
@@ -151,7 +151,7 @@ pub fn operands_of(
     parts: &[Part],
     rest: Rest,
     words: &[u32],
-) -> Result<Operands, Fail<WrongForm>>
+) -> Result<Operands, Fail<WrongOperands>>
     ensures { Answers (operands_of parts.now rest words.now) result }
 {
     let mut operands = Operands::new(alloc);
@@ -163,14 +163,14 @@ pub fn operands_of(
         words = take_part(alloc, &mut operands, *part, words)?;
     }
     if !is_rest(rest, words) {
-        return Err(Fail::Refused(WrongForm));
+        return Err(Fail::Refused(WrongOperands));
     }
     push_rest(&mut operands, rest, words)?;
     Ok(operands)
 }
 
 /// The result type, the result id, and the words after them.
-pub fn head_at(head: Head, words: &[u32]) -> Result<(u32, u32, &[u32]), Fail<WrongForm>>
+pub fn head_at(head: Head, words: &[u32]) -> Result<(u32, u32, &[u32]), Fail<WrongOperands>>
     ensures { Answers (head_at head words.now) (seen (λ x. (x.0, x.1, x.2.now)) result) }
 {
     match head {

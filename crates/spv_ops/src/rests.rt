@@ -1,9 +1,9 @@
-//! The words after the parts of a form, up to the end of the instruction.
+//! The words after the parts of a grammar, up to the end of the instruction.
 ghost use Rattle.std.specs.Prelude.{◌≡◌, ◌++◌, map, OnOk};
 ghost use Rattle.spv_base.specs.declared.instructions.Operand.TheVariants.{Id, Lit};
 ghost use Rattle.spv_ops.specs.Rests.{has_one_literal, is_decorated_by, is_rest, rest_operands};
 
-use crate::forms::Rest;
+use crate::grammar::Rest;
 use crate::{decoration, execution_mode};
 use spv_base::{NoMemory, Operand, Operands};
 

@@ -11,7 +11,7 @@ use Rattle.spv_base.specs.Entries.{reads}
 use Rattle.spv_base.specs.Order.{AreDistinct, Ascend}
 use Rattle.spv_base.specs.declared.instructions.Inst.{Inst}
 use Rattle.spv_base.specs.declared.values.Root.{Root}
-use Rattle.spv_ops.specs.Forms.{row_of}
+use Rattle.spv_ops.specs.Grammar.{row_of}
 use Rattle.spv_ops.specs.Opcodes.{table}
 use Rattle.spv_ops.specs.Module.{Decoded}
 use Rattle.spv_index.specs.declared.classes.Class.TheVariants.{Function}

@@ -6,7 +6,7 @@ use Rattle.std.specs.Option.{IsSomeAnd, MatchOption}
 use Rattle.std.proofs.lemmas.Bool.{and_parts}
 use Rattle.std.proofs.lemmas.List.{map-append}
 use Rattle.std.proofs.lemmas.List.Elements.{All-append, All-cons, All-head, All-nil, All-tail}
-use Rattle.spv_base.specs.Lane.{IsLane, Lane}
+use Rattle.spv_base.specs.Cell.{IsCell, Cell}
 use Rattle.spv_base.specs.Parts.{parts_in}
 use Rattle.spv_base.specs.declared.values.Value.{Value, out-Value}
 use Rattle.spv_base.specs.declared.values.Value.TheOpen.{Value-F}
@@ -23,32 +23,32 @@ use Rattle.spv_types.proofs.RowLemmas.{many_row, scalar_row}
 use Rattle.spv_types.proofs.RowValues.{no_pointer}
 use Rattle.spv_plans.proofs.CountLemmas.{scalar_plain, sized_plain, Plain, members_plain}
 
-abbrev pub widths : List Lane → List ℕ
-widths cs = map (λ (c : Lane). c.width) cs
+abbrev pub widths : List Cell → List ℕ
+widths cs = map (λ (c : Cell). c.width) cs
 
 -- ---- leaves whose numbers fit
 
 -- the values of a shape have such leaves
 abbrev Fit : (Value → Type 0) → Type 0
-Fit P = (v : Value) → P v → All IsLane (leaves v)
+Fit P = (v : Value) → P v → All IsCell (leaves v)
 
-scalar_fits : (w : ℕ) (v : Value) → IsSomeAnd (scalar_in (out-Value v)) (λ c. (c.width ≡ w) × IsLane c) → All IsLane (leaves v)
+scalar_fits : (w : ℕ) (v : Value) → IsSomeAnd (scalar_in (out-Value v)) (λ c. (c.width ≡ w) × IsCell c) → All IsCell (leaves v)
 scalar_fits w v h = level (out-Value v) refl h
   where
-    level : (l : Value-F Value) → out-Value v ≡ l → IsSomeAnd (scalar_in l) (λ c. (c.width ≡ w) × IsLane c) → All IsLane (leaves v)
-    level (Value-F.Scalar c) e h = subst (All IsLane) (sym (scalar_row v c e)) (All-cons IsLane c [] h.1 (All-nil IsLane))
+    level : (l : Value-F Value) → out-Value v ≡ l → IsSomeAnd (scalar_in l) (λ c. (c.width ≡ w) × IsCell c) → All IsCell (leaves v)
+    level (Value-F.Scalar c) e h = subst (All IsCell) (sym (scalar_row v c e)) (All-cons IsCell c [] h.1 (All-nil IsCell))
     level (Value-F.List vs) e h = absurd h
     level (Value-F.Ptr p) e h = absurd h
 
-each_fits : (P : Value → Type 0) (vs : List Value) → Fit P → All P vs → All IsLane (flat_map leaves vs)
-each_fits P [] fit all = All-nil IsLane
-each_fits P (v ∷ vs) fit all = All-append IsLane (leaves v) (flat_map leaves vs) (fit v (All-head P v vs all)) (each_fits P vs fit (All-tail P v vs all))
+each_fits : (P : Value → Type 0) (vs : List Value) → Fit P → All P vs → All IsCell (flat_map leaves vs)
+each_fits P [] fit all = All-nil IsCell
+each_fits P (v ∷ vs) fit all = All-append IsCell (leaves v) (flat_map leaves vs) (fit v (All-head P v vs all)) (each_fits P vs fit (All-tail P v vs all))
 
-members_fit : (shape : ℕ → Value → Type 0) (ms : List Member) (vs : List Value) → ((id : ℕ) → Fit (shape id)) → AllZip (λ (m : Member). shape m.ty) ms vs → All IsLane (flat_map leaves vs)
-members_fit shape [] [] fit all = All-nil IsLane
+members_fit : (shape : ℕ → Value → Type 0) (ms : List Member) (vs : List Value) → ((id : ℕ) → Fit (shape id)) → AllZip (λ (m : Member). shape m.ty) ms vs → All IsCell (flat_map leaves vs)
+members_fit shape [] [] fit all = All-nil IsCell
 members_fit shape [] (v ∷ vs) fit all = absurd all
 members_fit shape (m ∷ ms) [] fit all = absurd all
-members_fit shape (m ∷ ms) (v ∷ vs) fit all = All-append IsLane (leaves v) (flat_map leaves vs) (fit m.ty v all.0) (members_fit shape ms vs fit all.1)
+members_fit shape (m ∷ ms) (v ∷ vs) fit all = All-append IsCell (leaves v) (flat_map leaves vs) (fit m.ty v all.0) (members_fit shape ms vs fit all.1)
 
 -- ---- leaves of the same widths
 
@@ -56,17 +56,17 @@ members_fit shape (m ∷ ms) (v ∷ vs) fit all = All-append IsLane (leaves v) (
 abbrev Alike : (Value → Type 0) → Type 0
 Alike P = (v u : Value) → P v → P u → widths (leaves v) ≡ widths (leaves u)
 
-scalar_width : (w : ℕ) (v : Value) → IsSomeAnd (scalar_in (out-Value v)) (λ c. (c.width ≡ w) × IsLane c) → widths (leaves v) ≡ w ∷ []
+scalar_width : (w : ℕ) (v : Value) → IsSomeAnd (scalar_in (out-Value v)) (λ c. (c.width ≡ w) × IsCell c) → widths (leaves v) ≡ w ∷ []
 scalar_width w v h = level (out-Value v) refl h
   where
-    level : (l : Value-F Value) → out-Value v ≡ l → IsSomeAnd (scalar_in l) (λ c. (c.width ≡ w) × IsLane c) → widths (leaves v) ≡ w ∷ []
+    level : (l : Value-F Value) → out-Value v ≡ l → IsSomeAnd (scalar_in l) (λ c. (c.width ≡ w) × IsCell c) → widths (leaves v) ≡ w ∷ []
     level (Value-F.Scalar c) e h = ap widths (scalar_row v c e) ∙ ap (λ (k : ℕ). k ∷ []) h.0
     level (Value-F.List vs) e h = absurd h
     level (Value-F.Ptr p) e h = absurd h
 
-more_alike : (cs ds es fs : List Lane) → widths cs ≡ widths ds → widths es ≡ widths fs → widths (cs ++ es) ≡ widths (ds ++ fs)
+more_alike : (cs ds es fs : List Cell) → widths cs ≡ widths ds → widths es ≡ widths fs → widths (cs ++ es) ≡ widths (ds ++ fs)
 more_alike cs ds es fs h g =
-    map-append (λ (c : Lane). c.width) cs es ∙ ap (λ (ns : List ℕ). ns ++ widths es) h ∙ ap (λ (ns : List ℕ). widths ds ++ ns) g ∙ sym (map-append (λ (c : Lane). c.width) ds fs)
+    map-append (λ (c : Cell). c.width) cs es ∙ ap (λ (ns : List ℕ). ns ++ widths es) h ∙ ap (λ (ns : List ℕ). widths ds ++ ns) g ∙ sym (map-append (λ (c : Cell). c.width) ds fs)
 
 each_alike : (P : Value → Type 0) (vs us : List Value) → Alike P → length vs ≡ length us → All P vs → All P us → widths (flat_map leaves vs) ≡ widths (flat_map leaves us)
 each_alike P [] [] alike h p q = refl
@@ -126,16 +126,16 @@ module _ (ts : Types) (shape : ℕ → Value → Type 0) where
   form_fits fit (Int width sign) v p = scalar_fits width v p
   form_fits fit (Vector component count) v p =
       let a = many_is (λ vs. (length vs ≡ count) × All (shape component) vs) v p in
-      subst (All IsLane) (sym (many_row v a.0 a.1)) (each_fits (shape component) a.0 (fit component) a.2.1)
+      subst (All IsCell) (sym (many_row v a.0 a.1)) (each_fits (shape component) a.0 (fit component) a.2.1)
   form_fits fit (Array element n stride) v p =
       let a = many_is (λ vs. (Some (length vs) ≡ n) × All (shape element) vs) v p in
-      subst (All IsLane) (sym (many_row v a.0 a.1)) (each_fits (shape element) a.0 (fit element) a.2.1)
+      subst (All IsCell) (sym (many_row v a.0 a.1)) (each_fits (shape element) a.0 (fit element) a.2.1)
   form_fits fit (Runtime element stride) v p =
       let a = many_is (λ vs. All (shape element) vs) v p in
-      subst (All IsLane) (sym (many_row v a.0 a.1)) (each_fits (shape element) a.0 (fit element) a.2)
+      subst (All IsCell) (sym (many_row v a.0 a.1)) (each_fits (shape element) a.0 (fit element) a.2)
   form_fits fit (Struct members block) v p =
       let a = many_is (λ vs. AllZip (λ (m : Member). shape m.ty) members vs) v p in
-      subst (All IsLane) (sym (many_row v a.0 a.1)) (members_fit shape members a.0 fit a.2)
+      subst (All IsCell) (sym (many_row v a.0 a.1)) (members_fit shape members a.0 fit a.2)
   form_fits fit (Pointer class target) v p = absurd (no_pointer ts v target p)
   form_fits fit (Function returns parameters) v p = absurd p
 
@@ -147,12 +147,12 @@ module _ (ts : Types) where
   among_fits zero id v p = absurd p
   among_fits (suc n) id v p = here (among_fits n) (is_number n (number_of ts id)) p
     where
-      formed : ((k : ℕ) → Fit (HasShapeAmong ts no_roots n k)) → (o : Option Form) → MatchOption o ⊥ (λ f. shape_step ts no_roots (HasShapeAmong ts no_roots n) f v) → All IsLane (leaves v)
+      formed : ((k : ℕ) → Fit (HasShapeAmong ts no_roots n k)) → (o : Option Form) → MatchOption o ⊥ (λ f. shape_step ts no_roots (HasShapeAmong ts no_roots n) f v) → All IsCell (leaves v)
       formed below None p = absurd p
       formed below (Some f) p = form_fits ts (HasShapeAmong ts no_roots n) below f v p
 
       here : ((k : ℕ) → Fit (HasShapeAmong ts no_roots n k)) → (b : Bool)
-          → MatchBool b (MatchOption (form_of ts id) ⊥ (λ f. shape_step ts no_roots (HasShapeAmong ts no_roots n) f v)) (HasShapeAmong ts no_roots n id v) → All IsLane (leaves v)
+          → MatchBool b (MatchOption (form_of ts id) ⊥ (λ f. shape_step ts no_roots (HasShapeAmong ts no_roots n) f v)) (HasShapeAmong ts no_roots n id v) → All IsCell (leaves v)
       here below true p = formed below (form_of ts id) p
       here below false p = below id v p
 
@@ -175,7 +175,7 @@ module _ (ts : Types) where
       here below true p q = formed below (form_of ts id) refl p q
       here below false p q = below id plain v u p q
 
-pub leaves_fit : (ts : Types) (id : ℕ) (v : Value) → HasShape ts no_roots id v → All IsLane (leaves v)
+pub leaves_fit : (ts : Types) (id : ℕ) (v : Value) → HasShape ts no_roots id v → All IsCell (leaves v)
 unfolding HasShape
 leaves_fit ts id v p = among_fits ts (length ts) id v p
 

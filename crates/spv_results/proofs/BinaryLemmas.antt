@@ -4,7 +4,7 @@ use Rattle.std.specs.Simd.Lanes.{zip2}
 use Rattle.spv_alu.specs.Binary.{BinaryRow, BinaryWidths, arithmetic, binary_lane, binary_op, binary_opcodes, binary_row, binary_width, logical, shift, signed_comparison, signed_division, unsigned_comparison, unsigned_division}
 use Rattle.spv_alu.specs.Integers.{IsWidth}
 use Rattle.spv_alu.specs.declared.binary_op.BinaryOp.{BinaryOp}
-use Rattle.spv_base.specs.Lane.{Lane}
+use Rattle.spv_base.specs.Cell.{Cell}
 use Rattle.spv_base.specs.declared.instructions.Inst.{Inst}
 use Rattle.spv_base.specs.declared.values.Value.{Value}
 use Rattle.spv_types.specs.Laws.{AreSound}
@@ -45,14 +45,14 @@ binary_rule op operation h =
     (refl, (refl, (refl, (refl, (refl, (refl, (refl, (refl, (refl, (refl, (refl, (refl, (refl, (refl, (refl, (refl, (refl, (refl, (refl, (refl, (refl, (refl, (refl, (refl, (refl, (refl, (refl, (refl, tt)))))))))))))))))))))))))))) h
 
 -- two operands of n lanes each, for a result of as many
-record ArePaired (ts : Types) (ty : ℕ) (cs ds : List Lane) (v w : ℕ) (e : Element) : Type 0 where
+record ArePaired (ts : Types) (ty : ℕ) (cs ds : List Cell) (v w : ℕ) (e : Element) : Type 0 where
   n : ℕ
   first : AreScalars v n cs
   second : AreScalars w n ds
   result : lanes_of ts ty ≡ Some (repeated n e)
 
 -- the same, where their widths are those that an operation of a kind takes, and the result has the width that it gives
-record DoMeet (ts : Types) (row : BinaryRow) (ty : ℕ) (cs ds : List Lane) : Type 0 where
+record DoMeet (ts : Types) (row : BinaryRow) (ty : ℕ) (cs ds : List Cell) : Type 0 where
   v : ℕ
   w : ℕ
   e : Element
@@ -118,6 +118,6 @@ module _ (a : Accepted) (i : Inst) (x y : Value) (sound : AreSound a.types) (fir
 
     pub binary_shape : (v : Value) → v ≡ binary_value operation x y → IsResult a i v
     binary_shape v e =
-        let cs : List Lane = zip2 (binary_lane operation) (leaves x) (leaves y) in
+        let cs : List Cell = zip2 (binary_lane operation) (leaves x) (leaves y) in
         let scalars : AreScalars (width_in met.e) met.pair.n cs = subst (λ (w : ℕ). AreScalars w met.pair.n cs) met.width (binary_scalars operation met.pair.n (leaves x) (leaves y) meeting) in
         subst (IsResult a i) (sym e) (lanes_fit a.types i.ty met.pair.n met.e cs sound met.pair.result scalars)

@@ -4,7 +4,7 @@ use Rattle.std.proofs.lemmas.List.Elements.{All-head}
 use Rattle.std.specs.List.{range_with_len}
 use Rattle.spv_alu.specs.Integers.{IsWidth}
 use Rattle.spv_alu.specs.Vectors.{bitcast_of, component_width}
-use Rattle.spv_base.specs.Lane.{IsLane, Lane}
+use Rattle.spv_base.specs.Cell.{IsCell, Cell}
 use Rattle.spv_base.specs.declared.instructions.Inst.{Inst}
 use Rattle.spv_base.specs.declared.values.Value.{Value}
 use Rattle.spv_types.specs.Laws.{AreSound}
@@ -28,9 +28,9 @@ unfolding rule_of
 bitcast_rule = refl
 
 -- the width of the first lane, where there is one
-first_width : (w n : ℕ) (cs : List Lane) → 0 < n → AreScalars w n cs → component_width cs ≡ w
+first_width : (w n : ℕ) (cs : List Cell) → 0 < n → AreScalars w n cs → component_width cs ≡ w
 first_width w n [] some s = let none = s.count in absurd (omega arith)
-first_width w n (c ∷ cs) some s = (All-head (λ (d : Lane). (d.width ≡ w) × IsLane d) c cs s.fit).0
+first_width w n (c ∷ cs) some s = (All-head (λ (d : Cell). (d.width ≡ w) × IsCell d) c cs s.fit).0
 
 module _ (a : Accepted) (i : Inst) (x : Value) (sound : AreSound a.types) (first : IsOperand a i 0 x) (is : i.op ≡ 124) (kept : KeepsLanes (known a) i) where
   typed : IsTyped a.types Bitcast i.ty (types_after (known a) i 0)
@@ -63,7 +63,7 @@ module _ (a : Accepted) (i : Inst) (x : Value) (sound : AreSound a.types) (first
       let w : ℕ = typed.1 in
       let count : lane_count a.types i.ty ≡ n = count_is a.types i.ty n (Int w) typed.4 in
       let width : lane_width a.types i.ty ≡ w = width_is a.types i.ty n (Int w) typed.4 in
-      let cs : List Lane = map (bitcast_of (leaves x) (lane_width a.types i.ty)) (range_with_len 0 (lane_count a.types i.ty)) in
+      let cs : List Cell = map (bitcast_of (leaves x) (lane_width a.types i.ty)) (range_with_len 0 (lane_count a.types i.ty)) in
       let scalars : AreScalars w n cs =
       subst (λ (k : ℕ). AreScalars w k cs) count (subst (λ (k : ℕ). AreScalars k (lane_count a.types i.ty) cs) width (bitcast_scalars (lane_count a.types i.ty) (lane_width a.types i.ty) (leaves x) casting)) in
       subst (IsResult a i) (sym e) (lanes_fit a.types i.ty n (Int w) cs sound typed.4 scalars)

@@ -8,7 +8,7 @@ use Rattle.spv_base.specs.Parts.{part_at, with_part}
 use Rattle.spv_base.specs.declared.instructions.Inst.{Inst}
 use Rattle.spv_base.specs.declared.values.Value.{Value, List as Many}
 use Rattle.spv_types.specs.declared.forms.Form.{Form}
-use Rattle.spv_types.specs.Cuts.{cut}
+use Rattle.spv_types.specs.Saturation.{saturated}
 use Rattle.spv_types.specs.Leaves.{leaf_of}
 use Rattle.spv_types.specs.Queries.{components_in}
 use Rattle.spv_types.specs.Rows.{HasRow, leaves, no_roots}
@@ -60,7 +60,7 @@ named_in a i v is rule sized operand short =
     is_named (known a) no_roots is.types (counted a is) (drop 1 i.operands) rule.0 i.ty v (operand rule.0 rule.1) rule.2.1 sized short
 
 pub extract_row : (a : Accepted) (i : Inst) (v : Value) → ∥ IsValid a ∥₁ → (rule : KeepsExtract (known a) i) → has_runtime a.types i.ty ≡ false → IsOperand a i 0 v → length (leaves v) < 2 ^ 64
-    → IsRowAt v (numbers (drop 1 i.operands)) (option_map_or cut (leaf_of a.types rule.0 (numbers (drop 1 i.operands))) 0) (room_of a i)
+    → IsRowAt v (numbers (drop 1 i.operands)) (option_map_or saturated (leaf_of a.types rule.0 (numbers (drop 1 i.operands))) 0) (room_of a i)
 extract_row a i v valid rule sized operand short =
     row_at v (numbers (drop 1 i.operands)) _ _ (∥∥₁_map valid (λ (is : IsValid a). (named_in a i v is rule sized operand short).row))
 
@@ -75,12 +75,12 @@ extract_shape a i v w valid rule sized operand short at = ∥∥₁_elim valid (
 -- ---- OpCompositeInsert
 
 pub record Inserts (a : Accepted) (i : Inst) (u v : Value) : Type 0 where
-  pub place : IsRowAt v (numbers (drop 2 i.operands)) (option_map_or cut (leaf_of a.types i.ty (numbers (drop 2 i.operands))) 0) (length (leaves u))
+  pub place : IsRowAt v (numbers (drop 2 i.operands)) (option_map_or saturated (leaf_of a.types i.ty (numbers (drop 2 i.operands))) 0) (length (leaves u))
   pub room : room_of a i ≡ length (leaves v)
   pub shape : IsResult a i (with_part v (numbers (drop 2 i.operands)) u)
 
 record InsertsIn (a : Accepted) (i : Inst) (u v : Value) : Type 0 where
-  row : HasRow v (numbers (drop 2 i.operands)) (option_map_or cut (leaf_of a.types i.ty (numbers (drop 2 i.operands))) 0) (length (leaves u))
+  row : HasRow v (numbers (drop 2 i.operands)) (option_map_or saturated (leaf_of a.types i.ty (numbers (drop 2 i.operands))) 0) (length (leaves u))
   room : room_of a i ≡ length (leaves v)
   shape : IsResult a i (with_part v (numbers (drop 2 i.operands)) u)
 
@@ -92,7 +92,7 @@ inserts_in a i u v is rule sized object composite =
     let plain = named_plain (known a) no_roots is.types (sized_counted a.types (counted a is)) (drop 2 i.operands) i.ty ty sized rule.1.2.1 in
     let n = is_named (known a) no_roots is.types (counted a is) (drop 2 i.operands) i.ty ty v whole rule.1.2.1 plain (few_cells a i v is sized whole) in
     record {
-      row = subst (HasRow v (numbers (drop 2 i.operands)) (option_map_or cut (leaf_of a.types i.ty (numbers (drop 2 i.operands))) 0)) (sym (room_is a.types no_roots (counted a is) ty u plain part)) n.row;
+      row = subst (HasRow v (numbers (drop 2 i.operands)) (option_map_or saturated (leaf_of a.types i.ty (numbers (drop 2 i.operands))) 0)) (sym (room_is a.types no_roots (counted a is) ty u plain part)) n.row;
       room = sym (fills_room a i v is sized whole);
       shape = n.whole u part;
     }
@@ -112,8 +112,8 @@ inserts a i u v valid rule sized object composite =
 pub constructed_is : (o : Option Form) (vs : List Value) (joins : Bool) (v : Value) → v ≡ (if joins then joined_value vs else Many vs) → joins ≡ is_some (components_in o) → v ≡ constructed o vs
 constructed_is o vs joins v made is = made ∙ ap (λ (b : Bool). if b then joined_value vs else Many vs) is ∙ constructed_by o vs
 
-pub start_is : (ts us : Types) (id whole : ℕ) (path given : List ℕ) (n : ℕ) → n ≡ option_map_or cut (leaf_of us id path) 0 → us ≡ ts → id ≡ whole → path ≡ given → n ≡ option_map_or cut (leaf_of ts whole given) 0
-start_is ts us id whole path given n is e f g = is ∙ ap (λ (t : Types). option_map_or cut (leaf_of t id path) 0) e ∙ ap (λ (k : ℕ). option_map_or cut (leaf_of ts k path) 0) f ∙ ap (λ (p : List ℕ). option_map_or cut (leaf_of ts whole p) 0) g
+pub start_is : (ts us : Types) (id whole : ℕ) (path given : List ℕ) (n : ℕ) → n ≡ option_map_or saturated (leaf_of us id path) 0 → us ≡ ts → id ≡ whole → path ≡ given → n ≡ option_map_or saturated (leaf_of ts whole given) 0
+start_is ts us id whole path given n is e f g = is ∙ ap (λ (t : Types). option_map_or saturated (leaf_of t id path) 0) e ∙ ap (λ (k : ℕ). option_map_or saturated (leaf_of ts k path) 0) f ∙ ap (λ (p : List ℕ). option_map_or saturated (leaf_of ts whole p) 0) g
 
 pub row_is : (v : Value) (path given : List ℕ) (n m k l : ℕ) → path ≡ given → n ≡ m → k ≡ l → IsRowAt v given m l → IsRowAt v path n k
 row_is v path given n m k l e f g row = rw (e, f, g) row

@@ -6,7 +6,7 @@ use Rattle.std.specs.Option.{is_some, option_and_then, option_map_or}
 use Rattle.std.proofs.lemmas.Bool.{eqb-true}
 use Rattle.std.proofs.lemmas.List.Elements.{All-append, All-cons, All-head, All-nil, All-tail}
 use Rattle.std.proofs.lemmas.List.Sums.{sum_by-cons}
-use Rattle.spv_base.specs.Lane.{Lane}
+use Rattle.spv_base.specs.Cell.{Cell}
 use Rattle.spv_base.specs.declared.instructions.Operand.{Operand}
 use Rattle.spv_base.specs.declared.values.Root.{Root}
 use Rattle.spv_base.specs.declared.values.Value.{Value, List as Many}
@@ -66,7 +66,7 @@ members_have k shape (m ∷ ms) (o ∷ os) (v ∷ vs) all have = (have.0 m.ty al
 
 -- ---- components
 
-append_lanes : (w n m : ℕ) (cs ds : List Lane) → AreScalars w n cs → AreScalars w m ds → AreScalars w (n + m) (cs ++ ds)
+append_lanes : (w n m : ℕ) (cs ds : List Cell) → AreScalars w n cs → AreScalars w m ds → AreScalars w (n + m) (cs ++ ds)
 append_lanes w n m cs ds s r = record {
   count = length-append cs ds ∙ ap (λ (i : ℕ). i + length ds) s.count ∙ ap (λ (i : ℕ). n + i) r.count;
   fit = All-append (HasWidth w) cs ds s.fit r.fit;

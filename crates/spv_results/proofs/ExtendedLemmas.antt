@@ -3,7 +3,7 @@ use Rattle.std.proofs.Common.{◌≡◌, ℕ, ◌+◌, ◌*◌, Bool, Some, List
 use Rattle.std.specs.List.{AllZip}
 use Rattle.spv_alu.specs.Extended.{extended_op, extended_opcodes}
 use Rattle.spv_alu.specs.declared.extended_op.ExtendedOp.{ExtendedOp}
-use Rattle.spv_base.specs.Lane.{Lane}
+use Rattle.spv_base.specs.Cell.{Cell}
 use Rattle.spv_base.specs.declared.instructions.Inst.{Inst}
 use Rattle.spv_base.specs.declared.values.Value.{Value, List as Many}
 use Rattle.spv_base.proofs.PartLemmas.{out_many}
@@ -69,8 +69,8 @@ module _ (a : Accepted) (i : Inst) (operation : ExtendedOp) (x y : Value) (sound
   value_shape : IsResult a i (extended_value operation x y)
   unfolding extended_value
   value_shape =
-      let low : List Lane = low_lanes operation (leaves x) (leaves y) in
-      let high : List Lane = high_lanes operation (leaves x) (leaves y) in
+      let low : List Cell = low_lanes operation (leaves x) (leaves y) in
+      let high : List Cell = high_lanes operation (leaves x) (leaves y) in
       let n : ℕ = typed.1 + typed.1 in
       pair_shape a.types i.ty typed.0 typed.3 typed.4 typed.5 (of_lanes low) (of_lanes high) sound typed.9 typed.10 typed.11
       (lanes_fit a.types typed.0 typed.1 (Int typed.2) low sound typed.7 (low_scalars operation n (leaves x) (leaves y) extending))

@@ -6,7 +6,7 @@ use Rattle.spv_alu.specs.Fields.{field_lane, field_op, field_opcodes}
 use Rattle.spv_alu.specs.Integers.{IsWidth}
 use Rattle.spv_alu.specs.declared.field_op.FieldOp.{FieldOp}
 use Rattle.spv_alu.specs.declared.field_op.FieldOp.TheVariants.{BitFieldInsert, BitFieldSExtract, BitFieldUExtract}
-use Rattle.spv_base.specs.Lane.{Lane}
+use Rattle.spv_base.specs.Cell.{Cell}
 use Rattle.spv_base.specs.declared.instructions.Inst.{Inst}
 use Rattle.spv_base.specs.declared.values.Value.{Value}
 use Rattle.spv_types.specs.Laws.{AreSound}
@@ -44,7 +44,7 @@ extraction_rule BitFieldSExtract other = refl
 extraction_rule BitFieldUExtract other = refl
 
 -- bases and what is inserted, lane by lane, for a result of a type, and the lanes of an offset and a count
-record HaveField (ts : Types) (ty : ℕ) (bases inserts offsets counts : List Lane) : Type 0 where
+record HaveField (ts : Types) (ty : ℕ) (bases inserts offsets counts : List Cell) : Type 0 where
   n : ℕ
   w : ℕ
   fits : IsWidth w
@@ -54,7 +54,7 @@ record HaveField (ts : Types) (ty : ℕ) (bases inserts offsets counts : List La
   count : length counts ≡ 1
   result : lanes_of ts ty ≡ integers n w
 
-module _ (ts : Types) (ty : ℕ) (bases inserts offsets counts : List Lane) (h : HaveField ts ty bases inserts offsets counts) where
+module _ (ts : Types) (ty : ℕ) (bases inserts offsets counts : List Cell) (h : HaveField ts ty bases inserts offsets counts) where
   abbrev having : HaveFields bases inserts h.n
   having = record { width = h.w; fits = h.fits; base = scalars_are_lanes h.w h.n bases h.base; insert = h.insert }
 
@@ -64,7 +64,7 @@ module _ (ts : Types) (ty : ℕ) (bases inserts offsets counts : List Lane) (h :
 shape_of : (a : Accepted) (i : Inst) (operation : FieldOp) (base insert offset count : Value) → AreSound a.types → HaveField a.types i.ty (leaves base) (leaves insert) (leaves offset) (leaves count)
     → IsResult a i (field_value operation base insert offset count)
 shape_of a i operation base insert offset count sound h =
-    let cs : List Lane = zip2 (λ (b c : Lane). field_lane operation b c (lane_of offset) (lane_of count)) (leaves base) (leaves insert) in
+    let cs : List Cell = zip2 (λ (b c : Cell). field_lane operation b c (lane_of offset) (lane_of count)) (leaves base) (leaves insert) in
     let may = having a.types i.ty (leaves base) (leaves insert) (leaves offset) (leaves count) h in
     lanes_fit a.types i.ty h.n (Int h.w) cs sound h.result (field_scalars operation (lane_of offset) (lane_of count) h.n (leaves base) (leaves insert) may)
 

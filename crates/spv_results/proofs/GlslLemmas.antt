@@ -4,7 +4,7 @@ use Rattle.std.specs.Option.{option_map}
 use Rattle.spv_alu.specs.Glsl.{glsl_lane}
 use Rattle.spv_alu.specs.Integers.{IsWidth}
 use Rattle.spv_alu.specs.declared.glsl_op.GlslOp.{GlslOp}
-use Rattle.spv_base.specs.Lane.{Lane}
+use Rattle.spv_base.specs.Cell.{Cell}
 use Rattle.spv_base.specs.declared.instructions.Inst.{Inst}
 use Rattle.spv_base.specs.declared.values.Value.{Value}
 use Rattle.spv_index.specs.Classes.{is_debug}
@@ -54,7 +54,7 @@ typed_glsl k i n (inr kept) none count =
 -- ---- operands
 
 -- three rows of n integers of one width, for a result of as many
-record DoJoin (ts : Types) (ty : ℕ) (cs ds es : List Lane) : Type 0 where
+record DoJoin (ts : Types) (ty : ℕ) (cs ds es : List Cell) : Type 0 where
   n : ℕ
   w : ℕ
   fits : IsWidth w
@@ -63,7 +63,7 @@ record DoJoin (ts : Types) (ty : ℕ) (cs ds es : List Lane) : Type 0 where
   third : AreScalars w n es
   result : lanes_of ts ty ≡ integers n w
 
-abbrev joining : (ts : Types) (ty : ℕ) (cs ds es : List Lane) (h : DoJoin ts ty cs ds es) → MayJoin cs ds es h.n
+abbrev joining : (ts : Types) (ty : ℕ) (cs ds es : List Cell) (h : DoJoin ts ty cs ds es) → MayJoin cs ds es h.n
 joining ts ty cs ds es h = record {
   width = h.w;
   fits = h.fits;
@@ -72,14 +72,14 @@ joining ts ty cs ds es h = record {
   third = scalars_are_lanes h.w h.n es h.third;
 }
 
-may_join : (ts : Types) (ty : ℕ) (cs ds es : List Lane) (n : ℕ) → DoJoin ts ty cs ds es → n ≡ length cs → MayJoin cs ds es n
+may_join : (ts : Types) (ty : ℕ) (cs ds es : List Cell) (n : ℕ) → DoJoin ts ty cs ds es → n ≡ length cs → MayJoin cs ds es n
 may_join ts ty cs ds es n h long = subst (MayJoin cs ds es) (sym (long ∙ h.first.count)) (joining ts ty cs ds es h)
 
 -- an operand may be passed again, as a copy
 module _ (a : Accepted) (i : Inst) (operation : GlslOp) (sound : AreSound a.types) (none : is_debug (known a).sets i ≡ false) (kept : KeepsExtended (known a) i) where
   shape_of : (x y z : Value) → DoJoin a.types i.ty (leaves x) (leaves y) (leaves z) → IsResult a i (glsl_value operation x y z)
   shape_of x y z h =
-      let cs : List Lane = zip3 (glsl_lane operation) (leaves x) (leaves y) (leaves z) in
+      let cs : List Cell = zip3 (glsl_lane operation) (leaves x) (leaves y) (leaves z) in
       let may = joining a.types i.ty (leaves x) (leaves y) (leaves z) h in
       lanes_fit a.types i.ty h.n (Int h.w) cs sound h.result (glsl_scalars operation h.n (leaves x) (leaves y) (leaves z) may)
 

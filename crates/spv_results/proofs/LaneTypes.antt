@@ -4,7 +4,7 @@ use Rattle.std.proofs.Common.{◌≡◌, ◌∙◌, ℕ, ◌<◌, ◌≤◌, ◌
 use Rattle.std.specs.Prelude.{nat_le}
 use Rattle.std.specs.Option.{option_and_then, option_map, option_map_or}
 use Rattle.spv_alu.specs.Integers.{IsWidth}
-use Rattle.spv_base.specs.Lane.{Lane}
+use Rattle.spv_base.specs.Cell.{Cell}
 use Rattle.spv_base.specs.declared.instructions.Inst.{Inst}
 use Rattle.spv_base.specs.declared.values.Value.{Value}
 use Rattle.spv_types.specs.declared.forms.Form.{Form}
@@ -118,7 +118,7 @@ lane_type ts sound ty n e h = go (form_of ts ty) refl h
     go (Some (Function returns parameters)) is g = absurd (cc)
 
 -- lanes of a type make a value of its shape
-pub lanes_fit : (ts : Types) (ty n : ℕ) (e : Element) (cs : List Lane) → AreSound ts → lanes_of ts ty ≡ Some (repeated n e) → AreScalars (width_in e) n cs → HasShape ts no_roots ty (of_lanes cs)
+pub lanes_fit : (ts : Types) (ty n : ℕ) (e : Element) (cs : List Cell) → AreSound ts → lanes_of ts ty ≡ Some (repeated n e) → AreScalars (width_in e) n cs → HasShape ts no_roots ty (of_lanes cs)
 lanes_fit ts ty n e cs sound h s = lanes_shape ts no_roots ty (width_in e) n cs sound (lane_type ts sound ty n e h).lanes s
 
 -- a value of a type of lanes

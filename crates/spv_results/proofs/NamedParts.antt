@@ -17,13 +17,13 @@ use Rattle.spv_types.specs.Cells.{cells_of, members_cells}
 use Rattle.spv_types.specs.Laws.{AreSound}
 use Rattle.spv_types.specs.Leaves.{element_part, leaf_of, member_part, part_of}
 use Rattle.spv_types.specs.Rules.{form_has_runtime, has_runtime, is_data, is_runtime, is_scalar, is_sized_data, keep_members, keeps_member, last_type}
-use Rattle.spv_types.specs.Shapes.{HasShape, part_type, reached, shape_step}
+use Rattle.spv_types.specs.Shapes.{HasShape, part_type, reached_type, shape_step}
 use Rattle.spv_types.specs.Types.{Types, form_of}
 use Rattle.spv_types.proofs.RowCounts.{many_is}
 use Rattle.spv_types.proofs.ShapeLemmas.{shapes_are_by_forms}
 use Rattle.spv_types.proofs.OffsetLemmas.{cells_by_form}
 use Rattle.spv_mem.proofs.PartLemmas.{part_cons}
-use Rattle.spv_bodies.specs.Composites.{named, part}
+use Rattle.spv_bodies.specs.Composites.{named_type, part}
 use Rattle.spv_bodies.specs.Context.{Known}
 use Rattle.spv_results.specs.Results.{numbers}
 
@@ -249,16 +249,16 @@ module _ (ts : Types) (roots : Root → Option ℕ) (sound : AreSound ts) (count
   unfolding leaf_of
   leaf_cons id i b t f path is at = rw (is, at) refl
 
-  reached_cons : (id i t : ℕ) (f : Form) (path : List ℕ) → form_of ts id ≡ Some f → part_type f i ≡ Some t → reached ts id (i ∷ path) ≡ reached ts t path
-  unfolding reached
+  reached_cons : (id i t : ℕ) (f : Form) (path : List ℕ) → form_of ts id ≡ Some f → part_type f i ≡ Some t → reached_type ts id (i ∷ path) ≡ reached_type ts t path
+  unfolding reached_type
   reached_cons id i t f path is at = rw (is, at) refl
 
   leaf_nil : (id : ℕ) → leaf_of ts id [] ≡ Some 0
   unfolding leaf_of
   leaf_nil id = refl
 
-  reached_nil : (id : ℕ) → reached ts id [] ≡ Some id
-  unfolding reached
+  reached_nil : (id : ℕ) → reached_type ts id [] ≡ Some id
+  unfolding reached_type
   reached_nil id = refl
 
 -- the part that a path names, of a type
@@ -266,31 +266,31 @@ pub record IsThere (ts : Types) (id : ℕ) (path : List ℕ) (v : Value) (target
   pub before : ℕ
   pub part : Value
   pub leaf : leaf_of ts id path ≡ Some before
-  pub typed : reached ts id path ≡ Some target
+  pub typed : reached_type ts id path ≡ Some target
   pub is : part_at v path ≡ Some part
 
 -- what a first literal names
-record Names (k : Known) (id : ℕ) (o : Operand) (os : List Operand) (target : ℕ) : Type 0 where
+record NamesMember (k : Known) (id : ℕ) (o : Operand) (os : List Operand) (target : ℕ) : Type 0 where
   index : ℕ
   form : Form
   type : ℕ
   literal : literal_in o ≡ Some index
   is : form_of k.types id ≡ Some form
   part : part (Some form) index ≡ Some type
-  rest : named k type os ≡ Some target
+  rest : named_type k type os ≡ Some target
 
-names : (k : Known) (id : ℕ) (o : Operand) (os : List Operand) (target : ℕ) → named k id (o ∷ os) ≡ Some target → Names k id o os target
+names : (k : Known) (id : ℕ) (o : Operand) (os : List Operand) (target : ℕ) → named_type k id (o ∷ os) ≡ Some target → NamesMember k id o os target
 names k id o os target h = literal (literal_in o) refl h
   where
-    typed : (i : ℕ) (f : Form) → literal_in o ≡ Some i → form_of k.types id ≡ Some f → (t : Option ℕ) → part (Some f) i ≡ t → option_and_then (λ t. named k t os) t ≡ Some target → Names k id o os target
+    typed : (i : ℕ) (f : Form) → literal_in o ≡ Some i → form_of k.types id ≡ Some f → (t : Option ℕ) → part (Some f) i ≡ t → option_and_then (λ t. named_type k t os) t ≡ Some target → NamesMember k id o os target
     typed i f l e None g h = cc
     typed i f l e (Some t) g h = record { index = i; form = f; type = t; literal = l; is = e; part = g; rest = h }
 
-    formed : (i : ℕ) → literal_in o ≡ Some i → (f : Option Form) → form_of k.types id ≡ f → option_and_then (λ t. named k t os) (part f i) ≡ Some target → Names k id o os target
+    formed : (i : ℕ) → literal_in o ≡ Some i → (f : Option Form) → form_of k.types id ≡ f → option_and_then (λ t. named_type k t os) (part f i) ≡ Some target → NamesMember k id o os target
     formed i l None e h = cc
     formed i l (Some f) e h = typed i f l e (part (Some f) i) refl h
 
-    literal : (l : Option ℕ) → literal_in o ≡ l → option_and_then (λ t. named k t os) (option_and_then (part (form_of k.types id)) l) ≡ Some target → Names k id o os target
+    literal : (l : Option ℕ) → literal_in o ≡ l → option_and_then (λ t. named_type k t os) (option_and_then (part (form_of k.types id)) l) ≡ Some target → NamesMember k id o os target
     literal None e h = cc
     literal (Some i) e h = formed i e (form_of k.types id) refl h
 
@@ -298,7 +298,7 @@ number_is : (o : Operand) (os : List Operand) (i : ℕ) → literal_in o ≡ Som
 number_is o os i h = rw h refl
 
 pub named_there : (k : Known) (roots : Root → Option ℕ) → AreSound k.types → ((id : ℕ) → is_sized_data k.types id ≡ true → (n : ℕ) × (cells_of k.types id ≡ Some n))
-    → (os : List Operand) (id target : ℕ) (v : Value) → HasShape k.types roots id v → named k id os ≡ Some target → IsThere k.types id (numbers os) v target
+    → (os : List Operand) (id target : ℕ) (v : Value) → HasShape k.types roots id v → named_type k id os ≡ Some target → IsThere k.types id (numbers os) v target
 named_there k roots sound counted [] id target v shape h =
     let e : id ≡ target = cc in
     record { before = 0; part = v; leaf = leaf_nil k.types roots sound counted id; typed = reached_nil k.types roots sound counted id ∙ ap Some e; is = refl }
@@ -317,7 +317,7 @@ named_there k roots sound counted (o ∷ os) id target v shape h =
 
 -- a part of a type without a runtime array has none
 pub named_plain : (k : Known) (roots : Root → Option ℕ) → AreSound k.types → ((id : ℕ) → is_sized_data k.types id ≡ true → (n : ℕ) × (cells_of k.types id ≡ Some n))
-    → (os : List Operand) (id target : ℕ) → has_runtime k.types id ≡ false → named k id os ≡ Some target → has_runtime k.types target ≡ false
+    → (os : List Operand) (id target : ℕ) → has_runtime k.types id ≡ false → named_type k id os ≡ Some target → has_runtime k.types target ≡ false
 named_plain k roots sound counted [] id target plain h = let e : id ≡ target = cc in subst (λ (t : ℕ). has_runtime k.types t ≡ false) e plain
 named_plain k roots sound counted (o ∷ os) id target plain h =
     let n = names k id o os target h in

@@ -7,7 +7,7 @@ use Rattle.std.specs.Option.{option_map}
 use Rattle.spv_base.specs.declared.instructions.Inst.{Inst}
 use Rattle.spv_base.specs.declared.values.Value.{Value}
 use Rattle.spv_types.specs.Cells.{cells_of}
-use Rattle.spv_types.specs.Cuts.{cut}
+use Rattle.spv_types.specs.Saturation.{saturated}
 use Rattle.spv_types.specs.Rows.{leaves, no_roots}
 use Rattle.spv_types.specs.Rules.{has_runtime}
 use Rattle.spv_valid.specs.Acceptance.{Accepted}
@@ -20,11 +20,11 @@ use Rattle.spv_results.proofs.RoomLemmas.{AreCounted, room_is}
 abbrev pub room_of : Accepted → Inst → ℕ
 room_of a i = unwrap_or (cells_of a.types i.ty) 0
 
--- no number of cells is cut, by the limits on types
-pub room_whole : (a : Accepted) (i : Inst) → ∥ IsValid a ∥₁ → unwrap_or (option_map cut (cells_of a.types i.ty)) 0 ≡ room_of a i
+-- no number of cells is saturated, by the limits on types
+pub room_whole : (a : Accepted) (i : Inst) → ∥ IsValid a ∥₁ → unwrap_or (option_map saturated (cells_of a.types i.ty)) 0 ≡ room_of a i
 room_whole a i valid = ∥∥₁_elim valid (hlevel props) (λ (is : IsValid a). go (cells_of a.types i.ty) (is.limits.leaves i.ty))
   where
-    go : (o : Option ℕ) → ((n : ℕ) → o ≡ Some n → n ≤ 4194304) → unwrap_or (option_map cut o) 0 ≡ unwrap_or o 0
+    go : (o : Option ℕ) → ((n : ℕ) → o ≡ Some n → n ≤ 4194304) → unwrap_or (option_map saturated o) 0 ≡ unwrap_or o 0
     go None few = refl
     go (Some n) few = let low : n ≤ 4194304 = few n refl in omega arith
 

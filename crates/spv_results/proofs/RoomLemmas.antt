@@ -9,7 +9,7 @@ use Rattle.spv_base.specs.declared.values.Root.{Root}
 use Rattle.spv_base.specs.declared.values.Value.{Value}
 use Rattle.spv_types.specs.declared.forms.Form.{Form}
 use Rattle.spv_types.specs.Cells.{cells_of}
-use Rattle.spv_types.specs.Cuts.{cut}
+use Rattle.spv_types.specs.Saturation.{saturated}
 use Rattle.spv_types.specs.Laws.{AreSound}
 use Rattle.spv_types.specs.Leaves.{leaf_of}
 use Rattle.spv_types.specs.Rows.{HasRow, leaves}
@@ -20,7 +20,7 @@ use Rattle.spv_types.proofs.RowCounts.{shapes_count}
 use Rattle.spv_types.proofs.RowPlaces.{lies_within, part_lies}
 use Rattle.spv_types.proofs.RowShapes.{shapes_keep}
 use Rattle.spv_mem.proofs.CountLemmas.{counted_is, shape_formed}
-use Rattle.spv_bodies.specs.Composites.{named}
+use Rattle.spv_bodies.specs.Composites.{named_type}
 use Rattle.spv_bodies.specs.Context.{Known}
 use Rattle.spv_results.specs.Results.{numbers}
 use Rattle.spv_results.proofs.NamedParts.{named_there}
@@ -51,9 +51,9 @@ pub record IsNamed (k : Known) (roots : Root → Option ℕ) (os : List Operand)
   pub is : part_at v (numbers os) ≡ Some part
   pub shape : HasShape k.types roots target part
   pub whole : (u : Value) → HasShape k.types roots target u → HasShape k.types roots id (with_part v (numbers os) u)
-  pub row : HasRow v (numbers os) (option_map_or cut (leaf_of k.types id (numbers os)) 0) (unwrap_or (cells_of k.types target) 0)
+  pub row : HasRow v (numbers os) (option_map_or saturated (leaf_of k.types id (numbers os)) 0) (unwrap_or (cells_of k.types target) 0)
 
-pub is_named : (k : Known) (roots : Root → Option ℕ) → AreSound k.types → AreCounted k.types → (os : List Operand) (id target : ℕ) (v : Value) → HasShape k.types roots id v → named k id os ≡ Some target
+pub is_named : (k : Known) (roots : Root → Option ℕ) → AreSound k.types → AreCounted k.types → (os : List Operand) (id target : ℕ) (v : Value) → HasShape k.types roots id v → named_type k id os ≡ Some target
     → has_runtime k.types target ≡ false → length (leaves v) < 2 ^ 64 → IsNamed k roots os id target v
 is_named k roots sound counted os id target v h n sized short =
     let path : List ℕ = numbers os in
@@ -62,8 +62,8 @@ is_named k roots sound counted os id target v h n sized short =
     let keeps = shapes_keep k.types roots sound path id target v t.part in
     let shape = (keeps t.part h t.typed t.is).0 in
     let within : t.before + length (leaves t.part) ≤ length (leaves v) = lies_within v path t.part t.before lies in
-    let small : t.before ≡ cut t.before = omega (arith, within, short) in
-    let begins : t.before ≡ option_map_or cut (leaf_of k.types id path) 0 = small ∙ ap (λ (o : Option ℕ). option_map_or cut o 0) (sym t.leaf) in
+    let small : t.before ≡ saturated t.before = omega (arith, within, short) in
+    let begins : t.before ≡ option_map_or saturated (leaf_of k.types id path) 0 = small ∙ ap (λ (o : Option ℕ). option_map_or saturated o 0) (sym t.leaf) in
     record {
       part = t.part;
       is = t.is;

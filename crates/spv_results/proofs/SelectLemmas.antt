@@ -1,6 +1,6 @@
 -- What a selection asks of its operands, and the shape of its result.
 use Rattle.std.proofs.Common.{◌≡◌, ◌∙◌, ◌⊎◌, inl, inr, ℕ, false, Some, List, length, refl, sym, ap, subst}
-use Rattle.spv_base.specs.Lane.{Lane}
+use Rattle.spv_base.specs.Cell.{Cell}
 use Rattle.spv_base.specs.declared.instructions.Inst.{Inst}
 use Rattle.spv_base.specs.declared.values.Value.{Value}
 use Rattle.spv_types.specs.Laws.{AreSound}
@@ -55,6 +55,6 @@ module _ (a : Accepted) (i : Inst) (condition x y : Value) (sound : AreSound a.t
 
   pub select_shape : (v : Value) → v ≡ select_value condition x y → IsResult a i v
   select_shape v e =
-      let cs : List Lane = selected (leaves condition) (leaves x) (leaves y) in
+      let cs : List Cell = selected (leaves condition) (leaves x) (leaves y) in
       let s = selected_widths (leaves condition) (leaves x) (leaves y) (length (leaves x)) selecting (leaves_fit a.types i.ty x first_shape) (leaves_fit a.types i.ty y second_shape) in
       subst (IsResult a i) (sym e) (form_keeps_shape a.types i.ty x cs first_shape s.0 s.1)

@@ -2,7 +2,7 @@
 use Rattle.std.proofs.Common.{◌≡◌, ℕ, Some, [], ◌∷◌, refl, sym, subst}
 use Rattle.spv_alu.specs.Vectors.{vector_lane, vector_op, vector_opcodes}
 use Rattle.spv_alu.specs.declared.vector_op.VectorOp.{VectorOp}
-use Rattle.spv_base.specs.Lane.{Lane}
+use Rattle.spv_base.specs.Cell.{Cell}
 use Rattle.spv_base.specs.declared.instructions.Inst.{Inst}
 use Rattle.spv_base.specs.declared.values.Value.{Value, Scalar}
 use Rattle.spv_types.specs.Laws.{AreSound}
@@ -24,12 +24,12 @@ truth_rule : (op : ℕ) (operation : VectorOp) → vector_op op ≡ Some operati
 unfolding vector_op rule_of
 truth_rule op operation h = read_from (λ (k : ℕ) (o : VectorOp). rule_of k ≡ Some Reduce) op operation vector_opcodes (refl, (refl, tt)) h
 
-one_lane : (c : Lane) → of_lanes (c ∷ []) ≡ Scalar c
+one_lane : (c : Cell) → of_lanes (c ∷ []) ≡ Scalar c
 unfolding of_lanes
 one_lane c = refl
 
 pub truth_shape : (a : Accepted) (i : Inst) (x v : Value) (operation : VectorOp) → AreSound a.types → vector_op i.op ≡ Some operation → KeepsLanes (known a) i → v ≡ truth_value operation x → IsResult a i v
 truth_shape a i x v operation sound is kept e =
     let typed : IsTyped a.types Reduce i.ty (types_after (known a) i 0) = typed_by (known a) i Reduce kept (truth_rule i.op operation is) in
-    let c : Lane = vector_lane operation (leaves x) in
+    let c : Cell = vector_lane operation (leaves x) in
     subst (IsResult a i) (sym e) (subst (IsResult a i) (one_lane c) (lanes_fit a.types i.ty 1 Boolean (c ∷ []) sound typed.2 (truth_scalars operation (leaves x))))

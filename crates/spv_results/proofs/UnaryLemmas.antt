@@ -2,7 +2,7 @@
 use Rattle.std.proofs.Common.{◌≡◌, ◌∙◌, ℕ, Some, List, length, map, refl, sym, subst}
 use Rattle.spv_alu.specs.Unary.{UnaryRow, UnaryWidths, arithmetic, conversion, logical, unary_lane, unary_op, unary_opcodes, unary_row}
 use Rattle.spv_alu.specs.declared.unary_op.UnaryOp.{UnaryOp}
-use Rattle.spv_base.specs.Lane.{Lane}
+use Rattle.spv_base.specs.Cell.{Cell}
 use Rattle.spv_base.specs.declared.instructions.Inst.{Inst}
 use Rattle.spv_base.specs.declared.values.Value.{Value}
 use Rattle.spv_types.specs.Laws.{AreSound}
@@ -38,7 +38,7 @@ unary_rule op operation h =
     read_from (λ (k : ℕ) (o : UnaryOp). rule_of k ≡ Some (row_rule (unary_row o))) op operation unary_opcodes (refl, (refl, (refl, (refl, (refl, (refl, (refl, tt))))))) h
 
 -- an operand of n lanes of a width that an operation of a kind takes, for a result of as many
-record DoTurn (ts : Types) (row : UnaryRow) (ty : ℕ) (cs : List Lane) : Type 0 where
+record DoTurn (ts : Types) (row : UnaryRow) (ty : ℕ) (cs : List Cell) : Type 0 where
   n : ℕ
   from : ℕ
   e : Element
@@ -79,6 +79,6 @@ module _ (a : Accepted) (i : Inst) (x : Value) (sound : AreSound a.types) (first
 
     pub unary_shape : (v : Value) → v ≡ unary_value operation (lane_width a.types i.ty) x → IsResult a i v
     unary_shape v e =
-        let cs : List Lane = map (λ (c : Lane). unary_lane operation c (lane_width a.types i.ty)) (leaves x) in
+        let cs : List Cell = map (λ (c : Cell). unary_lane operation c (lane_width a.types i.ty)) (leaves x) in
         let scalars : AreScalars (width_in turned.e) turned.n cs = subst (λ (w : ℕ). AreScalars w turned.n cs) width (unary_scalars operation (lane_width a.types i.ty) turned.n (leaves x) turning) in
         subst (IsResult a i) (sym e) (lanes_fit a.types i.ty turned.n turned.e cs sound turned.result scalars)

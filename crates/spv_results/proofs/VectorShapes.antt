@@ -1,7 +1,7 @@
 -- What vector operations give has the shape of the result's type.
 use Rattle.std.proofs.Common.{◌≡◌, ◌∙◌, ℕ, ◌<◌, List, [], ◌∷◌, length, map, Option, Some, sym, ap, subst, arith}
 use Rattle.std.proofs.Math.ListN.{length-map}
-use Rattle.spv_base.specs.Lane.{Lane, undefined_lane}
+use Rattle.spv_base.specs.Cell.{Cell, undefined_cell}
 use Rattle.spv_base.specs.declared.values.Root.{Root}
 use Rattle.spv_base.specs.declared.values.Value.{Value, Scalar}
 use Rattle.spv_types.specs.declared.forms.Form.TheVariants.{Vector}
@@ -18,7 +18,7 @@ use Rattle.spv_effects.proofs.ResultLemmas.{extracted_scalars, inserted_scalars,
 use Rattle.spv_effects.proofs.TypeLemmas.{HasWidth, lanes_shape}
 use Rattle.spv_results.proofs.VectorTypes.{lanes_are, vector_type}
 
-lane_shape : (ts : Types) (roots : Root → Option ℕ) (id w : ℕ) (c : Lane) → AreSound ts → HasLaneType ts id w 1 → AreScalars w 1 (c ∷ []) → HasShape ts roots id (Scalar c)
+lane_shape : (ts : Types) (roots : Root → Option ℕ) (id w : ℕ) (c : Cell) → AreSound ts → HasLaneType ts id w 1 → AreScalars w 1 (c ∷ []) → HasShape ts roots id (Scalar c)
 unfolding of_lanes
 lane_shape ts roots id w c sound t s = lanes_shape ts roots id w 1 (c ∷ []) sound t s
 
@@ -33,7 +33,7 @@ module _ (ts : Types) (roots : Root → Option ℕ) (sound : AreSound ts) where
   one_lane : (id w : ℕ) (v : Value) → HasLaneType ts id w 1 → HasShape ts roots id v → HasWidth w (lane_of v)
   one_lane id w v t h =
       let s = lanes_are ts roots id w 1 v sound h t in
-      s.fit 0 (undefined_lane 0) (subst (λ (n : ℕ). 0 < n) (sym s.count) (omega arith))
+      s.fit 0 (undefined_cell 0) (subst (λ (n : ℕ). 0 < n) (sym s.count) (omega arith))
 
   pub insert_dynamic_shape : (id component count : ℕ) (v c index : Value) → form_of ts id ≡ Some (Vector component count) → HasShape ts roots id v → HasShape ts roots component c
       → HasShape ts roots id (insert_dynamic_value v c index)
@@ -60,5 +60,5 @@ module _ (ts : Types) (roots : Root → Option ℕ) (sound : AreSound ts) where
 pub shuffle_count : (v u : Value) (numbers : List ℕ) → length (leaves (shuffle_value v u numbers)) ≡ length numbers
 shuffle_count v u numbers = ap length (leaves_of_lanes (map (shuffled (leaves v) (leaves u)) numbers)) ∙ length-map numbers (shuffled (leaves v) (leaves u))
 
-pub scalar_count : (c : Lane) → length (leaves (Scalar c)) ≡ 1
+pub scalar_count : (c : Cell) → length (leaves (Scalar c)) ≡ 1
 scalar_count c = ap length (scalar_leaf c)

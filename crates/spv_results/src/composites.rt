@@ -8,7 +8,7 @@ ghost use Rattle.spv_bodies.specs.Context.{type_at};
 ghost use Rattle.spv_effects.specs.Composites.{joined_value, leaves_in};
 ghost use Rattle.spv_results.specs.Operands.{IsOperand, IsResult, known};
 ghost use Rattle.spv_results.specs.Results.{constructed, numbers};
-ghost use Rattle.spv_types.specs.Cuts.{cut};
+ghost use Rattle.spv_types.specs.Saturation.{saturated};
 ghost use Rattle.spv_types.specs.Leaves.{leaf_of};
 ghost use Rattle.spv_types.specs.Rows.{leaves};
 ghost use Rattle.spv_types.specs.Rules.{has_runtime};
@@ -73,7 +73,7 @@ fn cells_in(part: &Part) -> usize
 
 /// How many cells of a value of a type lie before the part that a path names.
 fn cells_before(types: &TypeTable, ty: u32, path: &Path) -> usize
-    ensures { result ≡ option_map_or cut (leaf_of types.now ty path.now) 0 }
+    ensures { result ≡ option_map_or saturated (leaf_of types.now ty path.now) 0 }
 {
     match types.leaf(ty, path.as_slice()) {
         Some(cells) => cells as usize,
@@ -95,7 +95,7 @@ pub fn extract(
     ensures value { OnOk result (part_at composite.now (numbers (drop 1 inst.now.operands)) ≡ Some into.new) }
     ensures shape { OnOk result (IsResult accepted.now inst.now into.new) }
 {
-    // There are fewer than 2 ^ 64, so the number of those before the part isn't cut.
+    // There are fewer than 2 ^ 64, so the number of those before the part isn't saturated.
     let _cells = cells_in(composite);
     let path = path_of(alloc, &inst.operands.as_slice()[1..])?;
     let whole = type_at(accepted, inst, 0).unwrap_or(0);

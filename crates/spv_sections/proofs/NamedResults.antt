@@ -9,7 +9,7 @@ use Rattle.spv_ops.specs.Module.{Decoded, IsDecoded}
 use Rattle.spv_index.specs.Classes.{sets_of}
 use Rattle.spv_index.specs.Positions.{outside}
 use Rattle.spv_index.specs.Definitions.{defining, has_result as is_result_of, is_id as is_limited}
-use Rattle.spv_ops.specs.Forms.{row_of}
+use Rattle.spv_ops.specs.Grammar.{row_of}
 use Rattle.spv_ops.specs.Opcodes.{table}
 use Rattle.spv_types.specs.InterfaceBlocks.{nothing}
 use Rattle.spv_types.specs.Constants.{is_constant}

@@ -16,10 +16,10 @@ use Rattle.spv_index.specs.declared.positions.Stage.TheVariants.{Outside}
 use Rattle.spv_index.specs.declared.positions.Position.{Position}
 use Rattle.spv_index.specs.Classes.{class_of, sets_of}
 use Rattle.spv_index.specs.Positions.{Stand, in_function, outside, position_after, stands}
-use Rattle.spv_ops.specs.Forms.{row_of}
+use Rattle.spv_ops.specs.Grammar.{row_of}
 use Rattle.spv_ops.specs.Opcodes.{table}
-use Rattle.spv_ops.specs.declared.forms.Head.{Head}
-use Rattle.spv_ops.specs.declared.forms.Head.TheVariants.{Plain, Result, TypedResult}
+use Rattle.spv_ops.specs.declared.grammar.Head.{Head}
+use Rattle.spv_ops.specs.declared.grammar.Head.TheVariants.{Plain, Result, TypedResult}
 use Rattle.spv_ops.specs.declared.op.TheConstants.{FUNCTION}
 use Rattle.spv_types.specs.Constants.{is_constant}
 use Rattle.spv_types.specs.Laws.{TypesComeFirst}

@@ -7,9 +7,9 @@ use Rattle.spv_base.specs.declared.instructions.Inst.{Inst}
 use Rattle.spv_base.specs.declared.instructions.Operand.{Operand}
 use Rattle.spv_base.specs.declared.instructions.Operand.TheVariants.{Id, Lit, Text}
 use Rattle.spv_base.specs.declared.causes.Refusal.{Refusal}
-use Rattle.spv_ops.specs.declared.forms.Head.{Head}
-use Rattle.spv_ops.specs.declared.forms.Head.TheVariants.{Plain, Result, TypedResult}
-use Rattle.spv_ops.specs.Forms.{row_of}
+use Rattle.spv_ops.specs.declared.grammar.Head.{Head}
+use Rattle.spv_ops.specs.declared.grammar.Head.TheVariants.{Plain, Result, TypedResult}
+use Rattle.spv_ops.specs.Grammar.{row_of}
 use Rattle.spv_ops.specs.Module.{Decoded}
 use Rattle.spv_index.specs.declared.classes.Class.{Class}
 use Rattle.spv_index.specs.declared.positions.Position.{Position}

@@ -1,21 +1,10 @@
 -- One more buffer is named.
-use Rattle.std.proofs.Common.{◌≡◌, ℕ, ◌&&◌, ◌||◌, ◌∙◌, Bool, true, false, cond, eqb, List, [], ◌∷◌, ◌++◌, refl, sym, arith, Ordering, Less, Equal, Greater}
+use Rattle.std.proofs.Common.{◌≡◌, ℕ, ◌&&◌, ◌||◌, ◌∙◌, Bool, true, false, cond, eqb, List, [], ◌∷◌, ◌++◌, refl, sym}
 use Rattle.std.specs.List.{list_any}
-use Rattle.std.proofs.lemmas.Grind.{common_steps}
 use Rattle.std.proofs.lemmas.List.Folds.{list_any-append}
 use Rattle.std.specs.Ordering.{nat_cmp, ordering_then, is_eq}
 use Rattle.spv_setup.specs.declared.settings.Buffer.{Buffer}
-
-is_eq-then : (o p : Ordering) → is_eq (ordering_then o p) ≡ (is_eq o && is_eq p)
-is_eq-then Less p = refl
-is_eq-then Equal p = refl
-is_eq-then Greater p = refl
-
-is_eq-nat_cmp : (x y : ℕ) → is_eq (nat_cmp x y) ≡ eqb x y
-is_eq-nat_cmp x y = grind (arith, common_steps)
-
-is_eq-pair : (a b t s : ℕ) → is_eq (ordering_then (nat_cmp a t) (nat_cmp b s)) ≡ (eqb a t && eqb b s)
-is_eq-pair a b t s = is_eq-then (nat_cmp a t) (nat_cmp b s) ∙ rw (is_eq-nat_cmp a t, is_eq-nat_cmp b s) refl
+use Rattle.spv_base.proofs.OrderLemmas.{is_eq-pair}
 
 put_at : (test old : Bool) → cond test true old ≡ (old || (test || false))
 put_at true true = refl

@@ -3,7 +3,7 @@ use Rattle.std.proofs.Common.{◌≡◌, ℕ, zero, suc, Bool, true, false, List
 use Rattle.std.specs.Bool.{MatchBool}
 use Rattle.std.specs.Option.{IsSomeAnd, MatchOption, option_map_or}
 use Rattle.std.specs.Prelude.{if◌then◌else◌}
-use Rattle.spv_base.specs.Lane.{Lane}
+use Rattle.spv_base.specs.Cell.{Cell}
 use Rattle.spv_base.specs.Parts.{parts_in}
 use Rattle.spv_base.specs.declared.values.Pointer.{Pointer as Reference}
 use Rattle.spv_base.specs.declared.values.Root.{Root}
@@ -16,7 +16,7 @@ use Rattle.spv_types.specs.Shapes.{HasShape, HasShapeAmong, scalar_in, shape_ste
 use Rattle.spv_show.specs.Pointers.{pointer_text}
 use Rattle.spv_show.specs.Texts.{Text, no_text, text_among, text_step, value_text}
 
-no_scalar : (P : Lane → Type 0) (v : Value) (p : Reference) → out-Value v ≡ Value-F.Ptr p → IsSomeAnd (scalar_in (out-Value v)) P → ⊥
+no_scalar : (P : Cell → Type 0) (v : Value) (p : Reference) → out-Value v ≡ Value-F.Ptr p → IsSomeAnd (scalar_in (out-Value v)) P → ⊥
 no_scalar P v p e h = subst (λ (l : Value-F Value). IsSomeAnd (scalar_in l) P) e h
 
 no_list : (P : List Value → Type 0) (v : Value) (p : Reference) → out-Value v ≡ Value-F.Ptr p → IsSomeAnd (parts_in (out-Value v)) P → ⊥

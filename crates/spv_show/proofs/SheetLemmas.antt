@@ -2,7 +2,7 @@
 use Rattle.std.proofs.Common.{◌≡◌, ◌∙◌, ℕ, zero, suc, ◌<◌, List, [], ◌∷◌, length, replicate, Option, Some, None, refl, ap, arith}
 use Rattle.std.specs.Option.{option_map_or}
 use Rattle.std.specs.Prelude.{codes}
-use Rattle.spv_base.specs.Lane.{Lane}
+use Rattle.spv_base.specs.Cell.{Cell}
 use Rattle.spv_types.specs.declared.forms.Form.{Form}
 use Rattle.spv_types.specs.declared.forms.Member.{Member}
 use Rattle.spv_types.specs.Types.{Types, found_among, in_first}
@@ -11,11 +11,11 @@ use Rattle.spv_show.specs.Scalars.{unavailable}
 use Rattle.spv_show.specs.Sheets.{Change, Written, put, put_among, put_elements, put_leaf, put_members, put_row, put_step, put_struct}
 
 -- the change of a type that is found
-abbrev pub found_change : Types → List Lane → Option (ℕ × Form) → Change
+abbrev pub found_change : Types → List Cell → Option (ℕ × Form) → Change
 found_change ts cells None s = put_leaf unavailable s
 found_change ts cells (Some f) s = put_step cells (put_among ts cells f.0) f.1 s
 
-pub put_among_is : (ts : Types) (cells : List Lane) (n id : ℕ) (s : Written) → put_among ts cells n id s ≡ found_change ts cells (found_among ts n id) s
+pub put_among_is : (ts : Types) (cells : List Cell) (n id : ℕ) (s : Written) → put_among ts cells n id s ≡ found_change ts cells (found_among ts n id) s
 unfolding put_among
 put_among_is ts cells n id s = ap (λ (f : Change). f s) (in_first-is {A = Change} (put_leaf unavailable) (put_step cells) ts n id) ∙ found (found_among ts n id)
   where
@@ -23,7 +23,7 @@ put_among_is ts cells n id s = ap (λ (f : Change). f s) (in_first-is {A = Chang
     found None = refl
     found (Some f) = refl
 
-pub none_put : (ts : Types) (cells : List Lane) (n id : ℕ) (s : Written) → found_among ts n id ≡ None → put_among ts cells n id s ≡ put_leaf unavailable s
+pub none_put : (ts : Types) (cells : List Cell) (n id : ℕ) (s : Written) → found_among ts n id ≡ None → put_among ts cells n id s ≡ put_leaf unavailable s
 none_put ts cells n id s none = rw (put_among_is ts cells n id s, none) refl
 
 -- ---- lists that have elements

@@ -5,7 +5,7 @@ use Rattle.std.specs.Option.{IsSomeAnd, MatchOption, option_map_or}
 use Rattle.std.specs.Prelude.{IsSome, codes, decimal, if◌then◌else◌}
 use Rattle.std.specs.List.{All, AllZip, flat_map}
 use Rattle.std.proofs.lemmas.List.Elements.{All-head, All-tail}
-use Rattle.spv_base.specs.Lane.{Lane}
+use Rattle.spv_base.specs.Cell.{Cell}
 use Rattle.spv_base.specs.Parts.{parts_in}
 use Rattle.spv_base.specs.declared.values.Value.{Value, out-Value}
 use Rattle.spv_base.specs.declared.values.Value.TheOpen.{Value-F}
@@ -31,15 +31,15 @@ use Rattle.spv_show.specs.Sheets.{Change, Written, blank, put, put_among, put_br
 -- ---- what is written from one sheet to another
 
 -- What was shown was written; where more may be, the rest lies next among the cells.
-pub record Writes (cells : List Lane) (old new : Written) (shown : Shown) (rest : List Lane) : Type 0 where
+pub record Writes (cells : List Cell) (old new : Written) (shown : Shown) (rest : List Cell) : Type 0 where
   pub text : new.text ≡ old.text ++ shown.text
   pub left : new.left ≡ shown.left
   pub next : 0 < new.left → drop new.taken cells ≡ rest
 
-writes_put : (cells : List Lane) (s : Written) (text : List ℕ) (rest : List Lane) → (0 < s.left → drop s.taken cells ≡ rest) → Writes cells s (put text s) (plain text s.left) rest
+writes_put : (cells : List Cell) (s : Written) (text : List ℕ) (rest : List Cell) → (0 < s.left → drop s.taken cells ≡ rest) → Writes cells s (put text s) (plain text s.left) rest
 writes_put cells s text rest next = record { text = refl; left = refl; next = next }
 
-writes_both : (cells : List Lane) (a b c : Written) (x : Shown) (w : Writer) (middle rest : List Lane) → Writes cells a b x middle → Writes cells b c (w b.left) rest → Writes cells a c (continued x w) rest
+writes_both : (cells : List Cell) (a b c : Written) (x : Shown) (w : Writer) (middle rest : List Cell) → Writes cells a b x middle → Writes cells b c (w b.left) rest → Writes cells a c (continued x w) rest
 writes_both cells a b c x w middle rest f g = record {
   text = g.text ∙ ap (λ (t : List ℕ). t ++ (w b.left).text) f.text ∙ ap (λ (l : ℕ). (a.text ++ x.text) ++ (w l).text) f.left ∙ append_assoc a.text x.text (w x.left).text;
   left = g.left ∙ ap (λ (l : ℕ). (w l).left) f.left;
@@ -47,15 +47,15 @@ writes_both cells a b c x w middle rest f g = record {
 }
 
 -- a change that takes a row writes what a writer does
-record Agrees (cells : List Lane) (c : Change) (w : Writer) (row : List Lane) : Type 0 where
-  writes : (s : Written) (rest : List Lane) → drop s.taken cells ≡ row ++ rest → Writes cells s (c s) (w s.left) rest
+record Agrees (cells : List Cell) (c : Change) (w : Writer) (row : List Cell) : Type 0 where
+  writes : (s : Written) (rest : List Cell) → drop s.taken cells ≡ row ++ rest → Writes cells s (c s) (w s.left) rest
 
 -- changes that take rows, one behind another
-abbrev AgreeAll : List Lane → List Change → List Writer → List Lane → Type 0
+abbrev AgreeAll : List Cell → List Change → List Writer → List Cell → Type 0
 AgreeAll cells [] [] row = row ≡ []
 AgreeAll cells [] (w ∷ ws) row = ⊥
 AgreeAll cells (c ∷ cs) [] row = ⊥
-AgreeAll cells (c ∷ cs) (w ∷ ws) row = (first : List Lane) × (others : List Lane) × (row ≡ first ++ others) × Agrees cells c w first × AgreeAll cells cs ws others
+AgreeAll cells (c ∷ cs) (w ∷ ws) row = (first : List Cell) × (others : List Cell) × (row ≡ first ++ others) × Agrees cells c w first × AgreeAll cells cs ws others
 
 -- ---- lists
 
@@ -66,12 +66,12 @@ some_more : (n : ℕ) → (n == 0) ≡ false → 0 < n
 some_more zero e = absurd cc
 some_more (suc n) e = omega arith
 
-elements_agree : (cells : List Lane) (number : ℕ) (cs : List Change) (ws : List Writer) (row rest : List Lane) (s : Written) → AgreeAll cells cs ws row → (0 < s.left → drop s.taken cells ≡ row ++ rest)
+elements_agree : (cells : List Cell) (number : ℕ) (cs : List Change) (ws : List Writer) (row rest : List Cell) (s : Written) → AgreeAll cells cs ws row → (0 < s.left → drop s.taken cells ≡ row ++ rest)
     → Writes cells s (put_elements number cs s) (elements number ws s.left) rest
 elements_agree cells number [] [] row rest s agree next = record {
   text = sym (append-nil s.text);
   left = refl;
-  next = λ some. next some ∙ ap (λ (r : List Lane). r ++ rest) agree;
+  next = λ some. next some ∙ ap (λ (r : List Cell). r ++ rest) agree;
 }
 elements_agree cells number [] (w ∷ ws) row rest s agree next = absurd agree
 elements_agree cells number (c ∷ cs) [] row rest s agree next = absurd agree
@@ -86,16 +86,16 @@ elements_agree cells number (c ∷ cs) (w ∷ ws) row rest s agree next = elemen
       next = λ some. absurd (no_more s.left e some);
     }
     element others false e =
-        let lies : drop s.taken cells ≡ agree.0 ++ (agree.1 ++ rest) = next (some_more s.left e) ∙ ap (λ (r : List Lane). r ++ rest) agree.2 ∙ append_assoc agree.0 agree.1 rest in
+        let lies : drop s.taken cells ≡ agree.0 ++ (agree.1 ++ rest) = next (some_more s.left e) ∙ ap (λ (r : List Cell). r ++ rest) agree.2 ∙ append_assoc agree.0 agree.1 rest in
         let apart = writes_put cells s (separator number) (agree.0 ++ (agree.1 ++ rest)) (λ some. lies) in
         let one = agree.3.writes (put (separator number) s) (agree.1 ++ rest) lies in
         let more = others (c (put (separator number) s)) one.next in
         let behind = writes_both cells (put (separator number) s) (c (put (separator number) s)) (put_elements (number + 1) cs (c (put (separator number) s))) (w s.left) (elements (number + 1) ws) (agree.1 ++ rest) rest one more in
         writes_both cells s (put (separator number) s) (put_elements (number + 1) cs (c (put (separator number) s))) (plain (separator number) s.left) (joined w (elements (number + 1) ws)) (agree.0 ++ (agree.1 ++ rest)) rest apart behind
 
-bracketed_agrees : (cells : List Lane) (before after : List ℕ) (cs : List Change) (ws : List Writer) (row : List Lane) → AgreeAll cells cs ws row → Agrees cells (put_bracketed before after cs) (bracketed before after ws) row
+bracketed_agrees : (cells : List Cell) (before after : List ℕ) (cs : List Change) (ws : List Writer) (row : List Cell) → AgreeAll cells cs ws row → Agrees cells (put_bracketed before after cs) (bracketed before after ws) row
 bracketed_agrees cells before after [] [] row agree = record {
-  writes = λ s rest lies. record { text = refl; left = refl; next = λ some. lies ∙ ap (λ (r : List Lane). r ++ rest) agree };
+  writes = λ s rest lies. record { text = refl; left = refl; next = λ some. lies ∙ ap (λ (r : List Cell). r ++ rest) agree };
 }
 bracketed_agrees cells before after [] (w ∷ ws) row agree = absurd agree
 bracketed_agrees cells before after (c ∷ cs) [] row agree = absurd agree
@@ -108,7 +108,7 @@ bracketed_agrees cells before after (c ∷ cs) (w ∷ ws) row agree = record {
       writes_both cells s (put before s) (put after (put_elements 0 (c ∷ cs) (put before s))) (plain before s.left) (joined (elements 0 (w ∷ ws)) (plain after)) (row ++ rest) rest begun behind;
 }
 
-named_agrees : (cells : List Lane) (number : ℕ) (c : Change) (w : Writer) (row : List Lane) → Agrees cells c w row → Agrees cells (put_named number c) (named number w) row
+named_agrees : (cells : List Cell) (number : ℕ) (c : Change) (w : Writer) (row : List Cell) → Agrees cells c w row → Agrees cells (put_named number c) (named number w) row
 named_agrees cells number c w row agree = record {
   writes = λ s rest lies.
       let begun : Writes cells s (put (codes " = ") (put (decimal number) s)) (plain (decimal number ++ codes " = ") s.left) (row ++ rest) = record {
@@ -122,7 +122,7 @@ named_agrees cells number c w row agree = record {
 
 -- ---- scalars
 
-next_cell : (cells : List Lane) (n : ℕ) (c : Lane) (rest : List Lane) → drop n cells ≡ c ∷ rest → (slice_get cells n ≡ Some c) × (drop (n + 1) cells ≡ rest)
+next_cell : (cells : List Cell) (n : ℕ) (c : Cell) (rest : List Cell) → drop n cells ≡ c ∷ rest → (slice_get cells n ≡ Some c) × (drop (n + 1) cells ≡ rest)
 next_cell [] zero c rest lies = cc
 next_cell [] (suc n) c rest lies = cc
 next_cell (x ∷ xs) zero c rest lies =
@@ -134,14 +134,14 @@ next_cell (x ∷ xs) (suc n) c rest lies =
     let one : suc n + 1 ≡ suc (n + 1) = omega arith in
     (further.0, ap (λ (k : ℕ). drop k (x ∷ xs)) one ∙ further.1)
 
-cell_agrees : (cells : List Lane) (reading : Reading) (c : Lane) → Agrees cells (put_cell cells reading) (leaf (scalar_text reading c)) (c ∷ [])
+cell_agrees : (cells : List Cell) (reading : Reading) (c : Cell) → Agrees cells (put_cell cells reading) (leaf (scalar_text reading c)) (c ∷ [])
 cell_agrees cells reading c = record {
   writes = λ s rest lies.
       let at = next_cell cells s.taken c rest lies in
-      subst (λ (o : Option Lane). Writes cells s (put_next reading o s) (leaf (scalar_text reading c) s.left) rest) (sym at.0) (record { text = refl; left = refl; next = λ some. at.1 });
+      subst (λ (o : Option Cell). Writes cells s (put_next reading o s) (leaf (scalar_text reading c) s.left) rest) (sym at.0) (record { text = refl; left = refl; next = λ some. at.1 });
 }
 
-scalar_agrees : (cells : List Lane) (reading : Reading) (P : Lane → Type 0) (v : Value) → IsSomeAnd (scalar_in (out-Value v)) P
+scalar_agrees : (cells : List Cell) (reading : Reading) (P : Cell → Type 0) (v : Value) → IsSomeAnd (scalar_in (out-Value v)) P
     → Agrees cells (put_cell cells reading) (leaf (scalar_if_any reading (scalar_in (out-Value v)))) (leaves v)
 scalar_agrees cells reading P v h = level (out-Value v) refl h
   where
@@ -153,15 +153,15 @@ scalar_agrees cells reading P v h = level (out-Value v) refl h
 -- ---- the parts of a value
 
 -- values of a type, whose cells are counted, are written as their texts say
-abbrev Agree : List Lane → (ℕ → Value → Type 0) → (ℕ → Option ℕ) → (ℕ → Change) → (ℕ → Text) → Type 0
+abbrev Agree : List Cell → (ℕ → Value → Type 0) → (ℕ → Option ℕ) → (ℕ → Change) → (ℕ → Text) → Type 0
 Agree cells shape counts change text = (id : ℕ) (v : Value) (n : ℕ) → shape id v → counts id ≡ Some n → Agrees cells (change id) (text id v) (leaves v)
 
-each_agrees : (cells : List Lane) (c : Change) (text : Text) (P : Value → Type 0) (vs : List Value) → ((v : Value) → P v → Agrees cells c (text v) (leaves v)) → All P vs
+each_agrees : (cells : List Cell) (c : Change) (text : Text) (P : Value → Type 0) (vs : List Value) → ((v : Value) → P v → Agrees cells c (text v) (leaves v)) → All P vs
     → AgreeAll cells (replicate (length vs) c) (map text vs) (flat_map leaves vs)
 each_agrees cells c text P [] agree all = refl
 each_agrees cells c text P (v ∷ vs) agree all = (leaves v, flat_map leaves vs, refl, agree v (All-head P v vs all), each_agrees cells c text P vs agree (All-tail P v vs all))
 
-members_agree : (cells : List Lane) (shape : ℕ → Value → Type 0) (counts : ℕ → Option ℕ) (change : ℕ → Change) (text : ℕ → Text) (number : ℕ) (ms : List Member) (vs : List Value) (n : ℕ) → Agree cells shape counts change text
+members_agree : (cells : List Cell) (shape : ℕ → Value → Type 0) (counts : ℕ → Option ℕ) (change : ℕ → Change) (text : ℕ → Text) (number : ℕ) (ms : List Member) (vs : List Value) (n : ℕ) → Agree cells shape counts change text
     → AllZip (λ (m : Member). shape m.ty) ms vs → members_cells counts ms ≡ Some n → AgreeAll cells (put_members change number ms) (members_text text number ms vs) (flat_map leaves vs)
 unfolding members_cells
 members_agree cells shape counts change text number [] [] n agree all k = refl
@@ -171,14 +171,14 @@ members_agree cells shape counts change text number (m ∷ ms) (v ∷ vs) n agre
     let sum = added_is (counts m.ty) (members_cells counts ms) n k in
     (leaves v, flat_map leaves vs, refl, named_agrees cells number (change m.ty) (text m.ty v) (leaves v) (agree m.ty v sum.0 all.0 sum.2), members_agree cells shape counts change text (number + 1) ms vs sum.1 agree all.1 sum.3)
 
-row_agrees : (cells : List Lane) (cs : List Change) (text : Text) (v : Value) (vs : List Value) → out-Value v ≡ Value-F.List vs → AgreeAll cells cs (map text vs) (flat_map leaves vs)
+row_agrees : (cells : List Cell) (cs : List Change) (text : Text) (v : Value) (vs : List Value) → out-Value v ≡ Value-F.List vs → AgreeAll cells cs (map text vs) (flat_map leaves vs)
     → Agrees cells (put_row cs) (row_if_any text (parts_in (out-Value v))) (leaves v)
 row_agrees cells cs text v vs e all =
     let inside = bracketed_agrees cells (codes "[") (codes "]") cs (map text vs) (flat_map leaves vs) all in
     let here : Agrees cells (put_row cs) (row_if_any text (Some vs)) (flat_map leaves vs) = record { writes = λ s rest lies. inside.writes s rest lies } in
     rw (many_row v vs e, e) here
 
-struct_agrees : (cells : List Lane) (cs : List Change) (text : ℕ → Text) (ms : List Member) (v : Value) (vs : List Value) → out-Value v ≡ Value-F.List vs → AgreeAll cells cs (members_text text 0 ms vs) (flat_map leaves vs)
+struct_agrees : (cells : List Cell) (cs : List Change) (text : ℕ → Text) (ms : List Member) (v : Value) (vs : List Value) → out-Value v ≡ Value-F.List vs → AgreeAll cells cs (members_text text 0 ms vs) (flat_map leaves vs)
     → Agrees cells (put_struct cs) (struct_if_any text ms (parts_in (out-Value v))) (leaves v)
 struct_agrees cells cs text ms v vs e all =
     let inside = bracketed_agrees cells (codes "{") (codes "}") cs (members_text text 0 ms vs) (flat_map leaves vs) all in
@@ -187,7 +187,7 @@ struct_agrees cells cs text ms v vs e all =
 
 -- ---- one level
 
-step_agrees : (ts : Types) (cells : List Lane) (shape : ℕ → Value → Type 0) (counts : ℕ → Option ℕ) (change : ℕ → Change) (text : ℕ → Text) (f : Form) (v : Value) (n : ℕ) → Agree cells shape counts change text
+step_agrees : (ts : Types) (cells : List Cell) (shape : ℕ → Value → Type 0) (counts : ℕ → Option ℕ) (change : ℕ → Change) (text : ℕ → Text) (f : Form) (v : Value) (n : ℕ) → Agree cells shape counts change text
     → shape_step ts no_roots shape f v → cells_step counts f ≡ Some n → Agrees cells (put_step cells change f) (text_step text f v) (leaves v)
 step_agrees ts cells shape counts change text Void v n agree h k = absurd h
 step_agrees ts cells shape counts change text Boolean v n agree h k = scalar_agrees cells reading.Boolean _ v h
@@ -215,13 +215,13 @@ step_agrees ts cells shape counts change text (Function returns parameters) v n 
 
 -- ---- all levels
 
-formed_agrees : (ts : Types) (cells : List Lane) (shape : ℕ → Value → Type 0) (counts : ℕ → Option ℕ) (change : ℕ → Change) (text : ℕ → Text) (o : Option Form) (v : Value) (n : ℕ) → Agree cells shape counts change text
+formed_agrees : (ts : Types) (cells : List Cell) (shape : ℕ → Value → Type 0) (counts : ℕ → Option ℕ) (change : ℕ → Change) (text : ℕ → Text) (o : Option Form) (v : Value) (n : ℕ) → Agree cells shape counts change text
     → MatchOption o ⊥ (λ f. shape_step ts no_roots shape f v) → option_map_or (cells_step counts) o None ≡ Some n
     → Agrees cells (option_map_or {U = Change} (put_step cells change) o (put_leaf unavailable)) (option_map_or {U = Text} (text_step text) o no_text v) (leaves v)
 formed_agrees ts cells shape counts change text None v n agree h k = absurd h
 formed_agrees ts cells shape counts change text (Some f) v n agree h k = step_agrees ts cells shape counts change text f v n agree h k
 
-among_agree : (ts : Types) (cells : List Lane) (m : ℕ) → Agree cells (HasShapeAmong ts no_roots m) (cells_among ts m) (put_among ts cells m) (text_among ts m)
+among_agree : (ts : Types) (cells : List Cell) (m : ℕ) → Agree cells (HasShapeAmong ts no_roots m) (cells_among ts m) (put_among ts cells m) (text_among ts m)
 unfolding HasShapeAmong cells_among in_first put_among text_among
 among_agree ts cells zero id v n h k = absurd h
 among_agree ts cells (suc m) id v n h k = here (among_agree ts cells m) (is_number m (number_of ts id)) h k
@@ -244,9 +244,9 @@ text_is ts id v h counted = level (cells_among ts (length ts) id) refl counted
     level (Some n) e counted = ((among_agree ts (leaves v) (length ts) id v n h e).writes blank [] (sym (append-nil (leaves v)))).text
 
 -- and appended to what stands before it
-pub row_written : (ts : Types) (id n : ℕ) (cells : List Lane) (v : Value) (old new text : List ℕ) (s t : Written) → IsRowOf ts id cells v → n ≡ length ts → s ≡ blank → t ≡ put_among ts cells n id s → text ≡ t.text → new ≡ old ++ text
+pub row_written : (ts : Types) (id n : ℕ) (cells : List Cell) (v : Value) (old new text : List ℕ) (s t : Written) → IsRowOf ts id cells v → n ≡ length ts → s ≡ blank → t ≡ put_among ts cells n id s → text ≡ t.text → new ≡ old ++ text
     → new ≡ old ++ value_text ts id v
 row_written ts id n cells v old new text s t row all nothing written shown appended =
-    let read : (put_among ts cells (length ts) id blank).text ≡ value_text ts id v = subst (λ (cs : List Lane). (put_among ts cs (length ts) id blank).text ≡ value_text ts id v) row.row (text_is ts id v row.shape row.counted) in
+    let read : (put_among ts cells (length ts) id blank).text ≡ value_text ts id v = subst (λ (cs : List Cell). (put_among ts cs (length ts) id blank).text ≡ value_text ts id v) row.row (text_is ts id v row.shape row.counted) in
     let same : t ≡ put_among ts cells (length ts) id blank = written ∙ ap (λ (k : ℕ). put_among ts cells k id s) all ∙ ap (λ (u : Written). put_among ts cells (length ts) id u) nothing in
     appended ∙ ap (λ (x : List ℕ). old ++ x) (shown ∙ ap (λ (u : Written). u.text) same ∙ read)

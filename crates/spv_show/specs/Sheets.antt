@@ -1,7 +1,7 @@
 -- What stands on a sheet after more of the row of a value was written on it. Clauses of private calls alone cite it: what the public ones
 -- promise is the text of the value.
 use Rattle.std.specs.Prelude.{ℕ, ◌+◌, ◌-◌, ◌==◌, if◌then◌else◌, Bool, List, [], ◌∷◌, ◌++◌, replicate, slice_get, codes, decimal, Option, Some, None}
-use Rattle.spv_base.specs.Lane.{Lane}
+use Rattle.spv_base.specs.Cell.{Cell}
 use Rattle.spv_types.specs.declared.forms.Form.{Form}
 use Rattle.spv_types.specs.declared.forms.Form.TheVariants.{Void, Bool as Boolean, Int, Vector, Array, Runtime, Struct, Pointer, Function}
 use Rattle.spv_types.specs.declared.forms.Member.{Member}
@@ -37,11 +37,11 @@ abbrev pub put_leaf : List ℕ → Change
 put_leaf text s = record { text = s.text ++ text; taken = s.taken; left = s.left - 1 }
 
 -- the next cell, where there is one
-abbrev pub put_next : Reading → Option Lane → Change
+abbrev pub put_next : Reading → Option Cell → Change
 put_next reading None s = put_leaf unavailable s
 put_next reading (Some c) s = record { text = s.text ++ scalar_text reading c; taken = s.taken + 1; left = s.left - 1 }
 
-abbrev pub put_cell : List Lane → Reading → Change
+abbrev pub put_cell : List Cell → Reading → Change
 put_cell cells reading s = put_next reading (slice_get cells s.taken) s
 
 -- what stands in place of the elements from the one with a number on
@@ -78,7 +78,7 @@ abbrev pub put_struct : List Change → Change
 put_struct cs s = put_bracketed (codes "{") (codes "}") cs s
 
 -- a value of a form that lies next, where change says how one of a part's type is written
-abbrev pub put_step : List Lane → (ℕ → Change) → Form → Change
+abbrev pub put_step : List Cell → (ℕ → Change) → Form → Change
 put_step cells change Void s = put_leaf unavailable s
 put_step cells change Boolean s = put_cell cells reading.Boolean s
 put_step cells change (Int width sign) s = put_cell cells (reading_of sign) s
@@ -90,5 +90,5 @@ put_step cells change (Pointer class target) s = put_leaf unavailable s
 put_step cells change (Function returns parameters) s = put_leaf unavailable s
 
 -- a value of the type with an id that lies next, where the type is among the first n types
-unfoldable pub put_among : Types → List Lane → ℕ → ℕ → Change
+unfoldable pub put_among : Types → List Cell → ℕ → ℕ → Change
 put_among ts cells = in_first (put_leaf unavailable) (put_step cells) ts

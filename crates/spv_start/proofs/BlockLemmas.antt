@@ -5,7 +5,7 @@ use Rattle.std.specs.Prelude.{Result}
 use Rattle.std.specs.Result.{OnOk}
 use Rattle.std.specs.Option.{option_map_or}
 use Rattle.std.proofs.lemmas.List.Folds.{flat_map-map}
-use Rattle.spv_base.specs.Lane.{Lane}
+use Rattle.spv_base.specs.Cell.{Cell}
 use Rattle.spv_base.specs.declared.values.Value.{Value, Scalar, List as Many, the_lemmas}
 use Rattle.spv_types.specs.declared.forms.Form.{Form}
 use Rattle.spv_types.specs.Rows.{leaves}
@@ -26,7 +26,7 @@ read_among_is ts bytes size n id at = ap (λ (f : Reader). f at) (in_first-is {A
     found None = refl
     found (Some f) = refl
 
-pub scalar_leaves : (c : Lane) → leaves (Scalar c) ≡ c ∷ []
+pub scalar_leaves : (c : Cell) → leaves (Scalar c) ≡ c ∷ []
 unfolding leaves
 scalar_leaves c = search (rules, the_lemmas)
 
@@ -34,20 +34,20 @@ pub many_leaves : (vs : List Value) → leaves (Many vs) ≡ flat_map leaves vs
 unfolding leaves
 many_leaves vs = search (rules, the_lemmas, flat_map-map)
 
-pub no_leaves : (xs : List Lane) → xs ≡ xs ++ leaves (Many [])
+pub no_leaves : (xs : List Cell) → xs ≡ xs ++ leaves (Many [])
 no_leaves xs = rw (many_leaves []) (sym (append-nil xs))
 
 -- ---- what is appended
 
-pub none_read : (ts : Types) (bytes : List ℕ) (size n id at : ℕ) (xs : List Lane) → found_among ts n id ≡ None → xs ≡ xs ++ leaves (read_among ts bytes size n id at)
+pub none_read : (ts : Types) (bytes : List ℕ) (size n id at : ℕ) (xs : List Cell) → found_among ts n id ≡ None → xs ≡ xs ++ leaves (read_among ts bytes size n id at)
 none_read ts bytes size n id at xs none = rw (read_among_is ts bytes size n id at, none) (no_leaves xs)
 
-pub row_of : {E : Type 0} (r : Result (Unit {0}) E) (new old : List Lane) (read : Reader) (at s stride n count : ℕ) → s ≡ stride → n ≡ count
+pub row_of : {E : Type 0} (r : Result (Unit {0}) E) (new old : List Cell) (read : Reader) (at s stride n count : ℕ) → s ≡ stride → n ≡ count
     → OnOk r (new ≡ old ++ flat_map leaves (read_row read at s n)) → OnOk r (new ≡ old ++ leaves (Many (read_row read at stride count)))
 row_of r new old read at s stride n count e f h = rw (many_leaves (read_row read at stride count), ← e, ← f) h
 
 -- one more value of a row
-pub row_more : (read : Reader) (new old whole : List Lane) (at s stride left : ℕ) → 0 < left → s ≡ stride → new ≡ old ++ leaves (read at)
+pub row_more : (read : Reader) (new old whole : List Cell) (at s stride left : ℕ) → 0 < left → s ≡ stride → new ≡ old ++ leaves (read at)
     → old ++ flat_map leaves (read_row read at stride left) ≡ whole → new ++ flat_map leaves (read_row read (at + s) stride (left - 1)) ≡ whole
 row_more read new old whole at s stride zero some same is before = absurd (omega (arith, some))
 row_more read new old whole at s stride (suc k) some same is before =

@@ -1,7 +1,7 @@
 -- The values that variables of blocks begin with: read from the bytes of a buffer, by offsets and strides (SPIR-V 1.6 section 3.20,
 -- Offset and ArrayStride).
 use Rattle.std.specs.Prelude.{ℕ, zero, suc, ◌+◌, ◌-◌, ◌/◌, List, [], ◌∷◌, length, Option, Some, None, unwrap_or}
-use Rattle.spv_base.specs.Lane.{undefined_lane}
+use Rattle.spv_base.specs.Cell.{undefined_cell}
 use Rattle.spv_base.specs.declared.values.Value.{Value, Scalar, List as Many}
 use Rattle.spv_types.specs.declared.forms.Form.{Form}
 use Rattle.spv_types.specs.declared.forms.Form.TheVariants.{Void, Bool as Boolean, Int, Vector, Array, Runtime, Struct, Pointer, Function}
@@ -33,7 +33,7 @@ read_members read at (m ∷ ms) = read m.ty (at + unwrap_or m.offset 0) ∷ read
 -- isn't in a block has no bytes: a Boolean is undefined, and all else that has no parts has none here.
 abbrev pub read_step : Types → List ℕ → ℕ → (ℕ → Reader) → Form → Reader
 read_step ts bytes size read Void at = Many []
-read_step ts bytes size read Boolean at = Scalar (undefined_lane 1)
+read_step ts bytes size read Boolean at = Scalar (undefined_cell 1)
 read_step ts bytes size read (Int width sign) at = Scalar (scalar_at bytes at width)
 read_step ts bytes size read (Vector component count) at = Many (read_row (read component) at (scalar_bytes (form_of ts component)) count)
 read_step ts bytes size read (Array element n stride) at = Many (read_row (read element) at (unwrap_or stride 0) (unwrap_or n 0))

@@ -1,6 +1,6 @@
 -- The built-in values of an invocation (SPIR-V 1.6 section 3.21, BuiltIn), by its number and those of its workgroup.
 use Rattle.std.specs.Prelude.{◌≡◌, ℕ, ◌+◌, ◌*◌, ◌<◌, ◌/◌, ◌%◌, ◌==◌, if◌then◌else◌, [], ◌∷◌, Option, Some, None}
-use Rattle.spv_base.specs.Lane.{defined_lane}
+use Rattle.spv_base.specs.Cell.{defined_cell}
 use Rattle.spv_base.specs.declared.values.Value.{Value, Scalar, List as Many}
 use Rattle.spv_start.specs.declared.built_ins.Invocation.{Invocation}
 
@@ -22,7 +22,7 @@ global_id group size local = (global_along group.0 size.0 local.0, global_along 
 -- ---- values
 
 abbrev pub word : ℕ → Value
-word n = Scalar (defined_lane 32 n)
+word n = Scalar (defined_cell 32 n)
 
 abbrev pub three_words : Three → Value
 three_words n = Many (word n.0 ∷ word n.1 ∷ word n.2 ∷ [])

@@ -1,6 +1,6 @@
 //! The built-in values of invocations (SPIR-V 1.6 section 3.21).
 ghost use Rattle.std.specs.Prelude.{◌≡◌, ◌≤◌, ◌<◌, ◌*◌, ◌∷◌, [], ℕ, IfOk};
-ghost use Rattle.spv_base.specs.Lane.{defined_lane};
+ghost use Rattle.spv_base.specs.Cell.{defined_cell};
 ghost use Rattle.spv_base.specs.declared.values.Value.{Value};
 ghost use Rattle.spv_start.specs.BuiltIns as spec;
 
@@ -87,7 +87,7 @@ impl Invocation {
 
 /// The cell of a number of 32 bits.
 fn word(n: u32) -> Cell
-    ensures { result ≡ defined_lane 32 n }
+    ensures { result ≡ defined_cell 32 n }
 {
     Cell {
         bits: u64::from(n),

@@ -15,7 +15,7 @@ use Rattle.spv_index.specs.Classes.{is_terminator, sets_of}
 use Rattle.spv_index.specs.Definitions.{defining, has_result, is_id, result_type, type_in}
 use Rattle.spv_index.specs.Positions.{Stand, stands_of}
 use Rattle.spv_sections.specs.Laws.{IsInOrder}
-use Rattle.spv_cfg.specs.Executables.{executables_of, followed}
+use Rattle.spv_cfg.specs.Executables.{executables_of, followers_of}
 use Rattle.spv_cfg.specs.Flow.{Flow}
 use Rattle.spv_cfg.specs.Laws.{HasNext}
 use Rattle.spv_valid.specs.Acceptance.{Accepted, IsAccepted, Passes, decoded_in}
@@ -116,7 +116,7 @@ pub record IsKnown (a : Accepted) : Type 0 where
   pub words : OnePlace a.insts
   pub types : (k ty : ℕ) (i : Inst) → slice_get a.insts k ≡ Some i → result_type a.insts i.id ≡ Some ty → ty ≡ i.ty
   pub labels : (s t : Stand) → IsOne (stands_of a.insts) s → IsOne (stands_of a.insts) t → s.class ≡ Label → s.inst.id ≡ t.inst.id → s.position.function ≡ t.position.function
-  pub nexts : a.flow.nexts ≡ followed (executables_of a.insts)
+  pub nexts : a.flow.nexts ≡ followers_of (executables_of a.insts)
   pub goes_on : (s : Stand) → IsOne (stands_of a.insts) s → is_stop s ≡ true → is_terminator s.class ≡ false → goes_on a s.inst.word ≡ true
 
 next_there : (a : Accepted) (s : Stand) → HasNext a.flow s → goes_on a s.inst.word ≡ true

@@ -5,7 +5,7 @@ use Rattle.std.specs.List.{AllByRecursion, flat_map, list_all}
 use Rattle.std.specs.Option.{unwrap_or}
 use Rattle.spv_base.specs.Entries.{reads}
 use Rattle.spv_base.specs.declared.instructions.Inst.{Inst}
-use Rattle.spv_ops.specs.Forms.{row_of}
+use Rattle.spv_ops.specs.Grammar.{row_of}
 use Rattle.spv_ops.specs.Module.{Decoded}
 use Rattle.spv_ops.specs.Opcodes.{table}
 use Rattle.spv_index.specs.declared.classes.Class.{Class}
@@ -16,7 +16,7 @@ use Rattle.spv_index.specs.declared.positions.Position.{Position}
 use Rattle.spv_index.specs.Classes.{class_of, classes, is_debug, is_local, sets_of}
 use Rattle.spv_index.specs.Positions.{Stand, among_variables, begins_block, in_block, in_function, outside, position_after, stands, stands_of}
 use Rattle.spv_sections.specs.Ids.{has_result as results, head_of, is_result}
-use Rattle.spv_cfg.specs.Executables.{executable_of, followed, following}
+use Rattle.spv_cfg.specs.Executables.{executable_of, followers_of, following}
 use Rattle.spv_cfg.proofs.TargetLaws.{all_from_test}
 use Rattle.spv_plans.specs.Members.{is_stop}
 use Rattle.spv_plans.proofs.MemberLemmas.{block_inside}
@@ -178,11 +178,11 @@ follows_first e (x ∷ es) pc word here h = by_label (x.0 == e.0) refl h
         let other : x ≡ (e.0, word) = ap (λ (n : ℕ). (n, x.1)) label ∙ ap (λ (n : ℕ). (e.0, n)) is in
         record { label = e.0; first = (0, ap Some one); second = (1, ap Some other) }
 
-pub follows : (es : List (ℕ × ℕ)) (pc word : ℕ) → reads pc (followed es) ≡ Some (Some word) → Follows es pc word
+pub follows : (es : List (ℕ × ℕ)) (pc word : ℕ) → reads pc (followers_of es) ≡ Some (Some word) → Follows es pc word
 follows [] pc word h = absurd (cc)
 follows (e ∷ es) pc word h = by_word (e.1 == pc) refl h (follows es pc word)
   where
-    by_word : (b : Bool) → (e.1 == pc) ≡ b → cond b (Some (following e.0 es)) (reads pc (followed es)) ≡ Some (Some word) → (reads pc (followed es) ≡ Some (Some word) → Follows es pc word)
+    by_word : (b : Bool) → (e.1 == pc) ≡ b → cond b (Some (following e.0 es)) (reads pc (followers_of es)) ≡ Some (Some word) → (reads pc (followers_of es) ≡ Some (Some word) → Follows es pc word)
         → Follows (e ∷ es) pc word
     by_word true here g rest = let next : following e.0 es ≡ Some word = cc in follows_first e es pc word (eqb-true e.1 pc here) next
     by_word false here g rest =

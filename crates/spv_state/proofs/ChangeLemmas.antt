@@ -8,6 +8,7 @@ use Rattle.spv_base.specs.declared.causes.MemErr.{MemErr}
 use Rattle.spv_base.specs.declared.causes.MemErr.TheVariants.{OutOfBounds}
 use Rattle.spv_base.specs.declared.values.Pointer.{Pointer}
 use Rattle.spv_base.specs.declared.values.Value.{Value}
+use Rattle.spv_base.proofs.EntryLemmas.{length_change}
 use Rattle.spv_frame.specs.Frames.{Held as Frame}
 use Rattle.spv_frame.specs.Registers.{Planned}
 use Rattle.spv_frame.specs.Stacks.{Stacked, top}
@@ -16,7 +17,6 @@ use Rattle.spv_mem.proofs.MemoryLemmas.{change_set, get_set}
 use Rattle.spv_statuses.specs.Group.{Held as Statuses}
 use Rattle.spv_state.specs.Rooms.{AreBounded, IsBounded}
 use Rattle.spv_state.specs.State.{State, on_frame, on_frames, on_memory, pop_frame, push_frame, top_of, with_top, without_last, without_locals, without_top}
-use Rattle.spv_initial.proofs.StartLemmas.{length_change}
 
 -- ---- stacks of which one changes
 

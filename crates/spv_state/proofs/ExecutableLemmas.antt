@@ -8,7 +8,7 @@ use Rattle.spv_index.specs.Classes.{is_executable, sets_of}
 use Rattle.spv_index.specs.Definitions.{at}
 use Rattle.spv_index.specs.Positions.{Stand, in_block, in_function, stands_of}
 use Rattle.spv_cfg.specs.Calls.{function_of}
-use Rattle.spv_cfg.specs.Executables.{executables_of, followed}
+use Rattle.spv_cfg.specs.Executables.{executables_of, followers_of}
 use Rattle.spv_cfg.proofs.FunctionLaws.{opcode_of_function}
 use Rattle.spv_valid.specs.Acceptance.{Accepted}
 use Rattle.spv_plans.specs.Members.{is_stop, stands_in}
@@ -43,7 +43,7 @@ at_standing a function word known s = at_stand a.insts s.stand word known.words 
 
 pub next_stands : (a : Accepted) (function pc word : ℕ) → IsKnown a → Standing a function pc → reads pc a.flow.nexts ≡ Some (Some word) → Standing a function word
 next_stands a function pc word known here next =
-    let read : reads pc (followed (executables_of a.insts)) ≡ Some (Some word) = subst (λ (es : List (ℕ × Option ℕ)). reads pc es ≡ Some (Some word)) known.nexts next in
+    let read : reads pc (followers_of (executables_of a.insts)) ≡ Some (Some word) = subst (λ (es : List (ℕ × Option ℕ)). reads pc es ≡ Some (Some word)) known.nexts next in
     let pair : Follows (executables_of a.insts) pc word = follows (executables_of a.insts) pc word read in
     let first : Listed (stands_of a.insts) pair.label pc = listed (stands_of a.insts) pair.first.0 pair.label pc pair.first.1 in
     let second : Listed (stands_of a.insts) pair.label word = listed (stands_of a.insts) pair.second.0 pair.label word pair.second.1 in

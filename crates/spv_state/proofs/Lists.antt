@@ -1,5 +1,5 @@
 -- Changes of one element of a list.
-use Rattle.std.proofs.Common.{◌≡◌, ◌≢◌, ◌∙◌, ℕ, zero, suc, List, [], ◌∷◌, length, Option, Some, None, slice_get, slice_set, refl, ap}
+use Rattle.std.proofs.Common.{◌≡◌, ◌≢◌, ◌∙◌, ℕ, zero, suc, List, [], ◌∷◌, Option, Some, None, slice_get, slice_set, refl, ap}
 use Rattle.std.specs.Option.{option_map}
 use Rattle.spv_base.specs.Entries.{change}
 
@@ -14,11 +14,6 @@ change_other zero zero g (x ∷ xs) apart = absurd (apart refl)
 change_other zero (suc j) g (x ∷ xs) apart = refl
 change_other (suc i) zero g (x ∷ xs) apart = refl
 change_other (suc i) (suc j) g (x ∷ xs) apart = change_other i j g xs (λ e. apart (ap suc e))
-
-pub length_change : {A : Type 0} (i : ℕ) (g : A → A) (xs : List A) → length (change i g xs) ≡ length xs
-length_change i g [] = refl
-length_change zero g (x ∷ xs) = refl
-length_change (suc i) g (x ∷ xs) = ap suc (length_change i g xs)
 
 pub change_none : {A : Type 0} (i : ℕ) (xs : List A) → change i (λ x. x) xs ≡ xs
 change_none i [] = refl

@@ -5,6 +5,7 @@ use Rattle.std.proofs.lemmas.Option.{slice_get-get_or}
 use Rattle.spv_base.specs.Entries.{change}
 use Rattle.spv_base.specs.Variables.{Roots}
 use Rattle.spv_base.specs.declared.values.PassedEvent.{PassedEvent}
+use Rattle.spv_base.proofs.EntryLemmas.{length_change}
 use Rattle.spv_frame.specs.Frames.{Held as Frame}
 use Rattle.spv_frame.specs.Registers.{Planned}
 use Rattle.spv_frame.specs.Stacks.{Stacked, on_top, top}
@@ -14,7 +15,6 @@ use Rattle.spv_statuses.specs.Group.{Held as Statuses}
 use Rattle.spv_state.specs.Rooms.{IsBounded}
 use Rattle.spv_state.specs.State.{State, append_event, drop_event, on_frames, push_frame, top_of, with_top}
 use Rattle.spv_state.proofs.ChangeLemmas.{inside, seen, stack_at, top_bounded, without_is}
-use Rattle.spv_initial.proofs.StartLemmas.{length_change}
 
 -- the top frame of the stack that is changed
 pub top_is : (ps : List Planned) (m : Memory) (ks : List Stacked) (ts : Statuses) (s : State) (i : ℕ) (k : Stacked) → seen ps m ks ts ≡ s → i < length ks → k ≡ get_or ks i k → top_of s i ≡ top k.frames

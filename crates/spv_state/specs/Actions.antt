@@ -11,8 +11,8 @@ use Rattle.spv_state.specs.declared.actions.AtomicOp.TheVariants as atomic
 
 -- FunctionCall, Load, Store, CopyMemory, AccessChain and InBoundsAccessChain, ArrayLength, ControlBarrier, MemoryBarrier, Branch,
 -- BranchConditional, Switch, Return, ReturnValue, Unreachable
-abbrev pub named : List (ℕ × Action)
-named =
+abbrev pub action_rows : List (ℕ × Action)
+action_rows =
     (57, Call) ∷ (61, Load) ∷ (62, Store) ∷ (63, CopyMemory) ∷ (65, Chain) ∷ (66, Chain) ∷ (68, ArrayLength) ∷ (224, ControlBarrier) ∷ (225, MemoryBarrier)
     ∷ (249, Branch) ∷ (250, BranchConditional) ∷ (251, Switch) ∷ (253, Return) ∷ (254, ReturnValue) ∷ (255, Unreachable) ∷ []
 
@@ -27,4 +27,4 @@ atomic_op op = reads op atomics
 
 -- An instruction at which a run stops and that is none of these computes a value.
 unfoldable pub action_of : Inst → Action
-action_of i = unwrap_or (option_or (reads i.op named) (option_map Atomic (atomic_op i.op))) Compute
+action_of i = unwrap_or (option_or (reads i.op action_rows) (option_map Atomic (atomic_op i.op))) Compute

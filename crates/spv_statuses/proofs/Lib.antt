@@ -1,1 +1,1 @@
-mod CountLemmas
+pub mod CountLemmas

@@ -79,7 +79,7 @@ impl Breaks {
         ensures hits { IfOk result (λ numbers. numbers ≡ hits_at pc self.now) }
         ensures ascending { AreStops 64 self.now }
     {
-        hits(alloc, self.stops.kept(), pc)
+        hits(alloc, self.stops.list(), pc)
     }
 }
 

@@ -53,8 +53,8 @@ impl<T, const MOST: usize> Stops<T, MOST> {
     }
 
     /// The stops that are kept, each after its number, ascending.
-    pub fn kept(&self) -> &[(u32, T)]
-        ensures kept { result.now ≡ self.now.0 }
+    pub fn list(&self) -> &[(u32, T)]
+        ensures list { result.now ≡ self.now.0 }
         ensures ascending { AreStops MOST self.now }
     {
         &self.kept

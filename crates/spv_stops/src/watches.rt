@@ -72,7 +72,7 @@ impl Watches {
     pub fn key(&self, number: u32) -> Option<&WatchKey>
         ensures { option_copied result ≡ key_of number self.now }
     {
-        find_entry(self.stops.kept(), number)
+        find_entry(self.stops.list(), number)
     }
 
     /// The numbers of the watches, ascending.
@@ -80,7 +80,7 @@ impl Watches {
         ensures numbers { IfOk result (λ numbers. numbers ≡ map number_of self.now.0) }
         ensures ascending { AreStops 32 self.now }
     {
-        let _ascending = self.stops.kept();
+        let _ascending = self.stops.list();
         self.stops.numbers(alloc)
     }
 

@@ -1,48 +1,12 @@
--- Decimal texts: their digits, and what digits spell.
-use Rattle.std.proofs.Common.{◌≡◌, ℕ, zero, suc, lit<, ◌+◌, ◌-◌, ◌*◌, fold, decimal, subst, ◌<◌, ◌≤◌, ◌^◌, min, true, List, [], ◌∷◌, ◌++◌, length, get_or, refl, sym, ap, ◌∙◌, arith}
+-- Decimal texts without leading zeros, and what stands at the front.
+use Rattle.std.proofs.Common.{◌≡◌, ℕ, zero, suc, lit<, decimal, subst, ◌<◌, ◌≤◌, true, Some, None, List, [], ◌∷◌, ◌++◌, length, get_or, refl, sym, ap, ◌∙◌, arith}
 use Rattle.std.proofs.lemmas.Bool.{and_parts}
 use Rattle.std.specs.List.{list_all}
-use Rattle.std.specs.Int.{IsInRange}
-use Rattle.std.proofs.lemmas.Str.Parse.{IsDigitsTest, IsNumeralModel, numerals_by_fold}
-use Rattle.std.proofs.lemmas.Fmt.{digits_decimal, digits_value-decimal, decimal-digits_value, decimal_nonempty, decimal_injective, first_decimal, decimal_digit}
-use Rattle.spv_text.specs.Lines.{is_digit, value_of, LeadsWell, HasNoDigit, IsNumber, Lacks}
-use Rattle.spv_text.proofs.TestLemmas.{both_true, at_most, le_true}
+use Rattle.std.proofs.lemmas.Fmt.{decimal-digits_value, decimal_injective, first_decimal, decimal_digit}
+use Rattle.spv_text.specs.Lines.{LeadsWell, HasNoDigit, IsNumber, Lacks}
 use Rattle.spv_text.proofs.FrontLemmas.{one_front}
-
--- the test and the number of digits, as std has them
-digits_test : IsDigitsTest (λ ds. list_all is_digit ds ≡ true)
-digits_test = record {
-  empty = refl;
-  parts = λ c cs h. digit_in c cs (and_parts (is_digit c) (list_all is_digit cs) h);
-  more = λ c cs r h. both_true (is_digit c) (list_all is_digit cs) (in_digit c r) h;
-}
-  where
-    digit_in : (c : ℕ) (cs : List ℕ) → (is_digit c ≡ true) × (list_all is_digit cs ≡ true) → IsInRange 48 57 c × (list_all is_digit cs ≡ true)
-    digit_in c cs h = let both = and_parts _ _ h.0 in ((le_true 48 c both.0, le_true c 57 both.1), h.1)
-
-    in_digit : (c : ℕ) → IsInRange 48 57 c → is_digit c ≡ true
-    in_digit c r = both_true _ _ (at_most 48 c r.0) (at_most c 57 r.1)
-
-own : IsNumeralModel (λ ds. list_all is_digit ds ≡ true) value_of
-own = numerals_by_fold _ digits_test (λ n ds. fold (λ m b. 10 * m + (b - 48)) n ds) (record {
-  empty = λ n. refl;
-  more = λ n c cs r. ap (λ m. fold (λ m b. 10 * m + (b - 48)) m cs) (step n c);
-})
-  where
-    step : (n c : ℕ) → 10 * n + (c - 48) ≡ n * 10 + (c - 48)
-    step n c = omega arith
-
-fits : (n : ℕ) → n ≤ 4294967295 → n < 2 ^ 64
-fits n h = omega arith
-
-pub decimal_digits : (n : ℕ) → n ≤ 4294967295 → list_all is_digit (decimal n) ≡ true
-decimal_digits n h = digits_decimal own n (fits n h)
-
-pub value_decimal : (n : ℕ) → n ≤ 4294967295 → value_of (decimal n) ≡ n
-value_decimal n h = digits_value-decimal own n (fits n h)
-
-pub decimal_some : (n : ℕ) → n ≤ 4294967295 → 0 < length (decimal n)
-decimal_some n h = decimal_nonempty n (fits n h)
+use Rattle.spv_line.specs.Numbers.{is_digit, number_of, value_of}
+use Rattle.spv_line.proofs.NumberLemmas.{decimal_digits, decimal_some, fits, number_decimal, number_parts, own}
 
 -- digits without leading zeros are the decimal text of what they spell
 pub decimal_value : (digits : List ℕ) → list_all is_digit digits ≡ true → 0 < length digits → (get_or digits 0 0 ≡ 48 → length digits ≡ 1) → value_of digits ≤ 4294967295 → decimal (value_of digits) ≡ digits
@@ -65,16 +29,16 @@ one_number m n r s a b c d e =
 pub number_leads : (digits : List ℕ) (n : ℕ) → n ≤ 4294967295 → digits ≡ decimal n → LeadsWell digits
 number_leads digits n h e = subst LeadsWell (sym e) (decimal_some n h, decimal_lead n h)
 
-pub number_is : (digits : List ℕ) (v : ℕ) → list_all is_digit digits ≡ true → LeadsWell digits → v ≡ min (value_of digits) (2 ^ 32) → v ≤ 4294967295 → digits ≡ decimal v
-number_is digits v all lead e le =
-    let same : value_of digits ≡ v = omega arith in
-    let fit : value_of digits ≤ 4294967295 = omega arith in
-    sym (decimal_value digits all lead.0 lead.1 fit) ∙ ap decimal same
+-- what is read as a number, and has no leading zeros, is its decimal text
+pub number_is : (digits : List ℕ) (v : ℕ) → LeadsWell digits → number_of 4294967295 digits ≡ Some v → digits ≡ decimal v
+number_is digits v lead is =
+    let read = number_parts 4294967295 digits v is in
+    sym (decimal_value digits read.1 lead.0 lead.1 (omega (arith, read.2, read.3))) ∙ ap decimal read.2
 
-pub number_is_not : (digits : List ℕ) (v : ℕ) → v ≡ min (value_of digits) (2 ^ 32) → 4294967295 < v → (n : ℕ) → n ≤ 4294967295 → digits ≡ decimal n → ⊥
-number_is_not digits v e over n h d =
-    let same : value_of digits ≡ n = ap value_of d ∙ value_decimal n h in
-    absurd (omega arith)
+pub number_is_not : (digits : List ℕ) → number_of 4294967295 digits ≡ None → (n : ℕ) → n ≤ 4294967295 → digits ≡ decimal n → ⊥
+number_is_not digits none n h d =
+    let some : number_of 4294967295 digits ≡ Some n = ap (number_of 4294967295) d ∙ number_decimal n h in
+    absurd (cc)
 
 -- no number stands at the front, where its digits are none of a number
 pub no_number : (text digits back : List ℕ) → list_all is_digit digits ≡ true → text ≡ digits ++ back → HasNoDigit back → ((n : ℕ) → n ≤ 4294967295 → digits ≡ decimal n → ⊥)

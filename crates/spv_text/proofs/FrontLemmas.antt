@@ -1,25 +1,15 @@
 -- The longest front of a text whose bytes pass a test.
-use Rattle.std.proofs.Common.{◌≡◌, ℕ, suc, ◌+◌, ◌≤◌, Bool, true, false, not, cond, List, [], ◌∷◌, ◌++◌, length, take, drop, get_or, nat_lt, Some, None, Option, unwrap_or, refl, sym, ap, ◌∙◌, arith, subst}
+use Rattle.std.proofs.Common.{◌≡◌, ℕ, suc, ◌+◌, ◌≤◌, Bool, true, false, not, cond, List, [], ◌∷◌, ◌++◌, length, take, drop, get_or, Option, unwrap_or, refl, sym, ap, ◌∙◌, arith, subst}
 use Rattle.std.proofs.lemmas.Bool.{and_parts}
 use Rattle.std.specs.List.{position, position_or_len, list_all}
-use Rattle.spv_text.proofs.TestLemmas.{both_true}
-
-within_by : (b : Bool) (n m : ℕ) → n ≤ m → cond b (1 + n) 0 ≤ suc m
-within_by true n m h = omega arith
-within_by false n m h = omega arith
-
-len_within : (p : ℕ → Bool) (xs : List ℕ) → position_or_len p xs ≤ length xs
-len_within p [] = omega arith
-len_within p (x ∷ xs) = within_by (not (p x)) (position_or_len p xs) (length xs) (len_within p xs)
-
-place_or_end : (n m : ℕ) → n ≤ m → unwrap_or (cond (nat_lt n m) (Some n) None) m ≡ n
-place_or_end n m h = grind arith
+use Rattle.spv_line.proofs.NumberLemmas.{both_true}
+use Rattle.spv_line.proofs.WordsLemmas.{first_are, place_or_end, place_within}
 
 end_is : (p : ℕ → Bool) (xs : List ℕ) → unwrap_or (position p xs) (length xs) ≡ position_or_len p xs
-end_is p xs = place_or_end (position_or_len p xs) (length xs) (len_within p xs)
+end_is p xs = place_or_end (position_or_len p xs) (length xs) (place_within p xs)
 
 pub front_within : (p : ℕ → Bool) (xs : List ℕ) (place : Option ℕ) → place ≡ position p xs → unwrap_or place (length xs) ≤ length xs
-front_within p xs place e = subst (λ n. n ≤ length xs) (sym (ap (λ o. unwrap_or o (length xs)) e ∙ end_is p xs)) (len_within p xs)
+front_within p xs place e = subst (λ n. n ≤ length xs) (sym (ap (λ o. unwrap_or o (length xs)) e ∙ end_is p xs)) (place_within p xs)
 
 -- the front passes, and what follows doesn't begin with what passes
 passes_by : (b : Bool) (p : ℕ → Bool) (x n : ℕ) (xs : List ℕ) → p x ≡ b → list_all p (take n xs) ≡ true → list_all p (take (cond (not (not b)) (1 + n) 0) (x ∷ xs)) ≡ true
@@ -49,9 +39,6 @@ front_passes p xs front back place z e f g =
     (ap (list_all p) (f ∙ ap (λ m. take m xs) n) ∙ passes p xs, ap (λ l. p (get_or l 0 0)) (g ∙ ap (λ m. drop m xs) n) ∙ fails p z xs)
 
 -- two such fronts of one text are one
-first_are : (a b : ℕ) (xs ys : List ℕ) → a ∷ xs ≡ b ∷ ys → (a ≡ b) × (xs ≡ ys)
-first_are a b xs ys e = (ap (λ l. get_or l 0 0) e, ap (drop 1) e)
-
 pub one_front : (p : ℕ → Bool) (xs ys r s : List ℕ) → list_all p xs ≡ true → list_all p ys ≡ true → p (get_or r 0 0) ≡ false → p (get_or s 0 0) ≡ false → xs ++ r ≡ ys ++ s → (xs ≡ ys) × (r ≡ s)
 one_front p [] [] r s a b c d e = (refl, e)
 one_front p [] (y ∷ ys) r s a b c d e =

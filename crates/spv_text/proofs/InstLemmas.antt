@@ -4,10 +4,10 @@ use Rattle.std.specs.Prelude.{IsSome}
 use Rattle.std.specs.List.{AllByRecursion}
 use Rattle.spv_base.specs.declared.instructions.Inst.{Inst}
 use Rattle.spv_base.specs.declared.instructions.Operand.{Operand}
-use Rattle.spv_ops.specs.declared.forms.Head.{Head}
-use Rattle.spv_ops.specs.declared.forms.Head.TheVariants as head
+use Rattle.spv_ops.specs.declared.grammar.Head.{Head}
+use Rattle.spv_ops.specs.declared.grammar.Head.TheVariants as head
 use Rattle.spv_ops.specs.Opcodes.{Row}
-use Rattle.spv_ops.specs.Forms.{row_of}
+use Rattle.spv_ops.specs.Grammar.{row_of}
 use Rattle.spv_ops.specs.Encoding.{head_of, HasHead, IsFormed, IsInst}
 use Rattle.spv_text.specs.declared.lines.Part.{Part}
 use Rattle.spv_text.specs.declared.lines.Part.TheVariants as part
@@ -15,7 +15,7 @@ use Rattle.spv_text.specs.declared.lines.Line.{Line}
 use Rattle.spv_base.specs.declared.causes.Fail.{Fail}
 use Rattle.spv_base.specs.declared.causes.Fail.TheVariants.{Refused}
 use Rattle.spv_text.specs.declared.lines.Wrong.{Wrong}
-use Rattle.spv_text.specs.declared.lines.Wrong.TheVariants.{WrongForm}
+use Rattle.spv_text.specs.declared.lines.Wrong.TheVariants.{WrongOperands}
 use Rattle.spv_text.specs.Lines.{IsLine, IsNumber, IsOperand, IsPart}
 use Rattle.spv_text.specs.Listing.{head_parts, line_of, name_of, parts_of}
 use Rattle.spv_text.specs.Reading.{HasLineAt, HasPlace, IsOpcode, IsWrongLine, StandsAt}
@@ -98,9 +98,9 @@ one_inst i j h k e =
 
 -- ---- what is wrong with a line
 
--- no instruction of the opcode's form has the line, where its parts are no result type, result id and operands of the form
+-- no instruction of the opcode's grammar has the line, where its parts are no result type, result id and operands of the grammar
 pub parts_wrong : (op : ℕ) (word : ℕ) (line : Line) → IsOpcode op line.name → ((ty id : ℕ) (operands : List Operand) → HasHead (head_of (row_of op)) ty id → line.parts ≡ head_parts (head_of (row_of op)) ty id ++ map part.Operand operands → ⊥)
-    → IsWrongLine WrongForm word line
+    → IsWrongLine WrongOperands word line
 parts_wrong op word line named none = (
   (op, named),
   λ inst formed e.
@@ -110,8 +110,8 @@ parts_wrong op word line named none = (
       (ap (λ (l : Line). l.parts) e ∙ ap (λ o. head_parts (head_of (row_of o)) inst.ty inst.id ++ map part.Operand inst.operands) same),
 )
 
--- nor where the one instruction that has it isn't of the form
-pub inst_wrong : (inst : Inst) (word : ℕ) (line : Line) → HasPlace inst → line ≡ line_of inst → (IsFormed inst → ⊥) → IsWrongLine WrongForm word line
+-- nor where the one instruction that has it isn't of the grammar
+pub inst_wrong : (inst : Inst) (word : ℕ) (line : Line) → HasPlace inst → line ≡ line_of inst → (IsFormed inst → ⊥) → IsWrongLine WrongOperands word line
 inst_wrong inst word line place e not = (
   (inst.op, (place.opcode, ap (λ (l : Line). l.name) e)),
   λ other formed f.
@@ -139,7 +139,7 @@ pub handed_on : (S T : Type 0) (f g : Fail Wrong) → failed S f ≡ failed S g 
 handed_on S T f g e = ap (λ (x : Fail Wrong). failed T x) (one_fail S f g e)
 
 pub split_wrong : (row : Row) (op word : ℕ) (line : Line) → row_of op ≡ Some row → IsOpcode op line.name
-    → ((ty id : ℕ) (operands : List Operand) → HasHead row.2 ty id → line.parts ≡ head_parts row.2 ty id ++ map part.Operand operands → ⊥) → IsWrongLine WrongForm word line
+    → ((ty id : ℕ) (operands : List Operand) → HasHead row.2 ty id → line.parts ≡ head_parts row.2 ty id ++ map part.Operand operands → ⊥) → IsWrongLine WrongOperands word line
 split_wrong row op word line e named none =
     parts_wrong op word line named (subst (λ (r : Option Row). (ty id : ℕ) (operands : List Operand) → HasHead (head_of r) ty id → line.parts ≡ head_parts (head_of r) ty id ++ map part.Operand operands → ⊥) (sym e) none)
 

@@ -1,4 +1,3 @@
-pub mod TestLemmas
 pub mod FrontLemmas
 pub mod DigitLemmas
 pub mod StringLemmas

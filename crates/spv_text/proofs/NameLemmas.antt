@@ -2,19 +2,19 @@
 use Rattle.std.proofs.Common.{Bor, ◌≡◌, ◌≢◌, ℕ, nat_eq, Bool, true, false, not, cond, ◌&&◌, List, [], ◌∷◌, ◌++◌, Option, Some, None, unwrap_or, codes, zero, suc, get_or, length, map, drop, ◌<◌, refl, sym, ap, ◌∙◌, subst, inl, inr, arith}
 use Rattle.std.proofs.lemmas.Bool.{and_parts}
 use Rattle.std.specs.Prelude.{IsSome, MatchOption}
-use Rattle.spv_ops.specs.declared.forms.Head.{Head}
-use Rattle.spv_ops.specs.declared.forms.Part.{Part}
-use Rattle.spv_ops.specs.declared.forms.Rest.{Rest}
+use Rattle.spv_ops.specs.declared.grammar.Head.{Head}
+use Rattle.spv_ops.specs.declared.grammar.Part.{Part}
+use Rattle.spv_ops.specs.declared.grammar.Rest.{Rest}
 use Rattle.std.specs.Option.{option_map}
 use Rattle.std.specs.List.{list_all, AllByRecursion}
 use Rattle.std.proofs.lemmas.Bool.Decides.{nat_tests}
 use Rattle.spv_ops.specs.Opcodes.{Row, table}
-use Rattle.spv_ops.specs.Forms.{row_with, row_of}
+use Rattle.spv_ops.specs.Grammar.{row_with, row_of}
 use Rattle.spv_text.specs.Lines.{is_name_byte, IsName}
 use Rattle.spv_text.specs.Listing.{name_of}
 use Rattle.spv_text.specs.Names.{IsAmong}
 use Rattle.spv_text.specs.Reading.{IsOpcode}
-use Rattle.spv_text.proofs.TestLemmas.{both_true}
+use Rattle.spv_line.proofs.NumberLemmas.{both_true}
 
 -- ---- tests of tables
 

@@ -1,4 +1,4 @@
--- The parts of a line are written by one form each.
+-- The parts of a line are written in one way each.
 use Rattle.std.proofs.Common.{◌≡◌, ℕ, true, false, List, [], ◌∷◌, ◌++◌, codes, decimal, get_or, refl, sym, ap, append_assoc, ◌∙◌, subst}
 use Rattle.std.specs.List.{AllByRecursion}
 use Rattle.std.proofs.lemmas.Grind.{flat_map-append}
@@ -9,10 +9,11 @@ use Rattle.spv_text.specs.declared.lines.Part.TheVariants as part
 use Rattle.spv_text.specs.declared.parts.Mark.{Mark}
 use Rattle.spv_text.specs.declared.parts.Mark.TheVariants as mark
 use Rattle.spv_text.specs.Spelling.{ended, part_text, parts_text, quoted}
-use Rattle.spv_text.specs.Lines.{is_digit, Any, HasNoDigit, HasNoNameByte, IsByte, IsNumber, IsPart, Lacks}
+use Rattle.spv_text.specs.Lines.{Any, HasNoDigit, HasNoNameByte, IsByte, IsNumber, IsPart, Lacks}
 use Rattle.spv_text.specs.Marks.{mark_text, numbered, EndsBefore, MayFollow}
 use Rattle.spv_text.proofs.DigitLemmas.{decimal_leads, one_number}
 use Rattle.spv_text.proofs.StringLemmas.{differ, tail_is, one_string}
+use Rattle.spv_line.specs.Numbers.{is_digit}
 
 -- ---- marks
 
@@ -84,11 +85,11 @@ no_numbered k text digits only none m n rest h g e =
 -- ---- parts
 
 -- a part has a mark and a number, or is a string
-pub data View (p : Part) : Type 0 where
-  number : (k : Mark) (n : ℕ) → p ≡ numbered k n → View p
-  string : (bs : List ℕ) → p ≡ part.Operand (Text bs) → View p
+pub data Cases (p : Part) : Type 0 where
+  number : (k : Mark) (n : ℕ) → p ≡ numbered k n → Cases p
+  string : (bs : List ℕ) → p ≡ part.Operand (Text bs) → Cases p
 
-pub view : (p : Part) → View p
+pub view : (p : Part) → Cases p
 view (part.ResultType n) = number mark.ResultType n refl
 view (part.ResultId n) = number mark.ResultId n refl
 view (part.Operand (Id n)) = number mark.Id n refl
@@ -102,7 +103,7 @@ not_string mark.ResultId n r s h e = differ refl e
 not_string mark.Id n r s h e = differ refl e
 not_string mark.Literal n r s h e = no_digit 34 s (decimal n ++ r) refl (decimal_leads n r h) (sym e)
 
-pub not_quoted : (p : Part) (text rest : List ℕ) → View p → IsPart p → HasNoDigit rest → text ≡ part_text p ++ rest → ((r : List ℕ) → text ≡ codes "\"" ++ r → ⊥)
+pub not_quoted : (p : Part) (text rest : List ℕ) → Cases p → IsPart p → HasNoDigit rest → text ≡ part_text p ++ rest → ((r : List ℕ) → text ≡ codes "\"" ++ r → ⊥)
     → ((m : Mark) (n : ℕ) (rest : List ℕ) → IsNumber n → HasNoDigit rest → text ≡ part_text (numbered m n) ++ rest → ⊥) → ⊥
 not_quoted p text rest (number k n e) h g f apart none =
     none k n rest (numbered_number k n (subst IsPart e h)) g (f ∙ ap (λ q. part_text q ++ rest) e)
@@ -112,7 +113,7 @@ pub no_part : (text : List ℕ) → ((r : List ℕ) → text ≡ codes "\"" ++ r
     → ((m : Mark) (n : ℕ) (rest : List ℕ) → IsNumber n → HasNoDigit rest → text ≡ part_text (numbered m n) ++ rest → ⊥) → Lacks part_text IsPart HasNoDigit text
 no_part text apart none p rest h e g = not_quoted p text rest (view p) h g e apart none
 
-in_string : (p : Part) (text bytes rest : List ℕ) → View p → IsPart p → text ≡ codes "\"" ++ bytes → text ≡ part_text p ++ rest → Lacks quoted (AllByRecursion IsByte) Any bytes → ⊥
+in_string : (p : Part) (text bytes rest : List ℕ) → Cases p → IsPart p → text ≡ codes "\"" ++ bytes → text ≡ part_text p ++ rest → Lacks quoted (AllByRecursion IsByte) Any bytes → ⊥
 in_string p text bytes rest (number k n e) h f g none =
     not_string k n rest bytes (numbered_number k n (subst IsPart e h)) (ap (λ q. part_text q ++ rest) (sym e) ∙ sym g ∙ f)
 in_string p text bytes rest (string bs e) h f g none =
@@ -121,7 +122,7 @@ in_string p text bytes rest (string bs e) h f g none =
 pub no_string_part : (text bytes : List ℕ) → text ≡ codes "\"" ++ bytes → Lacks quoted (AllByRecursion IsByte) Any bytes → Lacks part_text IsPart HasNoDigit text
 no_string_part text bytes f none p rest h e g = in_string p text bytes rest (view p) h f e none
 
-by_views : (p q : Part) (r s : List ℕ) → View p → View q → IsPart p → IsPart q → EndsBefore p r → HasNoDigit s → part_text p ++ r ≡ part_text q ++ s → (p ≡ q) × (r ≡ s)
+by_views : (p q : Part) (r s : List ℕ) → Cases p → Cases q → IsPart p → IsPart q → EndsBefore p r → HasNoDigit s → part_text p ++ r ≡ part_text q ++ s → (p ≡ q) × (r ≡ s)
 by_views p q r s (number k a e) (number m b f) h g c d i =
     let one = one_numbered k m a b r s (numbered_number k a (subst IsPart e h)) (numbered_number m b (subst IsPart f g)) (ends_numbered k a r (subst (λ x. EndsBefore x r) e c)) d
     (ap (λ x. part_text x ++ r) (sym e) ∙ i ∙ ap (λ x. part_text x ++ s) f) in

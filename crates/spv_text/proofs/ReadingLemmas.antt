@@ -9,7 +9,7 @@ use Rattle.spv_base.specs.declared.instructions.Inst.{Inst}
 use Rattle.spv_ops.specs.Encoding.{encoding, IsFormed}
 use Rattle.spv_text.specs.declared.lines.Line.{Line}
 use Rattle.spv_text.specs.declared.lines.Wrong.{Wrong}
-use Rattle.spv_text.specs.declared.lines.Wrong.TheVariants.{NoLine, UnknownName, WrongForm, Misplaced}
+use Rattle.spv_text.specs.declared.lines.Wrong.TheVariants.{NoLine, UnknownName, WrongOperands, Misplaced}
 use Rattle.spv_text.specs.Spelling.{line_text, parts_text}
 use Rattle.spv_text.specs.Lines.{Any, IsLine, Lacks, Stands}
 use Rattle.spv_text.specs.Listing.{line_of, listing}
@@ -46,7 +46,7 @@ stand_more word (first ∷ insts) inst h k = (h.0, stand_more (word + length (en
 pub line_wrong : (wrong : Wrong) (word : ℕ) (text rest : List ℕ) (line : Line) → Stands line_text IsLine Any text line rest → IsWrongLine wrong word line → IsWrong wrong word text
 line_wrong NoLine word text rest line h k = absurd k
 line_wrong UnknownName word text rest line h k = (line, rest, h, k)
-line_wrong WrongForm word text rest line h k = (line, rest, h, k)
+line_wrong WrongOperands word text rest line h k = (line, rest, h, k)
 line_wrong Misplaced word text rest line h k = (line, rest, h, k)
 
 stands_once : (text r s : List ℕ) (k l : Line) → Stands line_text IsLine Any text k r → Stands line_text IsLine Any text l s → (k ≡ l) × (r ≡ s)
@@ -62,7 +62,7 @@ unknown_not word line inst h formed e = h inst.op (formed_opcode inst line forme
 right : (wrong : Wrong) (word : ℕ) (line : Line) (inst : Inst) → StandsAt word inst → line ≡ line_of inst → IsWrongLine wrong word line → ⊥
 right NoLine word line inst h e k = k
 right UnknownName word line inst h e k = unknown_not word line inst k (inst_formed inst h.0) e
-right WrongForm word line inst h e k = k.1 inst (inst_formed inst h.0) e
+right WrongOperands word line inst h e k = k.1 inst (inst_formed inst h.0) e
 right Misplaced word line inst h e k = at k.3
   where
     formed : IsFormed inst
@@ -82,7 +82,7 @@ Blocked word rest = (rest ≡ []) ⊎ ((wrong : Wrong) × IsWrong wrong word res
 wrong_not : (wrong : Wrong) (word : ℕ) (text rest : List ℕ) (inst : Inst) → IsWrong wrong word text → StandsAt word inst → text ≡ line_text (line_of inst) ++ rest → ⊥
 wrong_not NoLine word text rest inst h k e = h (line_of inst) rest (range_line word inst k) e tt
 wrong_not UnknownName word text rest inst h k e = right UnknownName word h.0 inst k (stands_once text h.1 rest h.0 (line_of inst) h.2 (range_line word inst k, e, tt)).0 h.3
-wrong_not WrongForm word text rest inst h k e = right WrongForm word h.0 inst k (stands_once text h.1 rest h.0 (line_of inst) h.2 (range_line word inst k, e, tt)).0 h.3
+wrong_not WrongOperands word text rest inst h k e = right WrongOperands word h.0 inst k (stands_once text h.1 rest h.0 (line_of inst) h.2 (range_line word inst k, e, tt)).0 h.3
 wrong_not Misplaced word text rest inst h k e = right Misplaced word h.0 inst k (stands_once text h.1 rest h.0 (line_of inst) h.2 (range_line word inst k, e, tt)).0 h.3
 
 line_some : (line : Line) (rest : List ℕ) → [] ≡ line_text line ++ rest → ⊥
@@ -124,15 +124,15 @@ one_wrong_line : (u v : Wrong) (word : ℕ) (line : Line) → IsWrongLine u word
 one_wrong_line NoLine v word line h k = absurd h
 one_wrong_line UnknownName NoLine word line h k = absurd k
 one_wrong_line UnknownName UnknownName word line h k = refl
-one_wrong_line UnknownName WrongForm word line h k = absurd (h k.0.0 k.0.1)
+one_wrong_line UnknownName WrongOperands word line h k = absurd (h k.0.0 k.0.1)
 one_wrong_line UnknownName Misplaced word line h k = absurd (unknown_not word line k.0 h k.1 k.2)
-one_wrong_line WrongForm NoLine word line h k = absurd k
-one_wrong_line WrongForm UnknownName word line h k = absurd (k h.0.0 h.0.1)
-one_wrong_line WrongForm WrongForm word line h k = refl
-one_wrong_line WrongForm Misplaced word line h k = absurd (h.1 k.0 k.1 k.2)
+one_wrong_line WrongOperands NoLine word line h k = absurd k
+one_wrong_line WrongOperands UnknownName word line h k = absurd (k h.0.0 h.0.1)
+one_wrong_line WrongOperands WrongOperands word line h k = refl
+one_wrong_line WrongOperands Misplaced word line h k = absurd (h.1 k.0 k.1 k.2)
 one_wrong_line Misplaced NoLine word line h k = absurd k
 one_wrong_line Misplaced UnknownName word line h k = absurd (unknown_not word line h.0 k h.1 h.2)
-one_wrong_line Misplaced WrongForm word line h k = absurd (k.1 h.0 h.1 h.2)
+one_wrong_line Misplaced WrongOperands word line h k = absurd (k.1 h.0 h.1 h.2)
 one_wrong_line Misplaced Misplaced word line h k = refl
 
 -- a line that stands there, and is wrong so; or none stands there
@@ -143,7 +143,7 @@ has_wrong : (wrong : Wrong) (word : ℕ) (text : List ℕ) → IsWrong wrong wor
 unfolding HasWrong
 has_wrong NoLine word text h = inl (refl, h)
 has_wrong UnknownName word text h = inr h
-has_wrong WrongForm word text h = inr h
+has_wrong WrongOperands word text h = inr h
 has_wrong Misplaced word text h = inr h
 
 one_cause : (u v : Wrong) (word : ℕ) (text : List ℕ) → HasWrong u word text → HasWrong v word text → u ≡ v

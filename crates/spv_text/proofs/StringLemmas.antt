@@ -1,5 +1,5 @@
--- How the bytes of a string are written: by one form each.
-use Rattle.std.proofs.Common.{◌≡◌, ◌≢◌, ℕ, ◌+◌, ◌/◌, ◌%◌, ◌<◌, ◌≤◌, nat_eq, Bool, true, false, List, [], ◌∷◌, ◌++◌, get_or, drop, refl, sym, ap, append_assoc, ◌∙◌, arith, subst, ◌⊎◌, inl, inr}
+-- How the bytes of a string are written: in one way each.
+use Rattle.std.proofs.Common.{◌≡◌, ◌≢◌, ℕ, ◌/◌, ◌%◌, ◌<◌, ◌≤◌, nat_eq, Bool, true, false, List, [], ◌∷◌, ◌++◌, get_or, drop, refl, sym, ap, append_assoc, ◌∙◌, arith, subst, ◌⊎◌, inl, inr}
 use Rattle.std.specs.List.{flat_map, AllByRecursion}
 use Rattle.std.proofs.lemmas.Bool.Decides.{nat_tests}
 use Rattle.std.proofs.lemmas.Bool.{cases_lt}
@@ -13,19 +13,19 @@ use Rattle.spv_text.specs.Lines.{IsByte, Lacks, Any}
 pub one_digit : (m n : ℕ) → m < 16 → n < 16 → hex_digit m ≡ hex_digit n → m ≡ n
 one_digit m n h k e = grind (arith, nat_tests)
 
--- ---- the four forms
+-- ---- the four ways
 
-pub data Form (b : ℕ) : Type 0 where
-  quote : b ≡ 34 → byte_text b ≡ 92 ∷ 34 ∷ [] → Form b
-  backslash : b ≡ 92 → byte_text b ≡ 92 ∷ 92 ∷ [] → Form b
-  itself : 32 ≤ b → b ≤ 126 → b ≢ 34 → b ≢ 92 → byte_text b ≡ b ∷ [] → Form b
-  hex : (b < 32) ⊎ (126 < b) → byte_text b ≡ 92 ∷ 120 ∷ hex_digit (b / 16) ∷ hex_digit (b % 16) ∷ [] → Form b
+pub data Written (b : ℕ) : Type 0 where
+  quote : b ≡ 34 → byte_text b ≡ 92 ∷ 34 ∷ [] → Written b
+  backslash : b ≡ 92 → byte_text b ≡ 92 ∷ 92 ∷ [] → Written b
+  itself : 32 ≤ b → b ≤ 126 → b ≢ 34 → b ≢ 92 → byte_text b ≡ b ∷ [] → Written b
+  hex : (b < 32) ⊎ (126 < b) → byte_text b ≡ 92 ∷ 120 ∷ hex_digit (b / 16) ∷ hex_digit (b % 16) ∷ [] → Written b
 
-form_quote : (b : ℕ) → b ≡ 34 → Form b
-form_quote b e = subst Form (sym e) (quote refl refl)
+written_quote : (b : ℕ) → b ≡ 34 → Written b
+written_quote b e = subst Written (sym e) (quote refl refl)
 
-form_backslash : (b : ℕ) → b ≡ 92 → Form b
-form_backslash b e = subst Form (sym e) (backslash refl refl)
+written_backslash : (b : ℕ) → b ≡ 92 → Written b
+written_backslash b e = subst Written (sym e) (backslash refl refl)
 
 itself_text : (b : ℕ) → 32 ≤ b → b ≤ 126 → b ≢ 34 → b ≢ 92 → byte_text b ≡ b ∷ []
 itself_text b l h p q = grind (arith, nat_tests)
@@ -33,23 +33,23 @@ itself_text b l h p q = grind (arith, nat_tests)
 pub hex_text : (b : ℕ) → (b < 32) ⊎ (126 < b) → byte_text b ≡ 92 ∷ 120 ∷ hex_digit (b / 16) ∷ hex_digit (b % 16) ∷ []
 hex_text b o = grind (arith, nat_tests)
 
-form_by : (b : ℕ) → (b < 32) ⊎ (32 ≤ b) → (b < 127) ⊎ (127 ≤ b) → (p q : Bool) → nat_eq b 34 ≡ p → nat_eq b 92 ≡ q → Form b
-form_by b low high true q e f = form_quote b (grind (arith, nat_tests))
-form_by b low high false true e f = form_backslash b (grind (arith, nat_tests))
-form_by b (inl l) high false false e f = hex (inl l) (hex_text b (inl l))
-form_by b (inr l) (inr h) false false e f = hex (inr (omega arith)) (hex_text b (inr (omega arith)))
-form_by b (inr l) (inl h) false false e f =
+written_by : (b : ℕ) → (b < 32) ⊎ (32 ≤ b) → (b < 127) ⊎ (127 ≤ b) → (p q : Bool) → nat_eq b 34 ≡ p → nat_eq b 92 ≡ q → Written b
+written_by b low high true q e f = written_quote b (grind (arith, nat_tests))
+written_by b low high false true e f = written_backslash b (grind (arith, nat_tests))
+written_by b (inl l) high false false e f = hex (inl l) (hex_text b (inl l))
+written_by b (inr l) (inr h) false false e f = hex (inr (omega arith)) (hex_text b (inr (omega arith)))
+written_by b (inr l) (inl h) false false e f =
     let p : b ≢ 34 = λ g. grind (arith, nat_tests) in
     let q : b ≢ 92 = λ g. grind (arith, nat_tests) in
     let k : b ≤ 126 = omega arith in
     itself l k p q (itself_text b l k p q)
 
-pub form : (b : ℕ) → Form b
-form b = form_by b (cases_lt b 32) (cases_lt b 127) (nat_eq b 34) (nat_eq b 92) refl refl
+pub written : (b : ℕ) → Written b
+written b = written_by b (cases_lt b 32) (cases_lt b 127) (nat_eq b 34) (nat_eq b 92) refl refl
 
--- the two texts, with their bytes in their forms
-in_forms : (x y u v r s : List ℕ) → x ≡ u → y ≡ v → x ++ r ≡ y ++ s → u ++ r ≡ v ++ s
-in_forms x y u v r s p q e = sym (ap (λ t. t ++ r) p) ∙ e ∙ ap (λ t. t ++ s) q
+-- the two texts, with their bytes as they are written
+as_written : (x y u v r s : List ℕ) → x ≡ u → y ≡ v → x ++ r ≡ y ++ s → u ++ r ≡ v ++ s
+as_written x y u v r s p q e = sym (ap (λ t. t ++ r) p) ∙ e ∙ ap (λ t. t ++ s) q
 
 pub head_is : {x y : ℕ} {r s : List ℕ} → x ∷ r ≡ y ∷ s → x ≡ y
 head_is e = ap (λ l. get_or l 0 0) e
@@ -82,37 +82,37 @@ both_hex : (a b h l k m : ℕ) (r s : List ℕ) → a < 256 → b < 256 → h �
 both_hex a b h l k m r s x y p q u v e =
     (hex_parts a b x y (sym p ∙ head_is e ∙ u) (sym q ∙ head_is (tail_is e) ∙ v), tail_is (tail_is e))
 
-same_by : (a b : ℕ) (r s : List ℕ) → a < 256 → b < 256 → Form a → Form b → byte_text a ++ r ≡ byte_text b ++ s → Same a b r s
-same_by a b r s x y (quote k p) (quote l q) e = (k ∙ sym l, tail_is (tail_is (in_forms _ _ _ _ r s p q e)))
-same_by a b r s x y (quote k p) (backslash l q) e = absurd (differ refl (tail_is (in_forms _ _ _ _ r s p q e)))
-same_by a b r s x y (quote k p) (itself l h m n q) e = absurd (n (sym (head_is (in_forms _ _ _ _ r s p q e))))
-same_by a b r s x y (quote k p) (hex o q) e = absurd (differ refl (tail_is (in_forms _ _ _ _ r s p q e)))
-same_by a b r s x y (backslash k p) (quote l q) e = absurd (differ refl (tail_is (in_forms _ _ _ _ r s p q e)))
-same_by a b r s x y (backslash k p) (backslash l q) e = (k ∙ sym l, tail_is (tail_is (in_forms _ _ _ _ r s p q e)))
-same_by a b r s x y (backslash k p) (itself l h m n q) e = absurd (n (sym (head_is (in_forms _ _ _ _ r s p q e))))
-same_by a b r s x y (backslash k p) (hex o q) e = absurd (differ refl (tail_is (in_forms _ _ _ _ r s p q e)))
-same_by a b r s x y (itself l h m n p) (quote k q) e = absurd (n (head_is (in_forms _ _ _ _ r s p q e)))
-same_by a b r s x y (itself l h m n p) (backslash k q) e = absurd (n (head_is (in_forms _ _ _ _ r s p q e)))
-same_by a b r s x y (itself l h m n p) (itself l' h' m' n' q) e = (head_is (in_forms _ _ _ _ r s p q e), tail_is (in_forms _ _ _ _ r s p q e))
-same_by a b r s x y (itself l h m n p) (hex o q) e = absurd (n (head_is (in_forms _ _ _ _ r s p q e)))
-same_by a b r s x y (hex o p) (quote k q) e = absurd (differ refl (tail_is (in_forms _ _ _ _ r s p q e)))
-same_by a b r s x y (hex o p) (backslash k q) e = absurd (differ refl (tail_is (in_forms _ _ _ _ r s p q e)))
-same_by a b r s x y (hex o p) (itself l h m n q) e = absurd (n (sym (head_is (in_forms _ _ _ _ r s p q e))))
-same_by a b r s x y (hex o p) (hex o' q) e = both_hex a b _ _ _ _ r s x y refl refl refl refl (tail_is (tail_is (in_forms _ _ _ _ r s p q e)))
+same_by : (a b : ℕ) (r s : List ℕ) → a < 256 → b < 256 → Written a → Written b → byte_text a ++ r ≡ byte_text b ++ s → Same a b r s
+same_by a b r s x y (quote k p) (quote l q) e = (k ∙ sym l, tail_is (tail_is (as_written _ _ _ _ r s p q e)))
+same_by a b r s x y (quote k p) (backslash l q) e = absurd (differ refl (tail_is (as_written _ _ _ _ r s p q e)))
+same_by a b r s x y (quote k p) (itself l h m n q) e = absurd (n (sym (head_is (as_written _ _ _ _ r s p q e))))
+same_by a b r s x y (quote k p) (hex o q) e = absurd (differ refl (tail_is (as_written _ _ _ _ r s p q e)))
+same_by a b r s x y (backslash k p) (quote l q) e = absurd (differ refl (tail_is (as_written _ _ _ _ r s p q e)))
+same_by a b r s x y (backslash k p) (backslash l q) e = (k ∙ sym l, tail_is (tail_is (as_written _ _ _ _ r s p q e)))
+same_by a b r s x y (backslash k p) (itself l h m n q) e = absurd (n (sym (head_is (as_written _ _ _ _ r s p q e))))
+same_by a b r s x y (backslash k p) (hex o q) e = absurd (differ refl (tail_is (as_written _ _ _ _ r s p q e)))
+same_by a b r s x y (itself l h m n p) (quote k q) e = absurd (n (head_is (as_written _ _ _ _ r s p q e)))
+same_by a b r s x y (itself l h m n p) (backslash k q) e = absurd (n (head_is (as_written _ _ _ _ r s p q e)))
+same_by a b r s x y (itself l h m n p) (itself l' h' m' n' q) e = (head_is (as_written _ _ _ _ r s p q e), tail_is (as_written _ _ _ _ r s p q e))
+same_by a b r s x y (itself l h m n p) (hex o q) e = absurd (n (head_is (as_written _ _ _ _ r s p q e)))
+same_by a b r s x y (hex o p) (quote k q) e = absurd (differ refl (tail_is (as_written _ _ _ _ r s p q e)))
+same_by a b r s x y (hex o p) (backslash k q) e = absurd (differ refl (tail_is (as_written _ _ _ _ r s p q e)))
+same_by a b r s x y (hex o p) (itself l h m n q) e = absurd (n (sym (head_is (as_written _ _ _ _ r s p q e))))
+same_by a b r s x y (hex o p) (hex o' q) e = both_hex a b _ _ _ _ r s x y refl refl refl refl (tail_is (tail_is (as_written _ _ _ _ r s p q e)))
 
 -- a text begins with one byte of a string at most
 pub one_byte : (a b : ℕ) (r s : List ℕ) → IsByte a → IsByte b → byte_text a ++ r ≡ byte_text b ++ s → (a ≡ b) × (r ≡ s)
-one_byte a b r s h k e = same_by a b r s h.1 k.1 (form a) (form b) e
+one_byte a b r s h k e = same_by a b r s h.1 k.1 (written a) (written b) e
 
 -- a byte of a string doesn't begin with a quote
-quote_by : (b : ℕ) (r s : List ℕ) → Form b → byte_text b ++ r ≡ 34 ∷ s → ⊥
+quote_by : (b : ℕ) (r s : List ℕ) → Written b → byte_text b ++ r ≡ 34 ∷ s → ⊥
 quote_by b r s (quote k p) e = differ refl (sym (ap (λ t. t ++ r) p) ∙ e)
 quote_by b r s (backslash k p) e = differ refl (sym (ap (λ t. t ++ r) p) ∙ e)
 quote_by b r s (itself l h m n p) e = m (head_is (sym (ap (λ t. t ++ r) p) ∙ e))
 quote_by b r s (hex o p) e = differ refl (sym (ap (λ t. t ++ r) p) ∙ e)
 
 pub no_quote : (b : ℕ) (r s : List ℕ) → byte_text b ++ r ≡ 34 ∷ s → ⊥
-no_quote b r s e = quote_by b r s (form b) e
+no_quote b r s e = quote_by b r s (written b) e
 
 -- ---- strings behind their first quote
 

@@ -1,11 +1,12 @@
 -- What stands at the front of a text, by what is written; lines that can be written.
-use Rattle.std.specs.Prelude.{◌≡◌, ℕ, ◌+◌, ◌-◌, ◌*◌, ◌<◌, ◌≤◌, nat_le, fold, ◌&&◌, ◌||◌, Bool, true, false, List, length, ◌++◌, slice_index}
+use Rattle.std.specs.Prelude.{◌≡◌, ℕ, ◌<◌, ◌≤◌, nat_le, ◌&&◌, ◌||◌, Bool, true, false, List, length, ◌++◌, slice_index}
 use Rattle.std.specs.List.{AllByRecursion, list_all}
 use Rattle.spv_base.specs.declared.instructions.Operand.{Operand}
 use Rattle.spv_base.specs.declared.instructions.Operand.TheVariants.{Id, Lit, Text}
 use Rattle.spv_text.specs.declared.lines.Part.{Part}
 use Rattle.spv_text.specs.declared.lines.Part.TheVariants as part
 use Rattle.spv_text.specs.declared.lines.Line.{Line}
+use Rattle.spv_line.specs.Numbers.{is_digit}
 
 -- ---- what stands at the front of a text
 
@@ -19,10 +20,7 @@ Lacks {T} write Is Follows text = (x : T) (rest : List ℕ) → Is x → text �
 
 -- ---- bytes
 
--- the digits are the bytes 48 to 57, the letters 65 to 90 and 97 to 122
-abbrev pub is_digit : ℕ → Bool
-is_digit b = nat_le 48 b && nat_le b 57
-
+-- a digit, or a letter: the bytes 65 to 90 and 97 to 122
 abbrev pub is_name_byte : ℕ → Bool
 is_name_byte b = is_digit b || ((nat_le 65 b && nat_le b 90) || (nat_le 97 b && nat_le b 122))
 
@@ -32,10 +30,6 @@ HasNoDigit rest = is_digit (slice_index rest 0) ≡ false
 
 abbrev pub HasNoNameByte : List ℕ → Type 0
 HasNoNameByte rest = is_name_byte (slice_index rest 0) ≡ false
-
--- what digits spell
-abbrev pub value_of : List ℕ → ℕ
-value_of digits = fold (λ n b. 10 * n + (b - 48)) 0 digits
 
 -- digits are there, and a leading zero is the only one
 abbrev pub LeadsWell : List ℕ → Type 0

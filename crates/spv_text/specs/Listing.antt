@@ -1,12 +1,12 @@
--- The listing of instructions: one line each, by the form of its opcode.
+-- The listing of instructions: one line each, by the grammar of its opcode.
 use Rattle.std.specs.Prelude.{ℕ, List, [], ◌∷◌, ◌++◌, map, codes}
 use Rattle.std.specs.List.{flat_map}
 use Rattle.std.specs.Option.{option_map, unwrap_or}
 use Rattle.spv_base.specs.declared.instructions.Inst.{Inst}
-use Rattle.spv_ops.specs.declared.forms.Head.{Head}
-use Rattle.spv_ops.specs.declared.forms.Head.TheVariants as head
+use Rattle.spv_ops.specs.declared.grammar.Head.{Head}
+use Rattle.spv_ops.specs.declared.grammar.Head.TheVariants as head
 use Rattle.spv_ops.specs.Encoding.{head_of}
-use Rattle.spv_ops.specs.Forms.{row_of}
+use Rattle.spv_ops.specs.Grammar.{row_of}
 use Rattle.spv_text.specs.declared.lines.Part.{Part}
 use Rattle.spv_text.specs.declared.lines.Part.TheVariants as part
 use Rattle.spv_text.specs.declared.lines.Line.{Line}
@@ -16,7 +16,7 @@ use Rattle.spv_text.specs.Spelling.{line_text}
 abbrev pub name_of : ℕ → List ℕ
 name_of op = codes "Op" ++ unwrap_or (option_map (λ row. row.1) (row_of op)) []
 
--- the result type exactly where the form has one, and the result id exactly where it has one
+-- the result type exactly where the grammar has one, and the result id exactly where it has one
 abbrev pub head_parts : Head → ℕ → ℕ → List Part
 head_parts head.Plain ty id = []
 head_parts head.Result ty id = part.ResultId id ∷ []

@@ -5,7 +5,8 @@ use Rattle.spv_text.specs.declared.lines.Part.{Part}
 use Rattle.spv_text.specs.declared.lines.Part.TheVariants as part
 use Rattle.spv_text.specs.declared.parts.Mark.{Mark}
 use Rattle.spv_text.specs.declared.parts.Mark.TheVariants as mark
-use Rattle.spv_text.specs.Lines.{is_digit, HasNoDigit, Any}
+use Rattle.spv_text.specs.Lines.{HasNoDigit, Any}
+use Rattle.spv_line.specs.Numbers.{is_digit}
 
 abbrev pub mark_text : Mark → List ℕ
 mark_text mark.ResultType = codes "type=%"

@@ -6,10 +6,10 @@ use Rattle.spv_base.specs.declared.causes.Fail.TheVariants.{Refused, NoMemory}
 use Rattle.spv_base.specs.declared.causes.Refusal.{Refusal}
 use Rattle.spv_base.specs.declared.instructions.Inst.{Inst}
 use Rattle.spv_ops.specs.Encoding.{encoding, head_of, HasHead, IsFormed, IsInst}
-use Rattle.spv_ops.specs.Forms.{row_of}
+use Rattle.spv_ops.specs.Grammar.{row_of}
 use Rattle.spv_text.specs.declared.lines.Line.{Line}
 use Rattle.spv_text.specs.declared.lines.Wrong.{Wrong}
-use Rattle.spv_text.specs.declared.lines.Wrong.TheVariants.{NoLine, UnknownName, WrongForm, Misplaced}
+use Rattle.spv_text.specs.declared.lines.Wrong.TheVariants.{NoLine, UnknownName, WrongOperands, Misplaced}
 use Rattle.spv_text.specs.Spelling.{line_text}
 use Rattle.spv_text.specs.Lines.{Any, IsLine, IsNumber, IsOperand, Lacks, Stands}
 use Rattle.spv_text.specs.Listing.{line_of, listing, name_of}
@@ -38,7 +38,7 @@ abbrev pub AreInsts : ℕ → List Inst → Type 0
 AreInsts word [] = Unit {0}
 AreInsts word (inst ∷ insts) = StandsAt word inst × AreInsts (word + length (encoding inst)) insts
 
--- an instruction whose opcode is in the table, and whose result type and id are 0 where the form has none
+-- an instruction whose opcode is in the table, and whose result type and id are 0 where the grammar has none
 pub record HasPlace (inst : Inst) : Type 0 where
   pub opcode : IsSome (row_of inst.op)
   pub head : HasHead (head_of (row_of inst.op)) inst.ty inst.id
@@ -53,8 +53,8 @@ IsOpcode op name = IsSome (row_of op) × (name ≡ name_of op)
 abbrev pub IsWrongLine : Wrong → ℕ → Line → Type 0
 IsWrongLine NoLine word line = ⊥
 IsWrongLine UnknownName word line = (op : ℕ) → IsOpcode op line.name → ⊥
--- no instruction of an opcode's form has the line
-IsWrongLine WrongForm word line = ((op : ℕ) × IsOpcode op line.name) × ((inst : Inst) → IsFormed inst → line ≢ line_of inst)
+-- no instruction of an opcode's grammar has the line
+IsWrongLine WrongOperands word line = ((op : ℕ) × IsOpcode op line.name) × ((inst : Inst) → IsFormed inst → line ≢ line_of inst)
 -- it has more than 65,535 words, or stands at another word
 IsWrongLine Misplaced word line = (inst : Inst) × IsFormed inst × (line ≡ line_of inst) × ((65535 < length (encoding inst)) ⊎ (line.word ≢ word))
 
@@ -63,14 +63,14 @@ IsWrongLine Misplaced word line = (inst : Inst) × IsFormed inst × (line ≡ li
 abbrev pub IsWrong : Wrong → ℕ → List ℕ → Type 0
 IsWrong NoLine word text = Lacks line_text IsLine Any text
 IsWrong UnknownName word text = (line : Line) × (rest : List ℕ) × Stands line_text IsLine Any text line rest × IsWrongLine UnknownName word line
-IsWrong WrongForm word text = (line : Line) × (rest : List ℕ) × Stands line_text IsLine Any text line rest × IsWrongLine WrongForm word line
+IsWrong WrongOperands word text = (line : Line) × (rest : List ℕ) × Stands line_text IsLine Any text line rest × IsWrongLine WrongOperands word line
 IsWrong Misplaced word text = (line : Line) × (rest : List ℕ) × Stands line_text IsLine Any text line rest × IsWrongLine Misplaced word line
 
 -- the codes of refusals
 abbrev pub code_of : Wrong → ℕ
 code_of NoLine = 1
 code_of UnknownName = 2
-code_of WrongForm = 3
+code_of WrongOperands = 3
 code_of Misplaced = 4
 
 -- ---- what a text is

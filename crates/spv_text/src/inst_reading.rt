@@ -42,7 +42,7 @@ fn operands_of(alloc: Global, parts: &[Part]) -> Result<Option<Operands>, NoMemo
     Ok(Some(operands))
 }
 
-/// The result type, the result id (0 where the form has none) and the operands that parts are.
+/// The result type, the result id (0 where the grammar has none) and the operands that parts are.
 fn split(
     alloc: Global,
     head: Head,
@@ -75,7 +75,7 @@ fn named_inst(alloc: Global, line: &Line) -> Result<Inst, Fail<Wrong>>
         return Err(Fail::Refused(Wrong::UnknownName));
     };
     let Some((ty, id, operands)) = split(alloc, head, line.parts.as_slice())? else {
-        return Err(Fail::Refused(Wrong::WrongForm));
+        return Err(Fail::Refused(Wrong::WrongOperands));
     };
     Ok(Inst {
         word: line.word,
@@ -97,7 +97,7 @@ fn count_of(alloc: Global, inst: &Inst, word: u64) -> Result<u64, Fail<Wrong>>
         if is_formed(alloc, inst)? {
             return Err(Fail::Refused(Wrong::Misplaced));
         }
-        return Err(Fail::Refused(Wrong::WrongForm));
+        return Err(Fail::Refused(Wrong::WrongOperands));
     };
     if u64::from(inst.word) != word {
         return Err(Fail::Refused(Wrong::Misplaced));

@@ -1,4 +1,4 @@
-//! The text form of modules: a line for each instruction, by the form of its opcode (SPIR-V 1.6 section 3, Instructions).
+//! The text form of modules: a line for each instruction, by the grammar of its opcode (SPIR-V 1.6 section 3, Instructions).
 #![tactic(auto)]
 
 mod fronts;

@@ -27,8 +27,8 @@ pub enum Wrong {
     NoLine,
     /// The name is no opcode's.
     UnknownName,
-    /// The type, the id and the operands aren't of the opcode's form.
-    WrongForm,
+    /// The type, the id and the operands aren't of the opcode's grammar.
+    WrongOperands,
     /// The instruction has more than 65,535 words, or doesn't stand behind those before.
     Misplaced,
 }

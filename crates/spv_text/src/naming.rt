@@ -1,7 +1,7 @@
 //! Opcodes by their names.
 ghost use Rattle.std.specs.Prelude.{◌≡◌, ◌≢◌, ◌↔◌, ℕ, map, Some, IsTrue, MatchOption};
 ghost use Rattle.std.specs.List.{AllByRecursion};
-ghost use Rattle.spv_ops.specs.Forms.{row_of};
+ghost use Rattle.spv_ops.specs.Grammar.{row_of};
 ghost use Rattle.spv_ops.specs.Opcodes.{Row};
 ghost use Rattle.spv_text.specs.Names.{IsAmong};
 ghost use Rattle.spv_text.specs.Reading.{IsOpcode};

@@ -1,13 +1,14 @@
 //! Reading numbers and names.
-ghost use Rattle.std.specs.Prelude.{◌≡◌, ◌≢◌, ℕ, ◌^◌, ◌++◌, min, true, not, decimal, MatchOption, IsTrue, ◌↔◌};
+ghost use Rattle.std.specs.Prelude.{◌≡◌, ◌≢◌, ℕ, ◌++◌, true, not, decimal, MatchOption, IsTrue, ◌↔◌};
 ghost use Rattle.std.specs.List.{list_all, position};
-ghost use Rattle.spv_text.specs.Lines.{value_of, is_digit, LeadsWell, is_name_byte, HasNoDigit, HasNoNameByte, IsName, IsNumber, Lacks, Stands};
+ghost use Rattle.spv_line.specs.Numbers.{is_digit};
+ghost use Rattle.spv_text.specs.Lines.{LeadsWell, is_name_byte, HasNoDigit, HasNoNameByte, IsName, IsNumber, Lacks, Stands};
 
 /// The place of the first byte that is no digit.
 fn digits_end(text: &[u8]) -> Option<usize>
     ensures { result ≡ position (λ b. not (is_digit b)) text.now }
 {
-    text.iter().position(|b| !(b'0' <= *b && *b <= b'9'))
+    text.iter().position(|b| !(b'0' <= *b && *b < b':'))
 }
 
 /// The digits at the front, and what follows them.
@@ -18,17 +19,6 @@ fn digits_at(text: &[u8]) -> (&[u8], &[u8])
     ensures rest { HasNoDigit result.1.now }
 {
     text.split_at(digits_end(text).unwrap_or(text.len()))
-}
-
-/// What digits spell, or 2^32 where that is more.
-fn value(digits: &[u8]) -> u64
-    ensures { result ≡ min (value_of digits.now) (2 ^ 32) }
-{
-    let mut value: u64 = 0;
-    for digit in digits {
-        value = (10 * value + digit.saturating_sub(b'0') as u64).min(1 << 32);
-    }
-    value
 }
 
 /// Whether digits are there, and the first is no zero that others follow.
@@ -50,11 +40,9 @@ fn number(digits: &[u8]) -> Option<u32>
     if !leads_well(digits) {
         return None;
     }
-    let value = value(digits);
-    if value <= u32::MAX as u64 {
-        Some(value as u32)
-    } else {
-        None
+    match spv_line::number(digits, u32::MAX as u64) {
+        Some(number) => Some(number as u32),
+        None => None,
     }
 }
 
@@ -74,7 +62,7 @@ fn name_end(text: &[u8]) -> Option<usize>
     ensures { result ≡ position (λ b. not (is_name_byte b)) text.now }
 {
     text.iter().position(|b| {
-        !(b'0' <= *b && *b <= b'9' || b'A' <= *b && *b <= b'Z' || b'a' <= *b && *b <= b'z')
+        !(b'0' <= *b && *b < b':' || b'A' <= *b && *b <= b'Z' || b'a' <= *b && *b <= b'z')
     })
 }
 

@@ -28,7 +28,7 @@ impl Wrong {
         match self {
             Wrong::NoLine => 1,
             Wrong::UnknownName => 2,
-            Wrong::WrongForm => 3,
+            Wrong::WrongOperands => 3,
             Wrong::Misplaced => 4,
         }
     }
@@ -53,7 +53,7 @@ fn next_inst(alloc: Global, text: &[u8], word: u64) -> Result<(Inst, u64, &[u8])
 
 /// The instructions of which a text is the listing, from word 5 on. A text that is no listing is refused at its lowest wrong
 /// line, whose number from 1 is the refusal's word: where no line stands (X1), where no opcode has its name (X2), where its
-/// parts aren't of the opcode's form (X3), or where the instruction has more than 65,535 words or doesn't stand behind those
+/// parts aren't of the opcode's grammar (X3), or where the instruction has more than 65,535 words or doesn't stand behind those
 /// before (X4).
 pub fn read_listing(alloc: Global, text: &[u8]) -> Result<Vec<Inst>, Fail<Refusal>>
     requires { length text.now ≤ 67108864 }

@@ -20,7 +20,7 @@ fn hex_value(digit: u8) -> Option<u8>
 }
 
 /// The byte that is written by these two digits of base 16: it isn't zero, and has no shorter form.
-fn escaped(high: u8, low: u8) -> Option<u8>
+fn escaped_byte(high: u8, low: u8) -> Option<u8>
     ensures { MatchOption result ((byte : ℕ) → IsByte byte → byte_text byte ≢ 92 ∷ 120 ∷ high ∷ low ∷ []) (λ byte. IsByte byte × (byte_text byte ≡ 92 ∷ 120 ∷ high ∷ low ∷ [])) }
 {
     let high = hex_value(high)?;
@@ -38,7 +38,7 @@ fn byte_at(text: &[u8]) -> Option<(u8, &[u8])>
     ensures { MatchOption result (Lacks byte_text IsByte Any text.now) (λ found. Stands byte_text IsByte Any text.now found.0 found.1.now) }
 {
     match text {
-        [b'\\', b'x', high, low, rest @ ..] => match escaped(*high, *low) {
+        [b'\\', b'x', high, low, rest @ ..] => match escaped_byte(*high, *low) {
             Some(byte) => Some((byte, rest)),
             None => None,
         },

@@ -2,7 +2,7 @@
 ghost use Rattle.std.specs.Prelude.{◌≡◌, ◌++◌, ◌+◌, ◌<◌, IfOk, OnOk, codes, decimal, map};
 ghost use Rattle.std.specs.List.{flat_map};
 ghost use Rattle.spv_ops.specs.Encoding.{head_of};
-ghost use Rattle.spv_ops.specs.Forms.{row_of};
+ghost use Rattle.spv_ops.specs.Grammar.{row_of};
 ghost use Rattle.spv_text.specs.declared.lines.Part.TheVariants as part;
 ghost use Rattle.spv_text.specs.Spelling.{byte_text, hex_digit, line_text, operand_text, part_text, parts_text};
 ghost use Rattle.spv_text.specs.Listing.{head_parts, line_of, listing, name_of};
@@ -84,7 +84,7 @@ fn push_id(alloc: Global, text: &mut Vec<u8>, id: u32) -> Result<(), NoMemory>
     push_number(alloc, text, id)
 }
 
-/// Appends the result type and the result id of a form, each after a space.
+/// Appends the result type and the result id of a grammar, each after a space.
 fn push_head(
     alloc: Global,
     text: &mut Vec<u8>,
@@ -145,7 +145,7 @@ fn push_inst(alloc: Global, text: &mut Vec<u8>, inst: &Inst) -> Result<(), NoMem
     Ok(())
 }
 
-/// The listing of instructions: a line for each, by the form of its opcode.
+/// The listing of instructions: a line for each, by the grammar of its opcode.
 #[tactic(auto, unfolding(crate::specs::Listing::listing))]
 pub fn listing(alloc: Global, insts: &[Inst]) -> Result<Text, NoMemory>
     ensures { IfOk result (λ text. text ≡ listing insts.now) }

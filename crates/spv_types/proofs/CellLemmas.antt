@@ -6,8 +6,8 @@ use Rattle.spv_types.specs.declared.forms.Member.{Member}
 use Rattle.spv_types.specs.Types.{Types, found_among}
 use Rattle.spv_types.specs.Cells.{cells_among, cells_step, members_cells, added}
 use Rattle.std.specs.Prelude.{min}
-use Rattle.spv_types.specs.Cuts.{cut, cut_first}
-use Rattle.spv_types.proofs.Cuts.{cut-add, cut-mul}
+use Rattle.spv_types.specs.Saturation.{saturated, saturated_first}
+use Rattle.spv_types.proofs.SaturationLemmas.{saturated-add, saturated-mul}
 use Rattle.spv_types.proofs.TypeLemmas.{in_first-is}
 
 pub cells_among_is : (ts : Types) (n id : ℕ) → cells_among ts n id ≡ option_map_or (λ (f : ℕ × Form). cells_step (cells_among ts f.0) f.1) (found_among ts n id) None
@@ -44,14 +44,14 @@ pub members_cells_nil : (f : ℕ → Option ℕ) → members_cells f [] ≡ Some
 unfolding members_cells
 members_cells_nil f = refl
 
-pub added_cut : (a b : Option ℕ) (n m : ℕ) → option_map cut a ≡ Some n → option_map cut b ≡ Some m → option_map cut (added a b) ≡ Some (min (n + m) (2 ^ 64 - 1))
-added_cut None b n m h k = cc
-added_cut (Some a) None n m h k = cc
-added_cut (Some a) (Some b) n m h k = let e : cut a ≡ n = cc in let f : cut b ≡ m = cc in rw (← e, ← f, cut-add a b) refl
+pub added_saturated : (a b : Option ℕ) (n m : ℕ) → option_map saturated a ≡ Some n → option_map saturated b ≡ Some m → option_map saturated (added a b) ≡ Some (min (n + m) (2 ^ 64 - 1))
+added_saturated None b n m h k = cc
+added_saturated (Some a) None n m h k = cc
+added_saturated (Some a) (Some b) n m h k = let e : saturated a ≡ n = cc in let f : saturated b ≡ m = cc in rw (← e, ← f, saturated-add a b) refl
 
-pub repeated_cut : (a : Option ℕ) (n k : ℕ) → option_map cut a ≡ Some n → option_map cut (option_map (λ c. c * k) a) ≡ Some (min (n * k) (2 ^ 64 - 1))
-repeated_cut None n k h = cc
-repeated_cut (Some a) n k h = let e : cut a ≡ n = cc in rw (← e, cut-mul a k) refl
+pub repeated_saturated : (a : Option ℕ) (n k : ℕ) → option_map saturated a ≡ Some n → option_map saturated (option_map (λ c. c * k) a) ≡ Some (min (n * k) (2 ^ 64 - 1))
+repeated_saturated None n k h = cc
+repeated_saturated (Some a) n k h = let e : saturated a ≡ n = cc in rw (← e, saturated-mul a k) refl
 
 abbrev pub pair : ℕ → ℕ → ℕ × ℕ
 pair a b = (a, b)
@@ -59,12 +59,12 @@ pair a b = (a, b)
 abbrev pub some_pair : ℕ → ℕ → Option (ℕ × ℕ)
 some_pair a b = Some (a, b)
 
-pub element_cut : (a : Option ℕ) (n i id : ℕ) → option_map cut a ≡ Some n → option_map cut_first (option_map {U = ℕ × ℕ} (λ c. (c * i, id)) a) ≡ some_pair (min (n * i) (2 ^ 64 - 1)) id
-element_cut None n i id h = cc
-element_cut (Some a) n i id h = let e : cut a ≡ n = cc in rw (← e, cut-mul a i) refl
+pub element_saturated : (a : Option ℕ) (n i id : ℕ) → option_map saturated a ≡ Some n → option_map saturated_first (option_map {U = ℕ × ℕ} (λ c. (c * i, id)) a) ≡ some_pair (min (n * i) (2 ^ 64 - 1)) id
+element_saturated None n i id h = cc
+element_saturated (Some a) n i id h = let e : saturated a ≡ n = cc in rw (← e, saturated-mul a i) refl
 
-pub members_cells_next : (f : ℕ → Option ℕ) (ms : List Member) (i n m : ℕ) (d : Member) → i < length ms → option_map cut (members_cells f (take i ms)) ≡ Some n → option_map cut (f (get_or ms i d).ty) ≡ Some m → option_map cut (members_cells f (take (i + 1) ms)) ≡ Some (min (n + m) (2 ^ 64 - 1))
-members_cells_next f ms i n m d l h k = ap (option_map cut) (members_cells_more f ms i d l) ∙ added_cut (members_cells f (take i ms)) (f (get_or ms i d).ty) n m h k
+pub members_cells_next : (f : ℕ → Option ℕ) (ms : List Member) (i n m : ℕ) (d : Member) → i < length ms → option_map saturated (members_cells f (take i ms)) ≡ Some n → option_map saturated (f (get_or ms i d).ty) ≡ Some m → option_map saturated (members_cells f (take (i + 1) ms)) ≡ Some (min (n + m) (2 ^ 64 - 1))
+members_cells_next f ms i n m d l h k = ap (option_map saturated) (members_cells_more f ms i d l) ∙ added_saturated (members_cells f (take i ms)) (f (get_or ms i d).ty) n m h k
 
 pub added_is : (a b : Option ℕ) (n : ℕ) → added a b ≡ Some n → (x : ℕ) × (y : ℕ) × (a ≡ Some x) × (b ≡ Some y) × (n ≡ x + y)
 added_is None b n h = cc

@@ -11,11 +11,11 @@ use Rattle.spv_types.specs.declared.forms.Form.TheVariants.{Void, Bool as Boolea
 use Rattle.spv_types.specs.declared.forms.Member.{Member}
 use Rattle.spv_types.specs.Types.{Types, form_at, form_of, found_among, in_first, is_number, number_of}
 use Rattle.spv_types.specs.Cells.{added, cells_among, cells_of, cells_step, members_cells}
-use Rattle.spv_types.specs.Cuts.{cut}
+use Rattle.spv_types.specs.Saturation.{saturated}
 use Rattle.spv_types.specs.Counted.{AreBefore, AreCounted, HasFirsts, IsCounted, PartsAreBefore, less_one, members_of}
 use Rattle.spv_types.specs.Laws.{IsAmong}
 use Rattle.spv_types.specs.Shapes.{part_type}
-use Rattle.spv_types.proofs.Cuts.{cut-add}
+use Rattle.spv_types.proofs.SaturationLemmas.{saturated-add}
 use Rattle.spv_types.proofs.CellLemmas.{members_cells_more}
 use Rattle.spv_types.proofs.TypeLemmas.{in_first-found, number_form, number_lt, number_push}
 use Rattle.spv_types.proofs.TableLemmas.{number_set}
@@ -53,35 +53,35 @@ pub cells_at : (ts : Types) (limit id n : ℕ) → number_of ts id ≡ Some n �
 unfolding cells_among
 cells_at ts limit id n h l = in_first-found None cells_step ts limit n id h l ∙ rw (number_form ts id n (0, Void) h) refl
 
-pub counted_cells : (ts : Types) (limit id n : ℕ) (f : Form) (c : Count) → found_among ts limit id ≡ Some (n, f) → IsCounted ts n c → c.cells ≡ option_map cut (cells_among ts limit id)
+pub counted_cells : (ts : Types) (limit id n : ℕ) (f : Form) (c : Count) → found_among ts limit id ≡ Some (n, f) → IsCounted ts n c → c.cells ≡ option_map saturated (cells_among ts limit id)
 counted_cells ts limit id n f c h counted =
     let at = found_at ts limit id n f h in
-    counted.cells ∙ ap (option_map cut) (sym (cells_at ts limit id n at.number at.below))
+    counted.cells ∙ ap (option_map saturated) (sym (cells_at ts limit id n at.number at.below))
 
 -- ---- leaves before members
 
-pub added_cuts : (a b : Option ℕ) → option_map cut (added (option_map cut a) (option_map cut b)) ≡ option_map cut (added a b)
+pub added_cuts : (a b : Option ℕ) → option_map saturated (added (option_map saturated a) (option_map saturated b)) ≡ option_map saturated (added a b)
 added_cuts None b = refl
 added_cuts (Some n) None = refl
-added_cuts (Some n) (Some m) = let e : cut (cut n + cut m) ≡ cut (n + m) = cut-add n m in ap Some e
+added_cuts (Some n) (Some m) = let e : saturated (saturated n + saturated m) ≡ saturated (n + m) = saturated-add n m in ap Some e
 
-pub first_next : (f : ℕ → Option ℕ) (ms : List Member) (i : ℕ) (d : Member) (before here after : Option ℕ) → i < length ms → before ≡ option_map cut (members_cells f (take i ms)) → here ≡ option_map cut (f (get_or ms i d).ty)
-    → after ≡ option_map cut (added before here) → after ≡ option_map cut (members_cells f (take (i + 1) ms))
+pub first_next : (f : ℕ → Option ℕ) (ms : List Member) (i : ℕ) (d : Member) (before here after : Option ℕ) → i < length ms → before ≡ option_map saturated (members_cells f (take i ms)) → here ≡ option_map saturated (f (get_or ms i d).ty)
+    → after ≡ option_map saturated (added before here) → after ≡ option_map saturated (members_cells f (take (i + 1) ms))
 first_next f ms i d before here after l h k e =
-    e ∙ rw (h, k) (added_cuts (members_cells f (take i ms)) (f (get_or ms i d).ty)) ∙ ap (option_map cut) (sym (members_cells_more f ms i d l))
+    e ∙ rw (h, k) (added_cuts (members_cells f (take i ms)) (f (get_or ms i d).ty)) ∙ ap (option_map saturated) (sym (members_cells_more f ms i d l))
 
-pub firsts_next : (f : ℕ → Option ℕ) (ms : List Member) (i : ℕ) (firsts : List (Option ℕ)) (before : Option ℕ) → HasFirsts f ms i firsts → before ≡ option_map cut (members_cells f (take i ms)) → HasFirsts f ms (i + 1) (firsts ++ before ∷ [])
+pub firsts_next : (f : ℕ → Option ℕ) (ms : List Member) (i : ℕ) (firsts : List (Option ℕ)) (before : Option ℕ) → HasFirsts f ms i firsts → before ≡ option_map saturated (members_cells f (take i ms)) → HasFirsts f ms (i + 1) (firsts ++ before ∷ [])
 firsts_next f ms i firsts before has is = record {
   long = omega (arith, length-append firsts (before ∷ []), has.long);
   firsts_are = λ k below. read k (k == i) refl below;
 }
   where
-    read : (k : ℕ) (b : Bool) → (k == i) ≡ b → k < i + 1 → get_or (firsts ++ before ∷ []) k None ≡ option_map cut (members_cells f (take k ms))
+    read : (k : ℕ) (b : Bool) → (k == i) ≡ b → k < i + 1 → get_or (firsts ++ before ∷ []) k None ≡ option_map saturated (members_cells f (take k ms))
     read k true e below =
         let same : k ≡ i = grind arith in
         let end : k ≡ length firsts = same ∙ sym has.long in
         let last : get_or (firsts ++ before ∷ []) k None ≡ before = rw end (get_or-append_seam firsts before [] None) in
-        last ∙ is ∙ ap (λ (n : ℕ). option_map cut (members_cells f (take n ms))) (sym same)
+        last ∙ is ∙ ap (λ (n : ℕ). option_map saturated (members_cells f (take n ms))) (sym same)
     read k false e below =
         let apart : k ≢ i = grind arith in
         let less : k < i = omega arith in
@@ -128,9 +128,9 @@ firsts_whole ts n i (Pointer class target) parts = members_same _ _ [] i (λ k p
 firsts_whole ts n i (Function returns parameters) parts = members_same _ _ [] i (λ k part is. cc)
 
 -- the leaves before a member of a struct that was counted
-pub counted_first : (ts : Types) (n i : ℕ) (ms : List Member) (c : Count) → IsCounted ts n c → ms ≡ members_of (form_at ts n) → i < length ms → get_or c.firsts i None ≡ option_map cut (members_cells (cells_of ts) (take i ms))
+pub counted_first : (ts : Types) (n i : ℕ) (ms : List Member) (c : Count) → IsCounted ts n c → ms ≡ members_of (form_at ts n) → i < length ms → get_or c.firsts i None ≡ option_map saturated (members_cells (cells_of ts) (take i ms))
 counted_first ts n i ms c counted is l =
-    rw is (counted.firsts.firsts_are i (subst (λ (xs : List Member). i < length xs) is l) ∙ ap (option_map cut) (firsts_whole ts n i (form_at ts n) counted.parts))
+    rw is (counted.firsts.firsts_are i (subst (λ (xs : List Member). i < length xs) is l) ∙ ap (option_map saturated) (firsts_whole ts n i (form_at ts n) counted.parts))
 
 -- ---- types that agree at the beginning
 

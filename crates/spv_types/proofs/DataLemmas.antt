@@ -1,10 +1,10 @@
 -- What a test of a type tells of its form.
-use Rattle.std.proofs.Common.{◌≡◌, ℕ, ◌&&◌, ◌||◌, not, Bool, true, false, Option, Some, None, refl}
+use Rattle.std.proofs.Common.{◌≡◌, ℕ, ◌≤◌, ◌&&◌, ◌||◌, not, Bool, true, false, Option, Some, None, refl, arith}
 use Rattle.std.proofs.lemmas.Bool.{and_parts}
 use Rattle.spv_types.specs.declared.forms.Form.{Form}
 use Rattle.spv_types.specs.declared.forms.Form.TheVariants.{Void, Bool as Boolean, Int, Vector, Array, Runtime, Struct, Pointer, Function}
 use Rattle.spv_types.specs.Types.{Types, form_of}
-use Rattle.spv_types.specs.Rules.{has_runtime, is_data, is_runtime, is_scalar, is_sized_data, keeps_member}
+use Rattle.spv_types.specs.Rules.{has_runtime, is_data, is_runtime, is_scalar, is_sized_data, is_width, keeps_member}
 
 pub scalar_data : (f : Option Form) → is_scalar f ≡ true → is_data f ≡ true
 scalar_data None h = absurd (cc)
@@ -42,3 +42,7 @@ member_data ts block last ty h = either (is_sized_data ts ty) refl h
         let p = and_parts last (block && is_runtime (form_of ts ty)) h in
         let q = and_parts block (is_runtime (form_of ts ty)) p.1 in
         runtime_data (form_of ts ty) q.1
+
+-- no integer is wider than 64 bits
+pub width_narrow : (width : ℕ) → is_width width ≡ true → width ≤ 64
+width_narrow width h = grind arith

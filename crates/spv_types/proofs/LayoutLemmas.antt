@@ -7,8 +7,8 @@ use Rattle.spv_types.specs.declared.forms.Form.TheVariants.{Void}
 use Rattle.spv_types.specs.declared.forms.Member.{Member}
 use Rattle.spv_types.specs.declared.spans.Span.{Span}
 use Rattle.spv_types.specs.Types.{Types, form_at, in_first, number_of}
-use Rattle.spv_types.specs.Cuts.{cut}
-use Rattle.spv_types.specs.Layout.{greatest_end, laid_among, laid_step, members_laid, size_among, size_step}
+use Rattle.spv_types.specs.Saturation.{saturated}
+use Rattle.spv_types.specs.Layout.{greatest_end, laid_among, laid_step, are_members_laid, size_among, size_step}
 use Rattle.spv_types.specs.Measured.{AreLaid, AreSizes}
 use Rattle.spv_types.proofs.TypeLemmas.{in_first-found, in_first-missing, in_first-unknown, number_form}
 
@@ -45,7 +45,7 @@ pub no_end : (size : ℕ → ℕ) → 0 ≡ greatest_end size []
 unfolding greatest_end
 no_end size = refl
 
-pub greatest_next : (size : ℕ → ℕ) (ms : List Member) (k : ℕ) (d : Member) → k < length ms → max (greatest_end size (take k ms)) (cut (unwrap_or (get_or ms k d).offset 0 + size (get_or ms k d).ty)) ≡ greatest_end size (take (k + 1) ms)
+pub greatest_next : (size : ℕ → ℕ) (ms : List Member) (k : ℕ) (d : Member) → k < length ms → max (greatest_end size (take k ms)) (saturated (unwrap_or (get_or ms k d).offset 0 + size (get_or ms k d).ty)) ≡ greatest_end size (take (k + 1) ms)
 unfolding greatest_end
 greatest_next size [] k d l = absurd (omega arith)
 greatest_next size (m ∷ ms) zero d l = omega arith
@@ -53,12 +53,12 @@ greatest_next size (m ∷ ms) (suc k) d l =
     let z : suc k + 1 ≡ suc (k + 1) = omega arith in
     rw (z, ← greatest_next size ms k d (omega arith)) (omega arith)
 
-pub no_members_laid : (laid : ℕ → Bool) → true ≡ members_laid laid []
-unfolding members_laid
+pub no_members_laid : (laid : ℕ → Bool) → true ≡ are_members_laid laid []
+unfolding are_members_laid
 no_members_laid laid = refl
 
-pub members_laid_at : (laid : ℕ → Bool) (ms : List Member) (n : ℕ) (d : Member) → n < length ms → members_laid laid (drop n ms) ≡ ((is_some (get_or ms n d).offset && laid (get_or ms n d).ty) && members_laid laid (drop (n + 1) ms))
-unfolding members_laid
+pub members_laid_at : (laid : ℕ → Bool) (ms : List Member) (n : ℕ) (d : Member) → n < length ms → are_members_laid laid (drop n ms) ≡ ((is_some (get_or ms n d).offset && laid (get_or ms n d).ty) && are_members_laid laid (drop (n + 1) ms))
+unfolding are_members_laid
 members_laid_at laid ms n d l = rw (drop-cons ms n d l, add-one) refl
 
 take_all : {A : Type 0} (xs : List A) (j : ℕ) → length xs ≤ j → take j xs ≡ xs

@@ -10,7 +10,7 @@ use Rattle.spv_types.specs.declared.forms.Form.{Form}
 use Rattle.spv_types.specs.declared.forms.Form.TheVariants.{Void, Bool as Boolean, Int, Vector, Array, Runtime, Struct, Pointer, Function}
 use Rattle.spv_types.specs.Types.{Types, form_of, is_number, lengthened, number_of, with_length}
 use Rattle.spv_types.specs.Rules.{form_has_runtime, has_runtime, is_data, is_runtime, is_scalar, is_sized_data, keeps_form, last_type}
-use Rattle.spv_types.specs.Shapes.{HasShape, HasShapeAmong, part_type, reached, shape_step}
+use Rattle.spv_types.specs.Shapes.{HasShape, HasShapeAmong, part_type, reached_type, shape_step}
 use Rattle.spv_types.specs.Laws.{AreSound, ComesBefore, IsAmong}
 use Rattle.spv_types.proofs.TypeLemmas.{number_lt, number_same}
 use Rattle.spv_types.proofs.ShapeLemmas.{LeadAlike, among_same, step_maps}
@@ -186,23 +186,23 @@ module _ (ts : Types) (id n : ℕ) where
 
   -- ---- shapes before the array
 
-  reached_same : (q : ℕ) (path : List ℕ) → reached (with_length ts id n) q path ≡ reached ts q path
-  unfolding reached
+  reached_same : (q : ℕ) (path : List ℕ) → reached_type (with_length ts id n) q path ≡ reached_type ts q path
+  unfolding reached_type
   reached_same q [] = refl
   reached_same q (i ∷ path) =
       let step : option_and_then (λ (f : Form). part_type f i) (form_of (with_length ts id n) q) ≡ option_and_then (λ (f : Form). part_type f i) (form_of ts q)
       = may_same n (λ o. option_and_then (λ (f : Form). part_type f i) o) (form_of ts q) (form_of (with_length ts id n) q) (length_may ts id n q) (λ element length stride. refl) in
       rw step (go (λ t. reached_same t path) (option_and_then (λ (f : Form). part_type f i) (form_of ts q)))
     where
-      go : ((t : ℕ) → reached (with_length ts id n) t path ≡ reached ts t path) → (o : Option ℕ)
-          → option_and_then (λ t. reached (with_length ts id n) t path) o ≡ option_and_then (λ t. reached ts t path) o
+      go : ((t : ℕ) → reached_type (with_length ts id n) t path ≡ reached_type ts t path) → (o : Option ℕ)
+          → option_and_then (λ t. reached_type (with_length ts id n) t path) o ≡ option_and_then (λ t. reached_type ts t path) o
       go same None = refl
       go same (Some t) = same t
 
   lead_alike : (roots : Root → Option ℕ) → LeadAlike ts (with_length ts id n) roots
   lead_alike roots p target h = go (roots p.root) h
     where
-      go : (o : Option ℕ) → option_and_then (λ t. reached ts t p.path) o ≡ Some target → option_and_then (λ t. reached (with_length ts id n) t p.path) o ≡ Some target
+      go : (o : Option ℕ) → option_and_then (λ t. reached_type ts t p.path) o ≡ Some target → option_and_then (λ t. reached_type (with_length ts id n) t p.path) o ≡ Some target
       go None g = g
       go (Some t) g = reached_same t p.path ∙ g
 

@@ -1,6 +1,6 @@
 pub mod TypeLemmas
 pub mod CellLemmas
-pub mod Cuts
+pub mod SaturationLemmas
 pub mod LeafLemmas
 pub mod PlaceLemmas
 pub mod TableLemmas

@@ -4,7 +4,7 @@ use Rattle.std.specs.Prelude.{max}
 use Rattle.spv_types.specs.declared.forms.Member.{Member}
 use Rattle.spv_types.specs.declared.limits.Limit.{Limit}
 use Rattle.spv_types.specs.Types.{Types, number_of}
-use Rattle.spv_types.specs.Cuts.{cut}
+use Rattle.spv_types.specs.Saturation.{saturated}
 use Rattle.spv_types.specs.Limits.{AreLimits, limit_among, limit_step, members_limit, no_limit}
 use Rattle.spv_types.proofs.TypeLemmas.{in_first-missing, in_first-unknown}
 use Rattle.spv_types.proofs.LayoutLemmas.{value_at}
@@ -33,7 +33,7 @@ nesting_next f (m ∷ ms) (suc k) d l =
     let z : suc k + 1 ≡ suc (k + 1) = omega arith in
     rw (z, ← nesting_next f ms k d (omega arith)) (omega arith)
 
-pub cells_next : (f : ℕ → Limit) (ms : List Member) (k : ℕ) (d : Member) → k < length ms → cut ((members_limit f (take k ms)).cells + (f (get_or ms k d).ty).cells) ≡ (members_limit f (take (k + 1) ms)).cells
+pub cells_next : (f : ℕ → Limit) (ms : List Member) (k : ℕ) (d : Member) → k < length ms → saturated ((members_limit f (take k ms)).cells + (f (get_or ms k d).ty).cells) ≡ (members_limit f (take (k + 1) ms)).cells
 unfolding members_limit
 cells_next f [] k d l = absurd (omega arith)
 cells_next f (m ∷ ms) zero d l = omega arith

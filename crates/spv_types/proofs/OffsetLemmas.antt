@@ -14,7 +14,7 @@ use Rattle.spv_types.specs.Laws.{AreSound, IsAmong}
 use Rattle.spv_types.specs.Offsets.{IsOneOf, offset_of, step_over}
 use Rattle.spv_types.specs.Places.{place_among, place_by, place_in_elements, place_in_member, place_in_members, place_of, place_step, scalar_bytes}
 use Rattle.spv_types.specs.Rules.{is_scalar}
-use Rattle.spv_types.specs.Shapes.{part_type, reached}
+use Rattle.spv_types.specs.Shapes.{part_type, reached_type}
 use Rattle.spv_types.proofs.CellLemmas.{added_is}
 use Rattle.spv_types.proofs.PlaceLemmas.{in_members_from, place_among_is}
 use Rattle.spv_types.proofs.RowPlaces.{element_is, leaf_is, member_is}
@@ -252,8 +252,8 @@ same_part ts id i f g p q is at h k =
     let both : Some p ≡ Some q = sym h ∙ ap (λ (x : Form). part_type x i) same ∙ k in
     cc
 
-pub leaf_inside : (ts : Types) → AreSound ts → (path : List ℕ) (id n target m : ℕ) → leaf_of ts id path ≡ Some n → reached ts id path ≡ Some target → IsOneOf (cells_of ts target) m → IsOneOf (cells_of ts id) (n + m)
-unfolding leaf_of reached
+pub leaf_inside : (ts : Types) → AreSound ts → (path : List ℕ) (id n target m : ℕ) → leaf_of ts id path ≡ Some n → reached_type ts id path ≡ Some target → IsOneOf (cells_of ts target) m → IsOneOf (cells_of ts id) (n + m)
+unfolding leaf_of reached_type
 leaf_inside ts sound [] id n target m h r inside =
     let z : n ≡ 0 = cc in
     let e : target ≡ id = cc in
@@ -306,9 +306,9 @@ added_none : (x : ℕ) (a : Option ℕ) → x ≡ 0 → a ≡ option_map (λ b. 
 added_none x None z = refl
 added_none x (Some b) z = let e : b ≡ x + b = omega arith in ap Some e
 
-pub places_add : (ts : Types) → AreSound ts → (path : List ℕ) (id n o target m : ℕ) → leaf_of ts id path ≡ Some n → offset_of ts id path ≡ Some o → reached ts id path ≡ Some target → IsOneOf (cells_of ts target) m
+pub places_add : (ts : Types) → AreSound ts → (path : List ℕ) (id n o target m : ℕ) → leaf_of ts id path ≡ Some n → offset_of ts id path ≡ Some o → reached_type ts id path ≡ Some target → IsOneOf (cells_of ts target) m
     → place_of ts id (n + m) ≡ option_map (λ b. o + b) (place_of ts target m)
-unfolding leaf_of offset_of reached
+unfolding leaf_of offset_of reached_type
 places_add ts sound [] id n o target m h g r inside =
     let z : n ≡ 0 = cc in
     let y : o ≡ 0 = cc in
@@ -324,7 +324,7 @@ places_add ts sound (i ∷ path) id n o target m h g r inside =
     let alike : b.part ≡ l.part = same_part ts id i b.form l.form b.part l.part b.is l.is (step_typed ts b.form i b.before b.part b.at) typed in
     let forms : Some b.form ≡ Some l.form = sym b.is ∙ l.is in
     let form : b.form ≡ l.form = cc in
-    let rest : reached ts l.part path ≡ Some target = rw same at to.rest in
+    let rest : reached_type ts l.part path ≡ Some target = rw same at to.rest in
     let inner : IsOneOf (cells_of ts l.part) (l.within + m) = leaf_inside ts sound path l.part l.within target m l.rest rest inside in
     let before = sound.ordered id i l.part l.form l.is typed in
     let level = part_place ts (place_among ts before.number) l.form i l.before l.part b.before b.part (l.within + m) l.at (rw form at b.at) inner in
@@ -350,7 +350,7 @@ scalar_place ts place (Struct members block) h = cc
 scalar_place ts place (Pointer class target) h = cc
 scalar_place ts place (Function returns parameters) h = cc
 
-pub scalars_lie : (ts : Types) → AreSound ts → (path : List ℕ) (id n o target : ℕ) → leaf_of ts id path ≡ Some n → offset_of ts id path ≡ Some o → reached ts id path ≡ Some target → is_scalar (form_of ts target) ≡ true
+pub scalars_lie : (ts : Types) → AreSound ts → (path : List ℕ) (id n o target : ℕ) → leaf_of ts id path ≡ Some n → offset_of ts id path ≡ Some o → reached_type ts id path ≡ Some target → is_scalar (form_of ts target) ≡ true
     → place_of ts id n ≡ Some o
 scalars_lie ts sound path id n o target h g r scalar = formed (form_of ts target) refl scalar
   where

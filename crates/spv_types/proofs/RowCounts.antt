@@ -5,7 +5,7 @@ use Rattle.std.specs.Option.{IsSomeAnd, MatchOption, option_map, option_map_or}
 use Rattle.std.specs.Prelude.{if◌then◌else◌}
 use Rattle.std.specs.List.{All, AllZip, flat_map}
 use Rattle.std.proofs.lemmas.List.Elements.{All-head, All-tail}
-use Rattle.spv_base.specs.Lane.{Lane}
+use Rattle.spv_base.specs.Cell.{Cell}
 use Rattle.spv_base.specs.Parts.{parts_in}
 use Rattle.spv_base.specs.declared.values.Pointer.{Pointer as Reference}
 use Rattle.spv_base.specs.declared.values.Root.{Root}
@@ -54,7 +54,7 @@ members_row shape cells (m ∷ ms) (v ∷ vs) n count all h =
 
 -- ---- one level
 
-scalar_count : (P : Lane → Type 0) (v : Value) → IsSomeAnd (scalar_in (out-Value v)) P → length (leaves v) ≡ 1
+scalar_count : (P : Cell → Type 0) (v : Value) → IsSomeAnd (scalar_in (out-Value v)) P → length (leaves v) ≡ 1
 scalar_count P v h = level (out-Value v) refl h
   where
     level : (l : Value-F Value) → out-Value v ≡ l → IsSomeAnd (scalar_in l) P → length (leaves v) ≡ 1

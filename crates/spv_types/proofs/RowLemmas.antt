@@ -2,13 +2,13 @@
 use Rattle.std.proofs.Common.{◌≡◌, ℕ, zero, suc, List, [], ◌∷◌, ◌++◌, Some, append_assoc, refl, sym, rules, slice_get, slice_set, take, drop}
 use Rattle.std.specs.List.{flat_map}
 use Rattle.std.proofs.lemmas.List.Folds.{flat_map-map}
-use Rattle.spv_base.specs.Lane.{Lane}
+use Rattle.spv_base.specs.Cell.{Cell}
 use Rattle.spv_base.specs.declared.values.Pointer.{Pointer}
 use Rattle.spv_base.specs.declared.values.Value.{Value, Scalar, List as Many, Ptr, out-Value, the_lemmas}
 use Rattle.spv_base.specs.declared.values.Value.TheOpen.{Value-F}
 use Rattle.spv_types.specs.Rows.{leaves, pointer_lane}
 
-pub scalar_by : (v : Value) (c : Lane) → out-Value v ≡ Value-F.Scalar c → v ≡ Scalar c
+pub scalar_by : (v : Value) (c : Cell) → out-Value v ≡ Value-F.Scalar c → v ≡ Scalar c
 scalar_by v c e = search (rules, the_lemmas)
 
 pub many_by : (v : Value) (vs : List Value) → out-Value v ≡ Value-F.List vs → v ≡ Many vs
@@ -17,7 +17,7 @@ many_by v vs e = search (rules, the_lemmas)
 pointer_by : (v : Value) (p : Pointer) → out-Value v ≡ Value-F.Ptr p → v ≡ Ptr p
 pointer_by v p e = search (rules, the_lemmas)
 
-leaves_scalar : (c : Lane) → leaves (Scalar c) ≡ c ∷ []
+leaves_scalar : (c : Cell) → leaves (Scalar c) ≡ c ∷ []
 unfolding leaves
 leaves_scalar c = search (rules, the_lemmas)
 
@@ -29,7 +29,7 @@ pub leaves_many : (vs : List Value) → leaves (Many vs) ≡ flat_map leaves vs
 unfolding leaves
 leaves_many vs = search (rules, the_lemmas, flat_map-map)
 
-pub scalar_row : (v : Value) (c : Lane) → out-Value v ≡ Value-F.Scalar c → leaves v ≡ c ∷ []
+pub scalar_row : (v : Value) (c : Cell) → out-Value v ≡ Value-F.Scalar c → leaves v ≡ c ∷ []
 scalar_row v c e = rw (scalar_by v c e) (leaves_scalar c)
 
 pub pointer_row : (v : Value) (p : Pointer) → out-Value v ≡ Value-F.Ptr p → leaves v ≡ pointer_lane ∷ []

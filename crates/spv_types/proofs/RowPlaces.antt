@@ -4,7 +4,7 @@ use Rattle.std.specs.Option.{option_map, option_and_then}
 use Rattle.std.specs.Prelude.{if◌then◌else◌}
 use Rattle.std.specs.List.{All, AllZip, flat_map}
 use Rattle.std.proofs.lemmas.List.Elements.{All-head, All-tail}
-use Rattle.spv_base.specs.Lane.{Lane}
+use Rattle.spv_base.specs.Cell.{Cell}
 use Rattle.spv_base.specs.Parts.{part_at, parts_in, with_part}
 use Rattle.spv_base.specs.declared.values.Root.{Root}
 use Rattle.spv_base.specs.declared.values.Value.{Value, List as Many, out-Value}
@@ -169,7 +169,7 @@ leaf_is ts id i path n h = formed (form_of ts id) refl h
     formed (Some f) e h = part f e (part_of (cells_of ts) f i) refl h
 
 -- the row of a part of a part
-three : (a b c d e : List Lane) → a ++ ((b ++ (c ++ d)) ++ e) ≡ (a ++ b) ++ (c ++ (d ++ e))
+three : (a b c d e : List Cell) → a ++ ((b ++ (c ++ d)) ++ e) ≡ (a ++ b) ++ (c ++ (d ++ e))
 three a b c d e = simp append_assoc
 
 pub changed : (v : Value) (i : ℕ) (path : List ℕ) (vs : List Value) (u w : Value) → out-Value v ≡ Value-F.List vs → slice_get vs i ≡ Some u
@@ -188,15 +188,15 @@ part_lies ts roots sound (i ∷ path) id n v w h k g =
     let shape : shape_step ts roots (HasShape ts roots) l.form v = (shapes_are_by_forms ts roots sound id l.form v l.is).0 h in
     let step = part_step ts roots (HasShape ts roots) (cells_of ts) l.form v i l.before l.part p.values p.part (shapes_count ts roots) shape l.at p.is p.at in
     let inner : Lies p.part path w l.within = part_lies ts roots sound path l.part l.within p.part w step.0 l.rest p.rest in
-    let first : List Lane = flat_map leaves (take i p.values) in
-    let last : List Lane = flat_map leaves (drop (suc i) p.values) in
+    let first : List Cell = flat_map leaves (take i p.values) in
+    let last : List Cell = flat_map leaves (drop (suc i) p.values) in
     record {
       before = first ++ inner.before;
       after = inner.after ++ last;
       begins = length-append first inner.before ∙ omega (arith, step.1, inner.begins, l.sum);
-      row = many_row v p.values p.is ∙ row_split p.values i p.part p.at ∙ ap (λ (x : List Lane). first ++ (x ++ last)) inner.row ∙ three first inner.before (leaves w) inner.after last;
+      row = many_row v p.values p.is ∙ row_split p.values i p.part p.at ∙ ap (λ (x : List Cell). first ++ (x ++ last)) inner.row ∙ three first inner.before (leaves w) inner.after last;
       written = λ u. ap leaves (changed v i path p.values p.part u p.is p.at) ∙ leaves_many (slice_set p.values i (with_part p.part path u)) ∙ row_changed p.values i p.part (with_part p.part path u) p.at
-          ∙ ap (λ (x : List Lane). first ++ (x ++ last)) (inner.written u) ∙ three first inner.before (leaves u) inner.after last;
+          ∙ ap (λ (x : List Cell). first ++ (x ++ last)) (inner.written u) ∙ three first inner.before (leaves u) inner.after last;
     }
 
 -- ---- the same by takes and drops

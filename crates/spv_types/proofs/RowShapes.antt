@@ -13,7 +13,7 @@ use Rattle.spv_types.specs.declared.forms.Form.TheVariants.{Void, Bool as Boolea
 use Rattle.spv_types.specs.declared.forms.Member.{Member}
 use Rattle.spv_types.specs.Types.{Types, form_of}
 use Rattle.spv_types.specs.Laws.{AreSound}
-use Rattle.spv_types.specs.Shapes.{HasShape, part_type, reached, shape_step}
+use Rattle.spv_types.specs.Shapes.{HasShape, part_type, reached_type, shape_step}
 use Rattle.spv_types.proofs.ShapeLemmas.{shapes_are_by_forms}
 use Rattle.spv_types.proofs.RowPlaces.{changed, has_part}
 
@@ -77,24 +77,24 @@ pub record ReachedBy (ts : Types) (id i : ℕ) (path : List ℕ) (target : ℕ) 
   pub part : ℕ
   pub is : form_of ts id ≡ Some form
   pub at : part_type form i ≡ Some part
-  pub rest : reached ts part path ≡ Some target
+  pub rest : reached_type ts part path ≡ Some target
 
-pub reached_by : (ts : Types) (id i : ℕ) (path : List ℕ) (target : ℕ) → reached ts id (i ∷ path) ≡ Some target → ReachedBy ts id i path target
-unfolding reached
+pub reached_by : (ts : Types) (id i : ℕ) (path : List ℕ) (target : ℕ) → reached_type ts id (i ∷ path) ≡ Some target → ReachedBy ts id i path target
+unfolding reached_type
 reached_by ts id i path target h = formed (form_of ts id) refl h
   where
-    part : (f : Form) → form_of ts id ≡ Some f → (o : Option ℕ) → part_type f i ≡ o → option_and_then (λ t. reached ts t path) o ≡ Some target → ReachedBy ts id i path target
+    part : (f : Form) → form_of ts id ≡ Some f → (o : Option ℕ) → part_type f i ≡ o → option_and_then (λ t. reached_type ts t path) o ≡ Some target → ReachedBy ts id i path target
     part f e None g h = cc
     part f e (Some p) g h = record { form = f; part = p; is = e; at = g; rest = h }
 
-    formed : (o : Option Form) → form_of ts id ≡ o → option_and_then (λ t. reached ts t path) (option_and_then (λ f. part_type f i) o) ≡ Some target → ReachedBy ts id i path target
+    formed : (o : Option Form) → form_of ts id ≡ o → option_and_then (λ t. reached_type ts t path) (option_and_then (λ f. part_type f i) o) ≡ Some target → ReachedBy ts id i path target
     formed None e h = cc
     formed (Some f) e h = part f e (part_type f i) refl h
 
 pub shapes_keep : (ts : Types) (roots : Root → Option ℕ) → AreSound ts → (path : List ℕ) (id target : ℕ) (v w u : Value)
-    → HasShape ts roots id v → reached ts id path ≡ Some target → part_at v path ≡ Some w
+    → HasShape ts roots id v → reached_type ts id path ≡ Some target → part_at v path ≡ Some w
     → HasShape ts roots target w × (HasShape ts roots target u → HasShape ts roots id (with_part v path u))
-unfolding reached
+unfolding reached_type
 shapes_keep ts roots sound [] id target v w u h r g =
     let e : id ≡ target = cc in
     let same : v ≡ w = cc in

@@ -5,7 +5,7 @@ use Rattle.std.specs.Option.{IsSomeAnd, MatchOption, option_map_or}
 use Rattle.std.specs.Prelude.{if◌then◌else◌}
 use Rattle.std.specs.List.{All, AllZip, flat_map}
 use Rattle.std.proofs.lemmas.List.Elements.{All-head, All-tail}
-use Rattle.spv_base.specs.Lane.{Lane}
+use Rattle.spv_base.specs.Cell.{Cell}
 use Rattle.spv_base.specs.declared.values.Value.{Value, Scalar, List as Many, out-Value}
 use Rattle.spv_base.specs.declared.values.Value.TheOpen.{Value-F}
 use Rattle.spv_types.specs.declared.forms.Form.{Form}
@@ -24,7 +24,7 @@ abbrev pub Tells : (ℕ → Value → Type 0) → (ℕ → Option ℕ) → Type 
 Tells shape cells = (id : ℕ) (v u : Value) (n : ℕ) → shape id v → shape id u → cells id ≡ Some n → leaves v ≡ leaves u → v ≡ u
 
 -- two lists that begin with as many items
-split : (a b c d : List Lane) → length a ≡ length b → a ++ c ≡ b ++ d → (a ≡ b) × (c ≡ d)
+split : (a b c d : List Cell) → length a ≡ length b → a ++ c ≡ b ++ d → (a ≡ b) × (c ≡ d)
 split a b c d l h = (
   sym (take_at a c (length b) l) ∙ ap (take (length b)) h ∙ take_at b d (length b) refl,
   sym (drop_at a c (length b) l) ∙ ap (drop (length b)) h ∙ drop_at b d (length b) refl,
@@ -58,15 +58,15 @@ members_tell shape cells (m ∷ ms) (v ∷ vs) (u ∷ us) n count tell p q k h =
     let rest : vs ≡ us = members_tell shape cells ms vs us sum.1 count tell p.1 q.1 sum.3 parts.1 in
     cc
 
-scalar_value : (P : Lane → Type 0) (v : Value) → IsSomeAnd (scalar_in (out-Value v)) P → (c : Lane) × (v ≡ Scalar c) × (leaves v ≡ c ∷ [])
+scalar_value : (P : Cell → Type 0) (v : Value) → IsSomeAnd (scalar_in (out-Value v)) P → (c : Cell) × (v ≡ Scalar c) × (leaves v ≡ c ∷ [])
 scalar_value P v h = level (out-Value v) refl h
   where
-    level : (l : Value-F Value) → out-Value v ≡ l → IsSomeAnd (scalar_in l) P → (c : Lane) × (v ≡ Scalar c) × (leaves v ≡ c ∷ [])
+    level : (l : Value-F Value) → out-Value v ≡ l → IsSomeAnd (scalar_in l) P → (c : Cell) × (v ≡ Scalar c) × (leaves v ≡ c ∷ [])
     level (Value-F.Scalar c) e h = (c, scalar_by v c e, scalar_row v c e)
     level (Value-F.List vs) e h = absurd h
     level (Value-F.Ptr p) e h = absurd h
 
-scalars_tell : (P : Lane → Type 0) (v u : Value) → IsSomeAnd (scalar_in (out-Value v)) P → IsSomeAnd (scalar_in (out-Value u)) P → leaves v ≡ leaves u → v ≡ u
+scalars_tell : (P : Cell → Type 0) (v u : Value) → IsSomeAnd (scalar_in (out-Value v)) P → IsSomeAnd (scalar_in (out-Value u)) P → leaves v ≡ leaves u → v ≡ u
 scalars_tell P v u p q h =
     let a = scalar_value P v p in
     let b = scalar_value P u q in

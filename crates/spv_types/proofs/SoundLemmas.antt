@@ -10,6 +10,9 @@ use Rattle.spv_types.specs.Rules.{is_data, is_runtime, is_scalar, is_sized_data,
 
 -- ---- tests
 
+pub impossible : {A : Type 0} → false ≡ true → A
+impossible h = absurd (cc)
+
 pub and_holds : (a b : Bool) → a ≡ true → b ≡ true → (a && b) ≡ true
 and_holds a b h g = rw (h, g) refl
 

@@ -1,4 +1,4 @@
--- The leaves of a type are at most the cells that its limit counts, where these are not cut.
+-- The leaves of a type are at most the cells that its limit counts, where these are not saturated.
 use Rattle.std.proofs.Common.{◌≡◌, ℕ, zero, suc, ◌*◌, ◌<◌, ◌≤◌, Bool, true, false, List, [], ◌∷◌, Option, Some, None, length, arith}
 use Rattle.std.specs.Option.{option_map, option_map_or}
 use Rattle.std.specs.Prelude.{if◌then◌else◌}
@@ -9,7 +9,7 @@ use Rattle.spv_types.specs.declared.forms.Member.{Member}
 use Rattle.spv_types.specs.declared.limits.Limit.{Limit}
 use Rattle.spv_types.specs.Types.{Types, form_of, in_first, is_number, number_of}
 use Rattle.spv_types.specs.Cells.{cells_among, cells_of, cells_step, members_cells}
-use Rattle.spv_types.specs.Cuts.{cut}
+use Rattle.spv_types.specs.Saturation.{saturated}
 use Rattle.spv_types.specs.Limits.{limit_among, limit_of, limit_step, members_limit, no_limit}
 use Rattle.spv_types.proofs.CellLemmas.{added_is}
 use Rattle.spv_types.proofs.RowCounts.{times_is}
@@ -27,7 +27,7 @@ members_whole cells limit (m ∷ ms) n whole h l =
     let rest : sum.1 ≤ (members_limit limit ms).cells = members_whole cells limit ms sum.1 whole sum.3 (omega arith) in
     omega (arith, sum.4)
 
-repeated_whole : (a : Option ℕ) (l k n : ℕ) → ((c : ℕ) → a ≡ Some c → l < 18446744073709551615 → c ≤ l) → option_map (λ c. c * k) a ≡ Some n → cut (l * k) < 18446744073709551615 → n ≤ cut (l * k)
+repeated_whole : (a : Option ℕ) (l k n : ℕ) → ((c : ℕ) → a ≡ Some c → l < 18446744073709551615 → c ≤ l) → option_map (λ c. c * k) a ≡ Some n → saturated (l * k) < 18446744073709551615 → n ≤ saturated (l * k)
 repeated_whole a l zero n each h less = let t = times_is a zero n h in omega (arith, t.2)
 repeated_whole a l (suc k) n each h less =
     let t = times_is a (suc k) n h in

@@ -7,7 +7,7 @@ use Rattle.spv_types.specs.declared.forms.Form.TheVariants.{Struct}
 use Rattle.spv_types.specs.declared.forms.Member.{Member}
 use Rattle.spv_types.specs.Types.{Types, form_at}
 use Rattle.spv_types.specs.Cells.{cells_among, cells_step, members_cells}
-use Rattle.spv_types.specs.Cuts.{cut}
+use Rattle.spv_types.specs.Saturation.{saturated}
 use Rattle.spv_types.specs.Laws.{IsAmong}
 use Rattle.spv_types.specs.Shapes.{part_type}
 
@@ -33,15 +33,15 @@ PartsAreBefore ts n f = (index part : ℕ) → part_type f index ≡ Some part �
 abbrev pub AreBefore : Types → ℕ → List Member → Type 0
 AreBefore ts n ms = (index part : ℕ) → option_map (λ (m : Member). m.ty) (slice_get ms index) ≡ Some part → IsAmong ts n part
 
--- a list has the leaves before each of the first n members, cut to 64 bits
+-- a list has the leaves before each of the first n members, saturated at 64 bits
 pub record HasFirsts (cells : ℕ → Option ℕ) (ms : List Member) (n : ℕ) (firsts : List (Option ℕ)) : Type 0 where
   pub long : length firsts ≡ n
-  pub firsts_are : (i : ℕ) → i < n → slice_index_or firsts i None ≡ option_map cut (members_cells cells (take i ms))
+  pub firsts_are : (i : ℕ) → i < n → slice_index_or firsts i None ≡ option_map saturated (members_cells cells (take i ms))
 
 -- the count of the type with a number
 pub record IsCounted (ts : Types) (n : ℕ) (c : Count) : Type 0 where
   pub parts : PartsAreBefore ts n (form_at ts n)
-  pub cells : c.cells ≡ option_map cut (cells_step (cells_among ts n) (form_at ts n))
+  pub cells : c.cells ≡ option_map saturated (cells_step (cells_among ts n) (form_at ts n))
   pub firsts : HasFirsts (cells_among ts n) (members_of (form_at ts n)) (length (members_of (form_at ts n))) c.firsts
 
 -- the counts of the first types

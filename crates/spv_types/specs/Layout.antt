@@ -8,21 +8,21 @@ use Rattle.spv_types.specs.declared.forms.Form.TheVariants.{Void, Bool as Boolea
 use Rattle.spv_types.specs.declared.forms.Member.{Member}
 use Rattle.spv_types.specs.declared.spans.Span.{Span}
 use Rattle.spv_types.specs.Types.{Types, form_of, in_first}
-use Rattle.spv_types.specs.Cuts.{cut}
+use Rattle.spv_types.specs.Saturation.{saturated}
 use Rattle.spv_types.specs.Rules.{is_runtime}
 
 -- the greatest end of some members
 unfoldable pub greatest_end : (ℕ → ℕ) → List Member → ℕ
 greatest_end size [] = 0
-greatest_end size (m ∷ ms) = max (cut (unwrap_or m.offset 0 + size m.ty)) (greatest_end size ms)
+greatest_end size (m ∷ ms) = max (saturated (unwrap_or m.offset 0 + size m.ty)) (greatest_end size ms)
 
 -- the bytes of a form, where size gives those of its parts
 abbrev pub size_step : (ℕ → ℕ) → Form → ℕ
 size_step size Void = 0
 size_step size Boolean = 0
 size_step size (Int width sign) = width / 8
-size_step size (Vector component count) = cut (size component * count)
-size_step size (Array element length stride) = cut (unwrap_or length 0 * unwrap_or stride 0)
+size_step size (Vector component count) = saturated (size component * count)
+size_step size (Array element length stride) = saturated (unwrap_or length 0 * unwrap_or stride 0)
 size_step size (Runtime element stride) = 0
 size_step size (Struct members block) = greatest_end size members
 size_step size (Pointer class target) = 0
@@ -42,7 +42,7 @@ keeps_stride size (Some stride) = nat_le 1 stride && nat_le size stride
 
 -- the bytes of a member; a runtime array has no end
 abbrev pub span_of : Types → Member → Span
-span_of ts m = record { start = unwrap_or m.offset 0; end = cut (unwrap_or m.offset 0 + size_of ts m.ty); is_open = is_runtime (form_of ts m.ty) }
+span_of ts m = record { start = unwrap_or m.offset 0; end = saturated (unwrap_or m.offset 0 + size_of ts m.ty); is_open = is_runtime (form_of ts m.ty) }
 
 abbrev pub is_empty : Span → Bool
 is_empty s = not s.is_open && s.end == s.start
@@ -69,9 +69,9 @@ none_overlap [] = true
 none_overlap (s ∷ ss) = list_all (are_apart s) ss && none_overlap ss
 
 -- each member has an Offset, and is laid out
-unfoldable pub members_laid : (ℕ → Bool) → List Member → Bool
-members_laid laid [] = true
-members_laid laid (m ∷ ms) = (is_some m.offset && laid m.ty) && members_laid laid ms
+unfoldable pub are_members_laid : (ℕ → Bool) → List Member → Bool
+are_members_laid laid [] = true
+are_members_laid laid (m ∷ ms) = (is_some m.offset && laid m.ty) && are_members_laid laid ms
 
 -- a form is laid out as a block asks, where laid says so of its parts
 abbrev pub laid_step : Types → (ℕ → Bool) → Form → Bool
@@ -81,7 +81,7 @@ laid_step ts laid (Int width sign) = true
 laid_step ts laid (Vector component count) = laid component
 laid_step ts laid (Array element length stride) = keeps_stride (size_of ts element) stride && laid element
 laid_step ts laid (Runtime element stride) = keeps_stride (size_of ts element) stride && laid element
-laid_step ts laid (Struct members block) = members_laid laid members && none_overlap (map (span_of ts) members)
+laid_step ts laid (Struct members block) = are_members_laid laid members && none_overlap (map (span_of ts) members)
 laid_step ts laid (Pointer class target) = false
 laid_step ts laid (Function returns parameters) = false
 

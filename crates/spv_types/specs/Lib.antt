@@ -1,6 +1,6 @@
 pub mod Types
 pub mod Cells
-pub mod Cuts
+pub mod Saturation
 pub mod Leaves
 pub mod Places
 pub mod Constants

@@ -7,7 +7,7 @@ use Rattle.spv_types.specs.declared.forms.Form.TheVariants.{Void, Bool as Boolea
 use Rattle.spv_types.specs.declared.forms.Member.{Member}
 use Rattle.spv_types.specs.declared.limits.Limit.{Limit}
 use Rattle.spv_types.specs.Types.{Types, form_at, in_first}
-use Rattle.spv_types.specs.Cuts.{cut}
+use Rattle.spv_types.specs.Saturation.{saturated}
 
 abbrev pub no_limit : Limit
 no_limit = record { nesting = 0; cells = 0 }
@@ -18,16 +18,16 @@ alone cells = record { nesting = 1; cells = cells }
 
 -- another type has one more than its deepest part
 abbrev pub repeated_limit : Limit → ℕ → Limit
-repeated_limit part count = record { nesting = cut (part.nesting + 1); cells = cut (part.cells * count) }
+repeated_limit part count = record { nesting = saturated (part.nesting + 1); cells = saturated (part.cells * count) }
 
 -- the deepest of some members, and their cells together
 unfoldable pub members_limit : (ℕ → Limit) → List Member → Limit
 members_limit limit [] = no_limit
-members_limit limit (m ∷ ms) = record { nesting = max (limit m.ty).nesting (members_limit limit ms).nesting; cells = cut ((limit m.ty).cells + (members_limit limit ms).cells) }
+members_limit limit (m ∷ ms) = record { nesting = max (limit m.ty).nesting (members_limit limit ms).nesting; cells = saturated ((limit m.ty).cells + (members_limit limit ms).cells) }
 
 abbrev pub struct_limit : (ℕ → Limit) → List Member → Limit
 struct_limit limit [] = alone 1
-struct_limit limit (m ∷ ms) = record { nesting = cut ((members_limit limit (m ∷ ms)).nesting + 1); cells = (members_limit limit (m ∷ ms)).cells }
+struct_limit limit (m ∷ ms) = record { nesting = saturated ((members_limit limit (m ∷ ms)).nesting + 1); cells = (members_limit limit (m ∷ ms)).cells }
 
 abbrev pub limit_step : (ℕ → Limit) → Form → Limit
 limit_step limit Void = alone 0

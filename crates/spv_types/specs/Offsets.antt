@@ -8,7 +8,7 @@ use Rattle.spv_types.specs.declared.forms.Member.{Member}
 use Rattle.spv_types.specs.Types.{Types, form_of}
 use Rattle.spv_types.specs.Leaves.{leaf_of}
 use Rattle.spv_types.specs.Places.{scalar_bytes}
-use Rattle.spv_types.specs.Shapes.{reached}
+use Rattle.spv_types.specs.Shapes.{reached_type}
 
 -- the bytes before part i of a form, and the type of that part
 abbrev pub step_over : Types → Form → ℕ → Option (ℕ × ℕ)
@@ -32,4 +32,4 @@ IsOneOf (Some n) leaf = leaf < n
 pub record IsPart (ts : Types) (id : ℕ) (path : List ℕ) (leaf offset part : ℕ) : Type 0 where
   pub leaves : leaf_of ts id path ≡ Some leaf
   pub bytes : offset_of ts id path ≡ Some offset
-  pub type_is : reached ts id path ≡ Some part
+  pub type_is : reached_type ts id path ≡ Some part

@@ -44,9 +44,9 @@ member_of (Some (Struct members block)) n = member_type members n
 member_of _ n = None
 
 -- the type that a function of a type returns
-abbrev pub returned : Option Form → Option ℕ
-returned (Some (Function returns parameters)) = Some returns
-returned _ = None
+abbrev pub return_type : Option Form → Option ℕ
+return_type (Some (Function returns parameters)) = Some returns
+return_type _ = None
 
 -- the types of its parameters
 abbrev pub parameters_in : Option Form → List ℕ

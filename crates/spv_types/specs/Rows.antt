@@ -1,7 +1,7 @@
 -- The row of a value: its leaves in order. A pointer is one leaf, of width 0, which no scalar has.
 use Rattle.std.specs.Prelude.{◌≡◌, ℕ, true, List, [], ◌∷◌, ◌++◌, length, Option, Some, None}
 use Rattle.std.specs.List.{flat_map}
-use Rattle.spv_base.specs.Lane.{Lane}
+use Rattle.spv_base.specs.Cell.{Cell}
 use Rattle.spv_base.specs.Parts.{part_at, with_part}
 use Rattle.spv_base.specs.declared.values.Root.{Root}
 use Rattle.spv_base.specs.declared.values.Value.{Value, fold-Value}
@@ -11,18 +11,18 @@ use Rattle.spv_types.specs.Leaves.{leaf_of}
 use Rattle.spv_types.specs.Shapes.{HasShape}
 
 -- the leaf of a pointer
-abbrev pub pointer_lane : Lane
+abbrev pub pointer_lane : Cell
 pointer_lane = record { bits = 0; width = 0; defined = true }
 
 -- the leaves of one level, where the leaves of each value inside are known
-abbrev pub leaves_step : Value-F (List Lane) → List Lane
+abbrev pub leaves_step : Value-F (List Cell) → List Cell
 leaves_step (Value-F.Scalar c) = c ∷ []
 leaves_step (Value-F.List rows) = flat_map (λ row. row) rows
 leaves_step (Value-F.Ptr p) = pointer_lane ∷ []
 
 -- the leaves of a value in order
-unfoldable pub leaves : Value → List Lane
-leaves = fold-Value (List Lane) leaves_step
+unfoldable pub leaves : Value → List Cell
+leaves = fold-Value (List Cell) leaves_step
 
 -- no variables: a value of a shape over them has no pointer
 abbrev pub no_roots : Root → Option ℕ
@@ -30,8 +30,8 @@ no_roots r = None
 
 -- In the row of v the part w that a path names lies behind n leaves, and a part put there changes no other leaf.
 pub record Lies (v : Value) (path : List ℕ) (w : Value) (n : ℕ) : Type 0 where
-  pub before : List Lane
-  pub after : List Lane
+  pub before : List Cell
+  pub after : List Cell
   pub begins : length before ≡ n
   pub row : leaves v ≡ before ++ (leaves w ++ after)
   pub written : (u : Value) → leaves (with_part v path u) ≡ before ++ (leaves u ++ after)

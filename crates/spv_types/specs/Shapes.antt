@@ -4,7 +4,7 @@ use Rattle.std.specs.Prelude.{◌≡◌, ℕ, zero, suc, List, [], ◌∷◌, le
 use Rattle.std.specs.Bool.{MatchBool}
 use Rattle.std.specs.Option.{IsSomeAnd, MatchOption, option_map, option_and_then}
 use Rattle.std.specs.List.{All, AllZip}
-use Rattle.spv_base.specs.Lane.{IsLane, Lane}
+use Rattle.spv_base.specs.Cell.{IsCell, Cell}
 use Rattle.spv_base.specs.Parts.{parts_in}
 use Rattle.spv_base.specs.declared.values.Pointer.{Pointer as Reference}
 use Rattle.spv_base.specs.declared.values.Root.{Root}
@@ -24,16 +24,16 @@ part_type (Struct members block) i = option_map (λ m. m.ty) (slice_get members 
 part_type _ i = None
 
 -- the type that a path reaches from the type with an id
-unfoldable pub reached : Types → ℕ → List ℕ → Option ℕ
-reached ts id [] = Some id
-reached ts id (i ∷ path) = option_and_then (λ t. reached ts t path) (option_and_then (λ f. part_type f i) (form_of ts id))
+unfoldable pub reached_type : Types → ℕ → List ℕ → Option ℕ
+reached_type ts id [] = Some id
+reached_type ts id (i ∷ path) = option_and_then (λ t. reached_type ts t path) (option_and_then (λ f. part_type f i) (form_of ts id))
 
 -- a pointer leads to a target: from the type of its root, along its path
 abbrev pub LeadsTo : Types → (Root → Option ℕ) → Reference → ℕ → Type 0
-LeadsTo ts roots p target = option_and_then (λ t. reached ts t p.path) (roots p.root) ≡ Some target
+LeadsTo ts roots p target = option_and_then (λ t. reached_type ts t p.path) (roots p.root) ≡ Some target
 
 -- the scalar, and the pointer, that a value is
-abbrev pub scalar_in : Value-F Value → Option Lane
+abbrev pub scalar_in : Value-F Value → Option Cell
 scalar_in (Value-F.Scalar c) = Some c
 scalar_in _ = None
 
@@ -43,7 +43,7 @@ pointer_in _ = None
 
 -- a scalar of a width, whose number fits it, and is 0 where it is undefined
 abbrev pub IsScalar : ℕ → Value → Type 0
-IsScalar width v = IsSomeAnd (scalar_in (out-Value v)) (λ c. (c.width ≡ width) × IsLane c)
+IsScalar width v = IsSomeAnd (scalar_in (out-Value v)) (λ c. (c.width ≡ width) × IsCell c)
 
 -- a value of a form, where shape says which values its parts have
 abbrev pub shape_step : Types → (Root → Option ℕ) → (ℕ → Value → Type 0) → Form → Value → Type 0

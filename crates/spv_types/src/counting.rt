@@ -2,7 +2,7 @@
 ghost use Rattle.std.specs.Prelude.{◌≡◌, ◌<◌, ◌↔◌, IfOk, IsTrue, Some, length};
 ghost use Rattle.std.specs.Option.{option_map};
 ghost use Rattle.spv_types.specs.Cells.{added, cells_among};
-ghost use Rattle.spv_types.specs.Cuts.{cut};
+ghost use Rattle.spv_types.specs.Saturation.{saturated};
 ghost use Rattle.spv_types.specs.Laws.{IsAmong};
 ghost use Rattle.spv_types.specs.Types.{IsUnset, form_at};
 ghost use Rattle.spv_types.specs.Counted.{AreBefore, HasFirsts, IsCounted, PartsAreBefore, members_of};
@@ -40,7 +40,7 @@ pub(crate) fn is_unset(form: &Form) -> bool
 
 /// The sum of two numbers, where both are there.
 fn sum(a: Option<u64>, b: Option<u64>) -> Option<u64>
-    ensures { result ≡ option_map cut (added a b) }
+    ensures { result ≡ option_map saturated (added a b) }
 {
     Some(a?.saturating_add(b?))
 }

@@ -12,7 +12,7 @@ ghost use Rattle.spv_types.specs.Measured.{AreLaid};
 ghost use Rattle.spv_types.specs.InterfaceBlocks.{ArePlaces, is_at, is_block_class, is_block_variable, is_buffer_class, keeps_block, keeps_decoration, keeps_layout, keeps_pair, module_breaches, layout_of, points_to_laid};
 
 use crate::forms::Form;
-use crate::layout::{are_laid, sizes, whole_laid};
+use crate::layout::{are_laid, is_laid, sizes};
 use crate::table::TypeTable;
 use spv_base::{Fail, Inst, NoMemory, Refusal};
 use spv_index::{Index, id_operand, literal_operand};
@@ -129,7 +129,7 @@ fn points_to_laid(types: &TypeTable, laid: &[bool], ty: u32) -> bool
     ensures { result ≡ points_to_laid types.now (form_of types.now ty) }
 {
     match types.form(ty) {
-        Some(Form::Pointer { target, .. }) => whole_laid(types, laid, *target),
+        Some(Form::Pointer { target, .. }) => is_laid(types, laid, *target),
         _ => false,
     }
 }

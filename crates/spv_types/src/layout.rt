@@ -2,7 +2,7 @@
 ghost use Rattle.std.specs.Prelude.{◌≡◌, ◌<◌, ◌&&◌, map, length, unwrap_or, IfOk};
 ghost use Rattle.std.specs.List.{All};
 ghost use Rattle.std.specs.Option.{is_some};
-ghost use Rattle.spv_types.specs.Layout.{IsForward, greatest_end, is_laid, keeps_stride, laid_among, laid_step, members_laid, none_overlap, size_among, size_of, size_step, span_of};
+ghost use Rattle.spv_types.specs.Layout.{IsForward, greatest_end, is_laid, keeps_stride, laid_among, laid_step, are_members_laid, none_overlap, size_among, size_of, size_step, span_of};
 ghost use Rattle.spv_types.specs.Measured.{AreLaid, AreSizes};
 
 use crate::forms::{Form, Member};
@@ -92,7 +92,7 @@ pub fn sizes(alloc: Global, types: &TypeTable) -> Result<Vec<u64>, NoMemory>
 }
 
 /// Whether a type among the first is laid out, as is known of them.
-fn known_laid(types: &TypeTable, laid: &[bool], ty: u32) -> bool
+fn is_known_laid(types: &TypeTable, laid: &[bool], ty: u32) -> bool
     requires { AreLaid types.now laid.now }
     ensures { result ≡ laid_among types.now (length laid.now) ty }
 {
@@ -104,12 +104,12 @@ fn known_laid(types: &TypeTable, laid: &[bool], ty: u32) -> bool
 
 /// Whether a type is laid out, where it is known of all.
 #[tactic(auto, unfolding(crate::specs::Layout::is_laid))]
-pub(crate) fn whole_laid(types: &TypeTable, laid: &[bool], ty: u32) -> bool
+pub(crate) fn is_laid(types: &TypeTable, laid: &[bool], ty: u32) -> bool
     requires laid { AreLaid types.now laid.now }
     requires all { length laid.now ≡ length types.now }
     ensures { result ≡ is_laid types.now ty }
 {
-    known_laid(types, laid, ty)
+    is_known_laid(types, laid, ty)
 }
 
 /// The bytes that each member takes.
@@ -139,20 +139,20 @@ fn spans(
 }
 
 /// Whether a member has an Offset and is laid out.
-fn member_laid(types: &TypeTable, laid: &[bool], member: &Member) -> bool
+fn is_member_laid(types: &TypeTable, laid: &[bool], member: &Member) -> bool
     requires { AreLaid types.now laid.now }
     ensures { result ≡ (is_some member.now.offset && laid_among types.now (length laid.now) member.now.ty) }
 {
-    member.offset.is_some() && known_laid(types, laid, member.ty)
+    member.offset.is_some() && is_known_laid(types, laid, member.ty)
 }
 
 /// Whether each member has an Offset and is laid out.
-fn members_laid(types: &TypeTable, laid: &[bool], members: &[Member]) -> bool
+fn are_members_laid(types: &TypeTable, laid: &[bool], members: &[Member]) -> bool
     requires { AreLaid types.now laid.now }
-    ensures { result ≡ members_laid (laid_among types.now (length laid.now)) members.now }
+    ensures { result ≡ are_members_laid (laid_among types.now (length laid.now)) members.now }
 {
     for member in members {
-        if !member_laid(types, laid, member) {
+        if !is_member_laid(types, laid, member) {
             return false;
         }
     }
@@ -160,7 +160,7 @@ fn members_laid(types: &TypeTable, laid: &[bool], members: &[Member]) -> bool
 }
 
 /// Whether a struct is laid out.
-fn struct_laid(
+fn is_struct_laid(
     alloc: Global,
     types: &TypeTable,
     sizes: &[u64],
@@ -170,16 +170,16 @@ fn struct_laid(
     requires sizes { AreSizes types.now sizes.now }
     requires all { length sizes.now ≡ length types.now }
     requires laid { AreLaid types.now laid.now }
-    ensures { IfOk result (λ yes. yes ≡ (members_laid (laid_among types.now (length laid.now)) members.now && none_overlap (map (span_of types.now) members.now))) }
+    ensures { IfOk result (λ yes. yes ≡ (are_members_laid (laid_among types.now (length laid.now)) members.now && none_overlap (map (span_of types.now) members.now))) }
 {
-    if !members_laid(types, laid, members) {
+    if !are_members_laid(types, laid, members) {
         return Ok(false);
     }
     Ok(none_overlap(spans(alloc, types, sizes, members)?))
 }
 
 /// Whether elements are laid out a stride apart.
-fn elements_laid(
+fn are_elements_laid(
     types: &TypeTable,
     sizes: &[u64],
     laid: &[bool],
@@ -191,11 +191,11 @@ fn elements_laid(
     requires laid { AreLaid types.now laid.now }
     ensures { result ≡ (keeps_stride (size_of types.now element) stride && laid_among types.now (length laid.now) element) }
 {
-    keeps_stride(whole_size(types, sizes, element), stride) && known_laid(types, laid, element)
+    keeps_stride(whole_size(types, sizes, element), stride) && is_known_laid(types, laid, element)
 }
 
 /// Whether a form is laid out, where it is known of the types before it.
-fn form_laid(
+fn is_form_laid(
     alloc: Global,
     types: &TypeTable,
     sizes: &[u64],
@@ -210,16 +210,22 @@ fn form_laid(
     match form {
         Form::Void | Form::Bool | Form::Pointer { .. } | Form::Function { .. } => Ok(false),
         Form::Int { .. } => Ok(true),
-        Form::Vector { component, .. } => Ok(known_laid(types, laid, *component)),
+        Form::Vector { component, .. } => Ok(is_known_laid(types, laid, *component)),
         Form::Array {
             element,
             stride,
             ..
-        } => Ok(elements_laid(types, sizes, laid, *element, *stride)),
-        Form::Runtime { element, stride } => Ok(elements_laid(
+        } => Ok(are_elements_laid(types, sizes, laid, *element, *stride)),
+        Form::Runtime { element, stride } => Ok(are_elements_laid(
             types, sizes, laid, *element, *stride,
         )),
-        Form::Struct { members, .. } => struct_laid(alloc, types, sizes, laid, members.as_slice()),
+        Form::Struct { members, .. } => is_struct_laid(
+            alloc,
+            types,
+            sizes,
+            laid,
+            members.as_slice(),
+        ),
     }
 }
 
@@ -236,7 +242,7 @@ pub(crate) fn are_laid(
 {
     let mut laid = Vec::new(alloc);
     for n in 0..types.len() {
-        laid.push(form_laid(alloc, types, sizes, laid.as_slice(), types.form_at(n))?)?;
+        laid.push(is_form_laid(alloc, types, sizes, laid.as_slice(), types.form_at(n))?)?;
     }
     Ok(laid)
 }

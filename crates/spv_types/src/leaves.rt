@@ -4,7 +4,7 @@ ghost use Rattle.spv_types.specs.Cells.{cells_of};
 ghost use Rattle.spv_types.specs.Counted.{members_of};
 ghost use Rattle.spv_types.specs.Types.{form_at};
 ghost use Rattle.spv_types.specs.Leaves.{element_part, member_part, part_of};
-ghost use Rattle.spv_types.specs.Cuts.{cut_first};
+ghost use Rattle.spv_types.specs.Saturation.{saturated_first};
 
 use crate::counts::first_leaf;
 use crate::forms::{Form, Member};
@@ -13,7 +13,7 @@ use crate::table::TypeTable;
 /// The leaves before part `i` of the type with a number, and the type of that part.
 pub(crate) fn part_at(types: &TypeTable, number: usize, i: u64) -> Option<(u64, u32)>
     requires { number < length types.now }
-    ensures { result ≡ option_map cut_first (part_of (cells_of types.now) (form_at types.now number) i) }
+    ensures { result ≡ option_map saturated_first (part_of (cells_of types.now) (form_at types.now number) i) }
 {
     match types.form_at(number) {
         Form::Vector { component, count } if i < u64::from(*count) => element_at(
@@ -32,7 +32,7 @@ pub(crate) fn part_at(types: &TypeTable, number: usize, i: u64) -> Option<(u64, 
 
 /// The leaves before element `i` of a row, and the type of an element.
 fn element_at(types: &TypeTable, ty: u32, i: u64) -> Option<(u64, u32)>
-    ensures { result ≡ option_map cut_first (element_part (cells_of types.now) ty i) }
+    ensures { result ≡ option_map saturated_first (element_part (cells_of types.now) ty i) }
 {
     let cells = types.cells(ty)?;
     Some((cells.saturating_mul(i), ty))
@@ -41,7 +41,7 @@ fn element_at(types: &TypeTable, ty: u32, i: u64) -> Option<(u64, u32)>
 /// The leaves before member `i` of the struct with a number, and the member's type.
 fn member_at(types: &TypeTable, number: usize, members: &[Member], i: u64) -> Option<(u64, u32)>
     requires { members.now ≡ members_of (form_at types.now number) }
-    ensures { result ≡ option_map cut_first (member_part (cells_of types.now) members.now i) }
+    ensures { result ≡ option_map saturated_first (member_part (cells_of types.now) members.now i) }
 {
     let i = i as usize;
     let ty = members.get(i)?.ty;

@@ -21,7 +21,7 @@ fn alone(cells: u64) -> Limit
 
 impl Limit {
     /// So many parts of a type.
-    fn repeated(self, count: u32) -> Limit
+    fn times(self, count: u32) -> Limit
         ensures { result ≡ repeated_limit self count }
     {
         Limit {
@@ -83,15 +83,13 @@ pub fn form_limit(types: &TypeTable, limits: &[Limit], form: &Form) -> Limit
     match form {
         Form::Void | Form::Function { .. } => alone(0),
         Form::Bool | Form::Int { .. } | Form::Pointer { .. } => alone(1),
-        Form::Vector { component, count } => known_limit(types, limits, *component).repeated(
-            *count,
-        ),
+        Form::Vector { component, count } => known_limit(types, limits, *component).times(*count),
         Form::Array {
             element,
             length,
             ..
-        } => known_limit(types, limits, *element).repeated(length.unwrap_or(0)),
-        Form::Runtime { element, .. } => known_limit(types, limits, *element).repeated(0),
+        } => known_limit(types, limits, *element).times(length.unwrap_or(0)),
+        Form::Runtime { element, .. } => known_limit(types, limits, *element).times(0),
         Form::Struct { members, .. } => struct_limit(types, limits, members.as_slice()),
     }
 }

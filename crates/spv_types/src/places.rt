@@ -4,7 +4,7 @@ ghost use Rattle.spv_types.specs.Cells.{cells_of};
 ghost use Rattle.spv_types.specs.Counted.{members_of};
 ghost use Rattle.spv_types.specs.Types.{form_at, form_of};
 ghost use Rattle.spv_types.specs.Places.{BeginsBy, place_among, place_in_elements, place_in_member, place_in_members, place_step, row_number, scalar_bytes};
-ghost use Rattle.spv_types.specs.Cuts.{cut};
+ghost use Rattle.spv_types.specs.Saturation.{saturated};
 
 use crate::counts::first_leaf;
 use crate::forms::{Form, Member};
@@ -15,7 +15,7 @@ use crate::table::TypeTable;
 #[tactic(auto, using(crate::proofs::PlaceLemmas::place_among_is))]
 pub(crate) fn place_among(types: &TypeTable, limit: usize, ty: u32, leaf: u64) -> Option<u64>
     requires { leaf < 67108864 }
-    ensures { result ≡ option_map cut (place_among types.now limit ty leaf) }
+    ensures { result ≡ option_map saturated (place_among types.now limit ty leaf) }
 {
     let (n, form) = types.found(limit, ty)?;
     form_place(types, n, form, leaf)
@@ -26,7 +26,7 @@ pub(crate) fn place_among(types: &TypeTable, limit: usize, ty: u32, leaf: u64) -
 fn form_place(types: &TypeTable, limit: usize, form: &Form, leaf: u64) -> Option<u64>
     requires near { leaf < 67108864 }
     requires form { form.now ≡ form_at types.now limit }
-    ensures { result ≡ option_map cut (place_step types.now (place_among types.now limit) form.now leaf) }
+    ensures { result ≡ option_map saturated (place_step types.now (place_among types.now limit) form.now leaf) }
 {
     match form {
         Form::Void | Form::Function { .. } => None,
@@ -61,7 +61,7 @@ fn element_place(
     leaf: u64,
 ) -> Option<u64>
     requires { leaf < 67108864 }
-    ensures { result ≡ option_map cut (place_in_elements types.now (place_among types.now limit) element count stride leaf) }
+    ensures { result ≡ option_map saturated (place_in_elements types.now (place_among types.now limit) element count stride leaf) }
 {
     let cells = types.cells(element)?;
     let number = row_number(cells, count, leaf)?;
@@ -85,7 +85,7 @@ fn scalar_bytes(types: &TypeTable, ty: u32) -> u32
 fn member_place(types: &TypeTable, number: usize, members: &[Member], leaf: u64) -> Option<u64>
     requires near { leaf < 67108864 }
     requires members { members.now ≡ members_of (form_at types.now number) }
-    ensures { result ≡ option_map cut (place_in_members (cells_of types.now) (place_among types.now number) members.now leaf) }
+    ensures { result ≡ option_map saturated (place_in_members (cells_of types.now) (place_among types.now number) members.now leaf) }
 {
     if members.is_empty() {
         return None;
@@ -102,7 +102,7 @@ fn member_place(types: &TypeTable, number: usize, members: &[Member], leaf: u64)
 #[cycle(place)]
 fn leaf_place(types: &TypeTable, limit: usize, member: &Member, leaf: u64) -> Option<u64>
     requires { leaf < 67108864 }
-    ensures { result ≡ option_map cut (place_in_member (place_among types.now limit) member.now leaf) }
+    ensures { result ≡ option_map saturated (place_in_member (place_among types.now limit) member.now leaf) }
 {
     let within = place_among(types, limit, member.ty, leaf)?;
     let start = u64::from(member.offset.unwrap_or(0));

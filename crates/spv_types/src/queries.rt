@@ -93,8 +93,8 @@ pub fn member_of(form: Option<&Form>, n: usize) -> Option<u32>
 }
 
 /// The type that a function of a type returns.
-pub fn returned(form: Option<&Form>) -> Option<u32>
-    ensures { result ≡ spec.returned (option_copied form.entry) }
+pub fn return_type(form: Option<&Form>) -> Option<u32>
+    ensures { result ≡ spec.return_type (option_copied form.entry) }
 {
     match form {
         Some(Form::Function { returns, .. }) => Some(*returns),

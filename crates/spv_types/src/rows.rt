@@ -12,7 +12,7 @@ ghost use Rattle.spv_types.specs.Rules.{is_scalar};
 ghost use Rattle.spv_types.specs.Types.{Types, form_of};
 ghost use Rattle.spv_types.specs.Cells.{cells_of};
 ghost use Rattle.spv_types.specs.Laws.{AreSound};
-ghost use Rattle.spv_types.specs.Shapes.{HasShape, reached};
+ghost use Rattle.spv_types.specs.Shapes.{HasShape, reached_type};
 ghost use Rattle.spv_types.specs.Rows.{HasRow, IsPlace, leaves, no_roots};
 
 /// A value has as many leaves as its type has cells.
@@ -43,7 +43,7 @@ pub fn exchanging_twice_is_nothing()
 /// A part has the shape of the type that its path reaches, and a value keeps its shape where a part of that shape is put.
 pub fn parts_keep_shapes()
     ensures { (ts : Types) (roots : Root → Option ℕ) → AreSound ts → (path : List ℕ) (id target : ℕ) (v w u : Value)
-        → HasShape ts roots id v → reached ts id path ≡ Some target → part_at v path ≡ Some w
+        → HasShape ts roots id v → reached_type ts id path ≡ Some target → part_at v path ≡ Some w
         → HasShape ts roots target w × (HasShape ts roots target u → HasShape ts roots id (with_part v path u)) }
 {}
 
@@ -69,10 +69,10 @@ pub fn places_are_offsets()
 {}
 
 /// A type has at most as many leaves as its limit counts cells, so within the limits of acceptance no number of leaves is
-/// cut; and a leaf of a part is a leaf of the whole.
+/// saturated; and a leaf of a part is a leaf of the whole.
 pub fn limits_leave_leaves_whole()
     ensures cells { (ts : Types) (id n : ℕ) → cells_of ts id ≡ Some n → (limit_of ts id).cells < 18446744073709551615
         → n ≤ (limit_of ts id).cells }
     ensures within { (ts : Types) (id leaf part k : ℕ) (path : List ℕ) → AreSound ts → leaf_of ts id path ≡ Some leaf
-        → reached ts id path ≡ Some part → IsOneOf (cells_of ts part) k → IsOneOf (cells_of ts id) (leaf + k) }
+        → reached_type ts id path ≡ Some part → IsOneOf (cells_of ts part) k → IsOneOf (cells_of ts id) (leaf + k) }
 {}

@@ -5,7 +5,7 @@ ghost use Rattle.spv_base.specs.Answers.{Answers};
 ghost use Rattle.spv_types.specs.Build.{types_of};
 ghost use Rattle.spv_types.specs.Cells.{cells_of};
 ghost use Rattle.spv_types.specs.Counted.{IsCounted};
-ghost use Rattle.spv_types.specs.Cuts.{cut};
+ghost use Rattle.spv_types.specs.Saturation.{saturated};
 ghost use Rattle.spv_types.specs.Leaves.{leaf_of};
 ghost use Rattle.spv_types.specs.Places.{place_of};
 ghost use Rattle.spv_types.specs.Rules.{has_runtime, is_block, is_data, is_runtime, is_scalar, is_sized_data, is_three_words, is_word, last_type};
@@ -310,7 +310,7 @@ impl TypeTable {
     /// length that is not set.
     #[tactic(auto, unfolding(crate::specs::Cells::cells_of))]
     pub fn cells(&self, ty: u32) -> Option<u64>
-        ensures { result ≡ option_map cut (cells_of self.now ty) }
+        ensures { result ≡ option_map saturated (cells_of self.now ty) }
     {
         cells_among(self, self.len(), ty)
     }
@@ -319,7 +319,7 @@ impl TypeTable {
     /// is not in the type.
     #[tactic(auto, unfolding(crate::specs::Leaves::leaf_of))]
     pub fn leaf(&self, ty: u32, path: &[u64]) -> Option<u64>
-        ensures { result ≡ option_map cut (leaf_of self.now ty path.now) }
+        ensures { result ≡ option_map saturated (leaf_of self.now ty path.now) }
     {
         let Some((first, rest)) = path.split_first() else {
             return Some(0);
@@ -333,7 +333,7 @@ impl TypeTable {
     #[tactic(auto, unfolding(crate::specs::Places::place_of))]
     pub fn place(&self, ty: u32, leaf: u64) -> Option<u64>
         requires { leaf < 67108864 }
-        ensures { result ≡ option_map cut (place_of self.now ty leaf) }
+        ensures { result ≡ option_map saturated (place_of self.now ty leaf) }
     {
         place_among(self, self.len(), ty, leaf)
     }

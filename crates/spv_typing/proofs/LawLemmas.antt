@@ -7,6 +7,7 @@ use Rattle.spv_types.specs.declared.forms.Form.{Form}
 use Rattle.spv_types.specs.declared.forms.Form.TheVariants.{Void, Bool as FormBool, Int as FormInt, Vector, Array, Runtime, Struct, Pointer, Function}
 use Rattle.spv_types.specs.declared.forms.Member.{Member}
 use Rattle.spv_types.specs.Types.{Types, form_of}
+use Rattle.spv_types.proofs.SoundLemmas.{impossible}
 use Rattle.spv_typing.specs.declared.lanes.Element.{Element}
 use Rattle.spv_typing.specs.declared.lanes.Element.TheVariants.{Bool as Boolean, Int}
 use Rattle.spv_typing.specs.declared.lanes.Lanes.{Lanes}
@@ -219,9 +220,6 @@ condition_says r c h = elim (either (is_one_boolean c) (is_boolean_vector c && s
         let q = boolean_vector c p.0 in
         let k = counted q.0 q.2 p.1 in
         (q.0, k.0, q.1, q.2, k.1)
-
-pub impossible : {A : Type 0} → false ≡ true → A
-impossible h = absurd (grind arith)
 
 pair_says : (ty : ℕ) (f : Option Form) → is_pair_of ty f ≡ true → (a : Member) × (b : Member) × (block : Bool) × (f ≡ Some (Struct (a ∷ b ∷ []) block)) × (a.ty ≡ ty) × (b.ty ≡ ty)
 pair_says ty None h = impossible h

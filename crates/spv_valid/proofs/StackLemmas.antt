@@ -6,7 +6,7 @@ use Rattle.std.proofs.lemmas.List.Elements.{All-nil, All-append, All-head, All-t
 use Rattle.std.proofs.lemmas.List.{get_or_read}
 use Rattle.spv_base.specs.Entries.{reads}
 use Rattle.spv_base.specs.declared.instructions.Inst.{Inst}
-use Rattle.spv_types.specs.Cuts.{cut}
+use Rattle.spv_types.specs.Saturation.{saturated}
 use Rattle.spv_types.specs.Types.{Types}
 use Rattle.spv_index.specs.Positions.{Stand, in_function, stands_of}
 use Rattle.spv_index.proofs.ListLemmas.{drop_back}
@@ -57,9 +57,9 @@ set_sum : (weights : List ℕ) (m a f v x rest : ℕ) → a < length weights →
 set_sum weights m a f v x rest lt here is = grind (arith, common_steps)
 
 pub weights_more : (kept : List (ℕ × ℕ)) (weights : List ℕ) (i v n : ℕ) → 0 < i → i ≤ length kept → length weights ≡ n → All (λ cells. cells.0 < n) kept
-    → ((f : ℕ) → f < n → get_or weights f 0 ≡ cut (weight (drop i kept) f))
-    → v ≡ cut (get_or weights (get_or kept (i - 1) (0, 0)).0 0 + (get_or kept (i - 1) (0, 0)).1)
-    → (f : ℕ) → f < n → get_or (set weights (get_or kept (i - 1) (0, 0)).0 v) f 0 ≡ cut (weight (drop (i - 1) kept) f)
+    → ((f : ℕ) → f < n → get_or weights f 0 ≡ saturated (weight (drop i kept) f))
+    → v ≡ saturated (get_or weights (get_or kept (i - 1) (0, 0)).0 0 + (get_or kept (i - 1) (0, 0)).1)
+    → (f : ℕ) → f < n → get_or (set weights (get_or kept (i - 1) (0, 0)).0 v) f 0 ≡ saturated (weight (drop (i - 1) kept) f)
 weights_more kept weights i v n some le len within so_far is f lt =
     let cells : ℕ × ℕ = get_or kept (i - 1) (0, 0) in
     let place : i - 1 < length kept = omega arith in
@@ -89,33 +89,33 @@ called_more calls xs called i v some le len within so_far is f lt =
 -- ---- the cells of chains
 
 -- the most of numbers that stop at m stops there too
-most_cut : (one other : ℕ → ℕ) (m n f : ℕ) (calls : List (ℕ × ℕ)) → ((g : ℕ) → g < n → one g ≡ min (other g) m) → Within n calls
+most_saturated : (one other : ℕ → ℕ) (m n f : ℕ) (calls : List (ℕ × ℕ)) → ((g : ℕ) → g < n → one g ≡ min (other g) m) → Within n calls
     → most one f calls ≡ min (most other f calls) m
-most_cut one other m n f [] same within = omega arith
-most_cut one other m n f (call ∷ calls) same within =
+most_saturated one other m n f [] same within = omega arith
+most_saturated one other m n f (call ∷ calls) same within =
     let P : ℕ × ℕ → Type 0 = λ c. (c.0 < n) × (c.1 < n) in
     let here : one call.1 ≡ min (other call.1) m = same call.1 (All-head P call calls within).1 in
-    let rest : most one f calls ≡ min (most other f calls) m = most_cut one other m n f calls same (All-tail P call calls within) in
+    let rest : most one f calls ≡ min (most other f calls) m = most_saturated one other m n f calls same (All-tail P call calls within) in
     rw (here, rest) (test (eqb call.0 f) (other call.1) (most other f calls))
   where
     test : (b : _) (x y : ℕ) → max (cond b (min x m) 0) (min y m) ≡ min (max (cond b x 0) y) m
     test b x y = grind arith
 
-cut_sum : (m a b : ℕ) → min (min a m + min b m) m ≡ min (a + b) m
-cut_sum m a b = omega arith
+saturated_sum : (m a b : ℕ) → min (min a m + min b m) m ≡ min (a + b) m
+saturated_sum m a b = omega arith
 
 -- chains of one function more
 pub heavier : (calls : List (ℕ × ℕ)) (weigh : ℕ → ℕ) (weights xs called ys : List ℕ) (k : ℕ) → length xs ≡ length weights → Within (length weights) calls
-    → ((f : ℕ) → f < length weights → get_or weights f 0 ≡ cut (weigh f))
-    → ((f : ℕ) → f < length weights → get_or xs f 0 ≡ cut (heaviest k weigh calls f))
+    → ((f : ℕ) → f < length weights → get_or weights f 0 ≡ saturated (weigh f))
+    → ((f : ℕ) → f < length weights → get_or xs f 0 ≡ saturated (heaviest k weigh calls f))
     → ((f : ℕ) → f < length xs → get_or called f 0 ≡ most (λ g. get_or xs g 0) f calls)
-    → ((f : ℕ) → f < length weights → get_or ys f 0 ≡ cut (get_or weights f 0 + get_or called f 0))
-    → (f : ℕ) → f < length weights → get_or ys f 0 ≡ cut (heaviest (k + 1) weigh calls f)
+    → ((f : ℕ) → f < length weights → get_or ys f 0 ≡ saturated (get_or weights f 0 + get_or called f 0))
+    → (f : ℕ) → f < length weights → get_or ys f 0 ≡ saturated (heaviest (k + 1) weigh calls f)
 heavier calls weigh weights xs called ys k len within weights_are so_far called_are sums_are f lt =
     let inside : f < length xs = rw len lt in
-    let most_is = most_cut (λ g. get_or xs g 0) (λ g. heaviest k weigh calls g) (2 ^ 64 - 1) (length weights) f calls so_far within in
+    let most_is = most_saturated (λ g. get_or xs g 0) (λ g. heaviest k weigh calls g) (2 ^ 64 - 1) (length weights) f calls so_far within in
     rw (add-one, heaviest-suc k weigh calls f, sums_are f lt, weights_are f lt, called_are f inside, most_is)
-    (cut_sum (2 ^ 64 - 1) (weigh f) (most (λ g. heaviest k weigh calls g) f calls))
+    (saturated_sum (2 ^ 64 - 1) (weigh f) (most (λ g. heaviest k weigh calls g) f calls))
 
 -- ---- the cells of an entry point's chains
 
@@ -124,14 +124,14 @@ read_below o k n is small = rw is at small
 
 pub stack_cells-some : (ts : Types) (insts : List Inst) (id k v : ℕ) (xs : List ℕ) (calls : Calls)
     → calls ≡ calls_in insts → reads id (numbered 0 calls.functions) ≡ Some k → k < length calls.functions → length xs ≡ length calls.functions
-    → ((f : ℕ) → f < length calls.functions → get_or xs f 0 ≡ cut (heaviest limit (weight (cells_by_function ts calls (stands_of insts))) calls.list f))
+    → ((f : ℕ) → f < length calls.functions → get_or xs f 0 ≡ saturated (heaviest limit (weight (cells_by_function ts calls (stands_of insts))) calls.list f))
     → v ≡ get_or xs k v → v ≡ stack_cells ts insts id
 unfolding stack_cells
 stack_cells-some ts insts id k v xs calls calls_are read lt len heaviest_are is =
     let inside : k < length xs = rw len lt in
     let at : v ≡ get_or xs k 0 = get_or_read xs k v inside is 0 in
     let read_here : reads id (numbered 0 (functions_of insts)) ≡ Some k = rw calls_are at read in
-    let here : get_or xs k 0 ≡ cut (heaviest limit (weight (cells_by_function ts (calls_in insts) (stands_of insts))) (calls_of insts) k)
+    let here : get_or xs k 0 ≡ saturated (heaviest limit (weight (cells_by_function ts (calls_in insts) (stands_of insts))) (calls_of insts) k)
     = heaviest_are k lt ∙ rw calls_are refl in
     at ∙ here ∙ rw read_here refl
 

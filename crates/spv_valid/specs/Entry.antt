@@ -4,7 +4,7 @@ use Rattle.std.specs.Prelude.{ℕ, ◌*◌, ◌==◌, ◌&&◌, nat_le, if◌the
 use Rattle.std.specs.Option.{option_map_or}
 use Rattle.std.specs.Str.{bytes_eq}
 use Rattle.spv_base.specs.Entries.{reads}
-use Rattle.spv_base.specs.Lane.{Lane}
+use Rattle.spv_base.specs.Cell.{Cell}
 use Rattle.spv_base.specs.declared.causes.Refusal.{Refusal}
 use Rattle.spv_base.specs.declared.instructions.Inst.{Inst}
 use Rattle.spv_index.specs.Operands.{id_operand, literal_operand, text_operand}
@@ -77,7 +77,7 @@ is_plain_function ts insts id = option_map_or (begins_plain ts) (defining insts 
 -- ---- the size of its workgroup
 
 -- the number of a defined scalar
-abbrev pub number_of_lane : Lane → Option ℕ
+abbrev pub number_of_lane : Cell → Option ℕ
 number_of_lane c = if c.defined then Some c.bits else None
 
 -- three numbers, where all are there
@@ -85,7 +85,7 @@ abbrev pub all_three : Option ℕ → Option ℕ → Option ℕ → Option Size
 all_three x y z = option_and_then (λ a. option_and_then (λ b. option_and_then (λ c. Some (a, b, c)) z) y) x
 
 -- the numbers of three scalars
-abbrev pub numbers_in : List Lane → Option Size
+abbrev pub numbers_in : List Cell → Option Size
 numbers_in [] = None
 numbers_in (x ∷ []) = None
 numbers_in (x ∷ y ∷ []) = None
@@ -104,7 +104,7 @@ abbrev pub constant_size : Types → Constants → Inst → Option Size
 constant_size ts constants i = option_and_then (size_in ts) (reads i.id constants)
 
 -- the number of the one cell
-abbrev pub number_in : List Lane → Option ℕ
+abbrev pub number_in : List Cell → Option ℕ
 number_in [] = None
 number_in (x ∷ []) = number_of_lane x
 number_in (x ∷ y ∷ more) = None

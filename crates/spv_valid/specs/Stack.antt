@@ -7,7 +7,7 @@ use Rattle.spv_base.specs.Entries.{reads}
 use Rattle.spv_base.specs.declared.instructions.Inst.{Inst}
 use Rattle.spv_types.specs.Types.{Types, form_of}
 use Rattle.spv_types.specs.Cells.{cells_of}
-use Rattle.spv_types.specs.Cuts.{cut}
+use Rattle.spv_types.specs.Saturation.{saturated}
 use Rattle.spv_types.specs.declared.forms.Form.{Form}
 use Rattle.spv_types.specs.declared.forms.Form.TheVariants.{Void, Bool as Boolean, Int, Vector, Array, Runtime, Struct, Pointer, Function}
 use Rattle.spv_index.specs.Definitions.{type_in}
@@ -33,7 +33,7 @@ kept_type ts i = if i.op == 59 then target_in (form_of ts i.ty) else type_in i
 
 -- the cells of an instruction's register or variable, where it keeps one of a type that has a number of cells
 abbrev pub kept_cells : Types → Inst → Option ℕ
-kept_cells ts i = option_map cut (option_and_then (cells_of ts) (kept_type ts i))
+kept_cells ts i = option_map saturated (option_and_then (cells_of ts) (kept_type ts i))
 
 -- a function's number with some cells of it
 abbrev pub kept_by : Option ℕ → Option ℕ → List (ℕ × ℕ)
@@ -65,7 +65,7 @@ weights_of ts insts = weight (cells_by_function ts (calls_in insts) (stands_of i
 -- the most cells of a chain of calls from the function with an id; where a module is accepted no chain is longer than that
 unfoldable pub stack_cells : Types → List Inst → ℕ → ℕ
 stack_cells ts insts function =
-    cut (option_map_or (heaviest limit (weights_of ts insts) (calls_of insts)) (reads function (numbered 0 (functions_of insts))) 0)
+    saturated (option_map_or (heaviest limit (weights_of ts insts) (calls_of insts)) (reads function (numbered 0 (functions_of insts))) 0)
 
 -- ---- what heaviest means
 

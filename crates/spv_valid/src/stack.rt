@@ -3,7 +3,7 @@ ghost use Rattle.std.specs.Prelude.{◌≡◌, ◌<◌, ◌≤◌, ◌+◌, ℕ,
 ghost use Rattle.std.specs.List.{All};
 ghost use Rattle.std.specs.Option.{option_and_then, option_map};
 ghost use Rattle.spv_types.specs.Cells.{cells_of};
-ghost use Rattle.spv_types.specs.Cuts.{cut};
+ghost use Rattle.spv_types.specs.Saturation.{saturated};
 ghost use Rattle.spv_index.specs.Definitions.{type_in};
 ghost use Rattle.spv_cfg.specs.Calls.{calls_in, limit, longest, most};
 ghost use Rattle.spv_valid.specs.Stack as spec;
@@ -46,7 +46,7 @@ fn kept_type(types: &TypeTable, inst: &Inst) -> Option<u32>
 
 /// The cells of a type.
 fn cells_of(types: &TypeTable, ty: Option<u32>) -> Option<u64>
-    ensures { result ≡ option_map cut (option_and_then (cells_of types.now) ty) }
+    ensures { result ≡ option_map saturated (option_and_then (cells_of types.now) ty) }
 {
     types.cells(ty?)
 }
@@ -85,7 +85,7 @@ fn cells_by_function(
 fn weights_of(alloc: Global, kept: &[(usize, u64)], count: usize) -> Result<Vec<u64>, NoMemory>
     requires { All (λ cells. cells.0 < count) kept.now }
     ensures len { IfOk result (λ weights. length weights.items ≡ count) }
-    ensures weights { IfOk result (λ weights. (f : ℕ) → f < count → slice_index weights.items f ≡ cut (spec.weight kept.now f)) }
+    ensures weights { IfOk result (λ weights. (f : ℕ) → f < count → slice_index weights.items f ≡ saturated (spec.weight kept.now f)) }
 {
     let mut weights: Vec<u64> = vec![in alloc; 0; count]?;
     let mut i = kept.len();
@@ -123,7 +123,7 @@ fn most_called(
 fn sums(alloc: Global, xs: &[u64], ys: &[u64]) -> Result<Vec<u64>, NoMemory>
     requires { length xs.now ≡ length ys.now }
     ensures len { IfOk result (λ sums. length sums.items ≡ length xs.now) }
-    ensures sums { IfOk result (λ sums. (f : ℕ) → f < length xs.now → slice_index sums.items f ≡ cut (slice_index xs.now f + slice_index ys.now f)) }
+    ensures sums { IfOk result (λ sums. (f : ℕ) → f < length xs.now → slice_index sums.items f ≡ saturated (slice_index xs.now f + slice_index ys.now f)) }
 {
     let mut sums = Vec::new(alloc);
     for k in 0..xs.len() {
@@ -140,8 +140,8 @@ pub fn heaviest_chains(
 ) -> Result<Vec<u64>, NoMemory>
     requires { All (λ call. (call.0 < length weights.now) × (call.1 < length weights.now)) calls.now }
     ensures len { IfOk result (λ heaviest. length heaviest.items ≡ length weights.now) }
-    ensures heaviest { (weigh : ℕ → ℕ) → ((f : ℕ) → f < length weights.now → slice_index weights.now f ≡ cut (weigh f))
-        → IfOk result (λ heaviest. (f : ℕ) → f < length weights.now → slice_index heaviest.items f ≡ cut (spec.heaviest limit weigh calls.now f)) }
+    ensures heaviest { (weigh : ℕ → ℕ) → ((f : ℕ) → f < length weights.now → slice_index weights.now f ≡ saturated (weigh f))
+        → IfOk result (λ heaviest. (f : ℕ) → f < length weights.now → slice_index heaviest.items f ≡ saturated (spec.heaviest limit weigh calls.now f)) }
 {
     let mut heaviest: Vec<u64> = vec![in alloc; 0; weights.len()]?;
     let mut most: u32 = 0;
@@ -163,7 +163,7 @@ fn chains_of(
 ) -> Result<Vec<u64>, NoMemory>
     ensures len { IfOk result (λ heaviest. length heaviest.items ≡ length calls.now.functions) }
     ensures heaviest { IfOk result (λ heaviest. (f : ℕ) → f < length calls.now.functions
-        → slice_index heaviest.items f ≡ cut (spec.heaviest limit (spec.weight (spec.cells_by_function types.now calls.now stands.now)) calls.now.list f)) }
+        → slice_index heaviest.items f ≡ saturated (spec.heaviest limit (spec.weight (spec.cells_by_function types.now calls.now stands.now)) calls.now.list f)) }
 {
     let kept = cells_by_function(alloc, types, calls, stands)?;
     let weights = weights_of(alloc, kept.as_slice(), calls.count())?;

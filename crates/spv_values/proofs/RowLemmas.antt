@@ -4,7 +4,7 @@ use Rattle.std.specs.Prelude.{IsSome}
 use Rattle.std.proofs.Math.Logic.{∥∥₁_elim}
 use Rattle.std.proofs.Props.{props}
 use Rattle.std.specs.Coded.{codes}
-use Rattle.spv_base.specs.Lane.{Lane}
+use Rattle.spv_base.specs.Cell.{Cell}
 use Rattle.spv_base.specs.Parts.{part_at, with_part}
 use Rattle.spv_base.specs.declared.values.Value.{Value, Scalar, List as Many, out-Value, the_lemmas}
 use Rattle.spv_base.specs.declared.values.Value.TheOpen.{Value-F}
@@ -59,19 +59,19 @@ one_leaf v h = level (out-Value v) refl h
     level (Value-F.List vs) e h = absurd cc
     level (Value-F.Ptr p) e h = absurd cc
 
-pub scalar_leaf : (c : Lane) → leaves (Scalar c) ≡ c ∷ []
+pub scalar_leaf : (c : Cell) → leaves (Scalar c) ≡ c ∷ []
 unfolding leaves
 scalar_leaf c = search (rules, the_lemmas)
 
-pub one_set : (ls : List Lane) (c : Lane) → length ls ≡ 1 → leaves (Scalar c) ≡ slice_set ls 0 c
+pub one_set : (ls : List Cell) (c : Cell) → length ls ≡ 1 → leaves (Scalar c) ≡ slice_set ls 0 c
 one_set [] c h = absurd cc
 one_set (d ∷ []) c h = scalar_leaf c
 one_set (d ∷ e ∷ ls) c h = absurd cc
 
-pub one_row : (v : Value) (c : Lane) → IsSome (scalar_in (out-Value v)) → leaves (Scalar c) ≡ slice_set (leaves v) 0 c
+pub one_row : (v : Value) (c : Cell) → IsSome (scalar_in (out-Value v)) → leaves (Scalar c) ≡ slice_set (leaves v) 0 c
 one_row v c h = level (out-Value v) refl h
   where
     level : (l : Value-F Value) → out-Value v ≡ l → IsSome (scalar_in l) → leaves (Scalar c) ≡ slice_set (leaves v) 0 c
-    level (Value-F.Scalar d) e h = scalar_leaf c ∙ ap (λ (ls : List Lane). slice_set ls 0 c) (sym (scalar_row v d e))
+    level (Value-F.Scalar d) e h = scalar_leaf c ∙ ap (λ (ls : List Cell). slice_set ls 0 c) (sym (scalar_row v d e))
     level (Value-F.List vs) e h = absurd cc
     level (Value-F.Ptr p) e h = absurd cc

@@ -1,6 +1,6 @@
 //! The cells of a constant fill its type, and cells that fill a type are those of one value of its shape.
 ghost use Rattle.std.specs.Prelude.{◌≡◌, ℕ, Bool, List, Option, true};
-ghost use Rattle.spv_base.specs.Lane.{Lane};
+ghost use Rattle.spv_base.specs.Cell.{Cell};
 ghost use Rattle.spv_base.specs.declared.instructions.Inst.{Inst};
 ghost use Rattle.spv_base.specs.declared.values.Root.{Root};
 ghost use Rattle.spv_types.specs.Types.{Types, form_of};
@@ -30,7 +30,7 @@ pub fn constants_fill_types()
 /// Cells that fill a type of data, among the types whose arrays have their lengths, are the leaves of the value that they are at
 /// that type, which has its shape.
 pub fn filled_types_have_values()
-    ensures { (ts : Types) (roots : Root → Option ℕ) (n id : ℕ) (cells : List Lane) → AreSound ts → AreComplete ts n → IsAmong ts n id
+    ensures { (ts : Types) (roots : Root → Option ℕ) (n id : ℕ) (cells : List Cell) → AreSound ts → AreComplete ts n → IsAmong ts n id
         → is_data (form_of ts id) ≡ true → FillType ts id cells → IsRowAt ts roots id cells }
 {
     shapes_are_by_forms();

@@ -1,5 +1,5 @@
 use Rattle.std.proofs.Common.{◌≡◌, ◌∙◌, Err, Ok, ap, rules, subst, sym}
-use Rattle.spv_base.specs.Lane.{Lane}
+use Rattle.spv_base.specs.Cell.{Cell}
 use Rattle.spv_types.specs.Laws.{AreSound}
 use Rattle.spv_valid.specs.Acceptance.{Accepted}
 use Rattle.spv_operands.specs.Operands.{shown}
@@ -45,13 +45,13 @@ pub scalar-requires-2 : goal.scalar-requires-2
 scalar-requires-2 c =
     integer_at c.args.site.now.program.accepted c.args.site.now.inst 5 (c.requires.rule.0, c.requires.rule.1, c.requires.rule.2.0) c.requires.rule.2.1.1.0.1
 
-pub compared-new-requires : goal.compared-new-requires
-compared-new-requires c =
+pub compared_cell-new-requires : goal.compared_cell-new-requires
+compared_cell-new-requires c =
     value_width c.args.site.now (subst (λ (a : Accepted). AreSound a.types) c.accepted.ensures (sound_types c.accepted.result.now c.insts-insts.ensures.valid)) (c.requires.rule.0, c.requires.rule.1, c.requires.rule.2.0) c.in_ok-target.target c.in_ok-target.ensures.is 4 c.in_ok-value.value c.requires.rule.2.1.1.0.0 c.in_ok-value.ensures.shape
 
 pub returns-clause-due : goal.returns-clause-due
 returns-clause-due c =
     compare_is c.args.site.now c.requires.action
     ∙ compares_ok c.args.site.now swaps_by (shown c.in_ok-at.at) c.in_ok-at.ensures.value (shown c.in_ok-_unequal._unequal) (found_is c.args.site.now 3 (Ok (shown c.in_ok-_unequal._unequal)) c.in_ok-_unequal.ensures.value) c.in_ok-value.value c.in_ok-value.ensures.value c.in_ok-comparator.comparator c.in_ok-target.target c.in_ok-comparator.ensures.value c.in_ok-target.ensures.target
-    ∙ ap (λ (n : Lane). Ok (exchanges c.in_ok-target.target.0 n c.in_ok-target.target.1)) (sym c.compared-new.ensures.lane)
+    ∙ ap (λ (n : Cell). Ok (exchanges c.in_ok-target.target.0 n c.in_ok-target.target.1)) (sym c.compared_cell-new.ensures.lane)
     ∙ ap (λ (e : Effect). Ok e) (sym c.in_ok-exchange.ensures.shown)

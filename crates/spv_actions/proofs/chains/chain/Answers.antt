@@ -6,7 +6,7 @@ use Rattle.spv_valid.specs.Acceptance.{Accepted}
 use Rattle.spv_valid.specs.Validity.{IsValid}
 use Rattle.spv_operands.specs.Operands.{shown}
 use Rattle.spv_results.proofs.SoundTypes.{sound_types}
-use Rattle.spv_actions.specs.Chains.{chained, indexes}
+use Rattle.spv_actions.specs.Chains.{chained_pointer, indexes}
 use Rattle.spv_actions.specs.Effects.{gives}
 use Rattle.spv_actions.specs.Fits.{Fits}
 use Rattle.spv_actions.specs.Sites.{values}
@@ -36,7 +36,7 @@ returns-in_err-pointer-clause-due c = λ v.
     let same : c.from_residual-in_err-pointer.result ≡ Err c.in_err-pointer.field-0.0 = search rules in
     let at = shown c.in_ok-base.base in
     let cells : c.as_slice.result.now ≡ c.in_ok-indexes.indexes.items = search rules in
-    outside_due c.args.site.now v (chained at c.as_slice.result.now) c.from_residual-in_err-pointer.result c.in_err-pointer.field-0.0
+    outside_due c.args.site.now v (chained_pointer at c.as_slice.result.now) c.from_residual-in_err-pointer.result c.in_err-pointer.field-0.0
     (λ cause fails. chain_fails c.args.site.now at c.as_slice.result.now cause c.requires c.in_ok-base.ensures.value (c.in_ok-indexes.ensures ∙ ap Ok (sym cells)) fails) c.in_err-pointer.ensures same
 
 pub returns-clause-due : goal.returns-clause-due

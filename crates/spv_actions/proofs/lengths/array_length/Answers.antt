@@ -1,5 +1,5 @@
 use Rattle.std.proofs.Common.{◌≡◌, ◌∙◌, ◌<◌, ◌^◌, Err, Ok, ap, rules, subst, sym}
-use Rattle.spv_base.specs.Lane.{defined_lane}
+use Rattle.spv_base.specs.Cell.{defined_cell}
 use Rattle.spv_base.specs.declared.values.Value.{Value, Scalar}
 use Rattle.spv_types.specs.Laws.{AreSound}
 use Rattle.spv_valid.specs.Acceptance.{Accepted}
@@ -35,12 +35,12 @@ returns-in_err-count-clause-due c =
 
 pub returns-clause-due : goal.returns-clause-due
 returns-clause-due c =
-    let held : c.put_scalar.new.row ≡ Scalar (defined_lane 32 c.in_ok-count.count) = search rules in
+    let held : c.put_scalar.new.row ≡ Scalar (defined_cell 32 c.in_ok-count.count) = search rules in
     length_gives c.args.site.now (shown c.in_ok-block.block) c.in_ok-count.count c.requires c.in_ok-block.ensures.value c.in_ok-count.ensures ∙ ap (λ (v : Value). Ok (gives v)) (sym held)
 
 pub returns-clause-fits : goal.returns-clause-fits
 returns-clause-fits c =
-    let held : c.put_scalar.new.row ≡ Scalar (defined_lane 32 c.in_ok-count.count) = search rules in
+    let held : c.put_scalar.new.row ≡ Scalar (defined_cell 32 c.in_ok-count.count) = search rules in
     let sound = subst (λ (a : Accepted). AreSound a.types) c.accepted.ensures (sound_types c.accepted.result.now c.insts-insts.ensures.valid) in
     let small : c.in_ok-count.count < 2 ^ 32 = search rules in
     let shape = length_shape c.args.site.now c.in_ok-count.count sound c.length_is_kept.ensures.rule small in

@@ -1,8 +1,8 @@
 use Rattle.std.proofs.Common.{ap, ◌∙◌, bit_and}
 use Rattle.std.proofs.lemmas.Nat.{and_mask}
-use Rattle.spv_base.specs.Lane.{defined_lane}
+use Rattle.spv_base.specs.Cell.{defined_cell}
 use Rattle.spv_alu.proofs.results.integer.Goals as goal
 
 pub returns : goal.returns
 returns c =
-    ap (λ n. defined_lane c.args.width n) (ap (bit_and c.args.bits) c.greatest.ensures ∙ and_mask c.args.bits c.args.width)
+    ap (λ n. defined_cell c.args.width n) (ap (bit_and c.args.bits) c.greatest.ensures ∙ and_mask c.args.bits c.args.width)

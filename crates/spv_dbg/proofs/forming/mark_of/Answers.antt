@@ -1,5 +1,5 @@
 use Rattle.std.proofs.Common.{◌∙◌, ℕ, List, sym, ap}
-use Rattle.spv_dbg.specs.Cuts.{cut_measure}
+use Rattle.spv_dbg.specs.Saturation.{saturated_measure}
 use Rattle.spv_dbg.specs.Forming.{is_right, mark_of}
 use Rattle.spv_dbg.specs.Marks.{measure_of}
 use Rattle.spv_dbg.proofs.MeasureLemmas.{is_marked, not_right, not_within}
@@ -20,7 +20,7 @@ returns-then-not-is_within c =
     let marks = c.args.marks.now in
     let d = c.args.debug.now in
     not_within (is_right m marks c.args.inside d) (measure_of m marks d.number d.operands) c.measure_of-measure.result d.number
-    (c.measure_of-measure.ensures ∙ ap (λ (ids : List ℕ). cut_measure (measure_of m marks d.number ids)) c.as_slice.ensures)
+    (c.measure_of-measure.ensures ∙ ap (λ (ids : List ℕ). saturated_measure (measure_of m marks d.number ids)) c.as_slice.ensures)
     (sym c.is_within.ensures ∙ c.if-not-is_within.true)
 
 pub returns : goal.returns
@@ -31,5 +31,5 @@ returns c =
     let d = c.args.debug.now in
     is_marked (is_right m marks c.args.inside d) (measure_of m marks d.number d.operands) c.measure_of-measure.result d.number
     (sym c.is_right.ensures ∙ c.if-not-is_right.false)
-    (c.measure_of-measure.ensures ∙ ap (λ (ids : List ℕ). cut_measure (measure_of m marks d.number ids)) c.as_slice.ensures)
+    (c.measure_of-measure.ensures ∙ ap (λ (ids : List ℕ). saturated_measure (measure_of m marks d.number ids)) c.as_slice.ensures)
     (sym c.is_within.ensures ∙ c.if-not-is_within.false)

@@ -1,10 +1,10 @@
 use Rattle.std.proofs.Common.{◌≡◌, ◌+◌, ◌^◌, ◌<◌, drop, length}
-use Rattle.spv_types.specs.Cuts.{cut}
+use Rattle.spv_types.specs.Saturation.{saturated}
 use Rattle.spv_dbg.specs.Sources.{continuation}
 use Rattle.spv_dbg.proofs.sources.continuation_len.Given as goal
 
 abbrev pub invariant-loop-debug : goal.invariant-loop-debug
 invariant-loop-debug l = record {
   fits : l.len < 2 ^ 64;
-  same : cut (l.len + length (continuation l.strings (drop l.debug-index l.insts))) ≡ cut (length (continuation l.strings l.insts));
+  same : saturated (l.len + length (continuation l.strings (drop l.debug-index l.insts))) ≡ saturated (length (continuation l.strings l.insts));
 }

@@ -1,6 +1,6 @@
 use Rattle.std.proofs.Common.{◌∙◌, ap}
 use Rattle.spv_alu.specs.Binary.{binary_lane}
-use Rattle.spv_base.specs.Lane.{Lane}
+use Rattle.spv_base.specs.Cell.{Cell}
 use Rattle.spv_base.specs.declared.values.Value.{Scalar}
 use Rattle.spv_types.specs.Rows.{leaves}
 use Rattle.spv_effects.specs.Lanes.{lane_of}
@@ -13,5 +13,5 @@ returns c =
     let a = c.args.a.now in
     let b = c.args.b.now in
     c.single_of.ensures
-    ∙ ap Scalar (c.apply.ensures.lane ∙ ap (λ (x : Lane). op x c.lane_of-2.result) c.lane_of.ensures ∙ ap (op (lane_of a)) c.lane_of-2.ensures)
+    ∙ ap Scalar (c.apply.ensures.lane ∙ ap (λ (x : Cell). op x c.lane_of-2.result) c.lane_of.ensures ∙ ap (op (lane_of a)) c.lane_of-2.ensures)
     ∙ one_of_two op (leaves a) (leaves b) c.requires.first.count c.requires.second.count

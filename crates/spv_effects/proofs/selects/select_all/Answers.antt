@@ -2,7 +2,7 @@ use Rattle.std.proofs.Common.{◌≡◌, ◌∙◌, ◌<◌, List, [], ◌∷◌
 use Rattle.std.proofs.Math.Seq.{take-suc-set}
 use Rattle.std.specs.Simd.Lanes.{zip2}
 use Rattle.spv_alu.specs.Select.{select_of}
-use Rattle.spv_base.specs.Lane.{Lane}
+use Rattle.spv_base.specs.Cell.{Cell}
 use Rattle.spv_effects.proofs.ListLemmas.{zip2-more}
 use Rattle.spv_effects.proofs.SelectLemmas.{same_lengths, same_width}
 use Rattle.spv_effects.proofs.selects.select_all.Goals as goal
@@ -18,9 +18,9 @@ loop-i-preserved c =
     let alike : length c.args.a.now ≡ length c.args.b.now = same_lengths c.args.a.now c.args.b.now c.requires.widths in
     let first : c.loop-i.i < length c.args.a.now = omega arith in
     let second : c.loop-i.i < length c.args.b.now = omega arith in
-    let done : List Lane = zip2 (select_of c.args.condition) (take c.loop-i.i c.args.a.now) (take c.loop-i.i c.args.b.now) in
+    let done : List Cell = zip2 (select_of c.args.condition) (take c.loop-i.i c.args.a.now) (take c.loop-i.i c.args.b.now) in
     rw add-one
     (take-suc-set c.loop-i.into c.loop-i.i c.select.result within
-    ∙ ap (λ (t : List Lane). t ++ (c.select.result ∷ [])) c.loop-i.invariant
-    ∙ ap (λ (r : Lane). done ++ (r ∷ [])) c.select.ensures.lane
+    ∙ ap (λ (t : List Cell). t ++ (c.select.result ∷ [])) c.loop-i.invariant
+    ∙ ap (λ (r : Cell). done ++ (r ∷ [])) c.select.ensures.lane
     ∙ sym (zip2-more (select_of c.args.condition) c.args.a.now c.args.b.now c.loop-i.i c.index-a-i.result c.index-b-i.result first second c.index-a-i.is c.index-b-i.is))

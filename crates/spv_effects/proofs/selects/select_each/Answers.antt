@@ -1,7 +1,7 @@
 use Rattle.std.proofs.Common.{◌≡◌, ◌∙◌, ◌<◌, List, [], ◌∷◌, ◌++◌, length, take, add-one, sym, ap, arith}
 use Rattle.std.proofs.Math.Seq.{take-suc-set}
 use Rattle.spv_alu.specs.Select.{select_of}
-use Rattle.spv_base.specs.Lane.{Lane}
+use Rattle.spv_base.specs.Cell.{Cell}
 use Rattle.spv_effects.specs.Lanes.{zip3}
 use Rattle.spv_effects.proofs.ListLemmas.{zip3-more}
 use Rattle.spv_effects.proofs.SelectLemmas.{same_lengths, same_width}
@@ -19,10 +19,10 @@ loop-i-preserved c =
     let zeroth : c.loop-i.i < length c.args.condition.now = omega arith in
     let first : c.loop-i.i < length c.args.a.now = omega arith in
     let second : c.loop-i.i < length c.args.b.now = omega arith in
-    let done : List Lane = zip3 select_of (take c.loop-i.i c.args.condition.now) (take c.loop-i.i c.args.a.now) (take c.loop-i.i c.args.b.now) in
+    let done : List Cell = zip3 select_of (take c.loop-i.i c.args.condition.now) (take c.loop-i.i c.args.a.now) (take c.loop-i.i c.args.b.now) in
     rw add-one
     (take-suc-set c.loop-i.into c.loop-i.i c.select.result within
-    ∙ ap (λ (t : List Lane). t ++ (c.select.result ∷ [])) c.loop-i.invariant
-    ∙ ap (λ (r : Lane). done ++ (r ∷ [])) c.select.ensures.lane
+    ∙ ap (λ (t : List Cell). t ++ (c.select.result ∷ [])) c.loop-i.invariant
+    ∙ ap (λ (r : Cell). done ++ (r ∷ [])) c.select.ensures.lane
     ∙ sym (zip3-more select_of c.args.condition.now c.args.a.now c.args.b.now c.loop-i.i c.index-condition-i.result c.index-a-i.result c.index-b-i.result
     zeroth first second c.index-condition-i.is c.index-a-i.is c.index-b-i.is))

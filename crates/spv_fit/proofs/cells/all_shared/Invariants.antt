@@ -1,5 +1,5 @@
 use Rattle.std.proofs.Common.{◌≡◌, ◌<◌, ◌^◌, ◌+◌, drop}
-use Rattle.spv_types.specs.Cuts.{cut}
+use Rattle.spv_types.specs.Saturation.{saturated}
 use Rattle.spv_fit.specs.Cells.{all_shared}
 use Rattle.spv_fit.proofs.cells.all_shared.Given as goal
 
@@ -7,5 +7,5 @@ use Rattle.spv_fit.proofs.cells.all_shared.Given as goal
 abbrev pub invariant-loop-inst : goal.invariant-loop-inst
 invariant-loop-inst l = record {
   fits : l.cells < 2 ^ 64;
-  sum : cut (l.cells + all_shared l.index.insts l.types l.setup (drop l.inst-index l.insts)) ≡ cut (all_shared l.index.insts l.types l.setup l.insts);
+  sum : saturated (l.cells + all_shared l.index.insts l.types l.setup (drop l.inst-index l.insts)) ≡ saturated (all_shared l.index.insts l.types l.setup l.insts);
 }

@@ -15,5 +15,5 @@ pub back-preserved : goal.back-preserved
 back-preserved c = record {
   within = omega arith;
   found = λ id kind. back_more (decorates id kind) c.args.insts.now c.back.n c.index-insts-n.result _ _ (omega arith) c.back.invariant.within c.index-insts-n.is
-      (nothing_put (c.back.n - 1) _ _ (c.decorated.ensures id kind ∙ ap (is_pair id kind) c.in_default.is)) (c.back.invariant.found id kind);
+      (nothing_put (c.back.n - 1) _ _ (c.decoration_key.ensures id kind ∙ ap (is_pair id kind) c.in_default.is)) (c.back.invariant.found id kind);
 }

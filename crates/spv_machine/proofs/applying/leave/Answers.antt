@@ -7,7 +7,6 @@ use Rattle.spv_frame.specs.Frames.{Held as Frame}
 use Rattle.spv_actions.specs.Planned.{gained}
 use Rattle.spv_journal.specs.Held.{Records}
 use Rattle.spv_state.specs.State.{State, frames_of, set_status, top_of, without_top}
-use Rattle.spv_state.proofs.Lists.{length_change}
 use Rattle.spv_statuses.specs.declared.invocations.Status.TheVariants.{Finished, Ready}
 use Rattle.spv_machine.specs.Reached.{IsReached}
 use Rattle.spv_machine.specs.Step.{go_on, leave, put_result}
@@ -17,6 +16,7 @@ use Rattle.spv_machine.proofs.LeaveLemmas.{leave_locals, reached_some}
 use Rattle.spv_machine.proofs.ReturnLemmas.{CalledBy, LeftAt, given_rooted, left_finished, left_to}
 use Rattle.spv_machine.proofs.ReachedLemmas.{Facts, facts, levels_inside}
 use Rattle.spv_machine.proofs.Recording.{records_more, records_on}
+use Rattle.spv_base.proofs.EntryLemmas.{length_change}
 use Rattle.spv_machine.proofs.applying.leave.Goals as goal
 
 pub leave-requires-clause-stacks : goal.leave-requires-clause-stacks

@@ -3,15 +3,15 @@ use Rattle.spv_base.specs.Answers.{Answers}
 use Rattle.spv_base.specs.declared.causes.Fail.{Fail}
 use Rattle.spv_base.specs.declared.instructions.Inst.{Inst}
 use Rattle.spv_base.specs.declared.instructions.RawInst.{RawInst}
-use Rattle.spv_ops.specs.declared.reading.WrongForm.{WrongForm}
+use Rattle.spv_ops.specs.declared.reading.WrongOperands.{WrongOperands}
 use Rattle.spv_ops.specs.Opcodes.{Row}
-use Rattle.spv_ops.specs.Forms.{row_of}
+use Rattle.spv_ops.specs.Grammar.{row_of}
 use Rattle.spv_ops.specs.Reading.{inst_by}
 use Rattle.spv_ops.specs.Encoding.{IsFormed}
 use Rattle.spv_ops.proofs.InstLaws.{by_formed, formed_again, raw_op}
 use Rattle.spv_ops.proofs.encoding.is_read_again.Goals as goal
 
-same_read : (x y : Inst) → Path (Result Inst WrongForm) (Ok x) (Ok y) → x ≡ y
+same_read : (x y : Inst) → Path (Result Inst WrongOperands) (Ok x) (Ok y) → x ≡ y
 same_read x y e = cc
 
 pub returns-in-Ok : goal.returns-in-Ok
@@ -37,6 +37,6 @@ returns-in-Err-Refused c =
           let again = formed_again row c.args.i.now c.requires.opcode is c.requires.bytes in
           let same : inst_by row raw ≡ Ok c.args.i.now = ap (inst_by row) c.requires.words ∙ again in
           let refused : inst_by row raw ≡ Err (c.in-Err-Refused.field-0-0) =
-          subst (λ (f : Fail WrongForm). Answers {T = Inst} (inst_by row raw) (Err f)) c.in-Err-Refused.field-0-is c.in-Err-Refused.ensures in
+          subst (λ (f : Fail WrongOperands). Answers {T = Inst} (inst_by row raw) (Err f)) c.in-Err-Refused.field-0-is c.in-Err-Refused.ensures in
           absurd cc),
     )

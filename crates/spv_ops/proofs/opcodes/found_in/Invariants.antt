@@ -1,5 +1,5 @@
 use Rattle.std.proofs.Common.{◌≡◌, length, map}
-use Rattle.spv_ops.specs.Forms.{row_with}
+use Rattle.spv_ops.specs.Grammar.{row_with}
 use Rattle.spv_ops.proofs.opcodes.found_in.Given as goal
 
 abbrev pub invariant-loop-table : goal.invariant-loop-table

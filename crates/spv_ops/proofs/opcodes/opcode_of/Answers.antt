@@ -1,6 +1,6 @@
 use Rattle.std.proofs.Common.{List, ap, ◌∙◌}
 use Rattle.spv_ops.specs.Opcodes.{Row}
-use Rattle.spv_ops.specs.Forms.{row_with, row_of}
+use Rattle.spv_ops.specs.Grammar.{row_with, row_of}
 use Rattle.spv_ops.proofs.opcodes.opcode_of.Goals as goal
 
 pub returns : goal.returns

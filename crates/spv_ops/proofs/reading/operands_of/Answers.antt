@@ -1,6 +1,6 @@
 use Rattle.std.proofs.Common.{sym, ◌∙◌}
 use Rattle.std.proofs.lemmas.Result.{err_from_is_err_and}
-use Rattle.spv_ops.specs.declared.forms.Part.TheVariants.{Id}
+use Rattle.spv_ops.specs.declared.grammar.Part.TheVariants.{Id}
 use Rattle.spv_ops.proofs.OperandLoop.{goes_on, ends, ends_here, rest_is, rest_is_not}
 use Rattle.spv_ops.proofs.reading.operands_of.Goals as goal
 

@@ -1,6 +1,6 @@
 use Rattle.std.proofs.Common.{refl, ap, ◌∙◌, take, drop}
-use Rattle.spv_text.specs.Lines.{is_digit}
 use Rattle.spv_text.proofs.FrontLemmas.{front_passes}
+use Rattle.spv_line.specs.Numbers.{is_digit}
 use Rattle.spv_text.proofs.numbers.digits_at.Goals as goal
 
 pub returns-clause-digits : goal.returns-clause-digits

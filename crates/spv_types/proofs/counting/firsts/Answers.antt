@@ -1,7 +1,7 @@
 use Rattle.std.proofs.Common.{ap, arith, sym, refl}
 use Rattle.std.specs.Option.{option_map}
 use Rattle.spv_types.specs.Cells.{cells_among}
-use Rattle.spv_types.specs.Cuts.{cut}
+use Rattle.spv_types.specs.Saturation.{saturated}
 use Rattle.spv_types.proofs.CellLemmas.{members_cells_nil}
 use Rattle.spv_types.proofs.CountedLemmas.{first_next, firsts_next}
 use Rattle.spv_types.proofs.counting.firsts.Goals as goal
@@ -9,7 +9,7 @@ use Rattle.spv_types.proofs.counting.firsts.Goals as goal
 pub loop-member-init : goal.loop-member-init
 loop-member-init c = record {
   firsts = rw c.new-firsts.ensures (record { long = refl; firsts_are = λ i l. absurd (omega arith) });
-  before = sym (ap (option_map cut) (members_cells_nil (cells_among c.args.types.now c.args.limit)));
+  before = sym (ap (option_map saturated) (members_cells_nil (cells_among c.args.types.now c.args.limit)));
 }
 
 pub loop-member-preserved : goal.loop-member-preserved

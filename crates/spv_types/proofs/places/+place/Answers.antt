@@ -2,9 +2,9 @@ use Rattle.std.proofs.Common.{◌∙◌, ap, arith, inl, inr, rules, sym}
 use Rattle.std.specs.Option.{option_map}
 use Rattle.spv_types.specs.Cells.{cells_of}
 use Rattle.spv_types.specs.Places.{place_among}
-use Rattle.spv_types.specs.Cuts.{cut}
+use Rattle.spv_types.specs.Saturation.{saturated}
 use Rattle.spv_types.proofs.CountedLemmas.{found_at}
-use Rattle.spv_types.proofs.PlaceLemmas.{elements_at, in_empty, in_member, in_no_member, none_through, plus_cut}
+use Rattle.spv_types.proofs.PlaceLemmas.{elements_at, in_empty, in_member, in_no_member, none_through, plus_saturated}
 use Rattle.spv_types.proofs.places.+place.Goals as goal
 use Rattle.spv_types.proofs.places.+place.Goals.{member_place-in_default-via-in-Some+else-cells-left, member_place-in_default-via-in_default}
 
@@ -16,7 +16,7 @@ element_place-returns-in_err-within t c =
 pub element_place-returns : goal.element_place-returns
 element_place-returns t c =
     let at = elements_at c.args.types.now (place_among c.args.types.now c.args.limit) c.args.element c.args.count c.args.stride c.args.leaf c.in_ok-number.number c.in_ok-cells.cells c.requires c.in_ok-cells.ensures c.in_ok-number.ensures in
-    rw (c.saturating_add.ensures, c.from.ensures, at) (plus_cut _ _ _ c.in_ok-within.ensures)
+    rw (c.saturating_add.ensures, c.from.ensures, at) (plus_saturated _ _ _ c.in_ok-within.ensures)
 
 pub place_among-form_place-requires : goal.place_among-form_place-requires
 place_among-form_place-requires t c =
@@ -29,7 +29,7 @@ member_place-returns-then-is_empty t c = in_empty (cells_of c.args.types.now) (p
 pub member_place-returns-in-Some : goal.member_place-returns-in-Some
 member_place-returns-in-Some t c =
     let none = in_no_member (cells_of c.args.types.now) (place_among c.args.types.now c.args.number) c.args.members.now c.member_with-i.result c.in_ok-left.field-0 c.args.leaf c.in-Some.cells _ c.requires.near c.member_with-i.ensures.inside c.member_with-i.ensures.begins c.in_ok-left.ensures (sym c.cells.ensures ∙ c.in-Some.is) c.if-cells-left.true c.member_with-i.ensures.last in
-    sym (ap (option_map cut) none)
+    sym (ap (option_map saturated) none)
 
 pub member_place-returns-in_default : goal.member_place-returns-in_default
 member_place-returns-in_default t c =

@@ -2,7 +2,7 @@ use Rattle.std.proofs.Common.{◌<◌, ◌+◌, ◌-◌, ◌∙◌, ℕ, List, l
 use Rattle.std.proofs.Math.ListN.{length-set}
 use Rattle.std.proofs.lemmas.Grind.{common_steps}
 use Rattle.std.proofs.lemmas.List.{drop_all, get_or-replicate, get_or_read}
-use Rattle.spv_types.specs.Cuts.{cut}
+use Rattle.spv_types.specs.Saturation.{saturated}
 use Rattle.spv_valid.proofs.StackLemmas.{weight-nil, weights_more}
 use Rattle.spv_valid.proofs.stack.weights_of.Goals as goal
 
@@ -25,5 +25,5 @@ back-preserved c =
       len = simp length-set c.back.invariant.len;
       weights = weights_more kept c.back.weights.items c.back.i c.saturating_add-cells.result c.args.count c.back-test.true c.back.invariant.small c.back.invariant.len
           c.requires c.back.invariant.weights
-          (c.saturating_add-cells.ensures ∙ ap (λ (z : ℕ). cut (z + (get_or kept (c.back.i - 1) (0, 0)).1)) (get_or_read c.back.weights.items _ c.index.result.now inside c.index.ensures 0));
+          (c.saturating_add-cells.ensures ∙ ap (λ (z : ℕ). saturated (z + (get_or kept (c.back.i - 1) (0, 0)).1)) (get_or_read c.back.weights.items _ c.index.result.now inside c.index.ensures 0));
     }

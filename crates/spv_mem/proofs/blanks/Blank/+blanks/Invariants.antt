@@ -12,15 +12,15 @@ decreases-among l = 3 * l.limit
 abbrev pub decreases-of_form : goal.decreases-of_form
 decreases-of_form l = 3 * l.limit + 2
 
-abbrev pub decreases-repeated : goal.decreases-repeated
-decreases-repeated l = 3 * l.limit + 1
+abbrev pub decreases-repeated_cells : goal.decreases-repeated_cells
+decreases-repeated_cells l = 3 * l.limit + 1
 
 abbrev pub decreases-of_members : goal.decreases-of_members
 decreases-of_members l = 3 * l.limit + 1
 
 -- the cells so far are those of so many values
-abbrev pub invariant-repeated-loop-number : goal.invariant-repeated-loop-number
-invariant-repeated-loop-number l = l.cells.items ≡ l.fn.cells.items ++ flat_map leaves (replicate l._number (blank_among l.self.types.now l.self.elements l.limit l.ty))
+abbrev pub invariant-repeated_cells-loop-number : goal.invariant-repeated_cells-loop-number
+invariant-repeated_cells-loop-number l = l.cells.items ≡ l.fn.cells.items ++ flat_map leaves (replicate l._number (blank_among l.self.types.now l.self.elements l.limit l.ty))
 
 -- the cells so far and those of the members that are left
 abbrev pub invariant-of_members-loop-member : goal.invariant-of_members-loop-member

@@ -1,6 +1,6 @@
 use Rattle.std.proofs.Common.{◌≡◌, ◌∙◌, None, Some, ap, subst}
 use Rattle.spv_base.specs.Entries.{reads}
-use Rattle.spv_types.specs.Shapes.{reached}
+use Rattle.spv_types.specs.Shapes.{reached_type}
 use Rattle.spv_types.specs.Types.{Types, form_of}
 use Rattle.spv_mem.specs.Conditions.{integer_width, width_at}
 use Rattle.spv_mem.specs.Memory.{Held, IsMemory, id_in}
@@ -18,8 +18,8 @@ returns-in_err-ty-clause-width c =
     let types : c.as_ref-types.result.now ≡ c.args.self.now.types = c.as_ref-types.ensures ∙ ap (λ (m : Held). m.types) c.self.view_is in
     let named : reads (id_in c.args.p.now.root) c.args.self.now.targets ≡ Some c.in_ok-target.target.ty =
     let e = c.in_ok-target.ensures in let i = c.id_in-id.ensures in let v = ap (λ (m : Held). m.targets) c.self.view_is in cc in
-    let none : reached c.args.self.now.types c.in_ok-target.target.ty c.args.p.now.path ≡ None =
-    let e = c.reached.ensures in let h = c.in_err-ty.was in let p = c.as_slice.ensures in cc in
+    let none : reached_type c.args.self.now.types c.in_ok-target.target.ty c.args.p.now.path ≡ None =
+    let e = c.reached_type.ensures in let h = c.in_err-ty.was in let p = c.as_slice.ensures in cc in
     c.from_residual-in_err-ty.ensures ∙ width_unreached c.args.self.now c.args.p.now c.in_ok-target.target.ty named none
 
 pub returns-clause-width : goal.returns-clause-width
@@ -27,8 +27,8 @@ returns-clause-width c =
     let types : c.as_ref-types.result.now ≡ c.args.self.now.types = c.as_ref-types.ensures ∙ ap (λ (m : Held). m.types) c.self.view_is in
     let named : reads (id_in c.args.p.now.root) c.args.self.now.targets ≡ Some c.in_ok-target.target.ty =
     let e = c.in_ok-target.ensures in let i = c.id_in-id.ensures in let v = ap (λ (m : Held). m.targets) c.self.view_is in cc in
-    let found : reached c.args.self.now.types c.in_ok-target.target.ty c.args.p.now.path ≡ Some c.in_ok-ty.ty =
-    let e = c.reached.ensures in let h = c.in_ok-ty.was in let p = c.as_slice.ensures in cc in
+    let found : reached_type c.args.self.now.types c.in_ok-target.target.ty c.args.p.now.path ≡ Some c.in_ok-ty.ty =
+    let e = c.reached_type.ensures in let h = c.in_ok-ty.was in let p = c.as_slice.ensures in cc in
     let is : c.integer_width.result ≡ width_at c.args.self.now c.args.p.now =
     c.integer_width.ensures ∙ ap integer_width (c.form.ensures ∙ ap (λ (ts : Types). form_of ts c.in_ok-ty.ty) types) ∙ width_reached c.args.self.now c.args.p.now c.in_ok-target.target.ty c.in_ok-ty.ty named found in
     is
@@ -39,8 +39,8 @@ returns-clause-scalar c =
     let types : c.as_ref-types.result.now ≡ c.args.self.now.types = c.as_ref-types.ensures ∙ ap (λ (m : Held). m.types) c.self.view_is in
     let named : reads (id_in c.args.p.now.root) c.args.self.now.targets ≡ Some c.in_ok-target.target.ty =
     let e = c.in_ok-target.ensures in let i = c.id_in-id.ensures in let v = ap (λ (m : Held). m.targets) c.self.view_is in cc in
-    let found : reached c.args.self.now.types c.in_ok-target.target.ty c.args.p.now.path ≡ Some c.in_ok-ty.ty =
-    let e = c.reached.ensures in let h = c.in_ok-ty.was in let p = c.as_slice.ensures in cc in
+    let found : reached_type c.args.self.now.types c.in_ok-target.target.ty c.args.p.now.path ≡ Some c.in_ok-ty.ty =
+    let e = c.reached_type.ensures in let h = c.in_ok-ty.was in let p = c.as_slice.ensures in cc in
     let is : c.integer_width.result ≡ width_at c.args.self.now c.args.p.now =
     c.integer_width.ensures ∙ ap integer_width (c.form.ensures ∙ ap (λ (ts : Types). form_of ts c.in_ok-ty.ty) types) ∙ width_reached c.args.self.now c.args.p.now c.in_ok-target.target.ty c.in_ok-ty.ty named found in
     scalar_if c.args.self.now c.args.p.now c.integer_width.result memory is
@@ -51,8 +51,8 @@ returns-clause-may c =
     let types : c.as_ref-types.result.now ≡ c.args.self.now.types = c.as_ref-types.ensures ∙ ap (λ (m : Held). m.types) c.self.view_is in
     let named : reads (id_in c.args.p.now.root) c.args.self.now.targets ≡ Some c.in_ok-target.target.ty =
     let e = c.in_ok-target.ensures in let i = c.id_in-id.ensures in let v = ap (λ (m : Held). m.targets) c.self.view_is in cc in
-    let found : reached c.args.self.now.types c.in_ok-target.target.ty c.args.p.now.path ≡ Some c.in_ok-ty.ty =
-    let e = c.reached.ensures in let h = c.in_ok-ty.was in let p = c.as_slice.ensures in cc in
+    let found : reached_type c.args.self.now.types c.in_ok-target.target.ty c.args.p.now.path ≡ Some c.in_ok-ty.ty =
+    let e = c.reached_type.ensures in let h = c.in_ok-ty.was in let p = c.as_slice.ensures in cc in
     let is : c.integer_width.result ≡ width_at c.args.self.now c.args.p.now =
     c.integer_width.ensures ∙ ap integer_width (c.form.ensures ∙ ap (λ (ts : Types). form_of ts c.in_ok-ty.ty) types) ∙ width_reached c.args.self.now c.args.p.now c.in_ok-target.target.ty c.in_ok-ty.ty named found in
     may_if c.args.self.now c.args.p.now c.integer_width.result memory is

@@ -1,5 +1,5 @@
 use Rattle.std.proofs.Common.{◌≡◌, ◌+◌, ◌-◌, ◌*◌, ◌<◌, refl, sym, arith}
-use Rattle.spv_base.specs.Lane.{undefined_lane}
+use Rattle.spv_base.specs.Cell.{undefined_cell}
 use Rattle.spv_start.specs.Blocks.{read_among, read_members}
 use Rattle.spv_start.specs.Numbers.{scalar_at}
 use Rattle.spv_start.proofs.BlockLemmas.{less_one, many_leaves, no_leaves, none_read, row_more, row_of, scalar_leaves}
@@ -9,7 +9,7 @@ pub among-returns-in-None : goal.among-returns-in-None
 among-returns-in-None t c = none_read c.args.self.now.types.now c.args.self.now.bytes.now c.args.self.now.size c.args.limit c.args.ty c.args.at c.args.cells.now.items (sym c.in-None.ensures)
 
 pub of_form-returns-in_ok-push-in-Bool : goal.of_form-returns-in_ok-push-in-Bool
-of_form-returns-in_ok-push-in-Bool t c = rw (c.in-Bool.is, scalar_leaves (undefined_lane 1)) c.in_ok-push-in-Bool.ensures.items
+of_form-returns-in_ok-push-in-Bool t c = rw (c.in-Bool.is, scalar_leaves (undefined_cell 1)) c.in_ok-push-in-Bool.ensures.items
 
 pub of_form-returns-in_ok-push-in-Int : goal.of_form-returns-in_ok-push-in-Int
 of_form-returns-in_ok-push-in-Int t c =

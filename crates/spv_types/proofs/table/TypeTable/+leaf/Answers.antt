@@ -1,7 +1,7 @@
 use Rattle.std.proofs.Common.{refl, sym}
 use Rattle.spv_types.specs.Types.{form_at}
 use Rattle.spv_types.proofs.CountedLemmas.{form_found}
-use Rattle.spv_types.proofs.LeafLemmas.{leaf_cut, leaf_no_part, leaf_not_within, leaf_unknown}
+use Rattle.spv_types.proofs.LeafLemmas.{leaf_saturated, leaf_no_part, leaf_not_within, leaf_unknown}
 use Rattle.spv_types.proofs.TypeLemmas.{number_lt, number_none}
 use Rattle.spv_types.proofs.table.TypeTable.+leaf.Goals as goal
 
@@ -28,5 +28,5 @@ returns-in_err-within t c =
 pub returns : goal.returns
 returns t c =
     let found = form_found c.args.self.now c.args.ty c.in_ok-number.field-0 (sym c.in_ok-number.ensures) in
-    let e = leaf_cut c.args.self.now c.args.ty c.in-Some.first.now c.in_ok-before.before c.in_ok-before.part c.in_ok-within.within c.in-Some.rest.now (form_at c.args.self.now c.in_ok-number.field-0) found c.in_ok-before.ensures c.in_ok-within.ensures in
+    let e = leaf_saturated c.args.self.now c.args.ty c.in-Some.first.now c.in_ok-before.before c.in_ok-before.part c.in_ok-within.within c.in-Some.rest.now (form_at c.args.self.now c.in_ok-number.field-0) found c.in_ok-before.ensures c.in_ok-within.ensures in
     rw (c.saturating_add.ensures, c.in-Some.ensures.cases.0) e

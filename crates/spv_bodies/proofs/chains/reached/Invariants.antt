@@ -1,7 +1,0 @@
-use Rattle.std.proofs.Common.{◌≡◌, drop}
-use Rattle.spv_bodies.specs.Chains.{reached}
-use Rattle.spv_bodies.proofs.chains.reached.Given as goal
-
--- the indexes from here on reach what all reach
-abbrev pub invariant-loop-index : goal.invariant-loop-index
-invariant-loop-index l = reached l.context l.ty (drop l.index-index l.indexes) ≡ reached l.context l.target l.indexes

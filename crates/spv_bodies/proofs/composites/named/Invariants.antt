@@ -1,7 +1,0 @@
-use Rattle.std.proofs.Common.{◌≡◌, drop}
-use Rattle.spv_bodies.specs.Composites.{named}
-use Rattle.spv_bodies.proofs.composites.named.Given as goal
-
--- the literals from here on name what all name
-abbrev pub invariant-loop-literal : goal.invariant-loop-literal
-invariant-loop-literal l = named l.context l.ty (drop l.literal-index l.literals) ≡ named l.context l.whole l.literals

@@ -1,7 +1,0 @@
-use Rattle.std.proofs.Common.{◌≡◌, length, drop}
-use Rattle.spv_types.specs.Layout.{laid_among, members_laid}
-use Rattle.spv_types.proofs.layout.members_laid.Given as goal
-
--- the members so far are laid out
-abbrev pub invariant-loop-member : goal.invariant-loop-member
-invariant-loop-member l = members_laid (laid_among l.types (length l.laid)) l.members ≡ members_laid (laid_among l.types (length l.laid)) (drop l.member-index l.members)
