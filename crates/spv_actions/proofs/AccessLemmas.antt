@@ -7,35 +7,35 @@ use Rattle.std.specs.Option.{option_and_then}
 use Rattle.spv_base.specs.Answers.{Answers}
 use Rattle.spv_base.specs.Entries.{reads}
 use Rattle.spv_base.specs.Parts.{part_at}
-use Rattle.spv_base.specs.Variables.{Roots}
+use Rattle.spv_base.specs.Variables.{Roots, root_id}
 use Rattle.spv_base.specs.declared.causes.Fail.{Fail}
 use Rattle.spv_base.specs.declared.causes.Fail.TheVariants.{Refused, NoMemory}
 use Rattle.spv_base.specs.declared.instructions.Inst.{Inst}
 use Rattle.spv_base.specs.declared.values.Pointer.{Pointer as Reference}
 use Rattle.spv_base.specs.declared.values.Value.{Value}
+use Rattle.spv_ops.specs.Steps.{◌>>=◌}
 use Rattle.spv_types.specs.declared.forms.Form.TheVariants.{Pointer as PointerForm}
 use Rattle.spv_types.specs.declared.queries.Pointed.{Pointed}
 use Rattle.spv_types.specs.Laws.{AreSound}
 use Rattle.spv_types.specs.Rows.{no_roots}
 use Rattle.spv_types.specs.Shapes.{HasShape, LeadsTo, reached_type}
 use Rattle.spv_types.specs.Types.{Types}
-use Rattle.spv_types.proofs.RowShapes.{shapes_keep}
+use Rattle.spv_types.proofs.Exports.{shapes_keep}
 use Rattle.spv_bodies.specs.Context.{PointsTo, type_at}
 use Rattle.spv_bodies.specs.Memory.{KeepsLoad, KeepsStore}
-use Rattle.spv_mem.specs.Memory.{Held as Memory, IsMemory, MayStore, id_in, load_of, roots_in}
+use Rattle.spv_mem.specs.Memory.{Held as Memory, IsMemory, MayStore, load_of, roots_in}
 use Rattle.spv_mem.specs.Targets.{is_counted}
 use Rattle.spv_valid.specs.Acceptance.{Accepted}
 use Rattle.spv_valid.specs.Validity.{IsValid}
 use Rattle.spv_initial.specs.Start.{variables}
 use Rattle.spv_initial.specs.Variables.{targets_of}
 use Rattle.spv_operands.specs.Shapes.{target_in}
-use Rattle.spv_operands.proofs.TargetLemmas.{sized_counted}
+use Rattle.spv_operands.proofs.Exports.{sized_counted}
 use Rattle.spv_results.specs.Operands.{IsOperand, IsResult, known}
-use Rattle.spv_results.proofs.OperandTypes.{HasForm, form_has_type}
-use Rattle.spv_results.proofs.ShapeProps.{shape_prop}
+use Rattle.spv_results.proofs.Exports.{HasForm, form_has_type, shape_prop}
 use Rattle.spv_state.specs.Actions.{action_of}
 use Rattle.spv_actions.specs.Effects as spec
-use Rattle.spv_actions.specs.Effects.{Next, ◌>>=◌, gives, loaded, pointer}
+use Rattle.spv_actions.specs.Effects.{Next, gives, loaded, pointer}
 use Rattle.spv_actions.specs.Fits.{StoreFits}
 use Rattle.spv_actions.specs.Planned.{IsDue}
 use Rattle.spv_actions.specs.Sites.{Finds, IsShaped, IsSite, Site, accepted, due, part_of, values}
@@ -126,25 +126,25 @@ module _ (a : Accepted) (sound : AreSound a.types) (d : Inst) (n : ℕ) (at : Va
 
 -- the type of a variable, and that which a path reaches from it
 module _ (m : Memory) (a : Accepted) (types : m.types ≡ a.types) (targets : m.targets ≡ targets_of (variables a)) (q : Reference) (target : ℕ) (leads : LeadsTo a.types (target_in a) q target) where
-  pub reaches : (ty : ℕ) → reads (id_in q.root) m.targets ≡ Some ty → reached_type m.types ty q.path ≡ Some target
+  pub reaches : (ty : ℕ) → reads (root_id q.root) m.targets ≡ Some ty → reached_type m.types ty q.path ≡ Some target
   reaches ty named =
-      let same : target_in a q.root ≡ Some ty = ap (reads (id_in q.root)) (sym targets) ∙ named in
+      let same : target_in a q.root ≡ Some ty = ap (reads (root_id q.root)) (sym targets) ∙ named in
       ap (λ (ts : Types). reached_type ts ty q.path) types ∙ sym (ap (option_and_then (λ (t : ℕ). reached_type a.types t q.path)) same) ∙ leads
 
   -- the part that a memory has there is one of the target type
   pub part_shape : (i : ℕ) (v : Value) → IsMemory m → load_of m i q ≡ Some v → HasShape a.types no_roots target v
   part_shape i v memory load = by_roots (roots_in m i q.root) refl load
     where
-      by_value : (es : Roots) → roots_in m i q.root ≡ Some es → (o : Option Value) → reads (id_in q.root) es ≡ o → option_and_then (λ (w : Value). part_at w q.path) o ≡ Some v → HasShape a.types no_roots target v
+      by_value : (es : Roots) → roots_in m i q.root ≡ Some es → (o : Option Value) → reads (root_id q.root) es ≡ o → option_and_then (λ (w : Value). part_at w q.path) o ≡ Some v → HasShape a.types no_roots target v
       by_value es there None e h = absurd (cc)
       by_value es there (Some w) e h =
-          let variable = memory.variables i q.root es there (id_in q.root) w e in
+          let variable = memory.variables i q.root es there (root_id q.root) w e in
           let shape : HasShape m.types no_roots target v = (shapes_keep m.types no_roots memory.sound q.path variable.type target w v v variable.shape (reaches variable.type variable.named) h).0 in
           subst (λ (ts : Types). HasShape ts no_roots target v) types shape
 
-      by_roots : (o : Option Roots) → roots_in m i q.root ≡ o → option_and_then (λ (w : Value). part_at w q.path) (option_and_then (reads (id_in q.root)) o) ≡ Some v → HasShape a.types no_roots target v
+      by_roots : (o : Option Roots) → roots_in m i q.root ≡ o → option_and_then (λ (w : Value). part_at w q.path) (option_and_then (reads (root_id q.root)) o) ≡ Some v → HasShape a.types no_roots target v
       by_roots None e h = absurd (cc)
-      by_roots (Some es) e h = by_value es e (reads (id_in q.root) es) refl h
+      by_roots (Some es) e h = by_value es e (reads (root_id q.root) es) refl h
 
   -- a value of the target type may be put there
   pub may_put : (i : ℕ) (u : Value) → is_counted a.types target ≡ true → HasShape a.types no_roots target u → MayStore m i q u

@@ -1,19 +1,19 @@
 -- What atomics do, and where their pointers lead.
-use Rattle.std.proofs.Common.{◌≡◌, ◌∙◌, ℕ, ◌<◌, ◌≤◌, true, List, [], ◌∷◌, Option, Some, None, IsSome, Ok, slice_index_or, refl, sym, ap, subst, arith}
+use Rattle.std.proofs.Common.{◌≡◌, ◌∙◌, ℕ, ◌<◌, ◌≤◌, true, List, Option, Some, None, IsSome, Ok, slice_index_or, refl, sym, ap, subst, arith}
 use Rattle.std.proofs.Math.Logic.{∥∥₁_elim}
 use Rattle.std.proofs.lemmas.Bool.{and_parts}
 use Rattle.std.specs.Prelude.{nat_le}
 use Rattle.std.specs.List.{AllByRecursion}
 use Rattle.std.specs.Option.{IsSomeAnd, option_and_then}
+use Rattle.spv_base.specs.Variables.{root_id}
 use Rattle.spv_base.specs.Entries.{reads}
 use Rattle.spv_base.specs.Cell.{IsCell, Cell, undefined_cell}
-use Rattle.spv_effects.specs.Lanes.{lane_of, of_lanes}
-use Rattle.spv_values.proofs.RowLemmas.{scalar_leaf}
+use Rattle.spv_effects.specs.Lanes.{lane_of}
 use Rattle.spv_base.specs.declared.instructions.Inst.{Inst}
 use Rattle.spv_base.specs.declared.values.Pointer.{Pointer as Reference}
 use Rattle.spv_base.specs.declared.values.Root.{Root}
 use Rattle.spv_base.specs.declared.values.Value.{Value, Scalar, out-Value}
-use Rattle.spv_base.proofs.PartLemmas.{out_scalar}
+use Rattle.spv_base.proofs.Exports.{out_scalar, reads_each}
 use Rattle.spv_types.specs.declared.forms.Form.{Form}
 use Rattle.spv_types.specs.declared.forms.Form.TheVariants.{Int}
 use Rattle.spv_types.specs.declared.queries.Pointed.{Pointed}
@@ -22,21 +22,20 @@ use Rattle.spv_types.specs.Rows.{no_roots}
 use Rattle.spv_types.specs.Rules.{is_width}
 use Rattle.spv_types.specs.Shapes.{HasShape, IsScalar, LeadsTo, reached_type, scalar_in}
 use Rattle.spv_types.specs.Types.{Types, form_of}
-use Rattle.spv_types.proofs.ShapeLemmas.{shapes_are_by_forms}
+use Rattle.spv_types.proofs.Exports.{shapes_are_by_forms, leaves_scalar}
 use Rattle.spv_alu.specs.Integers.{IsWidth}
 use Rattle.spv_bodies.specs.Bodies.{KeepsRule}
 use Rattle.spv_bodies.specs.Context.{HasType, IsPointerTo, form_at, type_at}
 use Rattle.spv_bodies.specs.Rules.{atomic_rule, composite_rule, control_rule, memory_rule, other_rule, rule_of}
 use Rattle.spv_mem.specs.Conditions.{integer_width, width_at}
-use Rattle.spv_mem.specs.Memory.{Held as Memory, IsMemory, IsScalarAt, MayStore, id_in, load_of}
-use Rattle.spv_mem.proofs.ConditionLemmas.{may_if, scalar_if}
+use Rattle.spv_mem.specs.Memory.{Held as Memory, IsMemory, IsScalarAt, MayStore, load_of}
+use Rattle.spv_mem.proofs.Exports.{may_if, scalar_if}
 use Rattle.spv_valid.specs.Acceptance.{Accepted}
 use Rattle.spv_initial.specs.Start.{variables}
 use Rattle.spv_initial.specs.Variables.{targets_of}
 use Rattle.spv_operands.specs.Shapes.{target_in}
 use Rattle.spv_results.specs.Operands.{IsOperand, known}
-use Rattle.spv_results.proofs.OperandTypes.{HasForm, form_has_type}
-use Rattle.spv_results.proofs.ShapeProps.{shape_prop}
+use Rattle.spv_results.proofs.Exports.{HasForm, form_has_type, shape_prop}
 use Rattle.spv_state.specs.Actions.{atomic_op, atomics}
 use Rattle.spv_state.specs.declared.actions.AtomicOp.{AtomicOp}
 use Rattle.spv_state.specs.declared.actions.AtomicOp.TheVariants as atomic
@@ -46,7 +45,7 @@ use Rattle.spv_actions.specs.Effects.{pointer}
 use Rattle.spv_actions.specs.Fits.{StoreFits}
 use Rattle.spv_actions.specs.Sites.{IsShaped, IsSite, Site, accepted}
 use Rattle.spv_actions.proofs.AccessLemmas.{leads_there, part_shape, targets_are, types_are}
-use Rattle.spv_actions.proofs.ComputationLemmas.{key_passes, read_there}
+use Rattle.spv_actions.proofs.ComputationLemmas.{key_passes}
 use Rattle.spv_actions.proofs.ComputationRules.{is_plain_code}
 use Rattle.spv_actions.proofs.RunLemmas.{alone}
 
@@ -75,7 +74,7 @@ atomics_are = (refl, (refl, (refl, (refl, (refl, (refl, (refl, (refl, (refl, (re
 
 atomic_code : (op : ℕ) (x : AtomicOp) → atomic_op op ≡ Some x → op ≡ code_of x
 unfolding atomic_op
-atomic_code op x h = read_there (λ (k : ℕ) (y : AtomicOp). k ≡ code_of y) op x atomics atomics_are h
+atomic_code op x h = reads_each (λ (k : ℕ) (y : AtomicOp). k ≡ code_of y) op x atomics atomics_are h
 
 -- it ends no block, and its rule looks at it alone
 pub atomic_plain : (op : ℕ) (x : AtomicOp) → atomic_op op ≡ Some x → is_plain_code op ≡ true
@@ -136,9 +135,9 @@ then_is f g (Some y) t h = ap (option_and_then g) h
 width_is : (m : Memory) (a : Accepted) (q : Reference) (target width sign : ℕ) → m.types ≡ a.types → m.targets ≡ targets_of (variables a) → LeadsTo a.types (target_in a) q target
     → form_of a.types target ≡ Some (Int width sign) → width_at m q ≡ Some width
 width_is m a q target width sign types targets leads is =
-    ap (λ (ts : Types). option_and_then (λ (type : ℕ). option_and_then (λ (t : ℕ). integer_width (form_of ts t)) (reached_type ts type q.path)) (reads (id_in q.root) m.targets)) types
-    ∙ ap (λ (es : List (ℕ × ℕ)). option_and_then (λ (type : ℕ). option_and_then (λ (t : ℕ). integer_width (form_of a.types t)) (reached_type a.types type q.path)) (reads (id_in q.root) es)) targets
-    ∙ then_is (λ (type : ℕ). reached_type a.types type q.path) (λ (t : ℕ). integer_width (form_of a.types t)) (reads (id_in q.root) (targets_of (variables a))) target leads
+    ap (λ (ts : Types). option_and_then (λ (type : ℕ). option_and_then (λ (t : ℕ). integer_width (form_of ts t)) (reached_type ts type q.path)) (reads (root_id q.root) m.targets)) types
+    ∙ ap (λ (es : List (ℕ × ℕ)). option_and_then (λ (type : ℕ). option_and_then (λ (t : ℕ). integer_width (form_of a.types t)) (reached_type a.types type q.path)) (reads (root_id q.root) es)) targets
+    ∙ then_is (λ (type : ℕ). reached_type a.types type q.path) (λ (t : ℕ). integer_width (form_of a.types t)) (reads (root_id q.root) (targets_of (variables a))) target leads
     ∙ ap integer_width is
 
 -- ---- where the pointer leads
@@ -175,12 +174,8 @@ module _ (x : Site) (sound : AreSound (accepted x).types) (memory : ∥ IsMemory
 
 -- ---- scalars as lanes
 
-pub one_scalar : (c : Cell) → of_lanes (c ∷ []) ≡ Scalar c
-unfolding of_lanes
-one_scalar c = refl
-
 pub lane_scalar : (v : Value) (c : Cell) → v ≡ Scalar c → lane_of v ≡ c
-lane_scalar v c is = ap lane_of is ∙ ap (λ (ls : List Cell). slice_index_or ls 0 (undefined_cell 0)) (scalar_leaf c)
+lane_scalar v c is = ap lane_of is ∙ ap (λ (ls : List Cell). slice_index_or ls 0 (undefined_cell 0)) (leaves_scalar c)
 
 -- an operand of an integer type is a scalar
 pub scalar_operand : (a : Accepted) (d : Inst) (n : ℕ) (v : Value) → AreSound a.types → IsIntegerAt a d n → IsOperand a d n v → IsSome (scalar_in (out-Value v))

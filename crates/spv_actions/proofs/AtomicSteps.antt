@@ -6,6 +6,7 @@ use Rattle.spv_base.specs.declared.causes.Fail.{Fail}
 use Rattle.spv_base.specs.declared.causes.Fail.TheVariants.{Refused, NoMemory}
 use Rattle.spv_base.specs.declared.values.Pointer.{Pointer as Reference}
 use Rattle.spv_base.specs.declared.values.Value.{Value, Scalar}
+use Rattle.spv_ops.specs.Steps.{◌>>=◌}
 use Rattle.spv_effects.specs.Lanes.{lane_of}
 use Rattle.spv_mem.specs.Memory.{load_of}
 use Rattle.spv_state.specs.Actions.{action_of}
@@ -15,7 +16,7 @@ use Rattle.spv_state.specs.declared.actions.AtomicOp.TheVariants as atomic
 use Rattle.spv_actions.specs.AtomicSites.{IsCount, IsUpdate, counted_cell, first_of_three, scalar, target, updated_cell}
 use Rattle.spv_actions.specs.Atomics.{AtomicRow, loads, stores, counts, updates, compares, atomic_by, atomic_row, compared_cell, exchanges}
 use Rattle.spv_actions.specs.Effects as spec
-use Rattle.spv_actions.specs.Effects.{Wait, ◌>>=◌, gives, goes, loaded, passes, pointer, sets}
+use Rattle.spv_actions.specs.Effects.{Wait, gives, goes, loaded, passes, pointer, sets}
 use Rattle.spv_actions.specs.Sites.{Finds, Site, due, values}
 use Rattle.spv_actions.specs.declared.causes.Cause.{Cause}
 use Rattle.spv_actions.specs.declared.causes.Cause.TheVariants.{NoValue, OutOfBounds}

@@ -20,7 +20,7 @@ use Rattle.spv_bodies.specs.Rules.{atomic_rule, composite_rule, control_rule, me
 use Rattle.spv_valid.specs.Acceptance.{Accepted, IsAccepted}
 use Rattle.spv_valid.specs.Validity.{IsValid}
 use Rattle.spv_operands.specs.Values.{value_of}
-use Rattle.spv_operands.proofs.ReadingLemmas.{constant_value}
+use Rattle.spv_operands.proofs.Exports.{constant_value}
 use Rattle.spv_state.specs.Actions.{action_of}
 use Rattle.spv_state.specs.State.{depth_of}
 use Rattle.spv_state.specs.declared.actions.Action.TheVariants.{Atomic, ControlBarrier, MemoryBarrier}

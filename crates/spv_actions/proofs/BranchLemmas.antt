@@ -6,14 +6,14 @@ use Rattle.spv_base.specs.Cell.{Cell}
 use Rattle.spv_base.specs.declared.causes.Fail.{Fail}
 use Rattle.spv_base.specs.declared.causes.Fail.TheVariants.{Refused, NoMemory}
 use Rattle.spv_base.specs.declared.values.Value.{Value, Scalar}
-use Rattle.spv_base.proofs.PartLemmas.{out_scalar}
+use Rattle.spv_base.proofs.Exports.{out_scalar}
+use Rattle.spv_ops.specs.Steps.{◌>>=◌}
 use Rattle.spv_index.specs.Operands.{id_operand}
 use Rattle.spv_state.specs.Actions.{action_of}
 use Rattle.spv_state.specs.State.{depth_of}
 use Rattle.spv_state.specs.declared.actions.Action.TheVariants.{Branch, BranchConditional, Switch}
 use Rattle.spv_actions.specs.Branches.{deciding_number, jump_by, chosen_label, switch_label}
 use Rattle.spv_actions.specs.Effects as spec
-use Rattle.spv_actions.specs.Effects.{◌>>=◌}
 use Rattle.spv_actions.specs.Phis.{block_at, phi_values, phis_of}
 use Rattle.spv_actions.specs.Planned.{IsDue}
 use Rattle.spv_actions.specs.Sites.{Finds, Site, accepted, due, values}

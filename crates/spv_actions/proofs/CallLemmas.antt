@@ -25,14 +25,12 @@ use Rattle.spv_bodies.specs.Rules.{atomic_rule, composite_rule, control_rule, me
 use Rattle.spv_valid.specs.Acceptance.{Accepted, IsAccepted}
 use Rattle.spv_valid.specs.Validity.{IsValid}
 use Rattle.spv_plans.specs.Plans.{functions_in}
-use Rattle.spv_plans.proofs.NumberLemmas.{contains_at}
-use Rattle.spv_operands.proofs.OperandLemmas.{Defines, defines}
+use Rattle.spv_plans.proofs.Exports.{contains_at}
+use Rattle.spv_operands.proofs.Exports.{Defines, defines}
 use Rattle.spv_results.specs.Operands.{IsOperand, known}
-use Rattle.spv_results.proofs.ShapeProps.{shape_prop}
+use Rattle.spv_results.proofs.Exports.{shape_prop}
 use Rattle.spv_state.specs.Sound.{IsCallOf, StandsIn}
-use Rattle.spv_state.proofs.EntryLemmas.{listed}
-use Rattle.spv_state.proofs.AcceptedLemmas.{known as known_of}
-use Rattle.spv_state.proofs.Stands.{stood}
+use Rattle.spv_state.proofs.Exports.{function_listed, known as known_of, stood}
 use Rattle.spv_actions.specs.Calls.{callee}
 use Rattle.spv_actions.specs.Fits.{LeaveFits}
 use Rattle.spv_actions.specs.Passing.{Passes, parameters_in}
@@ -147,7 +145,7 @@ module _ (x : Site) (m : Accepted) (same : m ≡ accepted x) (accepts : ∥ IsAc
   pub call_known : x.inst.op ≡ 57 → ∥ Contains (functions_in (accepted x)) (callee x.inst) ∥₁
   call_known op =
       ∥∥₁_map (call_callee op) (λ (c : Callee (accepted x) x.inst).
-      subst (Contains (functions_in (accepted x))) (sym (callee_named (accepted x) x.inst c)) (listed c.function (accepted x).insts c.number c.inst c.at c.op c.id))
+      subst (Contains (functions_in (accepted x))) (sym (callee_named (accepted x) x.inst c)) (function_listed c.function (accepted x).insts c.number c.inst c.at c.op c.id))
 
   pub call_passes : x.inst.op ≡ 57 → Passes (accepted x) x.inst (callee x.inst)
   call_passes op n i h =

@@ -16,7 +16,6 @@ use Rattle.spv_valid.specs.Acceptance.{Accepted, IsAccepted}
 use Rattle.spv_frame.specs.Registers.{IsSlotOf, Planned, Rooms}
 use Rattle.spv_frame.specs.declared.slots.Slot.{Slot}
 use Rattle.spv_operands.specs.Values.{pointer_to, value_of}
-use Rattle.spv_operands.proofs.ShapeLemmas.{out_pointer}
 use Rattle.spv_plans.specs.Plans.{plan_of}
 use Rattle.spv_results.specs.Operands.{IsOperand}
 use Rattle.spv_state.specs.Predecoded.{IsNamedAt, IsReadAt, IsResultAt}
@@ -34,6 +33,7 @@ use Rattle.spv_actions.specs.declared.causes.Cause.TheVariants.{OutOfBounds}
 use Rattle.spv_actions.proofs.AccessLemmas.{found}
 use Rattle.spv_actions.proofs.PointerLemmas.{whole_part}
 use Rattle.spv_actions.proofs.OperandLemmas.{PointersHaveShapes, ValuesHaveShapes, datum_shape, of_function, operand_shape}
+use Rattle.spv_base.proofs.Exports.{out_pointer}
 
 -- ---- slots
 

@@ -8,6 +8,7 @@ use Rattle.spv_base.specs.Cell.{Cell}
 use Rattle.spv_base.specs.declared.instructions.Inst.{Inst}
 use Rattle.spv_base.specs.declared.values.Pointer.{Pointer as Reference}
 use Rattle.spv_base.specs.declared.values.Value.{Value, Ptr, out-Value}
+use Rattle.spv_ops.specs.Steps.{◌>>=◌}
 use Rattle.spv_index.specs.Operands.{id_operand}
 use Rattle.spv_types.specs.declared.forms.Form.{Form}
 use Rattle.spv_types.specs.declared.forms.Form.TheVariants.{Pointer as PointerForm}
@@ -16,7 +17,7 @@ use Rattle.spv_types.specs.Queries.{is_integer, is_pointer}
 use Rattle.spv_types.specs.Rows.{leaves, no_roots}
 use Rattle.spv_types.specs.Shapes.{HasShape, LeadsTo, pointer_in, reached_type}
 use Rattle.spv_types.specs.Types.{Types, form_of}
-use Rattle.spv_types.proofs.ShapeLemmas.{shapes_are_by_forms}
+use Rattle.spv_types.proofs.Exports.{shapes_are_by_forms}
 use Rattle.spv_consts.specs.Table.{Constants, Row, only, scalar_of}
 use Rattle.spv_consts.specs.Trees.{tree_of}
 use Rattle.spv_bodies.specs.Chains.{KeepsChain, form_in, index_in, is_literal, member_number}
@@ -28,8 +29,7 @@ use Rattle.spv_valid.specs.Validity.{IsValid}
 use Rattle.spv_valid.specs.declared.meanings.Meaning.TheVariants.{Constant}
 use Rattle.spv_operands.specs.Shapes.{target_in}
 use Rattle.spv_operands.specs.Values.{value_of}
-use Rattle.spv_operands.proofs.ReadingLemmas.{constant_leaves, value_meant}
-use Rattle.spv_operands.proofs.ShapeLemmas.{out_pointer}
+use Rattle.spv_operands.proofs.Exports.{constant_leaves, value_meant}
 use Rattle.spv_results.specs.Operands.{known}
 use Rattle.spv_results.specs.Results.{all_of}
 use Rattle.spv_state.specs.Actions.{action_of}
@@ -37,7 +37,7 @@ use Rattle.spv_state.specs.State.{depth_of}
 use Rattle.spv_state.specs.declared.actions.Action.TheVariants.{Chain}
 use Rattle.spv_actions.specs.Chains.{chained_pointer, indexes, with_indexes}
 use Rattle.spv_actions.specs.Effects as spec
-use Rattle.spv_actions.specs.Effects.{◌>>=◌, gives, pointer}
+use Rattle.spv_actions.specs.Effects.{gives, pointer}
 use Rattle.spv_actions.specs.Fits.{LevelFits}
 use Rattle.spv_actions.specs.Sites.{IsShaped, IsSite, Site, accepted, due, is_data, is_data_at, values}
 use Rattle.spv_actions.specs.declared.causes.Cause.{Cause}
@@ -46,6 +46,7 @@ use Rattle.spv_actions.proofs.AccessLemmas.{leads_there}
 use Rattle.spv_actions.proofs.EffectLemmas.{due_by}
 use Rattle.spv_actions.proofs.IndexLemmas.{IsIndex, behind, integer_cell, integer_form, lead_behind, reached_append, unsigned}
 use Rattle.spv_actions.proofs.OperandLemmas.{PointersHaveShapes, ValuesHaveShapes, operand_shape}
+use Rattle.spv_base.proofs.Exports.{out_pointer}
 
 -- ---- what is due
 

@@ -4,6 +4,7 @@ use Rattle.std.specs.Prelude.{◌==◌}
 use Rattle.std.specs.List.{AllByRecursion, list_all}
 use Rattle.std.specs.Option.{option_and_then, option_map, option_or}
 use Rattle.std.proofs.lemmas.Bool.{and_parts, eqb-true}
+use Rattle.spv_base.proofs.Exports.{reads_each}
 use Rattle.spv_base.specs.Entries.{reads}
 use Rattle.spv_base.specs.declared.instructions.Inst.{Inst}
 use Rattle.spv_alu.specs.Binary.{binary_op}
@@ -18,17 +19,6 @@ use Rattle.spv_results.specs.declared.computations.Computation.{Computation}
 use Rattle.spv_results.specs.declared.computations.Computation.TheVariants.{Undef, Unary, Bitcast, Truth, Binary, Field, Extended, Select, Glsl, ExtractDynamic, InsertDynamic, Shuffle, Construct, Extract, Insert, Copy}
 
 -- ---- tables
-
--- what is so of each entry of a table is so of what is read there
-pub read_there : {A : Type 0} (P : ℕ → A → Type 0) (k : ℕ) (x : A) (es : List (ℕ × A)) → AllByRecursion (λ (e : ℕ × A). P e.0 e.1) es → reads k es ≡ Some x → P k x
-read_there P k x [] all h = absurd (cc)
-read_there {A} P k x (e ∷ es) all h = by_key (e.0 == k) refl (read_there P k x es all.1) h
-  where
-    by_key : (b : Bool) → (e.0 == k) ≡ b → (reads k es ≡ Some x → P k x) → cond b (Some e.1) (reads k es) ≡ Some x → P k x
-    by_key true is later h =
-        let value : e.1 ≡ x = cc in
-        subst (λ (y : A). P k y) value (subst (λ (n : ℕ). P n e.1) (eqb-true e.0 k is) all.0)
-    by_key false is later h = later h
 
 -- a test that each key of a table passes is passed by a key that has an entry
 pub key_passes : {A : Type 0} (test : ℕ → Bool) (k : ℕ) (x : A) (es : List (ℕ × A)) → list_all (λ (e : ℕ × A). test e.0) es ≡ true → reads k es ≡ Some x → test k ≡ true
@@ -116,7 +106,7 @@ module _ (i : Inst) (c : Computation) where
 
   by_code : by_opcode i.op ≡ Some c → IsComputed i c
   by_code h = elim (or_cases (reads i.op others) _ c h) [
-    | inl other ↦ other_computed i c (read_there IsOther i.op c others others_are other)
+    | inl other ↦ other_computed i c (reads_each IsOther i.op c others others_are other)
     | inr h1 ↦ elim (or_cases (option_map Unary (unary_op i.op)) _ c h1) [
       | inl unary ↦ by_table Unary (unary_op i.op) (λ x is. is) unary
       | inr h2 ↦ elim (or_cases (option_map Binary (binary_op i.op)) _ c h2) [

@@ -4,6 +4,7 @@ use Rattle.std.proofs.Math.Logic.{∥∥₁_elim}
 use Rattle.std.proofs.Props.{props}
 use Rattle.spv_base.specs.declared.values.Pointer.{Pointer as Reference}
 use Rattle.spv_base.specs.declared.values.Value.{Value}
+use Rattle.spv_ops.specs.Steps.{◌>>=◌}
 use Rattle.spv_types.specs.Laws.{AreSound}
 use Rattle.spv_types.specs.Rows.{no_roots}
 use Rattle.spv_types.specs.Shapes.{HasShape, LeadsTo}
@@ -12,13 +13,13 @@ use Rattle.spv_mem.specs.Memory.{IsMemory, load_of}
 use Rattle.spv_mem.specs.Targets.{is_counted}
 use Rattle.spv_valid.specs.Validity.{IsValid}
 use Rattle.spv_operands.specs.Shapes.{target_in}
-use Rattle.spv_operands.proofs.TargetLemmas.{sized_counted}
+use Rattle.spv_operands.proofs.Exports.{sized_counted}
 use Rattle.spv_results.specs.Operands.{known}
-use Rattle.spv_results.proofs.ShapeProps.{shape_prop}
+use Rattle.spv_results.proofs.Exports.{shape_prop}
 use Rattle.spv_state.specs.Actions.{action_of}
 use Rattle.spv_state.specs.declared.actions.Action.TheVariants.{CopyMemory}
 use Rattle.spv_actions.specs.Effects as spec
-use Rattle.spv_actions.specs.Effects.{◌>>=◌, loaded, pointer}
+use Rattle.spv_actions.specs.Effects.{loaded, pointer}
 use Rattle.spv_actions.specs.Fits.{StoreFits}
 use Rattle.spv_actions.specs.Sites.{IsShaped, IsSite, Site, accepted, due, part_of, values}
 use Rattle.spv_actions.specs.declared.causes.Cause.{Cause}

@@ -30,7 +30,8 @@ use Rattle.spv_typing.specs.Rules.{rule_count, rule_of}
 use Rattle.spv_bodies.specs.Context.{Known}
 use Rattle.spv_bodies.specs.Lanes.{KeepsExtended, KeepsLanes, count_of, types_after}
 use Rattle.spv_actions.specs.Sites.{is_data}
-use Rattle.spv_actions.proofs.ComputationLemmas.{key_passes, read_there}
+use Rattle.spv_actions.proofs.ComputationLemmas.{key_passes}
+use Rattle.spv_base.proofs.Exports.{reads_each}
 
 -- ---- types with lanes
 
@@ -176,7 +177,7 @@ field_number BitFieldUExtract = 3
 
 pub field_has : (op : ℕ) (x : FieldOp) → field_op op ≡ Some x → has_operands (field_number x) op ≡ true
 unfolding field_op rule_of
-field_has op x h = read_there (λ (k : ℕ) (y : FieldOp). has_operands (field_number y) k ≡ true) op x field_opcodes (refl, (refl, (refl, tt))) h
+field_has op x h = reads_each (λ (k : ℕ) (y : FieldOp). has_operands (field_number y) k ≡ true) op x field_opcodes (refl, (refl, (refl, tt))) h
 
 pub insert_has : (op : ℕ) → field_op op ≡ Some BitFieldInsert → has_operands 4 op ≡ true
 insert_has op h = field_has op BitFieldInsert h

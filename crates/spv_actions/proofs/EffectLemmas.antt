@@ -9,16 +9,18 @@ use Rattle.spv_base.specs.declared.instructions.Inst.{Inst}
 use Rattle.spv_base.specs.declared.values.Pointer.{Pointer as Reference}
 use Rattle.spv_base.specs.declared.values.Value.{Value, Ptr, out-Value}
 use Rattle.spv_base.specs.declared.values.Value.TheOpen.{Value-F}
+use Rattle.spv_ops.specs.Steps.{◌>>=◌}
 use Rattle.spv_types.specs.Laws.{AreSound}
 use Rattle.spv_types.specs.Shapes.{pointer_in}
 use Rattle.spv_valid.specs.Acceptance.{Accepted}
-use Rattle.spv_operands.proofs.ShapeLemmas.{data_plain, out_pointer}
+use Rattle.spv_operands.proofs.Exports.{data_plain}
+use Rattle.spv_base.proofs.Exports.{reads_each, out_pointer}
 use Rattle.spv_results.specs.Computations.{computation_of}
 use Rattle.spv_results.specs.Operands.{IsResult}
 use Rattle.spv_results.specs.Results.{result_by, result_of}
 use Rattle.spv_results.specs.declared.computations.Computation.{Computation}
 use Rattle.spv_state.specs.Actions.{action_of, atomic_op, action_rows}
-use Rattle.spv_actions.specs.Effects.{◌>>=◌, gives}
+use Rattle.spv_actions.specs.Effects.{gives}
 use Rattle.spv_actions.specs.Instructions.{effect_of, row}
 use Rattle.spv_actions.specs.Fits.{LevelFits, ResultFits}
 use Rattle.spv_actions.specs.Planned.{IsDue, IsTaken, gained, shown}
@@ -32,7 +34,6 @@ use Rattle.spv_actions.specs.declared.effects.Control.TheVariants.{Next}
 use Rattle.spv_actions.specs.declared.effects.Effect.{Effect}
 use Rattle.spv_actions.specs.declared.effects.Gain.{Gain}
 use Rattle.spv_actions.specs.declared.effects.Gain.TheVariants.{Nothing, Row, Pointer, Handed}
-use Rattle.spv_actions.proofs.ComputationLemmas.{read_there}
 
 -- ---- actions
 
@@ -103,7 +104,7 @@ acts i = by_read (reads i.op action_rows) refl (atomic_op i.op) refl
     by_read : (o : Option Action) → reads i.op action_rows ≡ o → (q : Option AtomicOp) → atomic_op i.op ≡ q → IsActing i (unwrap_or (option_or o (option_map Atomic q)) Compute)
     by_read None e None a = (e, a)
     by_read None e (Some operation) a = a
-    by_read (Some x) e q a = named_acts i x (read_there IsNamed i.op x action_rows named_are e)
+    by_read (Some x) e q a = named_acts i x (reads_each IsNamed i.op x action_rows named_are e)
 
 -- what an instruction is, by its action
 pub acting : (i : Inst) (x : Action) → action_of i ≡ x → IsActing i x

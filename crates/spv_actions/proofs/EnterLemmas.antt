@@ -5,6 +5,7 @@ use Rattle.spv_base.specs.Variables.{Roots}
 use Rattle.spv_base.specs.declared.causes.Fail.{Fail}
 use Rattle.spv_base.specs.declared.causes.Fail.TheVariants.{Refused, NoMemory}
 use Rattle.spv_base.specs.declared.values.Value.{Value}
+use Rattle.spv_ops.specs.Steps.{◌>>=◌}
 use Rattle.spv_frame.specs.Frames.{Held as Frame}
 use Rattle.spv_frame.specs.Registers.{Planned}
 use Rattle.spv_initial.specs.Start.{variables}
@@ -14,7 +15,7 @@ use Rattle.spv_plans.specs.Plans.{plan_of}
 use Rattle.spv_types.specs.Laws.{AreSound}
 use Rattle.spv_bodies.specs.Context.{type_at}
 use Rattle.spv_operands.specs.Operands.{pointer_of}
-use Rattle.spv_operands.proofs.ShapeLemmas.{data_plain}
+use Rattle.spv_operands.proofs.Exports.{data_plain}
 use Rattle.spv_results.specs.Operands.{IsOperand, known}
 use Rattle.spv_valid.specs.Acceptance.{Accepted, IsAccepted}
 use Rattle.spv_valid.specs.Validity.{IsValid}
@@ -26,11 +27,10 @@ use Rattle.spv_state.specs.Start.{frame_roots}
 use Rattle.spv_state.specs.Roots.{IsRooted}
 use Rattle.spv_state.specs.State.{depth_of, frames_of}
 use Rattle.spv_state.specs.declared.actions.Action.TheVariants.{Call, ReturnValue}
-use Rattle.spv_state.proofs.EventRoots.{above_rooted}
-use Rattle.spv_state.proofs.StartSound.{passed_sound}
+use Rattle.spv_state.proofs.Exports.{above_rooted, passed_sound}
 use Rattle.spv_actions.specs.Calls.{arguments, callee, called, enters, parameters_of}
 use Rattle.spv_actions.specs.Effects as spec
-use Rattle.spv_actions.specs.Effects.{Enter, Leave, ◌>>=◌, goes}
+use Rattle.spv_actions.specs.Effects.{Enter, Leave, goes}
 use Rattle.spv_actions.specs.Fits.{EnterFits}
 use Rattle.spv_actions.specs.Passing.{frame_due}
 use Rattle.spv_actions.specs.Planned.{IsDue}
@@ -40,6 +40,7 @@ use Rattle.spv_actions.specs.declared.causes.Cause.TheVariants.{NoValue}
 use Rattle.spv_actions.specs.declared.effects.Effect.{Effect}
 use Rattle.spv_actions.proofs.EffectLemmas.{due_by}
 use Rattle.spv_actions.proofs.OperandLemmas.{data_type, plain_none}
+use Rattle.spv_plans.proofs.Exports.{function_is}
 
 -- ---- OpFunctionCall
 
@@ -89,14 +90,10 @@ begun_rooted x m f g same accepts valid made sound rooted =
 pub begun_plan : (x : Site) (f g : Frame) (p : Planned) → g ≡ begun x f → f.plan ≡ p → g.plan ≡ p
 begun_plan x f g p made plan = ap (λ (h : Frame). h.plan) made ∙ plan
 
-plan_function : (a : Accepted) (function : ℕ) → (plan_of a function).function ≡ function
-unfolding plan_of
-plan_function a function = refl
-
 pub enter_fits : (a : Accepted) (d : Inst) (function : ℕ) (f : Frame) (es : Roots) → function ≡ callee d → IsCallOf a d.word (callee d) → IsSoundFrame a f → f.plan ≡ plan_of a function → es ≡ frame_roots a function
     → AreVariables a.types (targets_of (variables a)) es → EnterFits a d f es
 enter_fits a d function f es named call sound plan variables_are values =
-    let own : f.plan.function ≡ function = ap (λ (p : Planned). p.function) plan ∙ plan_function a function in
+    let own : f.plan.function ≡ function = ap (λ (p : Planned). p.function) plan ∙ function_is a function in
     record {
       call = subst (IsCallOf a d.word) (sym named ∙ sym own) call;
       sound = sound;

@@ -18,8 +18,7 @@ use Rattle.spv_types.specs.Queries.{is_integer, member_type}
 use Rattle.spv_types.specs.Rows.{leaves}
 use Rattle.spv_types.specs.Shapes.{HasShape, IsScalar, part_type, reached_type, scalar_in}
 use Rattle.spv_types.specs.Types.{Types, form_of}
-use Rattle.spv_types.proofs.RowLemmas.{scalar_row}
-use Rattle.spv_types.proofs.ShapeLemmas.{shapes_are_by_forms}
+use Rattle.spv_types.proofs.Exports.{scalar_row, shapes_are_by_forms}
 use Rattle.spv_bodies.specs.Chains as rule
 use Rattle.spv_bodies.specs.Chains.{form_in, index_in, member_number, part_by}
 use Rattle.spv_bodies.specs.Context.{Known}

@@ -3,6 +3,7 @@ use Rattle.std.proofs.Common.{◌≡◌, ◌∙◌, ℕ, ◌<◌, ◌^◌, ◌++
 use Rattle.std.proofs.Math.Logic.{∥∥₁_map}
 use Rattle.std.specs.Option.{option_and_then, option_map, option_map_or}
 use Rattle.std.specs.Prelude.{if◌then◌else◌}
+use Rattle.spv_base.specs.Variables.{root_id}
 use Rattle.spv_base.specs.Entries.{reads}
 use Rattle.spv_base.specs.Cell.{IsCell, defined_cell}
 use Rattle.spv_base.specs.Parts.{part_at, parts_in}
@@ -12,6 +13,7 @@ use Rattle.spv_base.specs.declared.values.Pointer.{Pointer as Reference}
 use Rattle.spv_base.specs.declared.values.Root.{Root}
 use Rattle.spv_base.specs.declared.values.Root.TheVariants.{Shared, Private, Local}
 use Rattle.spv_base.specs.declared.values.Value.{Value, Scalar, out-Value}
+use Rattle.spv_ops.specs.Steps.{◌>>=◌}
 use Rattle.spv_index.specs.Operands.{literal_operand}
 use Rattle.spv_types.specs.declared.forms.Form.{Form}
 use Rattle.spv_types.specs.declared.forms.Form.TheVariants.{Void, Bool as Boolean, Int, Vector, Array, Runtime, Struct, Pointer, Function}
@@ -22,17 +24,17 @@ use Rattle.spv_types.specs.Rows.{no_roots}
 use Rattle.spv_types.specs.Rules.{is_runtime}
 use Rattle.spv_types.specs.Shapes.{LeadsTo, reached_type}
 use Rattle.spv_types.specs.Types.{Types, form_of}
-use Rattle.spv_types.proofs.ShapeLemmas.{shapes_are_by_forms}
+use Rattle.spv_types.proofs.Exports.{shapes_are_by_forms}
 use Rattle.spv_bodies.specs.Memory.{KeepsArrayLength}
-use Rattle.spv_consts.proofs.ScalarShapes.{is_scalar}
-use Rattle.spv_mem.specs.Memory.{Held as Memory, Loads, NamesArray, id_in, load_of, member_of, root_value}
+use Rattle.spv_consts.proofs.Exports.{is_scalar}
+use Rattle.spv_mem.specs.Memory.{Held as Memory, Loads, NamesArray, load_of, member_of, root_value}
 use Rattle.spv_mem.specs.Targets.{count_in, is_array_at}
 use Rattle.spv_operands.specs.Shapes.{target_in}
 use Rattle.spv_results.specs.Operands.{IsResult, known}
 use Rattle.spv_state.specs.Actions.{action_of}
 use Rattle.spv_state.specs.declared.actions.Action.TheVariants.{ArrayLength}
 use Rattle.spv_actions.specs.Effects as spec
-use Rattle.spv_actions.specs.Effects.{◌>>=◌, gives, pointer}
+use Rattle.spv_actions.specs.Effects.{gives, pointer}
 use Rattle.spv_actions.specs.Lengths.{elements_at, is_shared, length_of}
 use Rattle.spv_actions.specs.Sites.{IsShaped, IsSite, LeadsToArray, Site, accepted, due, values}
 use Rattle.spv_actions.specs.declared.causes.Cause.{Cause}
@@ -122,7 +124,7 @@ names_array m i q k v leads shared load =
       value = value.0;
       there = value.1;
       type = l.type;
-      named = ap (λ (r : Root). reads (id_in r) m.targets) (sym id.1) ∙ l.named;
+      named = ap (λ (r : Root). reads (root_id r) m.targets) (sym id.1) ∙ l.named;
       block = l.block;
       leads = l.leads;
       array = l.array;
@@ -163,7 +165,7 @@ leads_to_array x sound site at shaped kept q k place literal =
     let type = variable_type x q block leads in
     let types = types_are x site in
     let targets = targets_are x site in
-    let named : reads (id_in q.root) x.state.memory.targets ≡ Some type.0 = ap (reads (id_in q.root)) targets ∙ type.1 in
+    let named : reads (root_id q.root) x.state.memory.targets ≡ Some type.0 = ap (reads (root_id q.root)) targets ∙ type.1 in
     let member = points.2 in
     let of_block : member_type_of (form_of (accepted x).types block) k ≡ Some member.0
     = sym (ap (option_and_then (member_type_of (form_of (accepted x).types block))) literal) ∙ member.1 in

@@ -1,34 +1,35 @@
-pub mod StandLemmas
-pub mod RunLemmas
-pub mod ComputationLemmas
-pub mod DataLemmas
-pub mod CompositeLemmas
-pub mod ConstituentLemmas
-pub mod OperandLemmas
-pub mod CellLemmas
-pub mod PointerLemmas
-pub mod SiteLemmas
-pub mod ComputationRules
-pub mod EffectLemmas
-pub mod ActionLemmas
-pub mod RootedLemmas
-pub mod AccessLemmas
-pub mod ParameterLemmas
-pub mod WithinLemmas
-pub mod CallLemmas
-pub mod IndexLemmas
-pub mod ChainLemmas
-pub mod MemoryRules
-pub mod LengthLemmas
-pub mod CopyLemmas
-pub mod SoundFrames
-pub mod PassingLemmas
-pub mod EnterLemmas
-pub mod ControlCodes
-pub mod TargetLemmas
-pub mod PhiLemmas
-pub mod SwitchLemmas
-pub mod BranchLemmas
-pub mod AtomicLemmas
-pub mod AtomicSteps
-pub mod BarrierLemmas
+mod StandLemmas
+mod RunLemmas
+mod ComputationLemmas
+mod DataLemmas
+mod CompositeLemmas
+mod ConstituentLemmas
+mod OperandLemmas
+mod CellLemmas
+mod PointerLemmas
+mod SiteLemmas
+mod ComputationRules
+mod EffectLemmas
+mod ActionLemmas
+mod RootedLemmas
+mod AccessLemmas
+mod ParameterLemmas
+mod WithinLemmas
+mod CallLemmas
+mod IndexLemmas
+mod ChainLemmas
+mod MemoryRules
+mod LengthLemmas
+mod CopyLemmas
+mod SoundFrames
+mod PassingLemmas
+mod EnterLemmas
+mod ControlCodes
+mod TargetLemmas
+mod PhiLemmas
+mod SwitchLemmas
+mod BranchLemmas
+mod AtomicLemmas
+mod AtomicSteps
+mod BarrierLemmas
+pub mod Exports

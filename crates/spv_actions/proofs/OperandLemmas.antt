@@ -1,11 +1,11 @@
 -- What operands stand for where a run has come to their instruction.
-use Rattle.std.proofs.Common.{◌≡◌, ◌∙◌, ◌<◌, ℕ, suc, ◌==◌, length, Bool, true, false, cond, List, [], ◌∷◌, slice_get, Option, Some, None, refl, ap, subst}
+use Rattle.std.proofs.Common.{◌≡◌, ◌∙◌, ◌<◌, ℕ, length, Bool, true, false, cond, List, Option, Some, None, refl, ap, subst}
 use Rattle.std.proofs.Math.Logic.{∥∥₁_elim, ∥∥₁_map}
 use Rattle.std.proofs.Props.{props}
-use Rattle.std.proofs.lemmas.Bool.{eqb-true, not-true}
+use Rattle.std.proofs.lemmas.Bool.{not-true}
 use Rattle.std.specs.Coded.{codes}
 use Rattle.std.specs.List.{Contains}
-use Rattle.std.specs.Option.{is_some, option_and_then, option_map}
+use Rattle.std.specs.Option.{is_some, option_and_then}
 use Rattle.std.specs.Prelude.{if◌then◌else◌}
 use Rattle.spv_base.specs.contracts.values.Value.{the_row}
 use Rattle.spv_base.specs.declared.instructions.Inst.{Inst}
@@ -25,32 +25,20 @@ use Rattle.spv_frame.specs.Frames.{Held as Frame}
 use Rattle.spv_frame.specs.Registers.{number_of}
 use Rattle.spv_plans.specs.Plans.{functions_in, plans_in}
 use Rattle.spv_plans.specs.Registered.{IsOfFunction}
-use Rattle.spv_plans.proofs.NumberLemmas.{at_contains, contains_at, number_there}
+use Rattle.spv_plans.proofs.Exports.{at_contains, contains_at, number_there, number_gets}
 use Rattle.spv_operands.specs.Operands.{IsPlain, data_of, pointer_of, shown}
 use Rattle.spv_operands.specs.Shapes.{AreShaped, target_in}
 use Rattle.spv_operands.specs.Values.{value_of}
 use Rattle.spv_operands.specs.declared.operands.Operand.{Operand}
-use Rattle.spv_operands.proofs.ShapeLemmas.{data_plain}
+use Rattle.spv_operands.proofs.Exports.{data_plain}
 use Rattle.spv_results.specs.Operands.{IsOperand, known}
-use Rattle.spv_results.proofs.ShapeProps.{shape_prop}
+use Rattle.spv_results.proofs.Exports.{shape_prop}
 use Rattle.spv_actions.specs.Sites.{IsShaped, IsSite, Site, accepted, is_data, is_data_at, values}
 use Rattle.spv_state.specs.State.{depth_of}
 use Rattle.spv_actions.proofs.SiteLemmas.{frame_sound}
-use Rattle.spv_state.proofs.ExecutableLemmas.{function_known, standing}
+use Rattle.spv_state.proofs.Exports.{function_known, standing}
 
 -- ---- the plan of the frame
-
-numbered : (id : ℕ) (ks : List ℕ) (n : ℕ) → number_of id ks ≡ Some n → slice_get ks n ≡ Some id
-numbered id [] n h = absurd (cc)
-numbered id (k ∷ ks) n h = by_head (k == id) refl h (numbered id ks)
-  where
-    by_rest : (o : Option ℕ) → number_of id ks ≡ o → option_map suc o ≡ Some n → ((m : ℕ) → number_of id ks ≡ Some m → slice_get ks m ≡ Some id) → slice_get (k ∷ ks) n ≡ Some id
-    by_rest None e g rest = absurd (cc)
-    by_rest (Some m) e g rest = let same : suc m ≡ n = cc in subst (λ (j : ℕ). slice_get (k ∷ ks) j ≡ Some id) same (rest m e)
-
-    by_head : (b : Bool) → (k == id) ≡ b → cond b (Some 0) (option_map suc (number_of id ks)) ≡ Some n → ((m : ℕ) → number_of id ks ≡ Some m → slice_get ks m ≡ Some id) → slice_get (k ∷ ks) n ≡ Some id
-    by_head true e g rest = let same : 0 ≡ n = cc in subst (λ (j : ℕ). slice_get (k ∷ ks) j ≡ Some id) same (ap (λ (j : ℕ). Some j) (eqb-true k id e))
-    by_head false e g rest = by_rest (number_of id ks) refl g rest
 
 -- an id that is known to be among others is found there
 pub recovered : (id : ℕ) (ks : List ℕ) → ∥ Contains ks id ∥₁ → Contains ks id
@@ -58,7 +46,7 @@ recovered id ks has = by_number (number_of id ks) refl (∥∥₁_elim has (hlev
   where
     by_number : (o : Option ℕ) → number_of id ks ≡ o → is_some o ≡ true → Contains ks id
     by_number None e g = absurd (cc)
-    by_number (Some n) e g = at_contains ks n id (numbered id ks n e)
+    by_number (Some n) e g = at_contains ks n id (number_gets id ks n e)
 
 pub plans_are : (x : Site) → ∥ IsSite x ∥₁ → x.state.plans ≡ plans_in (accepted x)
 plans_are x site = ∥∥₁_elim site (hlevel (props, codes)) (λ (is : IsSite x). is.sound.plans)

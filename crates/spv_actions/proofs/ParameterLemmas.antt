@@ -29,20 +29,11 @@ use Rattle.spv_valid.specs.Acceptance.{Accepted, IsAccepted, decoded_in}
 use Rattle.spv_valid.specs.Validity.{IsValid}
 use Rattle.spv_plans.specs.Members.{is_within, leading, members, stands_in}
 use Rattle.spv_plans.specs.Registers.{has_result, is_parameter, is_register, register_in, register_of, registers_of}
-use Rattle.spv_plans.proofs.ApartLemmas.{insts_of_stands}
-use Rattle.spv_plans.proofs.PlanLemmas.{each_inst, facts, function_named, result_here, each_drop}
+use Rattle.spv_plans.proofs.Exports.{insts_of_stands, each_inst, facts, function_named, result_here, each_drop}
+use Rattle.spv_base.proofs.Exports.{each_weaker, drop_here}
 use Rattle.spv_results.specs.Operands.{known}
 
 -- ---- lists
-
-each_of : {X : Type 0} (P Q : X → Type 0) → ((x : X) → P x → Q x) → (xs : List X) → AllByRecursion P xs → AllByRecursion Q xs
-each_of P Q of [] h = tt
-each_of P Q of (x ∷ xs) h = (of x h.0, each_of P Q of xs h.1)
-
-pub drop_here : {X : Type 0} (xs : List X) (n : ℕ) (x : X) → slice_get xs n ≡ Some x → drop n xs ≡ x ∷ drop (suc n) xs
-drop_here [] n x at = absurd (cc)
-drop_here (y ∷ ys) zero x at = let same : y ≡ x = cc in ap (λ z. z ∷ ys) same
-drop_here (y ∷ ys) (suc n) x at = drop_here ys n x at
 
 -- no id comes twice
 later_apart : (is : List Inst) (n : ℕ) (i : Inst) → AreDistinct is → slice_get is n ≡ Some i → i.id ≢ 0 → AllByRecursion (λ (j : Inst). j.id ≢ i.id) (drop (suc n) is)
@@ -123,7 +114,7 @@ have_results : (a : Accepted) → IsValid a → AllByRecursion HasResult a.insts
 have_results a v =
     subst (AllByRecursion HasResult) (insts_of_stands (sets_of a.insts) outside a.insts)
     (each_inst HasResult (stands_of a.insts)
-    (each_of (IsInOrder (decoded_in a)) (λ (s : Stand). HasResult s.inst) (λ s order. result_from (decoded_in a) s.inst order.result order.has_type) (stands_of a.insts) v.ids))
+    (each_weaker (IsInOrder (decoded_in a)) (λ (s : Stand). HasResult s.inst) (λ s order. result_from (decoded_in a) s.inst order.result order.has_type) (stands_of a.insts) v.ids))
 
 -- ---- the parameters among registers
 

@@ -1,5 +1,5 @@
 -- The arguments of a call in the registers of the parameters.
-use Rattle.std.proofs.Common.{◌≡◌, ◌∙◌, ℕ, zero, suc, ◌+◌, ◌<◌, ◌≤◌, Bool, true, false, List, [], ◌∷◌, length, drop, get_or, map, Option, Some, None, Result, Ok, Err, ok_or, slice_get, refl, sym, ap, subst, arith}
+use Rattle.std.proofs.Common.{◌≡◌, ◌∙◌, ℕ, suc, ◌+◌, ◌<◌, ◌≤◌, Bool, true, false, List, [], ◌∷◌, length, drop, get_or, Option, Some, None, Result, Ok, Err, ok_or, slice_get, refl, sym, ap, subst, arith}
 use Rattle.std.proofs.Math.Logic.{∥∥₁_elim}
 use Rattle.std.proofs.Props.{props}
 use Rattle.std.proofs.lemmas.Option.{slice_get-get_or, slice_get_within}
@@ -15,6 +15,7 @@ use Rattle.spv_base.specs.declared.values.Pointer.{Pointer as Reference}
 use Rattle.spv_base.specs.declared.values.Root.{Root}
 use Rattle.spv_base.specs.declared.values.Value.{Value as Whole, out-Value}
 use Rattle.spv_base.specs.declared.values.Value.TheOpen.{Value-F}
+use Rattle.spv_ops.specs.Steps.{◌>>=◌}
 use Rattle.spv_index.specs.Definitions.{result_type}
 use Rattle.spv_index.specs.Positions.{Stand, stands_of}
 use Rattle.spv_types.specs.Cells.{cells_of}
@@ -30,7 +31,7 @@ use Rattle.spv_initial.specs.Start.{variables}
 use Rattle.spv_initial.specs.Variables.{HaveTargets, targets_of}
 use Rattle.spv_initial.specs.declared.variables.Declared.{Declared}
 use Rattle.spv_state.specs.Variables.{is_variable_of, variables_of}
-use Rattle.spv_state.proofs.VariableLemmas.{kept_targets}
+use Rattle.spv_state.proofs.Exports.{kept_targets, IsKnown, known_as, fresh_rooted, no_value, IsOne, member_one, stand_inst}
 use Rattle.spv_valid.specs.Validity.{IsValid}
 use Rattle.spv_frame.specs.declared.slots.Place.{Place}
 use Rattle.spv_frame.specs.declared.slots.Place.TheVariants.{Value, Pointer}
@@ -40,22 +41,15 @@ use Rattle.spv_plans.specs.Members.{members}
 use Rattle.spv_plans.specs.Plans.{functions_in, place_among, plan_of}
 use Rattle.spv_plans.specs.Registered.{HasApart, HasValueType}
 use Rattle.spv_plans.specs.Registers.{has_cells, has_pointer, is_parameter, is_register}
-use Rattle.spv_plans.proofs.ComesLemmas.{Chosen, chosen}
-use Rattle.spv_plans.proofs.NumberLemmas.{at_contains, map_at, map_from, number_gets}
+use Rattle.spv_plans.proofs.Exports.{Chosen, chosen, at_contains, map_at, map_from, number_gets}
 use Rattle.spv_operands.specs.Operands.{pointer_of}
 use Rattle.spv_operands.specs.Shapes.{target_in}
-use Rattle.spv_operands.proofs.ShapeLemmas.{data_plain}
-use Rattle.spv_results.proofs.ShapeProps.{shape_prop}
-use Rattle.spv_results.proofs.SoundTypes.{sound_types}
+use Rattle.spv_operands.proofs.Exports.{data_plain}
+use Rattle.spv_results.proofs.Exports.{shape_prop, sound_types}
 use Rattle.spv_state.specs.Sound.{IsSoundFrame}
 use Rattle.spv_state.specs.Roots.{IsRooted}
 use Rattle.spv_state.specs.State.{depth_of, frames_of, with_register, with_registers}
-use Rattle.spv_state.proofs.AcceptedLemmas.{IsKnown, known_as}
-use Rattle.spv_state.proofs.StartSound.{fresh_rooted}
-use Rattle.spv_state.proofs.SlotLemmas.{no_value}
-use Rattle.spv_state.proofs.Stands.{IsOne, member_one, stand_inst}
 use Rattle.spv_actions.specs.Calls.{arguments, parameters_of}
-use Rattle.spv_actions.specs.Effects.{◌>>=◌}
 use Rattle.spv_actions.specs.Fits.{LevelFits}
 use Rattle.spv_actions.specs.Passing.{IsParameter, Passes, Suits, frame_due, parameters_in}
 use Rattle.spv_actions.specs.Sites.{Finds, IsShaped, Site, accepted, values}
@@ -63,9 +57,10 @@ use Rattle.spv_actions.specs.declared.causes.Cause.{Cause}
 use Rattle.spv_actions.specs.declared.causes.Cause.TheVariants.{NoValue}
 use Rattle.spv_actions.proofs.SoundFrames.{RegisterFits, register_kept, register_stays}
 use Rattle.spv_actions.proofs.OperandLemmas.{plain_none, recovered}
-use Rattle.spv_actions.proofs.ParameterLemmas.{drop_here}
 use Rattle.spv_actions.proofs.PointerLemmas.{pointed, pointer_form}
 use Rattle.spv_actions.proofs.RootedLemmas.{IsOwnRoot, register_rooted}
+use Rattle.std.proofs.lemmas.List.{length-map, drop_all}
+use Rattle.spv_base.proofs.Exports.{drop_here}
 
 -- ---- registers, by the laws of plans
 
@@ -226,26 +221,15 @@ begins_fault x function n g i at none b =
     sym b.so_far ∙ ap (λ (is : List ℕ). call_from x is (suc n) g) (drop_here (parameters_of (accepted x) function) n i.id there)
     ∙ ap (λ (o : Option Whole). ok_or o NoValue >>= (λ w. call_from x (drop (suc n) (parameters_of (accepted x) function)) (suc (suc n)) (with_register i.id w g))) none
 
--- all of them
-drop_all : {X : Type 0} (xs : List X) (n : ℕ) → length xs ≤ n → drop n xs ≡ []
-drop_all [] zero h = refl
-drop_all [] (suc n) h = refl
-drop_all (x ∷ xs) zero h = absurd (omega (arith, h))
-drop_all (x ∷ xs) (suc n) h = drop_all xs n (omega (arith, h))
-
-length_mapped : {A B : Type 0} (f : A → B) (xs : List A) → length (map f xs) ≡ length xs
-length_mapped f [] = refl
-length_mapped f (x ∷ xs) = ap (λ (m : ℕ). suc m) (length_mapped f xs)
-
 pub parameters_count : (a : Accepted) (function : ℕ) → length (plan_of a function).parameters ≡ length (parameters_of a function)
 unfolding plan_of
 parameters_count a function =
-    length_mapped (λ (i : Inst). place_of (plan_of a function) i.id) (parameters_in a function) ∙ sym (length_mapped (λ (i : Inst). i.id) (parameters_in a function))
+    length-map (parameters_in a function) (λ (i : Inst). place_of (plan_of a function) i.id) ∙ sym (length-map (parameters_in a function) (λ (i : Inst). i.id))
 
 pub begins_all : (x : Site) (function n : ℕ) (g : Frame) → length (plan_of (accepted x) function).parameters ≤ n → Begins x function n g → frame_due x function ≡ Ok g
 begins_all x function n g all b =
     let done : length (parameters_of (accepted x) function) ≤ n = subst (λ (m : ℕ). m ≤ n) (parameters_count (accepted x) function) all in
-    sym b.so_far ∙ ap (λ (is : List ℕ). call_from x is (suc n) g) (drop_all (parameters_of (accepted x) function) n done)
+    sym b.so_far ∙ ap (λ (is : List ℕ). call_from x is (suc n) g) (drop_all n (parameters_of (accepted x) function) done)
 
 -- ---- variables
 

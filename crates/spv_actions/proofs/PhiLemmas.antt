@@ -23,7 +23,7 @@ use Rattle.spv_index.specs.Classes.{class_of, is_label, sets_of}
 use Rattle.spv_index.specs.Definitions.{holds, number_at, number_of, result_type, stands_at}
 use Rattle.spv_index.specs.Operands.{id_in}
 use Rattle.spv_index.specs.Positions.{Stand, in_block, in_function, is_head, outside, position_after, standing, stands, stands_of}
-use Rattle.spv_index.proofs.StandingLemmas.{standing_led, standing_of}
+use Rattle.spv_index.proofs.Exports.{standing_led, standing_of}
 use Rattle.spv_types.specs.Queries.{is_pointer}
 use Rattle.spv_types.specs.Rows.{no_roots}
 use Rattle.spv_types.specs.Shapes.{HasShape, pointer_in}
@@ -34,15 +34,13 @@ use Rattle.spv_bodies.specs.Control.{KeepsPhi, firsts}
 use Rattle.spv_valid.specs.Acceptance.{Accepted, IsAccepted}
 use Rattle.spv_valid.specs.Validity.{IsValid}
 use Rattle.spv_frame.specs.Frames.{Held as Frame}
-use Rattle.spv_plans.proofs.NumberLemmas.{filtered, leading_at, map_from}
-use Rattle.spv_plans.proofs.PlanLemmas.{each_at}
+use Rattle.spv_plans.proofs.Exports.{filtered, leading_at, map_from}
 use Rattle.spv_operands.specs.Values.{value_of}
-use Rattle.spv_operands.proofs.ShapeLemmas.{data_plain}
+use Rattle.spv_operands.proofs.Exports.{data_plain}
 use Rattle.spv_results.specs.Operands.{known}
-use Rattle.spv_results.proofs.ShapeProps.{shape_prop}
-use Rattle.spv_results.proofs.SoundTypes.{sound_types}
+use Rattle.spv_results.proofs.Exports.{shape_prop, sound_types}
 use Rattle.spv_state.specs.State.{depth_of}
-use Rattle.spv_state.proofs.AcceptedLemmas.{IsKnown}
+use Rattle.spv_state.proofs.Exports.{IsKnown}
 use Rattle.spv_actions.specs.Fits.{IsOfType}
 use Rattle.spv_actions.specs.Phis.{behind_label, block_at, comes_first, first_ones, is_phi, pairs, phi_value, phi_values, source_among}
 use Rattle.spv_actions.specs.Sites.{Finds, IsSite, Site, accepted, is_data}
@@ -53,6 +51,7 @@ use Rattle.spv_actions.proofs.OperandLemmas.{ValuesHaveShapes}
 use Rattle.spv_actions.proofs.RunLemmas.{IsKept, kept_each}
 use Rattle.spv_actions.proofs.SiteLemmas.{frame_sound}
 use Rattle.spv_actions.proofs.StandLemmas.{InBlock, each_in_block}
+use Rattle.spv_base.proofs.Exports.{each_at}
 
 -- ---- where the first instructions of a block stand
 

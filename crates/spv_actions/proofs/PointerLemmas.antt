@@ -16,7 +16,7 @@ use Rattle.spv_types.specs.Queries.{is_pointer}
 use Rattle.spv_types.specs.Rows.{no_roots}
 use Rattle.spv_types.specs.Shapes.{HasShape, LeadsTo, pointer_in}
 use Rattle.spv_types.specs.Types.{Types, form_of}
-use Rattle.spv_types.proofs.ShapeLemmas.{shapes_are_by_forms}
+use Rattle.spv_types.proofs.Exports.{shapes_are_by_forms, pointer_by}
 use Rattle.spv_bodies.specs.Context.{type_at}
 use Rattle.spv_bodies.specs.Matching.{KeepsCopyLogical}
 use Rattle.spv_mem.specs.Memory.{root_value}
@@ -24,12 +24,12 @@ use Rattle.spv_valid.specs.Acceptance.{Accepted}
 use Rattle.spv_operands.specs.Operands.{data_of, pointer_of}
 use Rattle.spv_operands.specs.Shapes.{target_in}
 use Rattle.spv_operands.specs.Values.{pointer_to}
-use Rattle.spv_operands.proofs.ShapeLemmas.{data_plain, out_pointer}
+use Rattle.spv_operands.proofs.Exports.{data_plain}
+use Rattle.spv_base.proofs.Exports.{out_pointer}
 use Rattle.spv_results.specs.Operands.{IsOperand, known}
 use Rattle.spv_actions.specs.Kept.{KeepsCopy}
 use Rattle.spv_actions.specs.Sites.{IsShaped, Site, part_of}
 use Rattle.spv_actions.specs.declared.causes.Cause.TheVariants.{OutOfBounds}
-use Rattle.spv_actions.proofs.SoundFrames.{pointer_by}
 
 -- ---- values
 

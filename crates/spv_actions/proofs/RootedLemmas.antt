@@ -10,6 +10,7 @@ use Rattle.spv_base.specs.declared.values.Pointer.{Pointer as Reference}
 use Rattle.spv_base.specs.declared.values.Root.{Root}
 use Rattle.spv_base.specs.declared.values.Value.{Value, Ptr, out-Value}
 use Rattle.spv_base.specs.declared.values.Value.TheOpen.{Value-F}
+use Rattle.spv_ops.specs.Steps.{◌>>=◌}
 use Rattle.spv_index.specs.Operands.{id_operand}
 use Rattle.spv_types.specs.declared.forms.Form.TheVariants.{Pointer as PointerForm}
 use Rattle.spv_types.specs.Laws.{AreSound}
@@ -26,11 +27,8 @@ use Rattle.spv_operands.specs.Values.{value_of}
 use Rattle.spv_results.specs.Operands.{IsResult, known}
 use Rattle.spv_state.specs.Roots.{IsRoot, IsRooted}
 use Rattle.spv_state.specs.State.{depth_of, frames_of, with_level, with_register}
-use Rattle.spv_state.proofs.Entries.{reads_written}
-use Rattle.spv_state.proofs.OperandRoots.{operand_root, pointer_own}
-use Rattle.spv_state.proofs.RootLemmas.{frame_rooted, root_prop}
+use Rattle.spv_state.proofs.Exports.{reads_written, operand_root, pointer_own, frame_rooted, root_prop}
 use Rattle.spv_actions.specs.Chains.{chained_pointer, with_indexes}
-use Rattle.spv_actions.specs.Effects.{◌>>=◌}
 use Rattle.spv_actions.specs.Fits.{ResultRooted}
 use Rattle.spv_actions.specs.Planned.{gained}
 use Rattle.spv_actions.specs.Sites.{IsGain, IsSite, Site, accepted, values}

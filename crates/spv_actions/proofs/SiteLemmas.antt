@@ -1,5 +1,5 @@
 -- The frame at an instruction that a run has come to is sound, and a run stops at the instruction.
-use Rattle.std.proofs.Common.{◌≡◌, ◌∙◌, ℕ, zero, suc, ◌-◌, ◌<◌, true, false, List, [], ◌∷◌, length, slice_get, Option, Some, refl, sym, ap, subst, arith}
+use Rattle.std.proofs.Common.{◌≡◌, ◌∙◌, ◌-◌, true, false, [], length, slice_get, Option, Some, sym, ap, subst, arith}
 use Rattle.std.proofs.Math.Logic.{∥∥₁_elim, ∥∥₁_map}
 use Rattle.std.proofs.Props.{props}
 use Rattle.std.specs.Option.{option_map_or}
@@ -21,17 +21,13 @@ use Rattle.spv_state.specs.Sound.{IsSoundFrame}
 use Rattle.spv_actions.proofs.ComputationLemmas.{computed}
 use Rattle.spv_actions.proofs.ComputationRules.{computed_plain, is_plain_code, keeps, keeps_load, keeps_store, load_plain, plain_open, plain_own, store_plain}
 use Rattle.spv_actions.proofs.RunLemmas.{RulesAreTested, Runs, alone, is_run, rule_kept, runs_on, runs_there}
-
-there : {X : Type 0} (xs : List X) (n : ℕ) → n < length xs → (x : X) × (slice_get xs n ≡ Some x)
-there [] n lt = absurd (omega arith)
-there (x ∷ xs) zero lt = (x, refl)
-there (x ∷ xs) (suc n) lt = there xs n (omega arith)
+use Rattle.spv_base.proofs.Exports.{element_at}
 
 pub frame_sound : (x : Site) → IsSite x → IsSoundFrame (accepted x) x.frame
 frame_sound x is =
-    let status = there x.state.statuses.list x.inv (let same = is.sound.stacks in let lt = is.inside in omega arith) in
-    let stack = there x.state.stacks x.inv is.inside in
-    let levels = there x.state.memory.locals x.inv (let one = is.sound.levels in let same = is.sound.stacks in let lt = is.inside in omega arith) in
+    let status = element_at x.state.statuses.list x.inv (let same = is.sound.stacks in let lt = is.inside in omega arith) in
+    let stack = element_at x.state.stacks x.inv is.inside in
+    let levels = element_at x.state.memory.locals x.inv (let one = is.sound.levels in let same = is.sound.stacks in let lt = is.inside in omega arith) in
     let sound = is.sound.each x.inv status.0 stack.0 levels.0 status.1 stack.1 levels.1 in
     let frames : option_map_or (λ (k : Stacked). k.frames) (slice_get x.state.stacks x.inv) [] ≡ stack.0.frames = ap (λ (o : Option Stacked). option_map_or (λ (k : Stacked). k.frames) o []) stack.1 in
     let here : top stack.0.frames ≡ Some x.frame = ap top (sym frames) ∙ is.top in

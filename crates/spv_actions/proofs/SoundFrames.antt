@@ -1,8 +1,8 @@
 -- A frame stays sound where a register takes a value of its type, and where it goes on to the next executable.
-use Rattle.std.proofs.Common.{◌≡◌, ◌⊎◌, ◌∙◌, inl, inr, ℕ, Some, refl, ap, subst, rules}
+use Rattle.std.proofs.Common.{◌≡◌, ◌⊎◌, ◌∙◌, inl, inr, ℕ, Some, refl, ap, subst}
 use Rattle.spv_base.specs.Entries.{reads, writes}
 use Rattle.spv_base.specs.declared.values.Pointer.{Pointer}
-use Rattle.spv_base.specs.declared.values.Value.{Value, Ptr, out-Value, the_lemmas}
+use Rattle.spv_base.specs.declared.values.Value.{Value, Ptr, out-Value}
 use Rattle.spv_base.specs.declared.values.Value.TheOpen.{Value-F}
 use Rattle.spv_index.specs.Definitions.{result_type}
 use Rattle.spv_types.specs.Rows.{no_roots}
@@ -13,7 +13,8 @@ use Rattle.spv_valid.specs.Acceptance.{Accepted}
 use Rattle.spv_actions.specs.Fits.{LevelFits}
 use Rattle.spv_state.specs.Sound.{IsSoundFrame, StandsIn}
 use Rattle.spv_state.specs.State.{with_level, with_pc, with_register}
-use Rattle.spv_state.proofs.Entries.{keys_stay, reads_written}
+use Rattle.spv_state.proofs.Exports.{keys_stay, reads_written}
+use Rattle.spv_types.proofs.Exports.{pointer_by}
 
 -- ---- a register takes a value or a pointer
 
@@ -40,9 +41,6 @@ shaped_pointer a f id q fits shaped = record {
       let same : q ≡ r = let e = here.1 in cc in
       subst (λ (x : Pointer). HasShape a.types (target_in a) ty (Ptr x)) same (fits ty (ap (result_type a.insts) here.0 ∙ typed))
   by_id k ty r typed (inr old) = shaped.pointers k ty r old typed
-
-pub pointer_by : (v : Value) (q : Pointer) → out-Value v ≡ Value-F.Ptr q → v ≡ Ptr q
-pointer_by v q e = search (rules, the_lemmas)
 
 abbrev pub RegisterFits : Accepted → ℕ → Value → Value-F Value → Type 0
 RegisterFits a id v level = (ty : ℕ) → result_type a.insts id ≡ Some ty → LevelFits a ty v level

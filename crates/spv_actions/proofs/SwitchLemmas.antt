@@ -8,7 +8,7 @@ use Rattle.spv_base.specs.declared.instructions.Operand.{Operand}
 use Rattle.spv_base.specs.declared.instructions.Operand.TheVariants.{Id, Lit, Text}
 use Rattle.spv_cfg.specs.Branches.{at_width, cases_by_two, cases_by_word}
 use Rattle.spv_cfg.specs.Operands.{is_literal, literals_in}
-use Rattle.spv_results.proofs.OperandTypes.{rest_is}
+use Rattle.spv_results.proofs.Exports.{rest_is}
 
 -- the label of the first case of a number
 abbrev pub label_in : ℕ → ℕ → List (ℕ × ℕ) → Option ℕ

@@ -20,30 +20,26 @@ use Rattle.spv_types.specs.Laws.{AreSound}
 use Rattle.spv_types.specs.Queries.{is_pointer}
 use Rattle.spv_types.specs.Rows.{no_roots}
 use Rattle.spv_types.specs.Shapes.{HasShape, scalar_in, shape_step}
-use Rattle.spv_types.proofs.ShapeLemmas.{shapes_are_by_forms}
+use Rattle.spv_types.proofs.Exports.{shapes_are_by_forms}
 use Rattle.spv_cfg.specs.Branches.{at_width, branch_breach, case_words, cases, has_targets, is_branch_right, is_switch_right, is_target, selector_width, targets_of}
 use Rattle.spv_cfg.specs.Laws.{IsEntered}
 use Rattle.spv_cfg.specs.Operands.{is_literal}
-use Rattle.spv_cfg.proofs.FlowLemmas.{flow_accepted}
-use Rattle.spv_cfg.proofs.LayoutLemmas.{nil_parts}
+use Rattle.spv_cfg.proofs.Exports.{flow_accepted, right_from_none}
 use Rattle.spv_bodies.specs.Context.{form_at, type_at}
 use Rattle.spv_valid.specs.Acceptance.{Accepted, IsAccepted, Passes}
 use Rattle.spv_valid.specs.Validity.{IsValid}
-use Rattle.spv_valid.proofs.AcceptedLemmas.{accepted_passes}
+use Rattle.spv_valid.proofs.Exports.{accepted_passes}
 use Rattle.spv_results.specs.Operands.{IsOperand, known as known_in}
-use Rattle.spv_results.proofs.OperandTypes.{HasForm, form_has_type}
-use Rattle.spv_results.proofs.SoundTypes.{sound_types}
+use Rattle.spv_results.proofs.Exports.{HasForm, form_has_type, sound_types}
 use Rattle.spv_state.specs.Sound.{StandsIn}
-use Rattle.spv_state.proofs.AcceptedLemmas.{IsKnown, known}
-use Rattle.spv_state.proofs.ExecutableLemmas.{at_standing, standing}
-use Rattle.spv_state.proofs.Stands.{IsOne, class_is, stood}
+use Rattle.spv_state.proofs.Exports.{IsKnown, known, at_standing, standing, IsOne, class_is, stood}
 use Rattle.spv_actions.specs.Branches.{chosen_label, switch_label}
 use Rattle.spv_actions.specs.Sites.{IsSite, Site, accepted, is_data_at}
 use Rattle.spv_actions.proofs.ControlCodes.{branch_ends, condition_ends, condition_kept, selector_kept, switch_ends}
 use Rattle.spv_actions.proofs.DataLemmas.{typed_data}
 use Rattle.spv_actions.proofs.RunLemmas.{Runs}
 use Rattle.spv_actions.proofs.SiteLemmas.{frame_sound, site_runs}
-use Rattle.spv_plans.proofs.PlanLemmas.{each_at}
+use Rattle.spv_base.proofs.Exports.{some_at, each_at, both_empty}
 
 -- ---- the labels of each opcode
 
@@ -133,12 +129,8 @@ targets_there a valid function d e =
 abbrev is_entered : Accepted → ℕ → ℕ → Type 0
 is_entered a function label = (is_target a.insts function label ≡ true) × (is_some (reads label a.flow.blocks) ≡ true)
 
-recovered : (o : Option ℕ) → is_some o ≡ true → (w : ℕ) × (o ≡ Some w)
-recovered None h = absurd (cc)
-recovered (Some w) h = (w, refl)
-
 entered : (a : Accepted) (function label : ℕ) → is_entered a function label → IsEntered a.insts a.flow function label
-entered a function label h = (h.0, recovered (reads label a.flow.blocks) h.1)
+entered a function label h = (h.0, some_at (reads label a.flow.blocks) h.1)
 
 tested : (a : Accepted) (function label : ℕ) → IsEntered a.insts a.flow function label → is_entered a function label
 tested a function label h = let first = h.1.1 in (h.0, ap is_some first)
@@ -167,13 +159,8 @@ module _ (a : Accepted) (accepts : ∥ IsAccepted a ∥₁) (valid : ∥ IsValid
 
 nil_at : {X : Type 0} (f : X → List ℕ) (xs : List X) (k : ℕ) (x : X) → flat_map f xs ≡ [] → slice_get xs k ≡ Some x → f x ≡ []
 nil_at f [] k x none h = absurd (cc)
-nil_at f (y ∷ xs) zero x none h = let same : y ≡ x = cc in ap f (sym same) ∙ (nil_parts (f y) (flat_map f xs) none).0
-nil_at f (y ∷ xs) (suc k) x none h = nil_at f xs k x (nil_parts (f y) (flat_map f xs) none).1 h
-
-right_by : (ends right : Bool) (word : ℕ) → ends ≡ true → cond (ends && not right) (word ∷ []) [] ≡ [] → right ≡ true
-right_by true true word ends none = refl
-right_by true false word ends none = cc
-right_by false right word ends none = cc
+nil_at f (y ∷ xs) zero x none h = let same : y ≡ x = cc in ap f (sym same) ∙ (both_empty (f y) (flat_map f xs) none).0
+nil_at f (y ∷ xs) (suc k) x none h = nil_at f xs k x (both_empty (f y) (flat_map f xs) none).1 h
 
 -- what is asked of a terminator, by its opcode
 words_by : ℕ → ℕ → Inst → Bool
@@ -185,7 +172,7 @@ literals_kept a accepts function d op e =
     let passes : Passes a accepts.name accepts.over = accepted_passes a accepts.name accepts.over accepts.is in
     let none = nil_at (branch_breach a.insts) (stands_of a.insts) e.one.number e.stand (flow_accepted a.insts a.flow passes.flow).branches e.one.is in
     let width : ℕ = selector_width a.insts e.stand.inst in
-    let right = right_by (is_terminator e.stand.class && in_block e.stand.position.stage) (is_branch_right a.insts width e.stand.position.function e.stand.inst) e.stand.inst.word e.ends none in
+    let right = right_from_none (is_terminator e.stand.class && in_block e.stand.position.stage) (is_branch_right a.insts width e.stand.position.function e.stand.inst) e.stand.inst.word e.ends none in
     let targets = (and_parts (has_targets e.stand.inst) _ right).1 in
     let words = (and_parts (list_all (is_target a.insts e.stand.position.function) (targets_of width e.stand.inst)) (words_by e.stand.inst.op width e.stand.inst) targets).1 in
     let own : words_by 251 width e.stand.inst ≡ true = ap (λ (n : ℕ). words_by n width e.stand.inst) (sym op ∙ ap (λ (i : Inst). i.op) (sym e.inst)) ∙ words in

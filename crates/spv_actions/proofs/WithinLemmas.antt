@@ -19,11 +19,10 @@ use Rattle.spv_valid.specs.Acceptance.{Accepted}
 use Rattle.spv_valid.specs.Validity.{IsValid}
 use Rattle.spv_results.specs.Operands.{known}
 use Rattle.spv_state.specs.Sound.{StandsIn}
-use Rattle.spv_state.proofs.AcceptedLemmas.{IsKnown}
-use Rattle.spv_state.proofs.ExecutableLemmas.{Standing, at_standing, standing}
-use Rattle.spv_plans.proofs.PlanLemmas.{function_class, each_at}
-use Rattle.spv_plans.proofs.MemberLemmas.{variables_inside, inside_from, block_inside}
-use Rattle.spv_cfg.proofs.FunctionLaws.{opcode_of_function}
+use Rattle.spv_state.proofs.Exports.{IsKnown, Standing, at_standing, standing}
+use Rattle.spv_plans.proofs.Exports.{function_class, variables_inside, inside_from, block_inside}
+use Rattle.spv_cfg.proofs.Exports.{opcode_of_function}
+use Rattle.spv_base.proofs.Exports.{each_at}
 
 -- ---- positions
 

@@ -6,6 +6,7 @@ use Rattle.spv_base.specs.Cell.{Cell}
 use Rattle.spv_base.specs.declared.instructions.Inst.{Inst}
 use Rattle.spv_base.specs.declared.values.Pointer.{Pointer}
 use Rattle.spv_base.specs.declared.values.Value.{Value, Scalar}
+use Rattle.spv_ops.specs.Steps.{◌>>=◌}
 use Rattle.spv_alu.specs.Integers.{signed}
 use Rattle.spv_alu.specs.Results.{defined_if, integer}
 use Rattle.spv_effects.specs.Lanes.{lane_of}
@@ -14,7 +15,7 @@ use Rattle.spv_state.specs.Program.{Program}
 use Rattle.spv_state.specs.State.{State}
 use Rattle.spv_state.specs.declared.actions.AtomicOp.{AtomicOp}
 use Rattle.spv_state.specs.declared.actions.AtomicOp.TheVariants.{Load, Store, Exchange, CompareExchange, Increment, Decrement, Add, Sub, SMin, UMin, SMax, UMax, And, Or, Xor}
-use Rattle.spv_actions.specs.Effects.{Effect, Next, ◌>>=◌, gives, loaded, operand, pointer, sets}
+use Rattle.spv_actions.specs.Effects.{Effect, Next, gives, loaded, operand, pointer, sets}
 use Rattle.spv_actions.specs.declared.causes.Cause.{Cause}
 
 -- ---- what is stored

@@ -2,6 +2,7 @@
 use Rattle.std.specs.Prelude.{ℕ, suc, List, [], ◌∷◌, length, map, filter, Some, Result, Ok, unwrap_or}
 use Rattle.spv_base.specs.declared.instructions.Inst.{Inst}
 use Rattle.spv_base.specs.declared.values.Value.{Value}
+use Rattle.spv_ops.specs.Steps.{◌>>=◌}
 use Rattle.spv_index.specs.Operands.{id_operand}
 use Rattle.spv_frame.specs.Frames.{Held as Frame, fresh}
 use Rattle.spv_plans.specs.Plans.{plan_of}
@@ -11,7 +12,7 @@ use Rattle.spv_state.specs.Events.{passed}
 use Rattle.spv_state.specs.Program.{Program}
 use Rattle.spv_state.specs.Start.{frame_roots}
 use Rattle.spv_state.specs.State.{State, frames_of, with_registers}
-use Rattle.spv_actions.specs.Effects.{Effect, Enter, Leave, ◌>>=◌, goes, operand}
+use Rattle.spv_actions.specs.Effects.{Effect, Enter, Leave, goes, operand}
 use Rattle.spv_actions.specs.declared.causes.Cause.{Cause}
 
 -- the function that a call names

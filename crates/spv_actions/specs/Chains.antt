@@ -7,6 +7,7 @@ use Rattle.spv_base.specs.Cell.{Cell}
 use Rattle.spv_base.specs.declared.instructions.Inst.{Inst}
 use Rattle.spv_base.specs.declared.values.Pointer.{Pointer}
 use Rattle.spv_base.specs.declared.values.Value.{Value, Ptr}
+use Rattle.spv_ops.specs.Steps.{◌>>=◌}
 use Rattle.spv_types.specs.Rows.{leaves}
 use Rattle.spv_mem.specs.Chains.{all_defined, extend}
 use Rattle.spv_frame.specs.Frames.{Held as Frame}
@@ -14,7 +15,7 @@ use Rattle.spv_operands.specs.Values.{operand_value}
 use Rattle.spv_results.specs.Results.{Operands, all_of}
 use Rattle.spv_state.specs.Program.{Program}
 use Rattle.spv_state.specs.State.{State, depth_of}
-use Rattle.spv_actions.specs.Effects.{Effect, ◌>>=◌, gives, operand, pointer}
+use Rattle.spv_actions.specs.Effects.{Effect, gives, operand, pointer}
 use Rattle.spv_actions.specs.declared.causes.Cause.{Cause}
 use Rattle.spv_actions.specs.declared.causes.Cause.TheVariants.{NoValue, UndefinedIndex}
 

@@ -1,5 +1,5 @@
 -- What an instruction does to a state: the part of memory and the register that it sets, and where control goes, or why it faults.
-use Rattle.std.specs.Prelude.{ℕ, List, Option, Some, None, Result, Ok, Err, ok_or}
+use Rattle.std.specs.Prelude.{ℕ, List, Option, Some, None, Result, ok_or}
 use Rattle.spv_base.specs.Variables.{Roots}
 use Rattle.spv_base.specs.declared.instructions.Inst.{Inst}
 use Rattle.spv_base.specs.declared.values.Pointer.{Pointer}
@@ -38,12 +38,6 @@ code_of UndefinedIndex = 2
 code_of OutOfBounds = 3
 code_of NoValue = 4
 code_of Unreachable = 5
-
--- what goes on with what was read, or faulted
-infixl 10 ◌>>=◌
-abbrev pub ◌>>=◌ : {A B : Type 0} → Result A Cause → (A → Result B Cause) → Result B Cause
-Ok x >>= f = f x
-Err cause >>= f = Err cause
 
 -- ---- what is read, in the top frame of an invocation
 

@@ -1,6 +1,7 @@
 -- What each instruction does, a row an action.
 use Rattle.std.specs.Prelude.{ℕ, None, Result, Ok, Err, ok_or}
 use Rattle.spv_base.specs.declared.instructions.Inst.{Inst}
+use Rattle.spv_ops.specs.Steps.{◌>>=◌}
 use Rattle.spv_frame.specs.Frames.{Held as Frame}
 use Rattle.spv_operands.specs.Values.{operand_value}
 use Rattle.spv_results.specs.Results.{result_of}
@@ -15,7 +16,7 @@ use Rattle.spv_actions.specs.Chains.{chain_effect}
 use Rattle.spv_actions.specs.Branches.{branch_conditional_effect, branch_effect, switch_effect}
 use Rattle.spv_actions.specs.Atomics.{atomic_effect}
 use Rattle.spv_actions.specs.Barriers.{control_barrier_effect, memory_barrier_effect}
-use Rattle.spv_actions.specs.Effects.{Effect, Leave, ◌>>=◌, gives, goes}
+use Rattle.spv_actions.specs.Effects.{Effect, Leave, gives, goes}
 use Rattle.spv_actions.specs.Lengths.{length_effect}
 use Rattle.spv_actions.specs.declared.causes.Cause.{Cause}
 use Rattle.spv_actions.specs.declared.causes.Cause.TheVariants.{NoValue, Unreachable as Stops}

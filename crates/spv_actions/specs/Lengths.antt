@@ -7,13 +7,14 @@ use Rattle.spv_base.specs.declared.values.Pointer.{Pointer}
 use Rattle.spv_base.specs.declared.values.Root.{Root}
 use Rattle.spv_base.specs.declared.values.Root.TheVariants.{Shared, Private, Local}
 use Rattle.spv_base.specs.declared.values.Value.{Value, Scalar}
+use Rattle.spv_ops.specs.Steps.{◌>>=◌}
 use Rattle.spv_index.specs.Operands.{literal_operand}
 use Rattle.spv_mem.specs.Memory.{load_of, member_of}
 use Rattle.spv_mem.specs.Targets.{count_in}
 use Rattle.spv_frame.specs.Frames.{Held as Frame}
 use Rattle.spv_state.specs.Program.{Program}
 use Rattle.spv_state.specs.State.{State}
-use Rattle.spv_actions.specs.Effects.{Effect, ◌>>=◌, gives, operand, pointer}
+use Rattle.spv_actions.specs.Effects.{Effect, gives, operand, pointer}
 use Rattle.spv_actions.specs.declared.causes.Cause.{Cause}
 use Rattle.spv_actions.specs.declared.causes.Cause.TheVariants.{OutOfBounds}
 

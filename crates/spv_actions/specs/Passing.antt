@@ -3,6 +3,7 @@ use Rattle.std.specs.Prelude.{◌≡◌, ◌<◌, ℕ, suc, true, filter, List, 
 use Rattle.std.specs.Option.{is_some}
 use Rattle.spv_base.specs.declared.instructions.Inst.{Inst}
 use Rattle.spv_base.specs.declared.values.Value.{Value as Whole}
+use Rattle.spv_ops.specs.Steps.{◌>>=◌}
 use Rattle.spv_types.specs.Rows.{leaves}
 use Rattle.spv_bodies.specs.Context.{type_at}
 use Rattle.spv_valid.specs.Acceptance.{Accepted}
@@ -15,7 +16,6 @@ use Rattle.spv_plans.specs.Registers.{is_parameter, registers_of}
 use Rattle.spv_operands.specs.Operands.{pointer_of}
 use Rattle.spv_results.specs.Operands.{known}
 use Rattle.spv_actions.specs.Calls.{arguments, called, parameters_of}
-use Rattle.spv_actions.specs.Effects.{◌>>=◌}
 use Rattle.spv_actions.specs.Sites.{Site, accepted}
 use Rattle.spv_actions.specs.declared.causes.Cause.{Cause}
 

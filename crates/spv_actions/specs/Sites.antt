@@ -2,12 +2,14 @@
 -- compute there. No definition of a step speaks of it.
 use Rattle.std.specs.Prelude.{◌≡◌, ℕ, ◌<◌, not, if◌then◌else◌, Bool, true, false, length, Option, Some, None, IsSome, Result, Ok, Err, ⊤}
 use Rattle.std.specs.Option.{option_map_or}
+use Rattle.spv_base.specs.Variables.{root_id}
 use Rattle.spv_base.specs.Entries.{reads}
 use Rattle.spv_base.specs.declared.causes.Fail.{Fail}
 use Rattle.spv_base.specs.declared.causes.Fail.TheVariants.{Refused, NoMemory}
 use Rattle.spv_base.specs.declared.instructions.Inst.{Inst}
 use Rattle.spv_base.specs.declared.values.Pointer.{Pointer as Reference}
 use Rattle.spv_base.specs.declared.values.Value.{Value, Ptr}
+use Rattle.spv_ops.specs.Steps.{◌>>=◌}
 use Rattle.spv_index.specs.Definitions.{at}
 use Rattle.spv_types.specs.Queries.{is_pointer}
 use Rattle.spv_types.specs.Rows.{no_roots}
@@ -16,7 +18,7 @@ use Rattle.spv_types.specs.Types.{Types, form_of}
 use Rattle.spv_bodies.specs.Context.{type_at}
 use Rattle.spv_valid.specs.Acceptance.{Accepted}
 use Rattle.spv_frame.specs.Frames.{Held as Frame}
-use Rattle.spv_mem.specs.Memory.{Held as Memory, id_in}
+use Rattle.spv_mem.specs.Memory.{Held as Memory}
 use Rattle.spv_mem.specs.Targets.{is_array_at}
 use Rattle.spv_operands.specs.Shapes.{target_in}
 use Rattle.spv_operands.specs.Values.{operand_value, value_of}
@@ -24,7 +26,7 @@ use Rattle.spv_results.specs.Operands.{IsResult, known}
 use Rattle.spv_results.specs.Results.{result_by}
 use Rattle.spv_results.specs.declared.computations.Computation.{Computation}
 use Rattle.spv_actions.specs.Effects as spec
-use Rattle.spv_actions.specs.Effects.{◌>>=◌, loaded, pointer}
+use Rattle.spv_actions.specs.Effects.{loaded, pointer}
 use Rattle.spv_actions.specs.Instructions.{effect_of}
 use Rattle.spv_actions.specs.Planned.{gained}
 use Rattle.spv_state.specs.Program.{Program}
@@ -86,7 +88,7 @@ IsShaped a d n v = (ty : ℕ) → type_at (known a) d n ≡ Some ty → HasShape
 -- by the type of its variable a pointer leads to a block, and a member of the block is a runtime array
 pub record LeadsToArray (m : Memory) (q : Reference) (member : ℕ) : Type 0 where
   pub type : ℕ
-  pub named : reads (id_in q.root) m.targets ≡ Some type
+  pub named : reads (root_id q.root) m.targets ≡ Some type
   pub block : ℕ
   pub leads : reached_type m.types type q.path ≡ Some block
   pub array : is_array_at m.types (form_of m.types block) member ≡ true

@@ -99,7 +99,7 @@ pub(crate) fn first_of_three<'a>(site: &Site<'a>) -> Result<Operand<'a>, Fail<Ca
 }
 
 /// The scalar that a value is.
-#[tactic(auto, using(spv_mem::proofs::CellLemmas::one_leaf, spv_mem::proofs::CellLemmas::is_scalar))]
+#[tactic(auto, using(spv_values::proofs::Exports::one_leaf, spv_mem::proofs::Exports::is_scalar))]
 fn cell_of(datum: &Datum) -> Cell
     requires { IsSome (scalar_in (out-Value datum.now)) }
     ensures { datum.now ≡ Scalar result }

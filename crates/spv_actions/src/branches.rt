@@ -46,7 +46,7 @@ fn jump(site: &Site, label: Option<u32>) -> Result<Effect, Fail<Cause>>
 }
 
 /// The cell of a scalar.
-#[tactic(auto, using(spv_mem::proofs::CellLemmas::one_leaf, spv_mem::proofs::CellLemmas::is_scalar))]
+#[tactic(auto, using(spv_values::proofs::Exports::one_leaf, spv_mem::proofs::Exports::is_scalar))]
 fn cell_of(part: &Part) -> Cell
     requires { IsSome (scalar_in (out-Value part.now)) }
     ensures { part.now ≡ Scalar result }

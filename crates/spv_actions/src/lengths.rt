@@ -34,7 +34,7 @@ fn is_shared(root: Root) -> bool
 }
 
 /// Puts a scalar into a row. It takes memory only where the row never had room for a cell.
-#[tactic(auto, using(spv_values::proofs::RowLemmas::scalar_leaf))]
+#[tactic(auto, using(spv_types::proofs::Exports::leaves_scalar))]
 fn put_scalar(cell: Cell, row: &mut Row) -> Result<(), NoMemory>
     ensures { OnOk result (row.new ≡ Scalar cell) }
 {

@@ -1,7 +1,8 @@
-pub mod BitNumbers
-pub mod Quotients
-pub mod Remainders
-pub mod Widths
-pub mod Places
-pub mod Insertions
-pub mod Casts
+mod BitNumbers
+mod Quotients
+mod Remainders
+mod Widths
+mod Places
+mod Insertions
+mod Casts
+pub mod Exports

@@ -1,10 +1,11 @@
 -- Laws of the low-order bits of numbers and integers.
-use Rattle.std.proofs.Common.{◌≡◌, ℕ, ◌+◌, ◌-◌, ◌*◌, ◌/◌, ◌%◌, ◌^◌, ◌<◌, ◌≤◌, ℤ, pos, negsuc, ◌+ℤ◌, ◌-ℤ◌, ◌*ℤ◌, refl, sym, ap, ◌∙◌, subst, arith, to_z, of_z, Bool, true, inl, inr}
+use Rattle.std.proofs.Common.{◌≡◌, ℕ, ◌+◌, ◌-◌, ◌*◌, ◌/◌, ◌%◌, ◌^◌, ◌<◌, ◌≤◌, ℤ, pos, negsuc, ◌+ℤ◌, ◌-ℤ◌, ◌*ℤ◌, refl, sym, ap, ◌∙◌, subst, arith, to_z, of_z, Bool, true, false, inl, inr}
 use Rattle.std.proofs.Math.Nat.{mul_comm, div-lt_iff_lt-mul, lt_of_le_of_lt, mod-one}
 use Rattle.std.proofs.Math.Pow.{pow_mono}
 use Rattle.std.proofs.lemmas.Bool.{lt-ltb, le-ltb, cases_lt, ne_eqb}
-use Rattle.spv_base.specs.Cell.{Cell}
-use Rattle.spv_alu.specs.Results.{defined_if}
+use Rattle.spv_base.specs.Cell.{Cell, HasWidth}
+use Rattle.spv_alu.specs.Results.{defined_if, integer, truth}
+use Rattle.spv_alu.proofs.BitNumbers.{low_bits_below}
 use Rattle.std.specs.Prelude.{unsigned_abs, suc, FitsSigned, if◌then◌else◌, ◌==◌}
 use Rattle.std.specs.Int.{Width, int_div_euclid, cast_unsigned, w64, w128}
 use Rattle.std.specs.Int.Signed.{mag_shr, shr_z, nat_abs-le}
@@ -134,3 +135,16 @@ pub signed_of_none : (w n : ℕ) → w ≡ 0 → signed w (n % 2 ^ w) ≡ pos 0
 signed_of_none w n e =
     let P : ℕ → Type 0 = λ k. signed k (n % 2 ^ k) ≡ pos 0 in
     subst P (sym e) (ap (signed 0) (mod-one n) ∙ signed_low 0 0 (omega arith))
+
+-- ---- cells of a width
+
+pub integer_has_width : (w : ℕ) (z : ℤ) → w ≤ 64 → HasWidth w (integer w z)
+integer_has_width w z h = (refl, record { narrow = h; fits = low_bits_below w z; zero = λ e. absurd (cc) })
+
+pub truth_has_width : (b : Bool) → HasWidth 1 (truth b)
+truth_has_width true = (refl, record { narrow = omega arith; fits = omega arith; zero = λ e. absurd (cc) })
+truth_has_width false = (refl, record { narrow = omega arith; fits = omega arith; zero = λ e. absurd (cc) })
+
+pub defined_has_width : (test : Bool) (w : ℕ) (c : Cell) → HasWidth w c → HasWidth w (defined_if test c)
+defined_has_width true w c h = h
+defined_has_width false w c h = (h.0, record { narrow = h.1.narrow; fits = pow_pos c.width; zero = λ e. refl })

@@ -2,6 +2,7 @@ pub mod Integers
 pub mod Results
 pub mod Unary
 pub mod Binary
+pub mod Lanes
 pub mod Select
 pub mod Extended
 pub mod Fields

@@ -1,5 +1,6 @@
 -- The instructions that are decoded from a module's words stand where their words do, and have numbers of 32 bits.
 use Rattle.std.proofs.Common.{◌≡◌, ℕ, zero, suc, ◌+◌, ◌*◌, ◌^◌, ◌<◌, ◌≤◌, List, [], ◌∷◌, ◌++◌, Option, Result, Ok, Err, length, drop, refl, sym, ap, ◌∙◌, subst, arith, length-append, length-drop}
+use Rattle.spv_text.proofs.Exports.{zero_fits}
 use Rattle.std.specs.List.{AllByRecursion, flat_map}
 use Rattle.spv_base.specs.declared.causes.Refusal.{Refusal}
 use Rattle.spv_base.specs.declared.instructions.Inst.{Inst}
@@ -40,9 +41,6 @@ fit_parts (x ∷ xs) ys h = let more = fit_parts xs ys h.1 in ((h.0, more.0), mo
 number : (n : ℕ) → n < 2 ^ 32 → IsNumber n
 number n h = omega arith
 
-none_is_number : (n : ℕ) → n ≡ 0 → IsNumber n
-none_is_number n e = omega arith
-
 -- ---- one instruction
 
 text_bytes : (bytes : List ℕ) → AllByRecursion (λ byte. 0 < byte) bytes → AllByRecursion (λ byte. byte < 256) bytes → AllByRecursion IsByte bytes
@@ -57,8 +55,8 @@ in_range (Text bytes ∷ operands) low high fit =
     (text_bytes bytes low.0 high.0, in_range operands low.1 high.1 (fit_parts (words_of_text bytes) (words_of_operands operands) fit).1)
 
 head_in_range : (h : Head) (ty id : ℕ) → HasHead h ty id → Fit (words_of_head h ty id) → IsNumber ty × IsNumber id
-head_in_range head.Plain ty id has fit = (none_is_number ty has.0, none_is_number id has.1)
-head_in_range head.Result ty id has fit = (none_is_number ty has, number id fit.0)
+head_in_range head.Plain ty id has fit = (zero_fits ty has.0, zero_fits id has.1)
+head_in_range head.Result ty id has fit = (zero_fits ty has, number id fit.0)
 head_in_range head.TypedResult ty id has fit = (number ty fit.0, number id fit.1.0)
 
 word_is : (inst : Inst) (raw : RawInst) → raw_of inst ≡ raw → inst.word ≡ raw.word

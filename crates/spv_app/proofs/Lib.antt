@@ -1,12 +1,12 @@
-pub mod Spending
-pub mod Openings
-pub mod Transcripts
-pub mod Pieces
-pub mod Cuts
-pub mod Runs
-pub mod Headlines
-pub mod Checks
-pub mod Splits
-pub mod Readings
-pub mod Decodings
-pub mod OpeningLemmas
+mod Spending
+mod Openings
+mod Transcripts
+mod Pieces
+mod Cuts
+mod Runs
+mod Headlines
+mod Checks
+mod Splits
+mod Readings
+mod Decodings
+mod OpeningLemmas

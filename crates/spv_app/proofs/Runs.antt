@@ -1,7 +1,7 @@
 -- What stands between two reads, and how each exit leads from there to a run.
 use Rattle.std.proofs.Common.{◌≡◌, ◌↔◌, ◌⊎◌, ℕ, ◌+◌, ◌≤◌, Bool, true, false, ◌||◌, List, [], ◌∷◌, ◌++◌, refl, sym, ap, ◌∙◌, append_assoc, append-nil, length, length-append, subst, Option, Some, None, unwrap_or, inl, inr, arith}
 use Rattle.std.specs.Io.KnownBytes.{Appends, Consumes, Keeps, IsAtEnd}
-use Rattle.std.proofs.KnownBytes.{Appends-trans, Consumes-trans}
+use Rattle.std.proofs.KnownBytes.{Appends-trans, Consumes-trans, Appends-nil}
 use Rattle.spv_app.specs.declared.status.Stop.{Stop}
 use Rattle.spv_app.specs.declared.status.Stop.TheVariants as stop
 use Rattle.spv_app.specs.declared.status.Status.{Status}
@@ -192,10 +192,6 @@ takes_none None b h = tt
 takes_none (Some x) None h = absurd h
 takes_none (Some x) (Some y) h = sym h
 
-writes_none : (a : Option (List ℕ)) → Appends a a []
-writes_none None = tt
-writes_none (Some x) = sym (append-nil x)
-
 stop_is_short : (stop : Stop) → status_of stop ≡ InputTooLong → ⊥
 stop_is_short stop.WriteFault h = cc
 stop_is_short stop.NoMemory h = cc
@@ -219,12 +215,12 @@ module _ (start : Viewing) (old now new : Streams) (at : Viewing) (line : List �
   module _ (same_held : new.held ≡ now.held) (same_steps : new.steps ≡ now.steps) where
     pub ran_read_fault : Keeps now.left new.left → count ≤ input_limit → Ran start old new ReadFault
     ran_read_fault kept few =
-        ran start old now new at line count s [] [] ReadFault (takes_none now.left new.left kept) (subst (λ h. Appends now.held h []) (sym same_held) (writes_none now.held)) (omega arith) (refl, refl)
+        ran start old now new at line count s [] [] ReadFault (takes_none now.left new.left kept) (subst (λ h. Appends now.held h []) (sym same_held) (Appends-nil now.held)) (omega arith) (refl, refl)
         (within ReadFault (count + 0) (λ h. cc) (omega arith)) (omega arith) (omega arith) (spends_none at (lines_from line []) now.steps new.steps (omega arith))
 
     pub ran_too_long : (piece : List ℕ) (n : ℕ) → length piece ≡ n → n ≤ piece_limit → Consumes now.left new.left piece → count + n ≡ input_limit + 1 → Ran start old new InputTooLong
     ran_too_long piece n is short took long =
-        ran start old now new at line count s piece [] InputTooLong took (subst (λ h. Appends now.held h []) (sym same_held) (writes_none now.held)) (omega arith) refl
+        ran start old now new at line count s piece [] InputTooLong took (subst (λ h. Appends now.held h []) (sym same_held) (Appends-nil now.held)) (omega arith) refl
         (λ _. omega arith, λ _. refl) (omega arith) (omega arith) (spends_none at (lines_from line piece) now.steps new.steps (omega arith))
 
   module _ (risen : now.steps ≤ new.steps) where

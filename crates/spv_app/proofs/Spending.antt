@@ -2,11 +2,11 @@
 use Rattle.std.proofs.Common.{◌≡◌, ◌≤◌, ℕ, ◌+◌, true, false, cond, max, arith, ◌||◌, List, [], ◌∷◌, ◌++◌, sym, ap, ap₂, ◌∙◌, subst, append_assoc, append-nil}
 use Rattle.spv_group.specs.Group.{Held as Group, entries_in, group_at, window_in}
 use Rattle.spv_group.specs.History.{window}
-use Rattle.spv_group.proofs.WindowLemmas.{windows_rise}
+use Rattle.spv_group.proofs.Exports.{windows_rise}
 use Rattle.spv_session.specs.View.{View, Viewing, undoing_in}
 use Rattle.spv_session.specs.Costs.{line_cost}
 use Rattle.spv_session.specs.Reply.{is_quit}
-use Rattle.spv_session.proofs.CostLemmas.{line_rises}
+use Rattle.spv_session.proofs.Exports.{line_rises}
 use Rattle.spv_app.specs.Transcript.{view_of, view_after, has_quit, highest, reach, transcript_cost, Reaches, Spends}
 
 -- ---- the highest position

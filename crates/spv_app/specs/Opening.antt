@@ -1,10 +1,10 @@
 -- Which pair of a module and a setup is opened, and which refusal is due else.
-use Rattle.std.specs.Prelude.{ℕ, ◌*◌, List, ◌++◌, codes, decimal, Result, Ok, Err}
+use Rattle.std.specs.Prelude.{ℕ, List, ◌++◌, codes, decimal, Result, Ok, Err}
 use Rattle.spv_base.specs.Answers.{after}
 use Rattle.spv_base.specs.declared.causes.Refusal.{Refusal}
 use Rattle.spv_base.specs.declared.causes.SetupRefusal.{SetupRefusal}
 use Rattle.spv_words.specs.Words.{words_of}
-use Rattle.spv_valid.specs.Acceptance.{Accepted}
+use Rattle.spv_valid.specs.Acceptance.{Accepted, invocations}
 use Rattle.spv_setup.specs.declared.settings.Settings.{Settings}
 use Rattle.spv_setup.specs.Settings.{settings_of}
 use Rattle.spv_setup.specs.Schedule.{Entries}
@@ -19,13 +19,9 @@ use Rattle.spv_app.specs.Acceptance.{accepted_as}
 abbrev pub accepted_in : List ℕ → Settings → Result Accepted Refusal
 accepted_in bytes s = after (words_of bytes) (accepted_as s.entry s.overrides)
 
--- how many invocations a workgroup has
-abbrev pub invocations_of : Accepted → ℕ
-invocations_of a = a.size.0 * a.size.1 * a.size.2
-
 -- the schedule of a setup that fits the module
 abbrev pub schedule_for : Accepted → Settings → Result Entries SetupRefusal
-schedule_for a s = fitted a.insts a.types (invocations_of a) a.stack_cells s
+schedule_for a s = fitted a.insts a.types (invocations a) a.stack_cells s
 
 -- whose refusal it is
 abbrev pub of_setup : {A : Type 0} → Result A SetupRefusal → Result A OpeningRefusal

@@ -3,8 +3,9 @@ ghost use Rattle.std.specs.Prelude.{◌≡◌, ◌≤◌, ◌<◌, IfOk, length}
 ghost use Rattle.spv_base.specs.Answers.{Answers};
 ghost use Rattle.spv_setup.specs.Settings.{settings_of};
 ghost use Rattle.spv_valid.specs.Validity.{IsValid};
+ghost use Rattle.spv_valid.specs.Acceptance.{invocations};
 ghost use Rattle.spv_app.specs.Limits.{setup_limit};
-ghost use Rattle.spv_app.specs.Opening.{opening, accepted_in, invocations_of, journaled, schedule_for, started, of_setup, of_module};
+ghost use Rattle.spv_app.specs.Opening.{opening, accepted_in, journaled, schedule_for, started, of_setup, of_module};
 
 use crate::acceptance::accepted_as;
 use spv_base::{Fail, Refusal, SetupRefusal};
@@ -79,9 +80,9 @@ fn read_module(alloc: Global, bytes: &[u8], setup: &Setup) -> Result<Module, Fai
 }
 
 /// How many invocations a workgroup has, from 1 to 1,024.
-fn invocations_of(accepted: &Module) -> u32
+fn invocations(accepted: &Module) -> u32
     requires { IsValid accepted.now }
-    ensures count { result ≡ invocations_of accepted.now }
+    ensures count { result ≡ invocations accepted.now }
     ensures some { 0 < result }
 {
     let (x, y, z) = accepted.size();
@@ -96,9 +97,9 @@ fn schedule_for(
 ) -> Result<Schedule, Fail<SetupRefusal>>
     requires { IsValid accepted.now }
     ensures due { Answers (schedule_for accepted.now setup.now) result }
-    ensures count { IfOk result (λ schedule. schedule.invocations ≡ invocations_of accepted.now) }
+    ensures count { IfOk result (λ schedule. schedule.invocations ≡ invocations accepted.now) }
 {
-    let invocations = invocations_of(accepted);
+    let invocations = invocations(accepted);
     let frames = accepted.stack_cells();
     fit(
         alloc,
@@ -118,7 +119,7 @@ fn fit_setup(
 ) -> Result<Schedule, Fail<OpeningRefusal>>
     requires { IsValid accepted.now }
     ensures due { Answers (of_setup (schedule_for accepted.now setup.now)) result }
-    ensures count { IfOk result (λ schedule. schedule.invocations ≡ invocations_of accepted.now) }
+    ensures count { IfOk result (λ schedule. schedule.invocations ≡ invocations accepted.now) }
 {
     match schedule_for(alloc, accepted, setup) {
         Ok(schedule) => Ok(schedule),

@@ -1,4 +1,10 @@
-pub mod EntryLemmas
-pub mod PartLemmas
-pub mod OrderLemmas
-pub mod Writes
+mod EntryLemmas
+mod ListLemmas
+mod OptionLemmas
+mod TestLemmas
+mod LowestLemmas
+mod PartLemmas
+mod OrderLemmas
+mod Writes
+mod SaturationLemmas
+pub mod Exports

@@ -1,4 +1,7 @@
 //! Scalars with their marks.
+ghost use Rattle.std.specs.Prelude.{◌≡◌};
+ghost use Rattle.spv_base.specs.Cell.{defined_number};
+
 use std::marker::Model;
 
 /// A scalar of `width` bits, or an undefined one, whose bits are 0.
@@ -22,4 +25,13 @@ impl Model for Cell {
     ghost invariant = { λ c. IsCell (record { bits = c.bits; width = c.width; defined = c.defined }) };
 
     ghost inverse = { λ l. record { bits = l.bits; width = l.width; defined = l.defined } };
+}
+
+impl Cell {
+    /// The number, if it is defined.
+    pub fn number(self) -> Option<u64>
+        ensures { result ≡ defined_number self }
+    {
+        if self.defined { Some(self.bits) } else { None }
+    }
 }

@@ -9,7 +9,7 @@ use Rattle.spv_consts.specs.Table.{Constants}
 use Rattle.spv_types.specs.Build.{unless_refused}
 use Rattle.spv_types.specs.Types.{Types}
 use Rattle.spv_index.specs.Definitions.{before_functions}
-use Rattle.spv_types.proofs.LayoutLemmas.{tail_is}
+use Rattle.spv_types.proofs.Exports.{tail_is}
 use Rattle.spv_types.specs.InterfaceBlocks.{nothing}
 use Rattle.spv_bodies.specs.declared.within.Within.{Within}
 use Rattle.spv_bodies.specs.Context.{Known, known_of}

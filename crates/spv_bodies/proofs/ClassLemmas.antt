@@ -7,7 +7,7 @@ use Rattle.spv_types.specs.declared.forms.Form.{Form}
 use Rattle.spv_types.specs.declared.forms.Member.{Member}
 use Rattle.spv_types.specs.Queries.{member_type}
 use Rattle.spv_types.specs.Types.{Types, form_at, form_of, found_among, number_of}
-use Rattle.spv_types.proofs.TypeLemmas.{in_first-is, number_form}
+use Rattle.spv_types.proofs.Exports.{in_first-is, number_form}
 use Rattle.spv_bodies.specs.declared.terms.Node.{Node}
 use Rattle.spv_bodies.specs.declared.terms.Node.TheVariants.{Number as Single, Pair as Double}
 use Rattle.spv_bodies.specs.Matching.{Number, Pair, Term, form_term, members_term, repeated, term_among}

@@ -1,6 +1,6 @@
-pub mod CallLemmas
-pub mod BodyLemmas
-pub mod TestLemmas
-pub mod TermLemmas
-pub mod ClassLemmas
-pub mod RuleLaws
+mod CallLemmas
+mod BodyLemmas
+mod TestLemmas
+mod TermLemmas
+mod ClassLemmas
+mod RuleLaws

@@ -5,7 +5,6 @@ use Rattle.std.proofs.lemmas.List.Elements.{All-nil}
 use Rattle.std.specs.Bool.{Decides}
 use Rattle.std.specs.List.{All, AllZip, list_all, sum_by}
 use Rattle.std.specs.Prelude.{◌&&◌, ◌||◌, if◌then◌else◌, not, nat_le, nat_lt}
-use Rattle.spv_base.specs.declared.causes.Refusal.{Refusal}
 use Rattle.spv_base.specs.declared.instructions.Inst.{Inst}
 use Rattle.spv_base.specs.declared.instructions.Operand.{Operand}
 use Rattle.spv_consts.specs.Table.{Constants}
@@ -15,14 +14,13 @@ use Rattle.spv_types.specs.declared.forms.Member.{Member}
 use Rattle.spv_types.specs.declared.queries.Components.{Components}
 use Rattle.spv_types.specs.declared.queries.Pointed.{Pointed}
 use Rattle.spv_types.specs.InterfaceBlocks.{nothing}
-use Rattle.spv_types.specs.Build.{unless_refused}
 use Rattle.spv_types.specs.Rules.{has_runtime, is_sized_data, is_word}
 use Rattle.spv_types.specs.Types.{Types, form_of}
 use Rattle.spv_types.specs.Queries.{is_integer, is_pointer}
-use Rattle.spv_types.proofs.SoundLemmas.{impossible}
+use Rattle.spv_types.proofs.Exports.{impossible, none_refused}
 use Rattle.spv_index.specs.Classes.{is_debug}
 use Rattle.spv_typing.specs.Fitting.{is_selectable}
-use Rattle.spv_typing.proofs.LawLemmas.{glsl_rule_is, rule_is}
+use Rattle.spv_typing.proofs.Exports.{glsl_rule_is, rule_is}
 use Rattle.spv_bodies.specs.declared.rules.Rule.{Rule}
 use Rattle.spv_bodies.specs.declared.rules.Rule.TheVariants.{Free, Lanes, Extended, Memory, Atomic, Composite, Control}
 use Rattle.spv_bodies.specs.declared.rules.MemoryRule.{MemoryRule}
@@ -48,7 +46,8 @@ use Rattle.spv_index.specs.Operands.{literal_in, literal_operand}
 use Rattle.spv_bodies.specs.Places.{Placed, placed}
 use Rattle.spv_bodies.specs.Rules.{rule_of}
 use Rattle.spv_bodies.proofs.TermLemmas.{both_written}
-use Rattle.spv_bodies.proofs.TestLemmas.{all_are, at_most, boolean, composed, declaring, equal, has_is, integer, itself, leading, less, one_more, opposite, present, runtime, some, void, word}
+use Rattle.spv_bodies.proofs.TestLemmas.{all_are, boolean, composed, declaring, equal, has_is, integer, leading, less, one_more, opposite, present, runtime, some, void, word}
+use Rattle.spv_base.proofs.Exports.{itself, at_most}
 
 -- ---- memory
 
@@ -222,13 +221,9 @@ none_breached k (p ∷ ps) kept = by_test (keeps_body k p) kept (none_breached k
     by_test true rest later = later rest
     by_test false rest later = impossible rest
 
-none_of : (rs : List Refusal) → unless_refused nothing rs ≡ Ok nothing → rs ≡ []
-none_of [] is = refl
-none_of (r ∷ rs) is = absurd (cc)
-
 pub kept_exactly : (ts : Types) (cs : Constants) (insts : List Inst) → (bodies_of ts cs insts ≡ Ok nothing) ↔ KeepRules (known_of ts cs insts) insts
 unfolding bodies_of
 kept_exactly ts cs insts =
     let k = known_of ts cs insts in
     let all = all_are (KeepsBody k) (keeps_body k) (body_decided k) (placed insts) in
-    (λ is. all.0 (kept_by_all k (placed insts) (none_of (body_breaches k (placed insts)) is)), λ kept. rw (none_breached k (placed insts) (all.1 kept)) refl)
+    (λ is. all.0 (kept_by_all k (placed insts) (none_refused (body_breaches k (placed insts)) is)), λ kept. rw (none_breached k (placed insts) (all.1 kept)) refl)

@@ -5,15 +5,15 @@ use Rattle.std.proofs.lemmas.Bool.Decides.{Decides-and, Decides-like}
 use Rattle.std.specs.Bool.{Decides}
 use Rattle.std.specs.Ordering.{is_eq}
 use Rattle.spv_index.specs.Keys.{pair_cmp}
-use Rattle.spv_index.proofs.KeyLemmas.{same_pair}
-use Rattle.spv_types.proofs.TableLemmas.{same_key}
-use Rattle.spv_types.proofs.SoundLemmas.{impossible}
+use Rattle.spv_index.proofs.Exports.{same_pair}
+use Rattle.spv_types.proofs.Exports.{impossible}
 use Rattle.spv_bodies.specs.declared.terms.Node.{Node}
 use Rattle.spv_bodies.specs.declared.terms.Node.TheVariants.{Number as Single, Pair as Double}
 use Rattle.spv_bodies.specs.Matching.{Number, Pair, Term, same_term, same_terms}
 use Rattle.spv_bodies.specs.Terms.{AreDistinct, Grows, IsClass, Makes}
 use Rattle.spv_bodies.specs.Classes.{same_class}
 use Rattle.spv_bodies.proofs.TestLemmas.{equal}
+use Rattle.spv_base.proofs.Exports.{is_eq-nat_cmp}
 
 -- ---- a node more
 
@@ -59,7 +59,7 @@ push_same xs x k true o n m e d old new =
 push_same xs x k false o n m e d old new = push_other xs x k o n (λ same. let t = d.1 same in absurd (grind arith)) (old n)
 
 pub singles : (a b : ℕ) → Decides (is_eq (nat_cmp a b)) (Single a ≡ Single b)
-singles a b = rw (same_key a b) (λ h. ap Single ((equal a b).0 h), λ h. let e : a ≡ b = cc in (equal a b).1 e)
+singles a b = rw (is_eq-nat_cmp a b) (λ h. ap Single ((equal a b).0 h), λ h. let e : a ≡ b = cc in (equal a b).1 e)
 
 pub doubles : (a b x y : ℕ) → Decides (is_eq (pair_cmp (a, b) (x, y))) (Double a b ≡ Double x y)
 doubles a b x y = rw (same_pair a b x y) (there (a == x) (b == y) refl refl, back)

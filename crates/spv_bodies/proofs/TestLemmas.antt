@@ -1,24 +1,21 @@
 -- What the tests of the rules of bodies say.
-use Rattle.std.proofs.Common.{◌≡◌, ℕ, ◌<◌, ◌≤◌, ◌==◌, Bool, true, false, List, ◌∷◌, Option, Some, None, refl, ap, arith}
+use Rattle.std.proofs.Common.{◌≡◌, ℕ, ◌<◌, ◌==◌, Bool, true, false, List, ◌∷◌, Option, Some, None, refl, ap, arith}
 use Rattle.std.proofs.lemmas.Bool.Decides.{Decides-and, Decides-by_and, Decides-like}
 use Rattle.std.proofs.lemmas.List.Elements.{All-cons, All-head, All-tail}
 use Rattle.std.specs.Bool.{Decides}
 use Rattle.std.specs.List.{All, list_all}
 use Rattle.std.specs.Option.{is_some, option_map_or}
-use Rattle.std.specs.Prelude.{◌&&◌, not, nat_le, nat_lt}
+use Rattle.std.specs.Prelude.{◌&&◌, not, nat_lt}
 use Rattle.spv_types.specs.declared.forms.Form.{Form}
 use Rattle.spv_types.specs.declared.forms.Form.TheVariants.{Void, Bool as Boolean, Int, Vector, Runtime, Pointer, Function}
 use Rattle.spv_types.specs.declared.queries.Components.{Components}
 use Rattle.spv_types.specs.declared.queries.Pointed.{Pointed}
 use Rattle.spv_types.specs.Rules.{is_runtime, is_word}
 use Rattle.spv_types.specs.Queries.{components_in, is_boolean, is_integer, is_void, parameters_in, pointee, return_type}
-use Rattle.spv_types.proofs.SoundLemmas.{impossible}
+use Rattle.spv_types.proofs.Exports.{impossible}
 use Rattle.spv_bodies.specs.Context.{IsInteger, IsPointerTo, IsVectorOf, has}
 
 -- ---- numbers and options
-
-pub itself : (b : Bool) → Decides b (b ≡ true)
-itself b = (λ h. h, λ h. h)
 
 pub opposite : (b : Bool) → Decides (not b) (b ≡ false)
 opposite true = (λ h. cc, λ h. cc)
@@ -29,9 +26,6 @@ equal n m = (λ h. grind arith, λ h. grind arith)
 
 pub less : (n m : ℕ) → Decides (nat_lt n m) (n < m)
 less n m = (λ h. grind arith, λ h. grind arith)
-
-pub at_most : (n m : ℕ) → Decides (nat_le n m) (n ≤ m)
-at_most n m = (λ h. grind arith, λ h. grind arith)
 
 pub some : {A : Type 0} (T : A → Type 0) (t : A → Bool) (o : Option A) → ((x : A) → Decides (t x) (T x)) → Decides (option_map_or t o false) ((x : A) × (o ≡ Some x) × T x)
 some {A = A} T t None d = (λ h. impossible h, λ r. none r)

@@ -1,8 +1,8 @@
 -- The rules of atomics and barriers (SPIR-V 1.6 sections 3.42.18 and 3.42.20, and this project's profile: an atomic is on one
 -- integer in StorageBuffer or Workgroup, scopes and semantics are constants, and a barrier's Execution is Workgroup).
-use Rattle.std.specs.Prelude.{◌≡◌, ◌⊎◌, ℕ, ◌==◌, ◌&&◌, ◌||◌, Bool, false, if◌then◌else◌, Option, Some, None}
+use Rattle.std.specs.Prelude.{◌≡◌, ◌⊎◌, ℕ, ◌==◌, ◌&&◌, ◌||◌, Bool, false, Option, Some}
 use Rattle.std.specs.Option.{option_and_then, option_map_or}
-use Rattle.spv_base.specs.Cell.{Cell}
+use Rattle.spv_base.specs.Cell.{defined_number}
 use Rattle.spv_base.specs.declared.instructions.Inst.{Inst}
 use Rattle.spv_types.specs.Types.{form_of}
 use Rattle.spv_types.specs.declared.queries.Pointed.{Pointed}
@@ -37,13 +37,9 @@ KeepsAtomicCompare k i =
     (p : Pointed) × PointsTo k i 0 p
     × (IsShared k p × ((p.target ≡ i.ty) × ((HasType k i 4 p.target × HasType k i 5 p.target) × (IsOrdered k i × IsConstantAt k i 3))))
 
--- the number of a scalar that is defined
-abbrev pub number_in : Cell → Option ℕ
-number_in c = if c.defined then Some c.bits else None
-
 -- the number of the constant with an id
 abbrev pub number_by : Known → ℕ → Option ℕ
-number_by k id = option_and_then number_in (scalar_of k.consts id)
+number_by k id = option_and_then defined_number (scalar_of k.consts id)
 
 -- the number of the constant at a place among the operands
 abbrev pub number_at : Known → Inst → ℕ → Option ℕ

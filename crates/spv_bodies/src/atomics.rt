@@ -4,7 +4,7 @@ ghost use Rattle.spv_bodies.specs.Atomics as spec;
 ghost use Rattle.spv_bodies.specs.Context.{is_constant_at};
 
 use crate::context::Context;
-use spv_base::{Cell, Inst};
+use spv_base::Inst;
 use spv_index::id_operand;
 use spv_ops::scope;
 use spv_ops::storage_class::{STORAGE_BUFFER, WORKGROUP};
@@ -81,18 +81,11 @@ pub fn keeps_atomic_compare(context: &Context, inst: &Inst) -> bool
     }
 }
 
-/// The number of a scalar that is defined.
-fn number_in(cell: Cell) -> Option<u64>
-    ensures { result ≡ spec.number_in cell }
-{
-    if cell.defined { Some(cell.bits) } else { None }
-}
-
 /// The number of the constant with an id.
 fn number_by(context: &Context, id: u32) -> Option<u64>
     ensures { result ≡ spec.number_by context.now id }
 {
-    number_in(context.consts().scalar(id)?)
+    context.consts().scalar(id)?.number()
 }
 
 /// The number of the constant at a place among the operands.

@@ -3,9 +3,8 @@ ghost use Rattle.std.specs.Prelude.{◌≡◌, option_copied};
 ghost use Rattle.spv_bodies.specs.Calls as spec;
 
 use crate::context::Context;
-use crate::operands::operands_from;
 use spv_base::{Inst, Operand};
-use spv_index::id_operand;
+use spv_index::{id_operand, operands_from};
 use spv_ops::op;
 use spv_types::Form;
 use spv_types::queries::{is_pointer, parameters_in, return_type};

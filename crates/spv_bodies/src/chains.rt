@@ -3,8 +3,8 @@ ghost use Rattle.std.specs.Prelude.{◌≡◌, option_copied};
 ghost use Rattle.spv_bodies.specs.Chains as spec;
 
 use crate::context::Context;
-use crate::operands::{id_in, operands_from};
 use spv_base::{Cell, Inst, Operand};
+use spv_index::{id_in, operands_from};
 use spv_ops::op::CONSTANT;
 use spv_types::Form;
 use spv_types::queries::{Pointed, is_integer, member_type, pointee};

@@ -5,8 +5,8 @@ ghost use Rattle.spv_bodies.specs.Composites as spec;
 ghost use Rattle.spv_bodies.specs.Context.{has, type_in};
 
 use crate::context::Context;
-use crate::operands::{literal_in, operands_from};
 use spv_base::{Inst, Operand};
+use spv_index::{literal_in, operands_from};
 use spv_types::queries::{Components, components_in, member_type};
 use spv_types::{Form, Member};
 use spv_typing::fitting::is_selectable;

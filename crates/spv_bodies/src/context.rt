@@ -4,10 +4,9 @@ ghost use Rattle.spv_index.specs.Definitions.{defining};
 ghost use Rattle.spv_types.specs.Types.{form_of};
 ghost use Rattle.spv_bodies.specs.Context as spec;
 
-use crate::operands::id_in;
 use spv_base::{Inst, Operand};
 use spv_consts::ConstTable;
-use spv_index::{Index, Table, id_operand};
+use spv_index::{Index, Table, id_in, id_operand};
 use spv_types::constants::is_constant;
 use spv_types::queries::{Pointed, is_integer, pointee};
 use spv_types::{Form, TypeTable};

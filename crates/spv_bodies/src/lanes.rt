@@ -34,7 +34,7 @@ fn extended_types_of(context: &Context, inst: &Inst) -> OperandTypes
 }
 
 /// Whether the operands of a lane-wise operation fit its result.
-#[tactic(auto, using(spv_typing::proofs::LawLemmas::fits_by))]
+#[tactic(auto, using(spv_typing::proofs::Exports::fits_by))]
 pub fn keeps_lanes(context: &Context, inst: &Inst) -> bool
     ensures { result ≡ spec.keeps_lanes context.now inst.now }
 {
@@ -49,7 +49,7 @@ fn is_debug(context: &Context, inst: &Inst) -> bool
 }
 
 /// Whether the operands of an instruction of GLSL.std.450 fit its result.
-#[tactic(auto, using(spv_typing::proofs::LawLemmas::fits_glsl_by))]
+#[tactic(auto, using(spv_typing::proofs::Exports::fits_glsl_by))]
 fn fits_number(context: &Context, inst: &Inst, number: u32) -> bool
     ensures { result ≡ spec.fits_number context.now inst.now number }
 {

@@ -13,7 +13,6 @@ mod lanes;
 mod laws;
 mod matching;
 mod memory;
-mod operands;
 mod rules;
 mod terms;
 mod within;

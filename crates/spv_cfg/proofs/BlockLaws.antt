@@ -16,9 +16,7 @@ use Rattle.spv_cfg.specs.Flow.{Flow}
 use Rattle.spv_cfg.specs.Laws.{HasFirst, HasNext}
 use Rattle.spv_cfg.proofs.Walks.{stand}
 use Rattle.spv_cfg.proofs.LayoutLemmas.{IsWhole, Led, block_goes_on, executables_from, stays_inside, whole_parts}
-
-pub same_number : (n : ℕ) → (n == n) ≡ true
-same_number n = grind arith
+use Rattle.spv_base.proofs.Exports.{same_number}
 
 pub reads_among : {X : Type 0} (front : List (ℕ × X)) (k : ℕ) (v : X) (more : List (ℕ × X)) → (w : X) × (reads k (front ++ (k, v) ∷ more) ≡ Some w)
 reads_among [] k v more = (v, rw (same_number k) refl)

@@ -4,12 +4,13 @@ use Rattle.spv_base.specs.declared.causes.Refusal.{Refusal}
 use Rattle.spv_base.specs.declared.instructions.Inst.{Inst}
 use Rattle.spv_index.specs.Classes.{sets_of}
 use Rattle.spv_index.specs.Positions.{outside}
-use Rattle.spv_cfg.specs.Lowest.{lowest, sooner}
+use Rattle.spv_base.specs.Lowest.{lower, lowest}
 use Rattle.spv_cfg.specs.Layout.{layout_breaches}
 use Rattle.spv_cfg.specs.Branches.{branch_breaches}
 use Rattle.spv_cfg.specs.Phis.{phi_breaches}
 use Rattle.spv_cfg.specs.Flow.{Flow, flow_in, flow_of, block_breaches, call_breaches, refusal, unless_refused}
-use Rattle.spv_cfg.proofs.LayoutLemmas.{IsWhole, nil_parts}
+use Rattle.spv_cfg.proofs.LayoutLemmas.{IsWhole}
+use Rattle.spv_base.proofs.Exports.{both_empty}
 
 pub accepted : (insts : List Inst) (block call : Option ℕ) (flow : Flow) → block ≡ lowest (block_breaches insts) → call ≡ lowest (call_breaches insts)
     → None ≡ refusal block call → flow ≡ flow_in insts → flow_of insts ≡ Ok flow
@@ -22,7 +23,7 @@ lowest-none : (words : List ℕ) → lowest words ≡ None → words ≡ []
 lowest-none [] none = refl
 lowest-none (word ∷ words) none = some (lowest words) none
   where
-    some : (o : Option ℕ) → sooner (Some word) o ≡ None → word ∷ words ≡ []
+    some : (o : Option ℕ) → lower (Some word) o ≡ None → word ∷ words ≡ []
     some None e = cc
     some (Some other) e = cc
 
@@ -43,8 +44,8 @@ pub flow_accepted : (insts : List Inst) (f : Flow) → flow_of insts ≡ Ok f �
 unfolding flow_of
 flow_accepted insts f is =
     let none = none_refused (lowest (block_breaches insts)) (lowest (call_breaches insts)) (flow_in insts) f is in
-    let blocks = nil_parts (layout_breaches insts) _ (lowest-none (block_breaches insts) none.0) in
-    let rest = nil_parts (branch_breaches insts) (phi_breaches insts) blocks.1 in
+    let blocks = both_empty (layout_breaches insts) _ (lowest-none (block_breaches insts) none.0) in
+    let rest = both_empty (branch_breaches insts) (phi_breaches insts) blocks.1 in
     record {
       whole = blocks.0;
       branches = rest.0;

@@ -14,14 +14,16 @@ use Rattle.spv_index.specs.Classes.{is_debug, is_local, class_of, classes}
 use Rattle.spv_index.specs.Positions.{Stand, stands, begins, position_after}
 use Rattle.spv_cfg.specs.Executables.{executable_of}
 use Rattle.spv_cfg.specs.Branches.{Home, label_of}
-use Rattle.spv_cfg.specs.Calls.{depths, function_of, functions_of, lengths, limit, longest, over, too_deep}
+use Rattle.spv_cfg.specs.Calls.{depths, function_of, functions_of, over, too_deep}
+use Rattle.spv_cfg.specs.Chains.{lengths, limit, longest}
 use Rattle.spv_cfg.specs.Flow.{Flow}
 use Rattle.spv_cfg.specs.Laws.{HasDepth, HasFirstBlock}
-use Rattle.spv_cfg.proofs.Chains.{longest-suc}
+use Rattle.spv_cfg.proofs.ChainLemmas.{heaviest-suc, longest-heaviest}
 use Rattle.spv_cfg.proofs.Walks.{stand}
-use Rattle.spv_cfg.proofs.LayoutLemmas.{Begun, IsWhole, executables_from, function_begins, nil_parts, whole_parts}
-use Rattle.spv_cfg.proofs.BlockLaws.{first_among, one_further, same_number}
+use Rattle.spv_cfg.proofs.LayoutLemmas.{Begun, IsWhole, executables_from, function_begins, whole_parts}
+use Rattle.spv_cfg.proofs.BlockLaws.{first_among, one_further}
 use Rattle.spv_cfg.proofs.TargetLaws.{all_from_test}
+use Rattle.spv_base.proofs.Exports.{same_number, both_empty}
 
 -- ---- an OpFunction is told by its opcode
 
@@ -82,17 +84,17 @@ not_over word n none = by_test (nat_lt 64 n) refl none
     by_test false is e = ltb-false 64 n is
 
 at_least_one : (calls : List (ℕ × ℕ)) (k : ℕ) → 1 ≤ longest limit calls k
-at_least_one calls k = rw (longest-suc 64 calls k) (omega arith)
+at_least_one calls k = rw (longest-heaviest 65 calls k, heaviest-suc 64 (λ g. 1) calls k) (omega arith)
 
 deep_among : (calls : List (ℕ × ℕ)) (k : ℕ) (front rest : List (ℕ × ℕ)) (id word : ℕ)
     → too_deep (front ++ (id, word) ∷ rest) (lengths calls k (length (front ++ (id, word) ∷ rest))) ≡ []
     → Deep id (depths (front ++ (id, word) ∷ rest) (lengths calls k (length (front ++ (id, word) ∷ rest))))
 deep_among calls k [] rest id word none =
-    let parts = nil_parts (over word (longest limit calls k)) _ none in
+    let parts = both_empty (over word (longest limit calls k)) _ none in
     (longest limit calls k, rw (same_number id) refl, at_least_one calls k, not_over word (longest limit calls k) parts.0)
 deep_among calls k (e ∷ front) rest id word none =
     let all : List (ℕ × ℕ) = front ++ (id, word) ∷ rest in
-    let parts = nil_parts (over e.1 (longest limit calls k)) (too_deep all (lengths calls (suc k) (length all))) none in
+    let parts = both_empty (over e.1 (longest limit calls k)) (too_deep all (lengths calls (suc k) (length all))) none in
     by_key (e.0 == id) (at_least_one calls k) (not_over e.1 (longest limit calls k) parts.0) (deep_among calls (suc k) front rest id word parts.1)
   where
     by_key : (b : Bool) → 1 ≤ longest limit calls k → longest limit calls k ≤ 64

@@ -13,10 +13,7 @@ use Rattle.spv_cfg.specs.Executables.{executable_of}
 use Rattle.spv_cfg.specs.Layout.{layout_breach, lacking, unended, unfinished}
 use Rattle.spv_cfg.specs.Branches.{Home, label_of}
 use Rattle.spv_cfg.proofs.Walks.{stand}
-
-pub nil_parts : {X : Type 0} (xs ys : List X) → xs ++ ys ≡ [] → (xs ≡ []) × (ys ≡ [])
-nil_parts [] ys h = (refl, h)
-nil_parts (x ∷ xs) ys h = absurd (cc)
+use Rattle.spv_base.proofs.Exports.{both_empty}
 
 -- no breach of the layout in instructions, of which the first stands at a position, nor behind them
 abbrev pub IsWhole : List (ℕ × Bool) → Position → List Inst → Type 0
@@ -24,7 +21,7 @@ IsWhole sets position insts = flat_map layout_breach (stands sets position insts
 
 pub whole_parts : (sets : List (ℕ × Bool)) (position : Position) (inst : Inst) (insts : List Inst) → IsWhole sets position (inst ∷ insts)
     → (layout_breach (stand sets position inst) ≡ []) × IsWhole sets (position_after position (class_of sets inst) inst) insts
-whole_parts sets position inst insts h = nil_parts (layout_breach (stand sets position inst)) _ (sym (append_assoc (layout_breach (stand sets position inst)) _ _) ∙ h)
+whole_parts sets position inst insts h = both_empty (layout_breach (stand sets position inst)) _ (sym (append_assoc (layout_breach (stand sets position inst)) _ _) ∙ h)
 
 -- ---- a block goes on to its terminator
 
@@ -48,10 +45,10 @@ led_by_class : (r : Class) (position : Position) (inst : Inst) (es : List (ℕ �
     → layout_breach (record { position = position; class = r; inst = inst }) ≡ []
     → (in_block (position_after position r inst).stage ≡ true → Led (position_after position r inst).label es)
     → Led position.label (executable_of (record { position = position; class = r; inst = inst }) ++ es)
-led_by_class Function position inst es inside whole behind = absurd (not_reported (in_block position.stage) position.block_word inside (nil_parts (unended position Function) _ whole).0)
+led_by_class Function position inst es inside whole behind = absurd (not_reported (in_block position.stage) position.block_word inside (both_empty (unended position Function) _ whole).0)
 led_by_class Parameter position inst es inside whole behind = behind inside
-led_by_class End position inst es inside whole behind = absurd (not_reported (in_block position.stage) position.block_word inside (nil_parts (unended position End) _ whole).0)
-led_by_class Label position inst es inside whole behind = absurd (not_reported (in_block position.stage) position.block_word inside (nil_parts (unended position Label) _ whole).0)
+led_by_class End position inst es inside whole behind = absurd (not_reported (in_block position.stage) position.block_word inside (both_empty (unended position End) _ whole).0)
+led_by_class Label position inst es inside whole behind = absurd (not_reported (in_block position.stage) position.block_word inside (both_empty (unended position Label) _ whole).0)
 led_by_class Line position inst es inside whole behind = behind inside
 led_by_class Phi position inst es inside whole behind = behind inside
 led_by_class Variable position inst es inside whole behind = behind (stays_inside (among_variables position.stage) Variables position.stage refl inside)
@@ -61,7 +58,7 @@ led_by_class Executable position inst es inside whole behind = rw inside (inst.w
 
 pub block_goes_on : (sets : List (ℕ × Bool)) (position : Position) (insts : List Inst) → IsWhole sets position insts → in_block position.stage ≡ true
     → Led position.label (executables_from sets position insts)
-block_goes_on sets position [] whole inside = absurd (not_reported (in_block position.stage) position.block_word inside (nil_parts (unended position Function) (lacking position Function) whole).0)
+block_goes_on sets position [] whole inside = absurd (not_reported (in_block position.stage) position.block_word inside (both_empty (unended position Function) (lacking position Function) whole).0)
 block_goes_on sets position (inst ∷ insts) whole inside =
     let parts = whole_parts sets position inst insts whole in
     led_by_class (class_of sets inst) position inst (executables_from sets (position_after position (class_of sets inst) inst) insts) inside parts.0

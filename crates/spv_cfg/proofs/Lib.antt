@@ -1,10 +1,10 @@
-pub mod LowestLemmas
-pub mod Walks
-pub mod Orders
-pub mod Chains
-pub mod LayoutLemmas
-pub mod FlowLemmas
-pub mod BlockLaws
-pub mod TargetLaws
-pub mod FunctionLaws
-pub mod LongestChains
+mod Walks
+mod Orders
+mod ChainLemmas
+mod LayoutLemmas
+mod FlowLemmas
+mod BlockLaws
+mod TargetLaws
+mod FunctionLaws
+mod LongestChains
+pub mod Exports

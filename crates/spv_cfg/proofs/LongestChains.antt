@@ -1,9 +1,9 @@
--- The longest chains of calls are chains, and no chain is longer; chains through a cycle have any length.
+-- The heaviest chains of calls are chains, and no chain is heavier; so are the longest; chains through a cycle have any length.
 use Rattle.std.proofs.Common.{◌≡◌, ◌<◌, ◌≤◌, ◌+◌, ℕ, zero, suc, List, [], ◌∷◌, ◌++◌, length, take, max, eqb, cond, inl, inr, ◌⊎◌, ⊎_elim, subst, refl, sym, ap, arith, true, false, length-append}
 use Rattle.std.proofs.lemmas.Bool.{cases_lt, cases_Bool, eq-eqb, eqb-true}
 use Rattle.std.specs.List.{Contains}
-use Rattle.spv_cfg.specs.Calls.{most, longest, limit, IsChain, IsLongest}
-use Rattle.spv_cfg.proofs.Chains.{longest-suc, longest-le, most-le}
+use Rattle.spv_cfg.specs.Chains.{IsChain, IsHeaviest, IsLongest, chain_weight, heaviest, limit, longest, most}
+use Rattle.spv_cfg.proofs.ChainLemmas.{heaviest-suc, heaviest-zero, longest-heaviest, longest-le, most-le}
 
 pub most-ge : (level : ℕ → ℕ) (f g : ℕ) (calls : List (ℕ × ℕ)) → Contains calls (f, g) → level g ≤ most level f calls
 most-ge level f g [] (k, lt, is) = absurd (omega arith)
@@ -39,28 +39,40 @@ most-comes level f (call ∷ calls) =
     (λ (no : eqb call.0 f ≡ false). let same : max (cond (eqb call.0 f) (level call.1) 0) rest ≡ rest = rw no (omega arith) in subst P (sym same) later)
     (cases_Bool (eqb call.0 f))
 
--- a chain of the longest length
-pub longest_is_reached : (k : ℕ) (calls : List (ℕ × ℕ)) (f : ℕ) → (chain : List ℕ) × IsChain calls f chain × (suc (length chain) ≡ longest (suc k) calls f)
-longest_is_reached zero calls f =
-    let none : most (λ g. longest zero calls g) f calls ≤ 0 = most-le (λ g. longest zero calls g) 0 f calls (λ g. longest-le zero calls g) in
-    ([], tt, rw longest-suc (omega arith))
-longest_is_reached (suc k) calls f =
+-- a chain of the heaviest weight
+heaviest_is_reached : (k : ℕ) (weigh : ℕ → ℕ) (calls : List (ℕ × ℕ)) (f : ℕ)
+    → (chain : List ℕ) × IsChain calls f chain × (chain_weight weigh f chain ≡ heaviest (suc k) weigh calls f)
+heaviest_is_reached zero weigh calls f =
+    let none : most (λ g. heaviest zero weigh calls g) f calls ≤ 0 = most-le (λ g. heaviest zero weigh calls g) 0 f calls (λ g. rw heaviest-zero (omega arith)) in
+    ([], tt, rw heaviest-suc (omega arith))
+heaviest_is_reached (suc k) weigh calls f =
     ⊎_elim
-    (λ (none : most (λ g. longest (suc k) calls g) f calls ≡ 0). ([], tt, rw longest-suc (omega arith)))
+    (λ (none : most (λ g. heaviest (suc k) weigh calls g) f calls ≡ 0). ([], tt, rw heaviest-suc (omega arith)))
     (λ (g, has, same).
-    let behind = longest_is_reached k calls g in
-    (g ∷ behind.0, (has, behind.1), rw longest-suc (omega (arith, behind.2, same))))
-    (most-comes (λ g. longest (suc k) calls g) f calls)
+    let behind = heaviest_is_reached k weigh calls g in
+    (g ∷ behind.0, (has, behind.1), rw heaviest-suc (omega (arith, behind.2, same))))
+    (most-comes (λ g. heaviest (suc k) weigh calls g) f calls)
 
--- no chain is longer
-pub chain_is_bounded : (k : ℕ) (calls : List (ℕ × ℕ)) (f : ℕ) (chain : List ℕ) → IsChain calls f chain → suc (length chain) ≤ k → suc (length chain) ≤ longest k calls f
-chain_is_bounded zero calls f chain is_chain le = absurd (omega arith)
-chain_is_bounded (suc k) calls f [] is_chain le = rw longest-suc (omega arith)
-chain_is_bounded (suc k) calls f (g ∷ more) (has, rest) le =
+-- no chain is heavier
+chain_is_no_heavier : (k : ℕ) (weigh : ℕ → ℕ) (calls : List (ℕ × ℕ)) (f : ℕ) (chain : List ℕ) → IsChain calls f chain → suc (length chain) ≤ k
+    → chain_weight weigh f chain ≤ heaviest k weigh calls f
+chain_is_no_heavier zero weigh calls f chain is_chain le = absurd (omega arith)
+chain_is_no_heavier (suc k) weigh calls f [] is_chain le = rw heaviest-suc (omega arith)
+chain_is_no_heavier (suc k) weigh calls f (g ∷ more) (has, rest) le =
     let few : suc (length more) ≤ k = omega arith in
-    let behind : suc (length more) ≤ longest k calls g = chain_is_bounded k calls g more rest few in
-    let callee : longest k calls g ≤ most (λ h. longest k calls h) f calls = most-ge (λ h. longest k calls h) f g calls has in
-    rw longest-suc (omega arith)
+    let behind : chain_weight weigh g more ≤ heaviest k weigh calls g = chain_is_no_heavier k weigh calls g more rest few in
+    let callee : heaviest k weigh calls g ≤ most (λ h. heaviest k weigh calls h) f calls = most-ge (λ h. heaviest k weigh calls h) f g calls has in
+    rw heaviest-suc (omega arith)
+
+-- where each function weighs 1, a chain weighs its length
+weight_is_length : (f : ℕ) (chain : List ℕ) → chain_weight (λ g. 1) f chain ≡ suc (length chain)
+weight_is_length f [] = refl
+weight_is_length f (g ∷ more) = let rest = weight_is_length g more in omega arith
+
+chain_is_bounded : (k : ℕ) (calls : List (ℕ × ℕ)) (f : ℕ) (chain : List ℕ) → IsChain calls f chain → suc (length chain) ≤ k → suc (length chain) ≤ longest k calls f
+chain_is_bounded k calls f chain is_chain le =
+    let bound = chain_is_no_heavier k (λ g. 1) calls f chain is_chain le in
+    rw (longest-heaviest, ← weight_is_length f chain) bound
 
 IsChain-take : (n : ℕ) (calls : List (ℕ × ℕ)) (f : ℕ) (chain : List ℕ) → IsChain calls f chain → IsChain calls f (take n chain)
 IsChain-take zero calls f chain is_chain = tt
@@ -80,23 +92,35 @@ long_is_refused calls f chain is_chain lt =
     let bound = chain_is_bounded 65 calls f (take 64 chain) (IsChain-take 64 calls f chain is_chain) few in
     omega arith
 
-pub longest_is_longest : (calls : List (ℕ × ℕ)) (f : ℕ) → longest limit calls f ≤ 64 → IsLongest calls f (longest limit calls f)
-longest_is_longest calls f le =
-    let reached = longest_is_reached 64 calls f in
+pub heaviest_is_heaviest : (weigh : ℕ → ℕ) (calls : List (ℕ × ℕ)) (f : ℕ) → longest limit calls f ≤ 64 → IsHeaviest weigh calls f (heaviest limit weigh calls f)
+heaviest_is_heaviest weigh calls f le =
+    let reached = heaviest_is_reached 64 weigh calls f in
     record {
       chain = reached.0;
       is_chain = reached.1;
-      functions = reached.2;
-      most_functions = λ other is_other. ⊎_elim
+      weight = reached.2;
+      most_weight = λ other is_other. ⊎_elim
           (λ (long : 64 < suc (length other)). let refused = long_is_refused calls f other is_other long in absurd (omega arith))
-          (λ (few : suc (length other) ≤ 64). let fewer : suc (length other) ≤ 65 = omega arith in chain_is_bounded 65 calls f other is_other fewer)
+          (λ (few : suc (length other) ≤ 64). let fewer : suc (length other) ≤ 65 = omega arith in chain_is_no_heavier 65 weigh calls f other is_other fewer)
           (cases_lt 64 (suc (length other)));
+    }
+
+pub longest_is_longest : (calls : List (ℕ × ℕ)) (f : ℕ) → longest limit calls f ≤ 64 → IsLongest calls f (longest limit calls f)
+longest_is_longest calls f le =
+    let heaviest_is = heaviest_is_heaviest (λ g. 1) calls f le in
+    record {
+      chain = heaviest_is.chain;
+      is_chain = heaviest_is.is_chain;
+      functions = rw (longest-heaviest, ← weight_is_length f heaviest_is.chain) heaviest_is.weight;
+      most_functions = λ other is_other. rw (longest-heaviest, ← weight_is_length f other) (heaviest_is.most_weight other is_other);
     }
 
 pub long_is_reached : (calls : List (ℕ × ℕ)) (f : ℕ) → 64 < longest limit calls f → (chain : List ℕ) × IsChain calls f chain × (suc (length chain) ≡ 65)
 long_is_reached calls f lt =
-    let reached = longest_is_reached 64 calls f in
+    let reached = heaviest_is_reached 64 (λ g. 1) calls f in
     let bound = longest-le 65 calls f in
+    let same = longest-heaviest 65 calls f in
+    let functions = weight_is_length f reached.0 in
     (reached.0, reached.1, omega (arith, reached.2, bound))
 
 -- ---- cycles

@@ -1,13 +1,11 @@
 -- Pairs of numbers that an order finds equal.
-use Rattle.std.proofs.Common.{◌≡◌, ◌+◌, ◌&&◌, ◌||◌, ◌∙◌, ℕ, Bool, true, false, cond, List, ◌∷◌, ◌<◌, length, get_or, max, add_comm, zero-add, sym, ⊎_elim, Option, Some, eqb, refl, ap, arith}
+use Rattle.std.proofs.Common.{◌≡◌, ◌+◌, ◌&&◌, ◌||◌, ◌∙◌, ℕ, Bool, true, false, cond, List, ◌∷◌, add_comm, zero-add, sym, ⊎_elim, Option, Some, eqb, refl, ap}
 use Rattle.std.specs.Option.{unwrap_or}
 use Rattle.std.specs.List.{count_by}
-use Rattle.std.proofs.lemmas.Grind.{common_steps}
-use Rattle.std.specs.Ordering.{nat_cmp, ordering_then, is_eq, ord_max}
+use Rattle.std.specs.Ordering.{nat_cmp, ordering_then, is_eq}
 use Rattle.std.proofs.lemmas.Bool.{cases_eq, eq-eqb, ne_eqb}
-use Rattle.std.proofs.lemmas.List.{get_or_read}
 use Rattle.std.proofs.lemmas.List.Sums.{sum_by-cons}
-use Rattle.spv_base.proofs.OrderLemmas.{is_eq-nat_cmp, is_eq-pair}
+use Rattle.spv_base.proofs.Exports.{is_eq-nat_cmp, is_eq-pair}
 
 -- one more pair in a set
 pub pair_step : (new old : Bool) (a b t s : ℕ) → new ≡ cond (is_eq (ordering_then (nat_cmp a t) (nat_cmp b s))) true old
@@ -36,10 +34,3 @@ count_step edges t s q n old new is before here =
     let new_is : new ≡ old = test ∙ rw no refl in
     rw (more, no, new_is) (before ∙ sym (zero-add _)))
     (cases_eq t q)
-
-pub ord_max-nat : (x y : ℕ) → ord_max nat_cmp x y ≡ max x y
-ord_max-nat x y = grind (arith, common_steps)
-
--- the greater of what was read and another number
-pub max_read : (l : List ℕ) (a x n m : ℕ) → a < length l → x ≡ get_or l a x → m ≡ ord_max nat_cmp x n → m ≡ max (get_or l a 0) n
-max_read l a x n m lt is max_is = max_is ∙ ord_max-nat x n ∙ ap (λ (z : ℕ). max z n) (get_or_read l a x lt is 0)

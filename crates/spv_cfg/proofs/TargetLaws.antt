@@ -1,6 +1,7 @@
 -- Each label that a terminator may go to is one of its function, and its block has a first executable.
 use Rattle.std.proofs.Common.{◌≡◌, ◌==◌, ℕ, Bool, true, false, not, cond, List, [], ◌∷◌, ◌&&◌, Some, None, refl, subst}
 use Rattle.std.proofs.lemmas.Bool.{eqb-true}
+use Rattle.spv_base.proofs.Exports.{both_empty}
 use Rattle.std.specs.List.{AllByRecursion, flat_map, list_all}
 use Rattle.spv_index.specs.Classes.{is_label, is_terminator}
 use Rattle.spv_index.specs.Positions.{Stand, in_block, in_function, is_head, stand_of, standing, stands_of}
@@ -11,7 +12,6 @@ use Rattle.std.specs.Option.{option_map}
 use Rattle.spv_cfg.specs.Branches.{branch_breach, has_targets, is_branch_right, is_later_block_of, is_target, selector_width, stands_so, targets_of}
 use Rattle.spv_cfg.specs.Flow.{Flow}
 use Rattle.spv_cfg.specs.Laws.{HasFirst, IsEntered}
-use Rattle.spv_cfg.proofs.LayoutLemmas.{nil_parts}
 
 -- the label that stands so is one of a block, and its block has a first executable, as each block of a function has
 label_entered : (f : Flow) (function label : ℕ) (stood : List Stand)
@@ -42,7 +42,7 @@ all_from_test {X} test P holds (x ∷ xs) passed = by_test (test x) (holds x) (a
     by_test false here later is = absurd (cc)
 
 -- a branch is right where no breach of it is reported
-right_from_none : (ends right : Bool) (word : ℕ) → ends ≡ true → cond (ends && not right) (word ∷ []) [] ≡ [] → right ≡ true
+pub right_from_none : (ends right : Bool) (word : ℕ) → ends ≡ true → cond (ends && not right) (word ∷ []) [] ≡ [] → right ≡ true
 right_from_none true true word ends none = refl
 right_from_none true false word ends none = cc
 right_from_none false right word ends none = cc
@@ -61,7 +61,7 @@ pub branches_are_entered : (f : Flow) (insts : List Inst) (stood : List Stand) �
     → (has_targets s.inst ≡ true) × AllByRecursion (IsEntered insts f s.position.function) (targets_of (selector_width insts s.inst) s.inst)) stood
 branches_are_entered f insts [] first none = tt
 branches_are_entered f insts (s ∷ more) first none =
-    let parts = nil_parts (branch_breach insts s) (flat_map (branch_breach insts) more) none in
+    let parts = both_empty (branch_breach insts s) (flat_map (branch_breach insts) more) none in
     let width : ℕ = selector_width insts s.inst in (
       λ ends.
           let right = right_from_none (is_terminator s.class && in_block s.position.stage) (is_branch_right insts width s.position.function s.inst) s.inst.word ends parts.0 in

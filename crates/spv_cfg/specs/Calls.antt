@@ -1,6 +1,6 @@
--- Chains of calls: which function calls which, and how long a chain of calls may become.
-use Rattle.std.specs.Prelude.{◌≡◌, ◌≤◌, length, ℕ, zero, suc, List, [], ◌∷◌, ◌++◌, ◌==◌, ◌&&◌, nat_lt, if◌then◌else◌, Option, Some, None, max}
-use Rattle.std.specs.List.{flat_map, Contains}
+-- Which function calls which, and which of them are too deep.
+use Rattle.std.specs.Prelude.{ℕ, suc, List, [], ◌∷◌, ◌++◌, ◌==◌, ◌&&◌, nat_lt, if◌then◌else◌, Option, Some, None}
+use Rattle.std.specs.List.{flat_map}
 use Rattle.std.specs.Option.{option_and_then}
 use Rattle.spv_base.specs.Entries.{reads}
 use Rattle.spv_base.specs.declared.instructions.Inst.{Inst}
@@ -46,25 +46,6 @@ pub record Calls : Type 0 where
 abbrev pub calls_in : List Inst → Calls
 calls_in insts = record { functions = functions_of insts; list = calls_of insts }
 
--- the most that a callee of a function has
-abbrev pub most : (ℕ → ℕ) → ℕ → List (ℕ × ℕ) → ℕ
-most level f [] = 0
-most level f (call ∷ calls) = max (if call.0 == f then level call.1 else 0) (most level f calls)
-
--- the length of the longest chain of calls from a function, of the chains of at most k functions
-unfoldable pub longest : ℕ → List (ℕ × ℕ) → ℕ → ℕ
-longest zero calls f = 0
-longest (suc k) calls f = suc (most (λ g. longest k calls g) f calls)
-
--- a chain of more than 64 functions is one too many; a cycle gives chains of any length
-abbrev pub limit : ℕ
-limit = 65
-
--- these lengths for the functions from number k on, as many as n
-abbrev pub lengths : List (ℕ × ℕ) → ℕ → ℕ → List ℕ
-lengths calls k zero = []
-lengths calls k (suc n) = longest limit calls k ∷ lengths calls (suc k) n
-
 -- the functions, each with the length of its longest chain
 abbrev pub depths : List (ℕ × ℕ) → List ℕ → List (ℕ × ℕ)
 depths [] ns = []
@@ -80,17 +61,3 @@ abbrev pub too_deep : List (ℕ × ℕ) → List ℕ → List ℕ
 too_deep [] ns = []
 too_deep (f ∷ fs) [] = []
 too_deep (f ∷ fs) (n ∷ ns) = over f.1 n ++ too_deep fs ns
-
--- ---- what longest means
-
--- functions after a first one, each of which the one before calls
-abbrev pub IsChain : List (ℕ × ℕ) → ℕ → List ℕ → Type 0
-IsChain calls f [] = Unit {0}
-IsChain calls f (g ∷ more) = Contains calls (f, g) × IsChain calls g more
-
--- a chain from a function has n functions with this one, and no chain from it has more
-pub record IsLongest (calls : List (ℕ × ℕ)) (f n : ℕ) : Type 0 where
-  pub chain : List ℕ
-  pub is_chain : IsChain calls f chain
-  pub functions : suc (length chain) ≡ n
-  pub most_functions : (other : List ℕ) → IsChain calls f other → suc (length other) ≤ n

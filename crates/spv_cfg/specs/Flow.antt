@@ -3,11 +3,12 @@ use Rattle.std.specs.Prelude.{ℕ, length, List, ◌++◌, Option, Some, None, R
 use Rattle.spv_base.specs.declared.causes.Refusal.{Refusal}
 use Rattle.spv_base.specs.declared.instructions.Inst.{Inst}
 use Rattle.spv_cfg.specs.Executables.{executables_of, followers_of}
-use Rattle.spv_cfg.specs.Lowest.{lowest}
+use Rattle.spv_base.specs.Lowest.{lowest}
 use Rattle.spv_cfg.specs.Layout.{layout_breaches}
 use Rattle.spv_cfg.specs.Branches.{branch_breaches}
 use Rattle.spv_cfg.specs.Phis.{phi_breaches}
-use Rattle.spv_cfg.specs.Calls.{Calls, functions_of, calls_of, calls_in, lengths, depths, too_deep}
+use Rattle.spv_cfg.specs.Calls.{Calls, functions_of, calls_of, calls_in, depths, too_deep}
+use Rattle.spv_cfg.specs.Chains.{lengths}
 
 -- The executables, each with the label of its block before it; the executables, each with the one after it in its block;
 -- the functions, each with the length of the longest chain of calls from it; and the calls.

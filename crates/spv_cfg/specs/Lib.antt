@@ -1,9 +1,9 @@
 pub mod Executables
-pub mod Lowest
 pub mod Layout
 pub mod Operands
 pub mod Branches
 pub mod Phis
+pub mod Chains
 pub mod Calls
 pub mod Flow
 pub mod Laws

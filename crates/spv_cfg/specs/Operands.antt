@@ -1,4 +1,4 @@
--- The ids and the literal words among some operands, in their order.
+-- Which operands are ids and which are literal words, and the literal words among some operands, in their order.
 use Rattle.std.specs.Prelude.{ℕ, Bool, List}
 use Rattle.std.specs.List.{flat_map}
 use Rattle.std.specs.Option.{is_some, option_to_list}
@@ -10,9 +10,6 @@ is_name o = is_some (id_in o)
 
 abbrev pub is_literal : Operand → Bool
 is_literal o = is_some (literal_in o)
-
-abbrev pub ids_in : List Operand → List ℕ
-ids_in operands = flat_map (λ o. option_to_list (id_in o)) operands
 
 abbrev pub literals_in : List Operand → List ℕ
 literals_in operands = flat_map (λ o. option_to_list (literal_in o)) operands

@@ -3,8 +3,9 @@ use Rattle.std.specs.Prelude.{ℕ, Bool, not, List, [], ◌∷◌, ◌++◌, ◌
 use Rattle.std.specs.List.{flat_map, filter, list_any, list_all, count_by}
 use Rattle.spv_base.specs.declared.instructions.Inst.{Inst}
 use Rattle.spv_index.specs.Classes.{is_phi, is_terminator}
+use Rattle.spv_index.specs.Operands.{ids_in}
 use Rattle.spv_index.specs.Positions.{Stand, in_block, stands_of}
-use Rattle.spv_cfg.specs.Operands.{ids_in, is_name}
+use Rattle.spv_cfg.specs.Operands.{is_name}
 use Rattle.spv_cfg.specs.Branches.{is_within, targets_of, selector_width, cases_by_word, are_distinct}
 
 -- each number once

@@ -2,13 +2,12 @@
 ghost use Rattle.std.specs.Prelude.{◌≡◌, ◌==◌, ◌++◌, IfOk, true, if◌then◌else◌};
 ghost use Rattle.std.specs.List.{flat_map, list_all};
 ghost use Rattle.std.specs.Option.{option_to_list};
-ghost use Rattle.spv_cfg.specs.Lowest.{lowest};
+ghost use Rattle.spv_base.specs.Lowest.{lowest};
 ghost use Rattle.spv_cfg.specs.Branches as spec;
 
 use crate::labels::{is_target, selector_width};
-use crate::lowest::sooner;
 use crate::switches::{is_switch_right, label_list, switch_targets};
-use spv_base::{Inst, NoMemory};
+use spv_base::{Inst, NoMemory, lower};
 use spv_index::classes::Class;
 use spv_index::positions::Position;
 use spv_index::stands::Stands;
@@ -122,7 +121,7 @@ pub fn branch_breach(alloc: Global, index: &Index, stands: &Stands) -> Result<Op
     for n in 0..stands.len() {
         let stand = stands.at(n);
         let next = breach_at(alloc, index, stand.position, stand.class, stand.inst)?;
-        least = sooner(least, next);
+        least = lower(least, next);
     }
     Ok(least)
 }

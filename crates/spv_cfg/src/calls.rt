@@ -1,12 +1,14 @@
-//! Chains of calls: which function calls which, and how long a chain of calls may become.
-ghost use Rattle.std.specs.Prelude.{◌≡◌, ◌<◌, ◌≤◌, ◌++◌, ◌∷◌, [], List, ℕ, suc, IfOk, IfSome, length, slice_index};
+//! Which function calls which, and which chains of calls are too long.
+ghost use Rattle.std.specs.Prelude.{◌≡◌, ◌<◌, ℕ, IfOk, IfSome, length, slice_index};
 ghost use Rattle.std.specs.List.{All, flat_map};
 ghost use Rattle.spv_base.specs.Entries.{reads};
-ghost use Rattle.spv_cfg.specs.Lowest.{lowest};
+ghost use Rattle.spv_base.specs.Lowest.{lowest};
+ghost use Rattle.spv_base.specs.Saturation.{saturated};
 ghost use Rattle.spv_cfg.specs.Calls as spec;
+ghost use Rattle.spv_cfg.specs.Chains as chains;
 
-use crate::lowest::sooner;
-use spv_base::{Inst, NoMemory};
+use crate::chains::{most_called, sums};
+use spv_base::{Inst, NoMemory, lower};
 use spv_index::stands::Stands;
 use spv_index::{Index, Table, id_operand};
 use spv_ops::op;
@@ -91,44 +93,6 @@ fn calls_among(
     Ok(calls)
 }
 
-/// The longest chains of one function more, from those of the callees.
-fn one_more(alloc: Global, calls: &[(usize, usize)], lengths: &[u32]) -> Result<Vec<u32>, NoMemory>
-    requires numbers { All (λ call. (call.0 < length lengths.now) × (call.1 < length lengths.now)) calls.now }
-    requires small { (f : ℕ) → slice_index lengths.now f ≤ 64 }
-    ensures len { IfOk result (λ longer. length longer.items ≡ length lengths.now) }
-    ensures longer { IfOk result (λ longer. (f : ℕ) → f < length lengths.now → slice_index longer.items f ≡ suc (spec.most (λ g. slice_index lengths.now g) f calls.now)) }
-{
-    let mut longer = vec![in alloc; 1; lengths.len()]?;
-    let mut i = calls.len();
-    'back: while i > 0 {
-        i -= 1;
-        let caller = calls[i].0;
-        let length = lengths[calls[i].1] + 1;
-        longer[caller] = longer[caller].max(length);
-    }
-    Ok(longer)
-}
-
-/// For each number below count the length of the longest chain of calls from it, of the chains of at most 65 functions.
-fn longest_chains(
-    alloc: Global,
-    calls: &[(usize, usize)],
-    count: usize,
-) -> Result<Vec<u32>, NoMemory>
-    requires { All (λ call. (call.0 < count) × (call.1 < count)) calls.now }
-    ensures lengths { IfOk result (λ lengths. lengths.items ≡ spec.lengths calls.now 0 count) }
-    ensures len { IfOk result (λ lengths. length lengths.items ≡ count) }
-{
-    let mut lengths = vec![in alloc; 0; count]?;
-    let mut most: u32 = 0;
-    'longer: while most < 65 {
-        let longer = one_more(alloc, calls, lengths.as_slice())?;
-        lengths = longer;
-        most += 1;
-    }
-    Ok(lengths)
-}
-
 impl Calls {
     /// The functions of a module, and the calls among them.
     pub fn of(alloc: Global, index: &Index) -> Result<Calls, NoMemory>
@@ -175,12 +139,39 @@ impl Calls {
         self.list.as_slice()
     }
 
-    /// For each function the length of the longest chain of calls from it, of the chains of at most 65 functions.
+    /// For each function the weight of the heaviest chain of calls from it, of the chains of at most 65 functions, where
+    /// each function has a weight. Weights stop at the greatest u64.
+    pub fn heaviest(&self, alloc: Global, weights: &[u64]) -> Result<Vec<u64>, NoMemory>
+        requires { length weights.now ≡ length self.now.functions }
+        ensures len { IfOk result (λ heaviest. length heaviest.items ≡ length self.now.functions) }
+        ensures heaviest { (weigh : ℕ → ℕ) → ((f : ℕ) → f < length weights.now → slice_index weights.now f ≡ saturated (weigh f))
+            → IfOk result (λ heaviest. (f : ℕ) → f < length weights.now → slice_index heaviest.items f ≡ saturated (chains.heaviest chains.limit weigh self.now.list f)) }
+    {
+        let calls = self.list();
+        let mut heaviest: Vec<u64> = vec![in alloc; 0; weights.len()]?;
+        let mut most: u32 = 0;
+        'heavier: while most < 65 {
+            let called = most_called(alloc, calls, heaviest.as_slice())?;
+            let heavier = sums(alloc, weights, called.as_slice())?;
+            heaviest = heavier;
+            most += 1;
+        }
+        Ok(heaviest)
+    }
+
+    /// For each function the length of the longest chain of calls from it, of the chains of at most 65 functions: its
+    /// weight where each function weighs 1.
     pub fn lengths(&self, alloc: Global) -> Result<Vec<u32>, NoMemory>
-        ensures lengths { IfOk result (λ lengths. lengths.items ≡ spec.lengths self.now.list 0 (length self.now.functions)) }
+        ensures lengths { IfOk result (λ lengths. lengths.items ≡ chains.lengths self.now.list 0 (length self.now.functions)) }
         ensures len { IfOk result (λ lengths. length lengths.items ≡ length self.now.functions) }
     {
-        longest_chains(alloc, self.list(), self.count())
+        let ones: Vec<u64> = vec![in alloc; 1; self.count()]?;
+        let heaviest = self.heaviest(alloc, ones.as_slice())?;
+        let mut lengths = Vec::new(alloc);
+        for length in heaviest.as_slice() {
+            lengths.push(*length as u32)?;
+        }
+        Ok(lengths)
     }
 }
 
@@ -215,18 +206,7 @@ pub fn call_breach(functions: &[(u32, u32)], lengths: &[u32]) -> Option<u32>
     let mut least = None;
     for k in 0..functions.len() {
         let next = over(functions[k].1, lengths[k]);
-        least = sooner(least, next);
+        least = lower(least, next);
     }
     least
 }
-
-/// A law, with nothing to run: the depth of a function is the number of functions in the longest chain of calls from it,
-/// and a function is refused exactly where a chain of more than 64 functions starts at it; that is so where a chain from
-/// it comes to a function of a cycle.
-pub fn depths_are_longest_chains()
-    ensures longest { (calls : List (ℕ × ℕ)) (f : ℕ) → spec.longest spec.limit calls f ≤ 64 → spec.IsLongest calls f (spec.longest spec.limit calls f) }
-    ensures long { (calls : List (ℕ × ℕ)) (f : ℕ) → 64 < spec.longest spec.limit calls f → (chain : List ℕ) × spec.IsChain calls f chain × (suc (length chain) ≡ 65) }
-    ensures refused { (calls : List (ℕ × ℕ)) (f : ℕ) (chain : List ℕ) → spec.IsChain calls f chain → 64 < suc (length chain) → 64 < spec.longest spec.limit calls f }
-    ensures cycle { (calls : List (ℕ × ℕ)) (f g : ℕ) (front round : List ℕ) → spec.IsChain calls f (front ++ g ∷ []) → spec.IsChain calls g (round ++ g ∷ [])
-        → 64 < spec.longest spec.limit calls f }
-{}

@@ -2,7 +2,7 @@
 ghost use Rattle.std.specs.Prelude.{◌≡◌, ◌↔◌, Some, IsSome, IsTrue, IfOk, length};
 ghost use Rattle.spv_base.specs.Answers.{Answers};
 ghost use Rattle.spv_base.specs.Entries.{reads};
-ghost use Rattle.spv_cfg.specs.Lowest.{lowest};
+ghost use Rattle.spv_base.specs.Lowest.{lowest};
 ghost use Rattle.spv_cfg.specs.Flow as spec;
 ghost use Rattle.spv_cfg.specs.Calls.{calls_in};
 
@@ -11,9 +11,8 @@ use crate::calls::{Calls, call_breach, depths_of};
 use crate::edges::edges_of;
 use crate::executables::{executables_of, followers_of};
 use crate::layout::layout_breach;
-use crate::lowest::sooner;
 use crate::phis::phi_breach;
-use spv_base::{Fail, NoMemory, Refusal};
+use spv_base::{Fail, NoMemory, Refusal, lower};
 use spv_index::{Index, Table};
 use std::alloc::Global;
 use std::marker::Model;
@@ -48,7 +47,7 @@ fn block_breach(alloc: Global, index: &Index) -> Result<Option<u32>, NoMemory>
     let branches = branch_breach(alloc, index, &stands)?;
     let edges = edges_of(alloc, index, &stands)?;
     let phis = phi_breach(alloc, &edges, &stands)?;
-    Ok(sooner(layout, sooner(branches, phis)))
+    Ok(lower(layout, lower(branches, phis)))
 }
 
 /// For each function the length of the longest chain of calls from it.

@@ -1,12 +1,11 @@
 //! The order inside functions (SPIR-V 1.6 sections 2.4 and 2.16.1): parameters, blocks, terminators, variables and phis.
 ghost use Rattle.std.specs.Prelude.{◌≡◌, ◌++◌};
 ghost use Rattle.std.specs.List.{flat_map};
+ghost use Rattle.spv_base.specs.Lowest.{lowest};
 ghost use Rattle.spv_index.specs.Positions.{outside};
-ghost use Rattle.spv_cfg.specs.Lowest.{lowest};
 ghost use Rattle.spv_cfg.specs.Layout as spec;
 
-use crate::lowest::sooner;
-use spv_base::Inst;
+use spv_base::{Inst, lower};
 use spv_index::classes::Class;
 use spv_index::positions::Position;
 use spv_index::stands::Stands;
@@ -79,15 +78,15 @@ fn misplaced(position: Position, class: Class, inst: &Inst) -> Option<u32>
 fn breach_at(position: Position, class: Class, inst: &Inst) -> Option<u32>
     ensures { result ≡ lowest (spec.layout_breach (record { position = position; class = class; inst = inst.now })) }
 {
-    let missing = sooner(lacking(position, class), misplaced(position, class, inst));
-    sooner(unended(position, class), missing)
+    let missing = lower(lacking(position, class), misplaced(position, class, inst));
+    lower(unended(position, class), missing)
 }
 
 /// The lowest word where the last function is not finished.
 fn unfinished(position: Position) -> Option<u32>
     ensures { result ≡ lowest (spec.unfinished position) }
 {
-    sooner(
+    lower(
         unended(position, Class::Function),
         lacking(position, Class::Function),
     )
@@ -101,8 +100,8 @@ pub fn layout_breach(stands: &Stands) -> Option<u32>
     let mut position = Position::outside();
     for n in 0..stands.len() {
         let stand = stands.at(n);
-        least = sooner(least, breach_at(stand.position, stand.class, stand.inst));
+        least = lower(least, breach_at(stand.position, stand.class, stand.inst));
         position = stand.position.after(stand.class, stand.inst);
     }
-    sooner(least, unfinished(position))
+    lower(least, unfinished(position))
 }

@@ -4,6 +4,7 @@
 
 mod branches;
 mod calls;
+mod chains;
 mod distinct;
 mod edges;
 mod executables;
@@ -11,10 +12,12 @@ mod flow;
 mod labels;
 pub mod laws;
 mod layout;
-mod lowest;
 mod operands;
 mod phis;
 mod switches;
 
-pub use calls::{Calls, depths_are_longest_chains};
+pub use calls::Calls;
+pub use chains::{counted_chains_are_heaviest, depths_are_longest_chains};
 pub use flow::Flow;
+pub use labels::selector_width;
+pub use switches::at_width;

@@ -1,31 +1,12 @@
 //! The ids and the literal words among some operands.
 ghost use Rattle.std.specs.Prelude.{◌≡◌, IfOk};
 ghost use Rattle.std.specs.List.{list_all};
-ghost use Rattle.spv_index.specs.Operands as operands;
+ghost use Rattle.spv_index.specs.Operands.{ids_in};
 ghost use Rattle.spv_cfg.specs.Operands as spec;
 
 use spv_base::{NoMemory, Operand};
+use spv_index::{id_in, literal_in};
 use std::alloc::Global;
-
-/// The id that an operand is.
-fn id_in(operand: &Operand) -> Option<u32>
-    ensures { result ≡ operands.id_in operand.now }
-{
-    match operand {
-        Operand::Id(id) => Some(*id),
-        Operand::Lit(_) | Operand::Text(_) => None,
-    }
-}
-
-/// The literal word that an operand is.
-fn literal_in(operand: &Operand) -> Option<u32>
-    ensures { result ≡ operands.literal_in operand.now }
-{
-    match operand {
-        Operand::Lit(word) => Some(*word),
-        Operand::Id(_) | Operand::Text(_) => None,
-    }
-}
 
 /// Whether all are ids.
 pub fn are_ids(operands: &[Operand]) -> bool
@@ -53,7 +34,7 @@ pub fn are_literals(operands: &[Operand]) -> bool
 
 /// The ids among them.
 pub fn ids_in(alloc: Global, operands: &[Operand]) -> Result<Vec<u32>, NoMemory>
-    ensures { IfOk result (λ ids. ids.items ≡ spec.ids_in operands.now) }
+    ensures { IfOk result (λ ids. ids.items ≡ ids_in operands.now) }
 {
     let mut ids = Vec::new(alloc);
     for operand in operands {

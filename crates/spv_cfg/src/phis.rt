@@ -1,15 +1,14 @@
 //! Phis (SPIR-V 1.6, OpPhi): one pair for each predecessor of the block.
 ghost use Rattle.std.specs.Prelude.{◌≡◌, IfOk, map};
 ghost use Rattle.std.specs.List.{list_all, flat_map};
-ghost use Rattle.spv_cfg.specs.Lowest.{lowest};
+ghost use Rattle.spv_base.specs.Lowest.{lowest};
 ghost use Rattle.spv_cfg.specs.Phis as spec;
 
 use crate::distinct::are_distinct;
 use crate::edges::Edges;
-use crate::lowest::sooner;
 use crate::operands::{are_ids, ids_in};
 use crate::switches::cases_by_word;
-use spv_base::{Inst, NoMemory};
+use spv_base::{Inst, NoMemory, lower};
 use spv_index::classes::Class;
 use spv_index::positions::Position;
 use spv_index::stands::Stands;
@@ -79,7 +78,7 @@ pub fn phi_breach(alloc: Global, edges: &Edges, stands: &Stands) -> Result<Optio
     for n in 0..stands.len() {
         let stand = stands.at(n);
         let next = breach_at(alloc, edges, stand.position, stand.class, stand.inst)?;
-        least = sooner(least, next);
+        least = lower(least, next);
     }
     Ok(least)
 }

@@ -1,31 +1,20 @@
 //! The literals and labels of switches (SPIR-V 1.6, OpSwitch).
-ghost use Rattle.std.specs.Prelude.{◌≡◌, ◌++◌, IfOk, drop, map};
+ghost use Rattle.std.specs.Prelude.{◌≡◌, ◌++◌, IfOk, map};
 ghost use Rattle.std.specs.Option.{option_to_list};
 ghost use Rattle.spv_index.specs.Operands as operands;
 ghost use Rattle.spv_cfg.specs.Branches as spec;
 
 use crate::distinct::are_distinct;
 use crate::operands::{are_literals, literals_in};
-use spv_base::{Inst, NoMemory, Operand};
-use spv_index::id_operand;
+use spv_base::{Inst, NoMemory};
+use spv_index::{id_operand, operands_from};
 use std::alloc::Global;
-
-/// The operands behind the first two.
-fn behind_two(operands: &[Operand]) -> &[Operand]
-    ensures { result.now ≡ drop 2 operands.now }
-{
-    match operands {
-        [_, _, rest @ ..] => rest,
-        [_] => &[],
-        [] => &[],
-    }
-}
 
 /// The words behind the selector and the default.
 fn case_words(alloc: Global, inst: &Inst) -> Result<Vec<u32>, NoMemory>
     ensures { IfOk result (λ words. words.items ≡ spec.case_words inst.now) }
 {
-    literals_in(alloc, behind_two(inst.operands.as_slice()))
+    literals_in(alloc, operands_from(inst, 2))
 }
 
 /// Pairs of a literal of one word and a label.
@@ -83,8 +72,8 @@ fn are_whole(width: u32, words: &[u32]) -> bool
     }
 }
 
-/// A literal as a number of the selector's width.
-fn at_width(width: u32, literal: u64) -> u64
+/// A literal of a switch as a number of the selector's width.
+pub fn at_width(width: u32, literal: u64) -> u64
     ensures { result ≡ spec.at_width width literal }
 {
     match width {
@@ -113,7 +102,7 @@ pub fn is_switch_right(alloc: Global, width: u32, inst: &Inst) -> Result<bool, N
     let cases = cases(alloc, width, words.as_slice())?;
     let literals = literals_of(alloc, width, cases.as_slice())?;
     let distinct = are_distinct(alloc, literals.as_slice())?;
-    let literal = are_literals(behind_two(inst.operands.as_slice()));
+    let literal = are_literals(operands_from(inst, 2));
     Ok(literal && are_whole(width, words.as_slice()) && distinct)
 }
 

@@ -11,7 +11,7 @@ use Rattle.spv_cmd.specs.declared.command.PathText.{PathText}
 use Rattle.spv_cmd.specs.declared.command.PathText.TheVariants.{Name, Id}
 use Rattle.spv_cmd.specs.declared.command.Command.{Command}
 use Rattle.spv_line.specs.Words.{words_in}
-use Rattle.spv_line.proofs.WordsLemmas.{first_are}
+use Rattle.spv_line.proofs.Exports.{first_are}
 use Rattle.spv_cmd.specs.Numbers.{number_of}
 use Rattle.spv_cmd.specs.Paths.{is_mark, IsPart, AreParts, IsPath}
 use Rattle.spv_cmd.specs.Places.{IsPlace, is_no_colon}

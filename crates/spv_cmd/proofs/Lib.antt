@@ -1,11 +1,11 @@
-pub mod BoolLemmas
-pub mod NumberLemmas
-pub mod ReadsLemmas
-pub mod PartLemmas
-pub mod PathLemmas
-pub mod PlaceLemmas
-pub mod GrammarLemmas
-pub mod RowLemmas
-pub mod KeywordLemmas
-pub mod DueLemmas
-pub mod LineLemmas
+mod BoolLemmas
+mod NumberLemmas
+mod ReadsLemmas
+mod PartLemmas
+mod PathLemmas
+mod PlaceLemmas
+mod GrammarLemmas
+mod RowLemmas
+mod KeywordLemmas
+mod DueLemmas
+mod LineLemmas

@@ -1,6 +1,6 @@
 -- The canonical line of a command is a line of the command.
 use Rattle.std.proofs.Common.{◌≡◌, ℕ, ◌+◌, ◌<◌, ◌≤◌, inr, Bool, true, false, not, nat_eq, decimal, List, [], ◌∷◌, ◌++◌, length, get_or, Option, Some, None, refl, sym, ap, ◌∙◌, subst, arith, lit≤}
-use Rattle.std.proofs.lemmas.Bool.{and_parts}
+use Rattle.std.proofs.lemmas.Bool.{and_parts, and_from, leb-true}
 use Rattle.std.specs.Prelude.{filter}
 use Rattle.std.specs.List.{slice_split, list_all, All}
 use Rattle.std.proofs.lemmas.List.{length-append}
@@ -24,8 +24,7 @@ use Rattle.spv_cmd.specs.Grammar.{row, spelling, Means, AreWords, IsLine}
 use Rattle.spv_cmd.specs.Grammar.Arguments.{none, number, count, path, place}
 use Rattle.spv_cmd.specs.Lines.{written, HasForm, line_of}
 use Rattle.spv_cmd.proofs.BoolLemmas.{all_also}
-use Rattle.spv_line.proofs.WordsLemmas.{some_word}
-use Rattle.spv_line.proofs.NumberLemmas.{both_true, decimal_digits, decimal_some, le_true}
+use Rattle.spv_line.proofs.Exports.{some_word, decimal_digits, decimal_some}
 use Rattle.spv_line.specs.Numbers.{is_digit}
 use Rattle.spv_cmd.proofs.NumberLemmas.{number_decimal}
 use Rattle.spv_cmd.proofs.PartLemmas.{name_parts}
@@ -66,7 +65,7 @@ decimal_whole : (n : ℕ) → n ≤ 4294967295 → list_all is_other (decimal n)
 decimal_whole n h = all_also is_digit is_other digit_other (decimal n) (decimal_digits n h)
 
 joined : (front back : List ℕ) → list_all is_other front ≡ true → list_all is_other back ≡ true → list_all is_other (front ++ back) ≡ true
-joined front back h k = list_all-append is_other front back ∙ both_true _ _ h k
+joined front back h k = list_all-append is_other front back ∙ and_from _ _ h k
 
 name_whole : (name : List ℕ) → is_name name ≡ true → list_all is_other name ≡ true
 name_whole name h = all_also is_name_byte is_other name_other name (name_parts name h).1
@@ -79,7 +78,7 @@ name_some name h = let test = (name_parts name h).0 in some_by (length name) tes
 
 part_whole : (part : PathPart) → is_part part ≡ true → list_all is_other (part_text part) ≡ true
 part_whole (Member name) h = name_whole name h
-part_whole (Index n) h = joined (decimal n) (93 ∷ []) (decimal_whole n (le_true n 4294967295 h)) refl
+part_whole (Index n) h = joined (decimal n) (93 ∷ []) (decimal_whole n (leb-true n 4294967295 h)) refl
 
 parts_whole : (parts : List PathPart) → list_all is_part parts ≡ true → list_all is_other (parts_text parts) ≡ true
 parts_whole [] h = refl
@@ -91,14 +90,14 @@ path_whole : (p : PathText) → is_path p ≡ true → (list_all is_other (path_
 path_whole (Name name parts) h =
     let both = and_parts (is_name name) (list_all is_part parts) h in
     (joined name (parts_text parts) (name_whole name both.0) (parts_whole parts both.1), omega (arith, name_some name both.0, length-append name (parts_text parts)))
-path_whole (Id n) h = (decimal_whole n (le_true n 4294967295 h), omega arith)
+path_whole (Id n) h = (decimal_whole n (leb-true n 4294967295 h), omega arith)
 
 place_whole : (p : Option (List ℕ) × ℕ) → is_place p ≡ true → (list_all is_other (place_text p) ≡ true) × (0 < length (place_text p))
-place_whole (None, line) h = (decimal_whole line (le_true line 4294967295 h), decimal_some line (le_true line 4294967295 h))
+place_whole (None, line) h = (decimal_whole line (leb-true line 4294967295 h), decimal_some line (leb-true line 4294967295 h))
 place_whole (Some file, line) h =
     let one = and_parts _ _ h in
     let two = and_parts _ _ one.1 in
-    let behind : list_all is_other (58 ∷ decimal line) ≡ true = decimal_whole line (le_true line 4294967295 two.1) in
+    let behind : list_all is_other (58 ∷ decimal line) ≡ true = decimal_whole line (leb-true line 4294967295 two.1) in
     (joined file (58 ∷ decimal line) two.0 behind, omega (arith, length-append file (58 ∷ decimal line)))
 
 -- ---- lines

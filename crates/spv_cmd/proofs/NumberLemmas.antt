@@ -4,7 +4,7 @@ use Rattle.std.specs.List.{list_all}
 use Rattle.std.proofs.lemmas.Str.Parse.{digits_value_short}
 use Rattle.std.proofs.lemmas.Fmt.{length-decimal-le}
 use Rattle.spv_line.specs.Numbers.{value_of, is_digit}
-use Rattle.spv_line.proofs.NumberLemmas.{fits, own, number_parts as parts_within, number_decimal as decimal_within}
+use Rattle.spv_line.proofs.Exports.{fits, own, number_parts as parts_within, number_decimal as decimal_within}
 use Rattle.spv_cmd.specs.Numbers.{number_of}
 
 -- what is read as a number

@@ -1,6 +1,6 @@
 -- What is cut from the text of a path is its parts.
 use Rattle.std.proofs.Common.{◌≡◌, ◌≢◌, ℕ, suc, ◌+◌, ◌<◌, ◌⊎◌, inl, inr, Bool, true, false, not, cond, nat_eq, List, [], ◌∷◌, ◌++◌, length, take, drop, Some, None, refl, sym, ap, ◌∙◌, subst, arith, append_assoc}
-use Rattle.std.proofs.lemmas.Bool.{and_parts}
+use Rattle.std.proofs.lemmas.Bool.{and_parts, and_from}
 use Rattle.std.specs.Prelude.{slice_index}
 use Rattle.std.specs.List.{list_all, position_or_len}
 use Rattle.std.proofs.lemmas.List.{take_at, drop_at, same_from_push, take-append-drop, length-append}
@@ -14,8 +14,7 @@ use Rattle.spv_cmd.specs.Numbers.{number_of}
 use Rattle.spv_cmd.specs.Paths.{is_name_byte, is_name, is_mark, IsPart, AreParts, IsPath}
 use Rattle.spv_cmd.proofs.BoolLemmas.{neither, all_also}
 use Rattle.spv_cmd.proofs.NumberLemmas.{number_parts}
-use Rattle.spv_line.proofs.NumberLemmas.{both_true}
-use Rattle.spv_line.proofs.WordsLemmas.{first_are}
+use Rattle.spv_line.proofs.Exports.{first_are}
 use Rattle.spv_line.specs.Numbers.{is_digit}
 
 -- ---- bytes that begin no part
@@ -67,7 +66,7 @@ unfolding IsMarked
 part_marked (Member name) text h = (46, name, h.0, refl, all_also is_name_byte unmarked name_unmarked name (name_parts name h.1).1)
 part_marked (Index n) text h =
     let digits = all_also is_digit unmarked digit_unmarked h.0 (number_parts h.0 n h.2).1 in
-    (91, h.0 ++ (93 ∷ []), h.1, refl, list_all-append unmarked h.0 (93 ∷ []) ∙ both_true (list_all unmarked h.0) true digits refl)
+    (91, h.0 ++ (93 ∷ []), h.1, refl, list_all-append unmarked h.0 (93 ∷ []) ∙ and_from (list_all unmarked h.0) true digits refl)
 
 parts_begin : (parts : List PathPart) (text : List ℕ) → AreParts parts text → BeginsPart text
 unfolding BeginsPart IsMarked

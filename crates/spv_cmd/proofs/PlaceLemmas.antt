@@ -1,13 +1,12 @@
 -- Lines of source files that are read can be written, in no more bytes; what is cut at the last colon is the file and the line.
 use Rattle.std.proofs.Common.{◌≡◌, ℕ, ◌<◌, ◌≤◌, true, not, ◌&&◌, nat_eq, inl, inr, decimal, append_assoc, subst, List, [], ◌∷◌, ◌++◌, length, take, drop, Option, Some, None, refl, sym, ap, ◌∙◌, arith}
-use Rattle.std.proofs.lemmas.Bool.{and_parts}
+use Rattle.std.proofs.lemmas.Bool.{and_parts, and_from, leb-true, le-leb}
 use Rattle.std.specs.List.{list_all}
 use Rattle.std.proofs.lemmas.List.{take-append-drop, length-append, same_from_push}
 use Rattle.std.proofs.lemmas.List.Folds.{list_all-append}
 use Rattle.std.proofs.lemmas.Bool.Decides.{nat_tests}
 use Rattle.spv_line.specs.Words.{is_other}
-use Rattle.spv_line.proofs.NumberLemmas.{at_most, both_true, le_true}
-use Rattle.spv_line.proofs.WordsLemmas.{first_are}
+use Rattle.spv_line.proofs.Exports.{first_are}
 use Rattle.spv_line.specs.Numbers.{is_digit}
 use Rattle.spv_cmd.specs.Numbers.{number_of}
 use Rattle.spv_cmd.specs.Places.{IsPlace, is_place, place_text, is_no_colon, EndsInColon}
@@ -37,23 +36,23 @@ one_cut (x ∷ f) (y ∷ g) xs ys e p q =
 
 -- what is read from a text without spaces can be written, in no more bytes
 pub place_form : (p : Option (List ℕ) × ℕ) (text : List ℕ) → IsPlace p text → list_all is_other text ≡ true → (is_place p ≡ true) × (length (place_text p) ≤ length text)
-place_form (None, line) text h whole = (at_most line 4294967295 (number_parts text line h).3, decimal_short text line h)
+place_form (None, line) text h whole = (le-leb line 4294967295 (number_parts text line h).3, decimal_short text line h)
 place_form (Some file, line) text h whole =
     let spaces : (list_all is_other file && list_all is_other (58 ∷ h.0)) ≡ true = sym (list_all-append is_other file (58 ∷ h.0)) ∙ ap (list_all is_other) (sym h.1) ∙ whole in
     let some : not (nat_eq (length file) 0) ≡ true = grind (arith, nat_tests) in
     let short = decimal_short h.0 line h.3 in (
-      both_true _ _ some (both_true _ _ (and_parts _ _ spaces).0 (at_most line 4294967295 (number_parts h.0 line h.3).3)),
+      and_from _ _ some (and_from _ _ (and_parts _ _ spaces).0 (le-leb line 4294967295 (number_parts h.0 line h.3).3)),
       omega (arith, short, ap length h.1, length-append file (58 ∷ h.0), length-append file (58 ∷ decimal line)),
     )
 
 -- what is written is read as the place
 pub place_again : (p : Option (List ℕ) × ℕ) → is_place p ≡ true → IsPlace p (place_text p)
-place_again (None, line) h = number_decimal line (le_true line 4294967295 h)
+place_again (None, line) h = number_decimal line (leb-true line 4294967295 h)
 place_again (Some file, line) h =
     let one = and_parts _ _ h in
     let two = and_parts _ _ one.1 in
     let some : 0 < length file = let test = one.0 in grind (arith, nat_tests) in
-    (decimal line, refl, some, number_decimal line (le_true line 4294967295 two.1))
+    (decimal line, refl, some, number_decimal line (leb-true line 4294967295 two.1))
 
 -- ---- a text that is cut behind its last colon
 

@@ -36,7 +36,7 @@ fn first_part(text: &[u8]) -> Option<usize>
 }
 
 /// The length of what stands before the first part.
-#[tactic(auto, using(spv_line::proofs::WordsLemmas::place_or_end, spv_line::proofs::WordsLemmas::place_within))]
+#[tactic(auto, using(spv_line::proofs::Exports::place_or_end, spv_line::proofs::Exports::place_within))]
 fn front_len(text: &[u8]) -> usize
     ensures front { result ≡ position_or_len is_mark text.now }
     ensures within { result ≤ length text.now }
@@ -45,7 +45,7 @@ fn front_len(text: &[u8]) -> usize
 }
 
 /// The length of the part that a text begins with.
-#[tactic(auto, using(spv_line::proofs::WordsLemmas::place_within))]
+#[tactic(auto, using(spv_line::proofs::Exports::place_within))]
 fn part_len(text: &[u8]) -> usize
     requires { 0 < length text.now }
     ensures part { result ≡ 1 + position_or_len is_mark (drop 1 text.now) }

@@ -11,7 +11,7 @@ use Rattle.spv_types.specs.declared.forms.Form.TheVariants.{Void, Bool as Boolea
 use Rattle.spv_types.specs.Constants.{is_constant}
 use Rattle.spv_types.specs.Laws.{AreSound, IsAmong}
 use Rattle.spv_types.specs.Types.{Types, form_of, lengthened as with_size, number_of, with_length}
-use Rattle.spv_types.proofs.TypeLemmas.{number_form}
+use Rattle.spv_types.proofs.Exports.{number_form}
 use Rattle.spv_index.specs.Definitions.{defining}
 use Rattle.spv_consts.specs.Table.{Constants, Row}
 use Rattle.spv_consts.specs.Context.{Context}

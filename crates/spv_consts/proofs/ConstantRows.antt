@@ -15,7 +15,7 @@ use Rattle.spv_types.specs.Constants.{is_constant}
 use Rattle.spv_types.specs.Laws.{IsAmong}
 use Rattle.spv_types.specs.Rules.{is_sized_data}
 use Rattle.spv_types.specs.Types.{Types, form_of}
-use Rattle.spv_types.proofs.SoundLemmas.{impossible}
+use Rattle.spv_types.proofs.Exports.{impossible}
 use Rattle.spv_index.specs.Definitions.{defining, result_type, type_in}
 use Rattle.spv_alu.specs.Results.{integer, truth}
 use Rattle.spv_consts.specs.Table.{Row}

@@ -11,7 +11,7 @@ use Rattle.spv_types.specs.Constants.{is_constant}
 use Rattle.spv_types.specs.Laws.{AreByForms, AreNamed, AreSound, HasResult}
 use Rattle.spv_types.specs.Types.{Types, form_of, lengthened as with_size, number_of, with_length}
 use Rattle.spv_index.specs.Definitions.{before_functions}
-use Rattle.spv_types.specs.Typing.{defined_form}
+use Rattle.spv_types.specs.Typing.{defined_form, types_read}
 use Rattle.spv_base.specs.declared.values.Root.{Root}
 use Rattle.spv_consts.specs.Build.{constants_of, context_of, known_of, start_of}
 use Rattle.spv_consts.specs.Constants.{AreConstants, IsConstant, Known}
@@ -24,12 +24,13 @@ use Rattle.spv_consts.specs.Rules.{keeps_rules}
 use Rattle.spv_consts.specs.Steps.{breaches_at, breaches_from, with_entry, after_one, after_all, with_constant}
 use Rattle.spv_consts.proofs.ConstantGrowth.{Grows, IsFresh, fresh_entered, fresh_lengthened, grows_entered, grows_lengthened, grows_not, grows_on, own_row}
 use Rattle.spv_consts.proofs.ConstantRows.{constant_is}
-use Rattle.spv_consts.proofs.WalkConstants.{constant_entered, ends, none_of, not_next, step_follows}
+use Rattle.spv_consts.proofs.WalkConstants.{constant_entered, ends, not_next, step_follows}
 use Rattle.spv_consts.proofs.WalkIds.{before_is_front}
-use Rattle.spv_consts.proofs.WalkPlaces.{IsPlaced, declared, placed}
+use Rattle.spv_consts.proofs.WalkPlaces.{IsPlaced, placed}
 use Rattle.spv_consts.proofs.WalkStates.{constant_no_type, no_length, passed}
 use Rattle.spv_consts.proofs.WalkSteps.{Follows, follows_start}
-use Rattle.spv_consts.proofs.WalkTypes.{no_breach}
+use Rattle.spv_base.proofs.Exports.{both_empty}
+use Rattle.spv_types.proofs.Exports.{accepted_is}
 
 -- a constant that keeps its rules enters the state as its value
 constant_enters : (m : Context) (front : List Inst) (i : Inst) (s u : State) → Follows m.all front s → IsPlaced m.all front i → is_constant i.op ≡ true → lengthened m s i ≡ Some u → with_entry m u i ≡ with_constant m s i
@@ -85,7 +86,7 @@ module _
     unfolding after_all breaches_from
     walk_gives m front [] tail s ascend named none place whole follows fresh no_breaches = (grows_not m s, tt)
     walk_gives m front (i ∷ rest) tail s ascend named none place whole follows fresh no_breaches =
-        let both = none_of (breaches_at m s i) (breaches_from m (after_one m s i) rest) no_breaches in
+        let both = both_empty (breaches_at m s i) (breaches_from m (after_one m s i) rest) no_breaches in
         let at : IsPlaced m.all front i = placed m.all front rest tail i place whole ascend named none in
         step_gives m front i s follows at both.0 fresh (after_all m (after_one m s i) rest) rest
         (walk_gives m (front ++ i ∷ []) rest tail (after_one m s i) ascend named none (place ∙ sym (append_assoc front (i ∷ []) rest)) (whole ∙ sym (append_assoc front (i ∷ []) (rest ++ tail)))
@@ -95,9 +96,9 @@ module _
         → AreConstants (context_of ts insts over) known
     constants_are insts ts over known ascend named typed is =
         let ended = ends insts ts over known is in
-        let rules = no_breach insts ts typed in
+        let rules = accepted_is insts ts typed in
         let front = before_is_front insts in
-        let sound_start : AreSound (declared insts) = subst AreSound (sym rules.1) (sound insts ts named.results typed) in
+        let sound_start : AreSound (types_read insts) = subst AreSound (sym rules.1) (sound insts ts named.results typed) in
         let start : Follows insts [] (start_of ts) = follows_start insts (start_of ts) refl (sym rules.1) refl sound_start in
         let walk = walk_gives (context_of ts insts over) [] (before_functions insts) front.0 (start_of ts) ascend named rules.0 refl front.1 start (λ id apart. refl) ended.0 in
         subst (λ (k : Known). AreConstants (context_of ts insts over) k) (sym ended.1) walk.1

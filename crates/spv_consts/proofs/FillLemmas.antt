@@ -1,9 +1,9 @@
 -- Leaves that go with widths: one for each, of that width.
 use Rattle.std.proofs.Common.{◌≡◌, ℕ, zero, suc, ◌≤◌, min, Bool, List, [], ◌∷◌, ◌++◌, map, replicate, refl, ap, arith}
 use Rattle.std.specs.List.{AllByRecursion, AllZip}
-use Rattle.spv_base.specs.Cell.{Cell}
-use Rattle.spv_consts.specs.Laws.{HasWidth}
-use Rattle.spv_consts.specs.Operations.{by_three, by_two}
+use Rattle.spv_base.specs.Cell.{Cell, HasWidth}
+use Rattle.spv_alu.specs.Lanes.{zip3}
+use Rattle.spv_consts.specs.Operations.{by_two}
 use Rattle.spv_consts.specs.Values.{blank_cell}
 use Rattle.spv_consts.proofs.ScalarShapes.{blank_is_lane}
 
@@ -57,7 +57,7 @@ fill_pair f keeps (w ∷ ws) (c ∷ cs) [] h g = absurd g
 fill_pair f keeps (w ∷ ws) (c ∷ cs) (d ∷ ds) h g = (keeps w c d h.0 g.0, fill_pair f keeps ws cs ds h.1 g.1)
 
 pub fill_three : (f : Cell → Cell → Cell → Cell) (v w n : ℕ) → ((t c d : Cell) → HasWidth v t → HasWidth w c → HasWidth w d → HasWidth w (f t c d))
-    → (ts cs ds : List Cell) → Fill (replicate n v) ts → Fill (replicate n w) cs → Fill (replicate n w) ds → Fill (replicate n w) (by_three f ts cs ds)
+    → (ts cs ds : List Cell) → Fill (replicate n v) ts → Fill (replicate n w) cs → Fill (replicate n w) ds → Fill (replicate n w) (zip3 f ts cs ds)
 fill_three f v w zero keeps [] cs ds e h g = tt
 fill_three f v w zero keeps (t ∷ ts) cs ds e h g = absurd e
 fill_three f v w (suc n) keeps [] cs ds e h g = absurd e

@@ -9,16 +9,13 @@ use Rattle.spv_types.specs.declared.forms.Form.{Form}
 use Rattle.spv_types.specs.declared.limits.Limit.{Limit}
 use Rattle.spv_types.specs.Types.{Types, form_at, form_of, in_first, is_number, lengthened, number_of, with_length}
 use Rattle.spv_types.specs.Laws.{IsAmong}
-use Rattle.spv_types.proofs.TypeLemmas.{in_first-found, number_lt}
+use Rattle.spv_types.proofs.Exports.{in_first-found, number_lt, number_written, form_written}
 use Rattle.spv_types.specs.Limits.{AreLimits, limit_among, limit_step, no_limit}
-use Rattle.spv_types.proofs.LengthLemmas.{number_written, form_written}
+use Rattle.std.proofs.lemmas.Bool.{eqb-true}
 use Rattle.spv_alu.specs.Integers.{signed}
 use Rattle.spv_consts.specs.Lengths.{number_in}
 
 -- ---- a form written under an id
-
-same_id : (a b : ℕ) → (a == b) ≡ true → a ≡ b
-same_id a b e = grind arith
 
 at_written : (ts : Types) (id n m : ℕ) (f : Form) → number_of ts id ≡ Some n → m < n → form_at (writes id f ts) m ≡ form_at ts m
 at_written [] id n m f h l = cc
@@ -45,7 +42,7 @@ module _ {A : Type 0} (none : A) (step : (ℕ → A) → Form → A) where
     where
       other : (o : Option ℕ) → number_of ts q ≡ o → is_number m o ≡ true → id ≢ q
       other None e g s = cc
-      other (Some k) e g s = let a : k ≡ m = same_id k m g in let b : number_of ts id ≡ Some k = rw s e in let c : k ≡ n = cc in omega arith
+      other (Some k) e g s = let a : k ≡ m = eqb-true k m g in let b : number_of ts id ≡ Some k = rw s e in let c : k ≡ n = cc in omega arith
 
       go : ((p : ℕ) → in_first none step (writes id f ts) m p ≡ in_first none step ts m p) → (b : Bool) → is_number m (number_of ts q) ≡ b
           → (if b then option_map_or (step (in_first none step (writes id f ts) m)) (form_of (writes id f ts) q) none else in_first none step (writes id f ts) m q)
@@ -90,7 +87,7 @@ limits_kept ts limits id n a h = by_form (form_of ts id)
 
 pub next_is : (n : ℕ) (o : Option ℕ) → true ≡ is_number n o → o ≡ Some n
 next_is n None h = cc
-next_is n (Some m) h = let e : m ≡ n = same_id m n (sym h) in ap Some e
+next_is n (Some m) h = let e : m ≡ n = eqb-true m n (sym h) in ap Some e
 
 -- a number of at least 1 isn't 0
 pub length_positive : (sign : ℕ) (c : Cell) → int_le (pos 1) (number_in sign c) ≡ true → 1 ≤ c.bits

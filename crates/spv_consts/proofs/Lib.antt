@@ -1,31 +1,32 @@
-pub mod TableLemmas
-pub mod ValueLemmas
-pub mod OverrideLemmas
-pub mod OperationLemmas
-pub mod SpecIdLemmas
-pub mod LengthLemmas
-pub mod RuleLemmas
-pub mod StepLemmas
-pub mod BuildLemmas
-pub mod ScalarShapes
-pub mod LaneFills
-pub mod FillLemmas
-pub mod WidthLemmas
-pub mod TreeLemmas
-pub mod OperationKinds
-pub mod ScalarTypes
-pub mod OperationFills
-pub mod CompositeFills
-pub mod ValueFills
-pub mod WalkIds
-pub mod WalkTypes
-pub mod WalkStates
-pub mod WalkPlaces
-pub mod WalkSteps
-pub mod WalkConstants
-pub mod ConstantGrowth
-pub mod ConstantRows
-pub mod ConstantWalk
-pub mod OperationResults
-pub mod WalkLimits
-pub mod BreachLemmas
+mod TableLemmas
+mod ValueLemmas
+mod OverrideLemmas
+mod OperationLemmas
+mod SpecIdLemmas
+mod LengthLemmas
+mod RuleLemmas
+mod StepLemmas
+mod BuildLemmas
+mod ScalarShapes
+mod LaneFills
+mod FillLemmas
+mod WidthLemmas
+mod TreeLemmas
+mod OperationKinds
+mod ScalarTypes
+mod OperationFills
+mod CompositeFills
+mod ValueFills
+mod WalkIds
+mod WalkTypes
+mod WalkStates
+mod WalkPlaces
+mod WalkSteps
+mod WalkConstants
+mod ConstantGrowth
+mod ConstantRows
+mod ConstantWalk
+mod OperationResults
+mod WalkLimits
+mod BreachLemmas
+pub mod Exports

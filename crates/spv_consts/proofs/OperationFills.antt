@@ -4,10 +4,10 @@ use Rattle.std.specs.Prelude.{◌&&◌, ◌||◌, not}
 use Rattle.std.specs.Option.{option_and_then, option_map, option_map_or}
 use Rattle.spv_base.specs.declared.instructions.Inst.{Inst}
 use Rattle.spv_base.specs.declared.instructions.Operand.{Operand}
-use Rattle.spv_base.specs.Cell.{Cell}
+use Rattle.spv_base.specs.Cell.{Cell, HasWidth}
 use Rattle.spv_types.specs.Types.{form_of}
 use Rattle.spv_types.specs.Laws.{AreSound}
-use Rattle.spv_types.proofs.SoundLemmas.{impossible}
+use Rattle.spv_types.proofs.Exports.{impossible}
 use Rattle.spv_index.specs.Definitions.{result_type}
 use Rattle.spv_index.specs.Operands.{id_in, id_operand}
 use Rattle.spv_typing.specs.declared.lanes.Element.{Element}
@@ -16,14 +16,14 @@ use Rattle.spv_typing.specs.declared.rules.Rule.{Rule}
 use Rattle.spv_typing.specs.declared.rules.Rule.TheVariants.{Convert, Bitcast, Integer, Integers, Clamp, Shift, Boolean, Booleans, Reduce, Compare, Extended, Select as Choice, InsertField, ExtractField}
 use Rattle.spv_typing.specs.Fitting.{fits}
 use Rattle.spv_typing.specs.declared.lanes.Lanes.{Lanes}
-use Rattle.spv_typing.specs.Lanes.{lanes_at, lanes_of, repeated}
+use Rattle.spv_typing.specs.Lanes.{lanes_at, lanes_of, repeated, width_of}
 use Rattle.spv_typing.specs.Laws.{IsCondition, IsTyped}
 use Rattle.spv_typing.specs.Rules.{is_constant_operation, is_constant_rule, operand_count, rule_count, rule_of}
-use Rattle.spv_typing.proofs.LawLemmas.{equal, parts, rule_is}
+use Rattle.spv_typing.proofs.Exports.{rule_is}
 use Rattle.spv_consts.specs.Context.{Context}
 use Rattle.spv_consts.specs.Evaluation.{binary_cells, computed_cells, operand_at, select_cells, unary_cells}
 use Rattle.spv_consts.specs.Lanes.{binary_lane, is_lane_width, select_lane, takes_one, unary_lane}
-use Rattle.spv_consts.specs.Laws.{FillType, HasWidth, OperandsFillTypes}
+use Rattle.spv_consts.specs.Laws.{FillType, OperandsFillTypes}
 use Rattle.spv_consts.specs.Operations.{lane_width, selected}
 use Rattle.spv_consts.specs.Values.{leaf_widths}
 use Rattle.spv_consts.specs.Overrides.{is_same}
@@ -32,7 +32,8 @@ use Rattle.spv_consts.specs.State.{State, given_cells, is_given}
 use Rattle.spv_consts.proofs.FillLemmas.{Fill, fill_one, fill_pair, fill_three, fill_two}
 use Rattle.spv_consts.proofs.LaneFills.{binary_has_width, select_has_width, takes_pair_of, unary_has_width}
 use Rattle.spv_consts.proofs.OperationKinds.{arithmetic_takes, booleans_take, comparisons_take, compares, conversion_takes, gives_integer, integers_take, is_arithmetic, is_conversion, is_negation, joins_booleans, negation_takes, one_computed, select_computed, shifts, shifts_take, suits, suits_of, two_computed}
-use Rattle.spv_consts.proofs.ScalarTypes.{are_lanes, width_of}
+use Rattle.spv_consts.proofs.ScalarTypes.{are_lanes}
+use Rattle.std.proofs.lemmas.Bool.{eqb-true, and_parts}
 
 -- ---- operands
 
@@ -40,14 +41,14 @@ same_count : (n : ℕ) (o : Option ℕ) (k : ℕ) → o ≡ Some k → is_same n
 same_count n None k e h = cc
 same_count n (Some j) k e h =
     let a : j ≡ k = cc in
-    sym (equal j n h) ∙ a
+    sym (eqb-true j n h) ∙ a
 
 module _ (m : Context) (s : State) (word : ℕ) where
   operand_among : (os : List Operand) (k : ℕ) → are_operands m s word os ≡ true → k < length os → is_given m s word (option_and_then id_in (slice_get os k)) ≡ true
   unfolding are_operands
   operand_among [] k h l = absurd (omega arith)
-  operand_among (o ∷ os) zero h l = (parts (is_given m s word (id_in o)) (are_operands m s word os) h).0
-  operand_among (o ∷ os) (suc k) h l = operand_among os k (parts (is_given m s word (id_in o)) (are_operands m s word os) h).1 (omega arith)
+  operand_among (o ∷ os) zero h l = (and_parts (is_given m s word (id_in o)) (are_operands m s word os) h).0
+  operand_among (o ∷ os) (suc k) h l = operand_among os k (and_parts (is_given m s word (id_in o)) (are_operands m s word os) h).1 (omega arith)
 
   -- those behind the opcode
   operand_behind : (os : List Operand) (k : ℕ) → are_operands m s word (drop 1 os) ≡ true → 1 + k < length os → is_given m s word (option_and_then id_in (slice_get os (1 + k))) ≡ true
@@ -63,19 +64,19 @@ module _ (m : Context) (s : State) (i : Inst) (op : ℕ) (kept : keeps_opcode m 
   given k = operand_type m i (1 + k)
 
   known : (is_constant_operation op ≡ true) × ((keeps_count i op && (are_operands m s i.word (drop 1 i.operands) && fits s.types op i.ty given)) ≡ true)
-  known = parts (is_constant_operation op) _ kept
+  known = and_parts (is_constant_operation op) _ kept
 
   count : (keeps_count i op ≡ true) × ((are_operands m s i.word (drop 1 i.operands) && fits s.types op i.ty given) ≡ true)
-  count = parts (keeps_count i op) _ known.1
+  count = and_parts (keeps_count i op) _ known.1
 
   rest : (are_operands m s i.word (drop 1 i.operands) ≡ true) × (fits s.types op i.ty given ≡ true)
-  rest = parts (are_operands m s i.word (drop 1 i.operands)) _ count.1
+  rest = and_parts (are_operands m s i.word (drop 1 i.operands)) _ count.1
 
   -- its rule, which constants are computed by and the types keep
   pub ruled_by : (rule : Rule) × (is_constant_rule rule ≡ true) × (rule_of op ≡ Some rule) × IsTyped s.types rule i.ty given
   ruled_by =
       let ruled = (rule_is s.types op i.ty given).0 rest.1 in
-      let constant = (parts (option_map_or is_constant_rule (rule_of op) false) (not (op == 204 || op == 205)) known.0).0 in
+      let constant = (and_parts (option_map_or is_constant_rule (rule_of op) false) (not (op == 204 || op == 205)) known.0).0 in
       (ruled.0, rw ruled.1 at constant, ruled.1, ruled.2)
 
   -- each of its operands is a constant or an OpUndef

@@ -12,13 +12,14 @@ use Rattle.spv_alu.specs.Binary as binary
 use Rattle.spv_typing.specs.declared.rules.Rule.{Rule}
 use Rattle.spv_typing.specs.declared.rules.Rule.TheVariants.{Convert, Bitcast, Integer, Integers, Clamp, Shift, Boolean, Booleans, Reduce, Compare, Extended, Select, InsertField, ExtractField}
 use Rattle.spv_typing.specs.Rules.{rule_of, rules}
-use Rattle.spv_typing.proofs.LawLemmas.{both, equal, parts, same}
 use Rattle.spv_consts.specs.Context.{Context}
 use Rattle.spv_consts.specs.Evaluation.{binary_cells, computed_cells, select_cells, unary_cells}
 use Rattle.spv_consts.specs.Lanes.{is_lane_width, row_takes, takes_one}
 use Rattle.spv_consts.specs.State.{State}
 use Rattle.spv_consts.proofs.LaneFills.{takes_pair, takes_pair_of}
-use Rattle.spv_types.proofs.SoundLemmas.{impossible}
+use Rattle.spv_types.proofs.Exports.{impossible}
+use Rattle.std.proofs.lemmas.Bool.{and_from, eqb-true, and_parts, not-true}
+use Rattle.spv_base.proofs.Exports.{same_number}
 
 -- ---- kinds of rows
 
@@ -116,11 +117,11 @@ found_suits op r [] h e = cc
 found_suits op r (x ∷ es) h e = by_test (x.0 == op) refl e (λ g. found_suits op r es p.1 g)
   where
     p : (suits x.1 x.0 ≡ true) × (all_suit es ≡ true)
-    p = parts (suits x.1 x.0) (all_suit es) h
+    p = and_parts (suits x.1 x.0) (all_suit es) h
 
     by_test : (t : Bool) → (x.0 == op) ≡ t → (if t then Some x.1 else reads op es) ≡ Some r → (reads op es ≡ Some r → suits r op ≡ true) → suits r op ≡ true
     by_test true is e ih =
-        let number : x.0 ≡ op = equal x.0 op is in
+        let number : x.0 ≡ op = eqb-true x.0 op is in
         let rule : x.1 ≡ r = cc in
         subst (λ k. suits r k ≡ true) number (subst (λ q. suits q x.0 ≡ true) rule p.0)
     by_test false is e ih = ih e
@@ -131,10 +132,6 @@ suits_of op r e = found_suits op r rules rules_suit e
 
 -- ---- the value that an opcode gives
 
-is_false : (b : Bool) → not b ≡ true → b ≡ false
-is_false true h = cc
-is_false false h = refl
-
 computes_some : {A : Type 0} (test : A → Bool) (o : Option A) → option_map_or test o false ≡ true → is_some o ≡ true
 computes_some test None h = impossible h
 computes_some test (Some x) h = refl
@@ -142,14 +139,14 @@ computes_some test (Some x) h = refl
 module _ (m : Context) (s : State) (i : Inst) (op : ℕ) where
   pub one_computed : (test : UnaryRow → Bool) → computes_one test op ≡ true → computed_cells m s i op ≡ unary_cells m s i op
   one_computed test h =
-      let p = parts (not (op == 169)) (option_map_or (λ o. test (unary_row o)) (unary_op op) false) h in
-      rw (is_false (op == 169) p.0, computes_some (λ o. test (unary_row o)) (unary_op op) p.1) refl
+      let p = and_parts (not (op == 169)) (option_map_or (λ o. test (unary_row o)) (unary_op op) false) h in
+      rw (not-true (op == 169) p.0, computes_some (λ o. test (unary_row o)) (unary_op op) p.1) refl
 
   pub two_computed : (test : BinaryRow → Bool) → computes_two test op ≡ true → computed_cells m s i op ≡ binary_cells m s i op
   two_computed test h =
-      let p = parts (not (op == 169)) (not (is_some (unary_op op)) && option_map_or (λ o. test (binary_row o)) (binary_op op) false) h in
-      let q = parts (not (is_some (unary_op op))) (option_map_or (λ o. test (binary_row o)) (binary_op op) false) p.1 in
-      rw (is_false (op == 169) p.0, is_false (is_some (unary_op op)) q.0) refl
+      let p = and_parts (not (op == 169)) (not (is_some (unary_op op)) && option_map_or (λ o. test (binary_row o)) (binary_op op) false) h in
+      let q = and_parts (not (is_some (unary_op op))) (option_map_or (λ o. test (binary_row o)) (binary_op op) false) p.1 in
+      rw (not-true (op == 169) p.0, not-true (is_some (unary_op op)) q.0) refl
 
   pub select_computed : (op == 169) ≡ true → computed_cells m s i op ≡ select_cells m s i
   select_computed h = rw h refl
@@ -157,7 +154,7 @@ module _ (m : Context) (s : State) (i : Inst) (op : ℕ) where
 -- ---- the widths that an opcode takes
 
 one_takes : (test : UnaryRow → Bool) (op v w : ℕ) → computes_one test op ≡ true → ((row : UnaryRow) → test row ≡ true → row_takes row v w ≡ true) → takes_one op v w ≡ true
-one_takes test op v w h takes = by_operation (unary_op op) (parts (not (op == 169)) (option_map_or (λ o. test (unary_row o)) (unary_op op) false) h).1
+one_takes test op v w h takes = by_operation (unary_op op) (and_parts (not (op == 169)) (option_map_or (λ o. test (unary_row o)) (unary_op op) false) h).1
   where
     by_operation : (o : Option UnaryOp) → option_map_or (λ o. test (unary_row o)) o false ≡ true → option_map_or (λ o. row_takes (unary_row o) v w) o false ≡ true
     by_operation None h = impossible h
@@ -165,8 +162,8 @@ one_takes test op v w h takes = by_operation (unary_op op) (parts (not (op == 16
 
 two_take : (test : BinaryRow → Bool) (op v w u : ℕ) → computes_two test op ≡ true → ((row : BinaryRow) → test row ≡ true → takes_pair row v w u ≡ true) → takes_pair_of op v w u ≡ true
 two_take test op v w u h take =
-    by_operation (binary_op op) (parts (not (is_some (unary_op op))) (option_map_or (λ o. test (binary_row o)) (binary_op op) false)
-    (parts (not (op == 169)) (not (is_some (unary_op op)) && option_map_or (λ o. test (binary_row o)) (binary_op op) false) h).1).1
+    by_operation (binary_op op) (and_parts (not (is_some (unary_op op))) (option_map_or (λ o. test (binary_row o)) (binary_op op) false)
+    (and_parts (not (op == 169)) (not (is_some (unary_op op)) && option_map_or (λ o. test (binary_row o)) (binary_op op) false) h).1).1
   where
     by_operation : (o : Option BinaryOp) → option_map_or (λ o. test (binary_row o)) o false ≡ true → option_map_or (λ o. takes_pair (binary_row o) v w u) o false ≡ true
     by_operation None h = impossible h
@@ -176,7 +173,7 @@ pub conversion_takes : (op v w : ℕ) → computes_one is_conversion op ≡ true
 conversion_takes op v w h e f = one_takes is_conversion op v w h by_row
   where
     by_row : (row : UnaryRow) → is_conversion row ≡ true → row_takes row v w ≡ true
-    by_row (conversion g) t = both (is_lane_width v) (is_lane_width w) e f
+    by_row (conversion g) t = and_from (is_lane_width v) (is_lane_width w) e f
     by_row (arithmetic g) t = impossible t
     by_row (logical g) t = impossible t
 
@@ -185,7 +182,7 @@ arithmetic_takes op w h e = one_takes is_arithmetic op w w h by_row
   where
     by_row : (row : UnaryRow) → is_arithmetic row ≡ true → row_takes row w w ≡ true
     by_row (conversion g) t = impossible t
-    by_row (arithmetic g) t = both (is_lane_width w) (w == w) e (same w)
+    by_row (arithmetic g) t = and_from (is_lane_width w) (w == w) e (same_number w)
     by_row (logical g) t = impossible t
 
 pub negation_takes : (op : ℕ) → computes_one is_negation op ≡ true → takes_one op 1 1 ≡ true
@@ -200,7 +197,7 @@ pub integers_take : (op w : ℕ) → computes_two gives_integer op ≡ true → 
 integers_take op w h e = two_take gives_integer op w w w h by_row
   where
     taken : ((is_lane_width w && w == w) && w == w) ≡ true
-    taken = both (is_lane_width w && w == w) (w == w) (both (is_lane_width w) (w == w) e (same w)) (same w)
+    taken = and_from (is_lane_width w && w == w) (w == w) (and_from (is_lane_width w) (w == w) e (same_number w)) (same_number w)
 
     by_row : (row : BinaryRow) → gives_integer row ≡ true → takes_pair row w w w ≡ true
     by_row (binary.arithmetic f) t = taken
@@ -227,7 +224,7 @@ pub comparisons_take : (op w : ℕ) → computes_two compares op ≡ true → is
 comparisons_take op w h e = two_take compares op w w 1 h by_row
   where
     taken : ((is_lane_width w && w == w) && true) ≡ true
-    taken = both (is_lane_width w && w == w) true (both (is_lane_width w) (w == w) e (same w)) refl
+    taken = and_from (is_lane_width w && w == w) true (and_from (is_lane_width w) (w == w) e (same_number w)) refl
 
     by_row : (row : BinaryRow) → compares row ≡ true → takes_pair row w w 1 ≡ true
     by_row (binary.arithmetic f) t = impossible t
@@ -248,4 +245,4 @@ shifts_take op v w h e f = two_take shifts op v w v h by_row
     by_row (binary.logical g) t = impossible t
     by_row (binary.unsigned_comparison g) t = impossible t
     by_row (binary.signed_comparison g) t = impossible t
-    by_row (binary.shift g) t = both (is_lane_width v && is_lane_width w) (v == v) (both (is_lane_width v) (is_lane_width w) e f) (same v)
+    by_row (binary.shift g) t = and_from (is_lane_width v && is_lane_width w) (v == v) (and_from (is_lane_width v) (is_lane_width w) e f) (same_number v)

@@ -1,7 +1,8 @@
 -- An operation on the lanes of rows, one after another.
 use Rattle.std.proofs.Common.{◌≡◌, ◌∙◌, ℕ, zero, suc, ◌+◌, ◌<◌, ◌≤◌, List, [], ◌∷◌, ◌++◌, length, get_or, drop, drop-cons, drop_of_length-le, add-one, append_assoc, append-nil, slice_get, Some, None, refl, sym, ap}
 use Rattle.spv_base.specs.Cell.{Cell}
-use Rattle.spv_consts.specs.Operations.{by_three, by_two}
+use Rattle.spv_alu.specs.Lanes.{zip3}
+use Rattle.spv_consts.specs.Operations.{by_two}
 
 none_left : {A : Type 0} (xs : List A) (n : ℕ) → None ≡ slice_get xs n → drop n xs ≡ []
 none_left [] zero h = refl
@@ -53,37 +54,37 @@ pairs_end f xs ys done whole n l g =
 
 -- ---- triples
 
-no_middle : (f : Cell → Cell → Cell → Cell) (xs zs : List Cell) → by_three f xs [] zs ≡ []
+no_middle : (f : Cell → Cell → Cell → Cell) (xs zs : List Cell) → zip3 f xs [] zs ≡ []
 no_middle f [] zs = refl
 no_middle f (x ∷ xs) zs = refl
 
-no_last : (f : Cell → Cell → Cell → Cell) (xs ys : List Cell) → by_three f xs ys [] ≡ []
+no_last : (f : Cell → Cell → Cell → Cell) (xs ys : List Cell) → zip3 f xs ys [] ≡ []
 no_last f [] ys = refl
 no_last f (x ∷ xs) [] = refl
 no_last f (x ∷ xs) (y ∷ ys) = refl
 
 pub triples_no_middle : (f : Cell → Cell → Cell → Cell) (xs ys zs done whole : List Cell) (n : ℕ) → None ≡ slice_get ys n
-    → done ++ by_three f (drop n xs) (drop n ys) (drop n zs) ≡ whole → done ++ by_three f (drop (n + 1) xs) (drop (n + 1) ys) (drop (n + 1) zs) ≡ whole
+    → done ++ zip3 f (drop n xs) (drop n ys) (drop n zs) ≡ whole → done ++ zip3 f (drop (n + 1) xs) (drop (n + 1) ys) (drop (n + 1) zs) ≡ whole
 triples_no_middle f xs ys zs done whole n h g =
-    let e : by_three f (drop n xs) (drop n ys) (drop n zs) ≡ [] = rw (none_left ys n h) (no_middle f (drop n xs) (drop n zs)) in
-    let e' : by_three f (drop (n + 1) xs) (drop (n + 1) ys) (drop (n + 1) zs) ≡ [] = rw (none_later ys n h) (no_middle f (drop (n + 1) xs) (drop (n + 1) zs)) in
+    let e : zip3 f (drop n xs) (drop n ys) (drop n zs) ≡ [] = rw (none_left ys n h) (no_middle f (drop n xs) (drop n zs)) in
+    let e' : zip3 f (drop (n + 1) xs) (drop (n + 1) ys) (drop (n + 1) zs) ≡ [] = rw (none_later ys n h) (no_middle f (drop (n + 1) xs) (drop (n + 1) zs)) in
     ap (λ (ws : List Cell). done ++ ws) (e' ∙ sym e) ∙ g
 
 pub triples_no_last : (f : Cell → Cell → Cell → Cell) (xs ys zs done whole : List Cell) (n : ℕ) → None ≡ slice_get zs n
-    → done ++ by_three f (drop n xs) (drop n ys) (drop n zs) ≡ whole → done ++ by_three f (drop (n + 1) xs) (drop (n + 1) ys) (drop (n + 1) zs) ≡ whole
+    → done ++ zip3 f (drop n xs) (drop n ys) (drop n zs) ≡ whole → done ++ zip3 f (drop (n + 1) xs) (drop (n + 1) ys) (drop (n + 1) zs) ≡ whole
 triples_no_last f xs ys zs done whole n h g =
-    let e : by_three f (drop n xs) (drop n ys) (drop n zs) ≡ [] = rw (none_left zs n h) (no_last f (drop n xs) (drop n ys)) in
-    let e' : by_three f (drop (n + 1) xs) (drop (n + 1) ys) (drop (n + 1) zs) ≡ [] = rw (none_later zs n h) (no_last f (drop (n + 1) xs) (drop (n + 1) ys)) in
+    let e : zip3 f (drop n xs) (drop n ys) (drop n zs) ≡ [] = rw (none_left zs n h) (no_last f (drop n xs) (drop n ys)) in
+    let e' : zip3 f (drop (n + 1) xs) (drop (n + 1) ys) (drop (n + 1) zs) ≡ [] = rw (none_later zs n h) (no_last f (drop (n + 1) xs) (drop (n + 1) ys)) in
     ap (λ (ws : List Cell). done ++ ws) (e' ∙ sym e) ∙ g
 
 pub triples_more : (f : Cell → Cell → Cell → Cell) (xs ys zs done now whole : List Cell) (n : ℕ) (x y z v : Cell) → n < length xs → x ≡ get_or xs n x → Some y ≡ slice_get ys n → Some z ≡ slice_get zs n
-    → v ≡ f x y z → now ≡ done ++ v ∷ [] → done ++ by_three f (drop n xs) (drop n ys) (drop n zs) ≡ whole → now ++ by_three f (drop (n + 1) xs) (drop (n + 1) ys) (drop (n + 1) zs) ≡ whole
+    → v ≡ f x y z → now ≡ done ++ v ∷ [] → done ++ zip3 f (drop n xs) (drop n ys) (drop n zs) ≡ whole → now ++ zip3 f (drop (n + 1) xs) (drop (n + 1) ys) (drop (n + 1) zs) ≡ whole
 triples_more f xs ys zs done now whole n x y z v l e h k m p g =
     let left : drop n xs ≡ x ∷ drop (n + 1) xs = rw (drop-cons xs n x l, ← e, add-one) refl in
-    let whole_left : by_three f (drop n xs) (drop n ys) (drop n zs) ≡ f x y z ∷ by_three f (drop (n + 1) xs) (drop (n + 1) ys) (drop (n + 1) zs) = rw (left, one_left ys n y h, one_left zs n z k) refl in
+    let whole_left : zip3 f (drop n xs) (drop n ys) (drop n zs) ≡ f x y z ∷ zip3 f (drop (n + 1) xs) (drop (n + 1) ys) (drop (n + 1) zs) = rw (left, one_left ys n y h, one_left zs n z k) refl in
     rw (p, append_assoc, m) (ap (λ (ws : List Cell). done ++ ws) (sym whole_left) ∙ g)
 
-pub triples_end : (f : Cell → Cell → Cell → Cell) (xs ys zs done whole : List Cell) (n : ℕ) → length xs ≤ n → done ++ by_three f (drop n xs) (drop n ys) (drop n zs) ≡ whole → done ≡ whole
+pub triples_end : (f : Cell → Cell → Cell → Cell) (xs ys zs done whole : List Cell) (n : ℕ) → length xs ≤ n → done ++ zip3 f (drop n xs) (drop n ys) (drop n zs) ≡ whole → done ≡ whole
 triples_end f xs ys zs done whole n l g =
-    let none : by_three f (drop n xs) (drop n ys) (drop n zs) ≡ [] = rw (drop_of_length-le xs l) refl in
+    let none : zip3 f (drop n xs) (drop n ys) (drop n zs) ≡ [] = rw (drop_of_length-le xs l) refl in
     sym (append-nil done) ∙ ap (λ (ws : List Cell). done ++ ws) (sym none) ∙ g

@@ -1,17 +1,17 @@
 -- What an operation of OpSpecConstantOp gives is the operation of its opcode on each lane: the widths of the lanes are those that
 -- the operation takes.
-use Rattle.std.proofs.lemmas.Bool.{eq-eqb}
-use Rattle.spv_alu.specs.Select.{select_of}
+use Rattle.std.proofs.lemmas.Bool.{eq-eqb, and_parts, not-true}
+use Rattle.spv_alu.specs.Select.{select_of, selected as chosen}
 use Rattle.spv_consts.specs.Values.{leaf_widths}
 use Rattle.spv_index.specs.Operands.{id_operand}
-use Rattle.std.proofs.Common.{Bool, List, None, Option, Some, [], ap, arith, false, map, refl, replicate, suc, sym, true, zero, ℕ, ◌+◌, ◌<◌, ◌==◌, ◌∙◌, ◌∷◌, ◌≡◌}
+use Rattle.std.proofs.Common.{Bool, List, None, Option, Some, [], ap, arith, false, length, map, refl, replicate, suc, sym, true, zero, ℕ, ◌+◌, ◌<◌, ◌==◌, ◌∙◌, ◌∷◌, ◌≡◌}
 use Rattle.std.specs.Prelude.{◌&&◌, if◌then◌else◌, not, unwrap_or}
 use Rattle.std.specs.Option.{is_some, option_and_then, option_map, option_map_or}
-use Rattle.spv_base.specs.Cell.{Cell, undefined_cell}
+use Rattle.spv_base.specs.Cell.{Cell, undefined_cell, HasWidth}
 use Rattle.spv_base.specs.declared.instructions.Inst.{Inst}
 use Rattle.spv_types.specs.Types.{form_of}
 use Rattle.spv_types.specs.Laws.{AreSound}
-use Rattle.spv_types.proofs.SoundLemmas.{impossible}
+use Rattle.spv_types.proofs.Exports.{impossible}
 use Rattle.spv_index.specs.Definitions.{result_type}
 use Rattle.spv_alu.specs.declared.unary_op.UnaryOp.{UnaryOp}
 use Rattle.spv_alu.specs.declared.binary_op.BinaryOp.{BinaryOp}
@@ -23,23 +23,24 @@ use Rattle.spv_typing.specs.declared.lanes.Element.{Element}
 use Rattle.spv_typing.specs.declared.lanes.Element.TheVariants.{Bool as OneBoolean, Int}
 use Rattle.spv_typing.specs.declared.rules.Rule.{Rule}
 use Rattle.spv_typing.specs.declared.rules.Rule.TheVariants.{Convert, Bitcast, Integer, Integers, Clamp, Shift, Boolean, Booleans, Reduce, Compare, Extended, Select as Choice, InsertField, ExtractField}
-use Rattle.spv_typing.specs.Lanes.{lanes_at, lanes_of, repeated}
+use Rattle.spv_typing.specs.Lanes.{lanes_at, lanes_of, repeated, width_of}
 use Rattle.spv_typing.specs.Laws.{IsTyped}
 use Rattle.spv_typing.specs.Rules.{is_constant_rule, rule_count}
-use Rattle.spv_typing.proofs.LawLemmas.{parts}
-use Rattle.spv_consts.specs.Constants.{Known, chosen, leaves_if, leaves_of, operand, result_of}
+use Rattle.spv_consts.specs.Constants.{Known, leaves_if, leaves_of, operand, result_of}
 use Rattle.spv_consts.specs.Context.{Context}
 use Rattle.spv_consts.specs.Evaluation.{binary_cells, computed_cells, operand_at, select_cells, unary_cells}
 use Rattle.spv_consts.specs.Lanes.{binary_lane, is_lane_width, pair_takes, row_takes, select_lane, takes_one, unary_lane}
-use Rattle.spv_consts.specs.Laws.{FillType, HasWidth}
-use Rattle.spv_consts.specs.Operations.{by_three, by_two, lane_width, selected}
+use Rattle.spv_consts.specs.Laws.{FillType}
+use Rattle.spv_consts.specs.Operations.{by_two, lane_width, selected}
 use Rattle.spv_consts.specs.Rules.{keeps_opcode, operand_type}
 use Rattle.spv_consts.specs.State.{State, given_cells, is_given, is_operand, operand_cells}
 use Rattle.spv_consts.proofs.FillLemmas.{Fill}
 use Rattle.spv_consts.proofs.LaneFills.{takes_pair, takes_pair_of}
 use Rattle.spv_consts.proofs.OperationFills.{counted, lanes_fill, ruled_by, typed}
 use Rattle.spv_consts.proofs.OperationKinds.{arithmetic_takes, booleans_take, comparisons_take, compares, computes_one, computes_two, conversion_takes, gives_integer, integers_take, is_arithmetic, is_conversion, is_negation, joins_booleans, negation_takes, one_computed, select_computed, shifts, shifts_take, suits, suits_of, two_computed}
-use Rattle.spv_consts.proofs.ScalarTypes.{AreLanes, are_lanes, width_of}
+use Rattle.spv_consts.proofs.ScalarTypes.{AreLanes, are_lanes}
+use Rattle.spv_base.proofs.Exports.{none_at}
+use Rattle.spv_alu.specs.Lanes.{zip3}
 
 -- ---- lanes of widths that an operation takes
 
@@ -63,7 +64,7 @@ two_agree op v u a b e h = by_operation (binary_op op) e h
     by_operation None e h = impossible h
     by_operation (Some o) e h =
         let same : o ≡ u = cc in
-        let taken = parts (pair_takes (binary_row o) a.width b.width) (binary_width (binary_row o) a.width == v) h in
+        let taken = and_parts (pair_takes (binary_row o) a.width b.width) (binary_width (binary_row o) a.width == v) h in
         rw taken.0 (ap (λ (q : BinaryOp). binary.binary_lane q a b) same)
 
 -- ---- rows of them
@@ -88,13 +89,13 @@ selects c a b w h g = let same : (b.width == a.width) ≡ true = rw (h.0, g.0) (
 both_same : (a b : Cell) (xs ys : List Cell) → a ≡ b → xs ≡ ys → a ∷ xs ≡ b ∷ ys
 both_same a b xs ys e f = rw (e, f) refl
 
-pairs_selected : (c : Cell) (ws : List ℕ) (xs ys : List Cell) → Fill ws xs → Fill ws ys → by_two (select_of c) xs ys ≡ by_two (select_lane c) xs ys
+pairs_selected : (c : Cell) (ws : List ℕ) (xs ys : List Cell) → Fill ws xs → Fill ws ys → zip3 select_of (replicate (length xs) c) xs ys ≡ by_two (select_lane c) xs ys
 pairs_selected c ws [] ys h g = refl
 pairs_selected c ws (x ∷ xs) [] h g = refl
 pairs_selected c [] (x ∷ xs) (y ∷ ys) h g = absurd h
 pairs_selected c (w ∷ ws) (x ∷ xs) (y ∷ ys) h g = both_same (select_of c x y) (select_lane c x y) _ _ (selects c x y w h.0 g.0) (pairs_selected c ws xs ys h.1 g.1)
 
-each_selected : (cs : List Cell) (ws : List ℕ) (xs ys : List Cell) → Fill ws xs → Fill ws ys → by_three select_of cs xs ys ≡ by_three select_lane cs xs ys
+each_selected : (cs : List Cell) (ws : List ℕ) (xs ys : List Cell) → Fill ws xs → Fill ws ys → zip3 select_of cs xs ys ≡ zip3 select_lane cs xs ys
 each_selected [] ws xs ys h g = refl
 each_selected (c ∷ cs) ws [] ys h g = refl
 each_selected (c ∷ cs) ws (x ∷ xs) [] h g = refl
@@ -107,14 +108,6 @@ rows_selected (c ∷ []) ws xs ys h g = pairs_selected c ws xs ys h g
 rows_selected (c ∷ d ∷ cs) ws xs ys h g = each_selected (c ∷ d ∷ cs) ws xs ys h g
 
 -- ---- opcodes
-
-no_test : (b : Bool) → not b ≡ true → b ≡ false
-no_test true h = impossible h
-no_test false h = refl
-
-none_by : {A : Type 0} (o : Option A) → not (is_some o) ≡ true → o ≡ None
-none_by None h = refl
-none_by (Some x) h = impossible h
 
 some_by : {A : Type 0} (test : A → Bool) (o : Option A) → option_map_or test o false ≡ true → (x : A) × (o ≡ Some x)
 some_by test None h = impossible h
@@ -146,9 +139,9 @@ module _ (m : Context) (s : State) (i : Inst) (op : ℕ) (sound : AreSound s.typ
         → (is_lane_width (width_of e) ≡ true → is_lane_width (width_of f) ≡ true → takes_one op (width_of f) (width_of e) ≡ true)
         → IsGood 0 → result_of m k i op ≡ Some (unary_cells m s i op)
     one_given test suit n e f r a takes good =
-        let p = parts (not (op == 169)) (option_map_or (λ o. test (unary_row o)) (unary_op op) false) suit in
+        let p = and_parts (not (op == 169)) (option_map_or (λ o. test (unary_row o)) (unary_op op) false) suit in
         let u = some_by (λ o. test (unary_row o)) (unary_op op) p.1 in
-        one_result u.0 (unary_cells m s i op) (no_test (op == 169) p.0) u.1 (same u.0 u.1)
+        one_result u.0 (unary_cells m s i op) (not-true (op == 169) p.0) u.1 (same u.0 u.1)
       where
         result : AreLanes s.types i.ty n e
         result = are_lanes s.types sound i.ty n e r
@@ -173,10 +166,10 @@ module _ (m : Context) (s : State) (i : Inst) (op : ℕ) (sound : AreSound s.typ
         → (is_lane_width (width_of f) ≡ true → is_lane_width (width_of g) ≡ true → takes_pair_of op (width_of f) (width_of g) (width_of e) ≡ true)
         → IsGood 0 → IsGood 1 → result_of m k i op ≡ Some (binary_cells m s i op)
     two_given test suit n e f g a b take good next =
-        let p = parts (not (op == 169)) (not (is_some (unary_op op)) && option_map_or (λ o. test (binary_row o)) (binary_op op) false) suit in
-        let q = parts (not (is_some (unary_op op))) (option_map_or (λ o. test (binary_row o)) (binary_op op) false) p.1 in
+        let p = and_parts (not (op == 169)) (not (is_some (unary_op op)) && option_map_or (λ o. test (binary_row o)) (binary_op op) false) suit in
+        let q = and_parts (not (is_some (unary_op op))) (option_map_or (λ o. test (binary_row o)) (binary_op op) false) p.1 in
         let u = some_by (λ o. test (binary_row o)) (binary_op op) q.1 in
-        two_result u.0 (binary_cells m s i op) (no_test (op == 169) p.0) (none_by (unary_op op) q.0) u.1 (same u.0 u.1)
+        two_result u.0 (binary_cells m s i op) (not-true (op == 169) p.0) (none_at (unary_op op) q.0) u.1 (same u.0 u.1)
       where
         at : (t : ℕ) × (given 0 ≡ Some t) × (lanes_of s.types t ≡ Some (repeated n f))
         at = typed m s i op sound 0 (repeated n f) a

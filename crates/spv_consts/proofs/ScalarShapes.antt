@@ -1,18 +1,15 @@
 -- Lanes that are scalars of a width: blank ones, literals, overrides and Booleans.
-use Rattle.std.proofs.Common.{◌≡◌, ℕ, ◌^◌, ◌<◌, ◌≤◌, min, Bool, true, false, Some, ℤ, pos, negsuc, refl, arith}
-use Rattle.std.proofs.lemmas.Nat.{mod_below, pow_pos}
+use Rattle.std.proofs.Common.{◌≡◌, ℕ, ◌≤◌, min, Bool, true, false, ℤ, refl, arith}
+use Rattle.std.proofs.lemmas.Nat.{pow_pos}
 use Rattle.spv_base.specs.Cell.{IsCell, Cell, undefined_cell}
 use Rattle.spv_base.specs.declared.values.Value.{Scalar}
-use Rattle.spv_base.proofs.PartLemmas.{out_scalar}
+use Rattle.spv_base.proofs.Exports.{out_scalar}
+use Rattle.spv_alu.proofs.Exports.{low_bits_below}
 use Rattle.spv_types.specs.Shapes.{IsScalar}
-use Rattle.spv_alu.specs.Integers.{low_bits}
 use Rattle.spv_alu.specs.Results.{integer, truth}
 use Rattle.spv_consts.specs.Values.{blank_cell}
 
 -- ---- tests and numbers
-
-pub some_same : (n k : ℕ) → Some n ≡ Some k → n ≡ k
-some_same n k e = cc
 
 -- ---- lanes
 
@@ -27,15 +24,10 @@ blank_is_lane defined width = record {
   zero = λ _. refl;
 }
 
--- the low-order bits of an integer fit their width
-low_bits_fit : (width : ℕ) (z : ℤ) → low_bits width z < 2 ^ width
-low_bits_fit width (pos n) = mod_below n (2 ^ width) (pow_pos width)
-low_bits_fit width (negsuc n) = let positive : 0 < 2 ^ width = pow_pos width in omega arith
-
 pub integer_is_lane : (width : ℕ) (z : ℤ) → width ≤ 64 → IsCell (integer width z)
 integer_is_lane width z narrow = record {
   narrow = narrow;
-  fits = low_bits_fit width z;
+  fits = low_bits_below width z;
   zero = λ e. absurd (cc);
 }
 

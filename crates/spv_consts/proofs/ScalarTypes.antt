@@ -11,17 +11,13 @@ use Rattle.spv_types.specs.Laws.{AreSound}
 use Rattle.spv_typing.specs.declared.lanes.Element.{Element}
 use Rattle.spv_typing.specs.declared.lanes.Element.TheVariants.{Bool as Boolean, Int}
 use Rattle.spv_typing.specs.declared.lanes.Lanes.{Lanes}
-use Rattle.spv_typing.specs.Lanes.{element_of, form_lanes, lanes_of, repeated}
-use Rattle.spv_typing.proofs.LawLemmas.{parts}
+use Rattle.spv_typing.specs.Lanes.{element_of, form_lanes, lanes_of, repeated, width_of}
 use Rattle.spv_consts.specs.Lanes.{is_lane_width}
 use Rattle.spv_consts.specs.Operations.{lane_width, scalar_width}
 use Rattle.spv_consts.specs.Values.{leaf_widths}
 use Rattle.spv_consts.proofs.WidthLemmas.{widths_by_form}
-
--- the width of a lane
-abbrev pub width_of : Element → ℕ
-width_of Boolean = 1
-width_of (Int width) = width
+use Rattle.std.proofs.lemmas.Bool.{leb-true, and_parts}
+use Rattle.std.proofs.lemmas.Option.{same_Some}
 
 -- a type of so many lanes: their width is one of a lane, it is what the type is asked for, and the leaves have it
 pub record AreLanes (ts : Types) (id n : ℕ) (e : Element) : Type 0 where
@@ -29,33 +25,27 @@ pub record AreLanes (ts : Types) (id n : ℕ) (e : Element) : Type 0 where
   pub width : lane_width ts (form_of ts id) ≡ width_of e
   pub leaves : leaf_widths ts id ≡ replicate n (width_of e)
 
-some_same : {A : Type 0} (x y : A) → Some x ≡ Some y → x ≡ y
-some_same x y e = cc
-
 lane_width_of : (w : ℕ) → is_width w ≡ true → is_lane_width w ≡ true
 lane_width_of w h = grind arith
 
-at_least : (n m : ℕ) → nat_le n m ≡ true → n ≤ m
-at_least n m h = grind arith
-
 -- no lane is wider than 64 bits
 within : (w : ℕ) → is_lane_width w ≡ true → min w 64 ≡ w
-within w h = fits (parts (nat_lt 0 w) (nat_le w 64) h).1
+within w h = fits (and_parts (nat_lt 0 w) (nat_le w 64) h).1
   where
     fits : nat_le w 64 ≡ true → min w 64 ≡ w
     fits h =
-        let l : w ≤ 64 = at_least w 64 h in
+        let l : w ≤ 64 = leb-true w 64 h in
         omega arith
 
 same_lanes : (n m : ℕ) (e f : Element) → Some (repeated n e) ≡ Some (repeated m f) → (n ≡ m) × (e ≡ f)
 same_lanes n m e f h =
-    let p = some_same (repeated n e) (repeated m f) h in
+    let p = same_Some (repeated n e) (repeated m f) h in
     (ap (λ (l : Lanes). l.count) p, ap (λ (l : Lanes). l.element) p)
 
 module _ (ts : Types) (sound : AreSound ts) where
   -- the lanes of an integer have one of the four widths
   integer_width : (id width sign : ℕ) → form_of ts id ≡ Some (FormInt width sign) → is_lane_width width ≡ true
-  integer_width id width sign e = lane_width_of width (parts (is_width width) (nat_le sign 1) (sound.kept id (FormInt width sign) e)).0
+  integer_width id width sign e = lane_width_of width (and_parts (is_width width) (nat_le sign 1) (sound.kept id (FormInt width sign) e)).0
 
   -- ---- scalars
 
@@ -65,8 +55,8 @@ module _ (ts : Types) (sound : AreSound ts) where
       by_form : (o : Option Form) → form_of ts id ≡ o → element_of o ≡ Some e → is_lane_width (width_of e) ≡ true
       by_form None is h = cc
       by_form (Some Void) is h = cc
-      by_form (Some FormBool) is h = subst (λ k. is_lane_width (width_of k) ≡ true) (some_same Boolean e h) refl
-      by_form (Some (FormInt width sign)) is h = subst (λ k. is_lane_width (width_of k) ≡ true) (some_same (Int width) e h) (integer_width id width sign is)
+      by_form (Some FormBool) is h = subst (λ k. is_lane_width (width_of k) ≡ true) (same_Some Boolean e h) refl
+      by_form (Some (FormInt width sign)) is h = subst (λ k. is_lane_width (width_of k) ≡ true) (same_Some (Int width) e h) (integer_width id width sign is)
       by_form (Some (Vector component count)) is h = cc
       by_form (Some (Array element n stride)) is h = cc
       by_form (Some (Runtime element stride)) is h = cc
@@ -80,8 +70,8 @@ module _ (ts : Types) (sound : AreSound ts) where
       by_form : (o : Option Form) → form_of ts id ≡ o → element_of o ≡ Some e → scalar_width o ≡ width_of e
       by_form None is h = cc
       by_form (Some Void) is h = cc
-      by_form (Some FormBool) is h = ap width_of (some_same Boolean e h)
-      by_form (Some (FormInt width sign)) is h = within width (integer_width id width sign is) ∙ ap width_of (some_same (Int width) e h)
+      by_form (Some FormBool) is h = ap width_of (same_Some Boolean e h)
+      by_form (Some (FormInt width sign)) is h = within width (integer_width id width sign is) ∙ ap width_of (same_Some (Int width) e h)
       by_form (Some (Vector component count)) is h = cc
       by_form (Some (Array element n stride)) is h = cc
       by_form (Some (Runtime element stride)) is h = cc
@@ -95,8 +85,8 @@ module _ (ts : Types) (sound : AreSound ts) where
       by_form : (o : Option Form) → form_of ts id ≡ o → element_of o ≡ Some e → leaf_widths ts id ≡ width_of e ∷ []
       by_form None is h = absurd (cc)
       by_form (Some Void) is h = absurd (cc)
-      by_form (Some FormBool) is h = widths_by_form ts sound id FormBool is ∙ ap (λ k. width_of k ∷ []) (some_same Boolean e h)
-      by_form (Some (FormInt width sign)) is h = widths_by_form ts sound id (FormInt width sign) is ∙ ap (λ k. width_of k ∷ []) (some_same (Int width) e h)
+      by_form (Some FormBool) is h = widths_by_form ts sound id FormBool is ∙ ap (λ k. width_of k ∷ []) (same_Some Boolean e h)
+      by_form (Some (FormInt width sign)) is h = widths_by_form ts sound id (FormInt width sign) is ∙ ap (λ k. width_of k ∷ []) (same_Some (Int width) e h)
       by_form (Some (Vector component count)) is h = absurd (cc)
       by_form (Some (Array element n stride)) is h = absurd (cc)
       by_form (Some (Runtime element stride)) is h = absurd (cc)

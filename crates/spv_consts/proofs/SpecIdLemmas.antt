@@ -1,25 +1,16 @@
 -- The lowest word of some decorations, one after another.
-use Rattle.std.proofs.Common.{◌≡◌, ◌∙◌, ℕ, ◌+◌, ◌<◌, ◌≤◌, List, length, get_or, drop, drop-cons, drop_of_length-le, add-one, Option, Some, None, refl, sym, ap, arith}
-use Rattle.std.specs.Prelude.{min}
+use Rattle.std.proofs.Common.{◌≡◌, ◌∙◌, ℕ, ◌+◌, ◌<◌, ◌≤◌, List, length, get_or, drop, drop-cons, drop_of_length-le, add-one, Option, None, refl, sym, ap}
 use Rattle.spv_base.specs.declared.instructions.Inst.{Inst}
-use Rattle.spv_consts.specs.SpecIds.{lower, lowest_wrong, wrong_spec_id}
-
-lower_joined : (a b c : Option ℕ) → lower (lower a b) c ≡ lower a (lower b c)
-lower_joined None b c = refl
-lower_joined (Some a) None c = refl
-lower_joined (Some a) (Some b) None = refl
-lower_joined (Some a) (Some b) (Some c) = let e : min (min a b) c ≡ min a (min b c) = omega arith in ap Some e
-
-lower_none : (a : Option ℕ) → lower a None ≡ a
-lower_none None = refl
-lower_none (Some a) = refl
+use Rattle.spv_base.specs.Lowest.{lower}
+use Rattle.spv_base.proofs.Exports.{lower_assoc, lower_none}
+use Rattle.spv_consts.specs.SpecIds.{lowest_wrong, wrong_spec_id}
 
 pub lowest_more : (all insts : List Inst) (k : ℕ) (i : Inst) (so_far now word whole : Option ℕ) → k < length insts → i ≡ get_or insts k i → word ≡ wrong_spec_id all i → now ≡ lower so_far word
     → lower so_far (lowest_wrong all (drop k insts)) ≡ whole → lower now (lowest_wrong all (drop (k + 1) insts)) ≡ whole
 unfolding lowest_wrong
 lowest_more all insts k i so_far now word whole l e h m g =
     let one : lowest_wrong all (drop k insts) ≡ lower (wrong_spec_id all i) (lowest_wrong all (drop (k + 1) insts)) = rw (drop-cons insts k i l, ← e, add-one) refl in
-    rw (m, h, lower_joined) (ap (lower so_far) (sym one) ∙ g)
+    rw (m, h, lower_assoc) (ap (lower so_far) (sym one) ∙ g)
 
 pub lowest_end : (all insts : List Inst) (k : ℕ) (so_far whole : Option ℕ) → length insts ≤ k → lower so_far (lowest_wrong all (drop k insts)) ≡ whole → so_far ≡ whole
 unfolding lowest_wrong

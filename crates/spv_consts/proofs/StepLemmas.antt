@@ -13,7 +13,7 @@ use Rattle.spv_types.specs.declared.forms.Form.TheVariants.{Void}
 use Rattle.spv_types.specs.declared.limits.Limit.{Limit}
 use Rattle.spv_types.specs.Types.{Types, form_at, form_of, number_of}
 use Rattle.spv_types.specs.Limits.{AreLimits, limit_among, limit_step, no_limit}
-use Rattle.spv_types.proofs.TypeLemmas.{number_form}
+use Rattle.spv_types.proofs.Exports.{number_form}
 use Rattle.spv_consts.specs.Context.{Context}
 use Rattle.spv_consts.specs.State.{State}
 use Rattle.spv_types.specs.Build.{unless_refused}

@@ -1,51 +1,24 @@
 -- A constant found by its place, and a constant added at the end.
-use Rattle.std.proofs.Common.{◌≡◌, ◌∙◌, ◌⊎◌, inl, inr, ℕ, zero, suc, ◌+◌, ◌<◌, ◌≤◌, ◌==◌, Bool, true, false, eqb, List, [], ◌∷◌, ◌++◌, length, length-append, append_assoc, take, drop, drop_of_length-le, get_or, Option, Some, None, refl, sym, ap, subst, arith}
-use Rattle.std.specs.Prelude.{if◌then◌else◌, slice_index_or, slice_set}
+use Rattle.std.proofs.Common.{◌≡◌, ◌∙◌, ℕ, suc, ◌+◌, ◌≤◌, ◌==◌, Bool, true, false, List, [], ◌∷◌, ◌++◌, length, length-append, append_assoc, take, drop, drop_of_length-le, get_or, Option, Some, None, refl, sym, ap, subst, arith}
+use Rattle.std.specs.Prelude.{if◌then◌else◌}
 use Rattle.std.specs.List.{AllByRecursion}
-use Rattle.std.specs.Option.{is_some, option_map, option_or}
-use Rattle.std.proofs.lemmas.Bool.{cases_eq, eq-eqb, ne_eqb}
-use Rattle.std.proofs.lemmas.List.{drop-append-le, drop-drop, get_or-set_other, get_or-set_same, length-drop, length-take, map-append, take-append-drop, take-append-le}
+use Rattle.std.specs.Option.{option_map, option_or}
+use Rattle.std.proofs.lemmas.List.{drop-append-le, drop-drop, length-drop, length-take, map-append, take-append-drop, take-append-le}
 use Rattle.std.proofs.Math.Seq.{drop-append_seam, take-append_seam}
 use Rattle.spv_base.specs.Entries.{reads}
 use Rattle.spv_base.specs.Cell.{Cell}
+use Rattle.spv_index.specs.Firsts.{place_of, slot}
+use Rattle.spv_index.proofs.Exports.{place_push}
 use Rattle.spv_consts.specs.declared.table.Entry.{Entry}
 use Rattle.spv_consts.specs.declared.table.RowPlace.{RowPlace}
-use Rattle.spv_consts.specs.Table.{AreInRow, AreRows, Constants, Row, all_cells, entry_row, place_from, place_of, row_at, rows_of}
-
-pub place_lt : (cs : Constants) (id n : ℕ) → place_of cs id ≡ Some n → n < length cs
-place_lt [] id n h = cc
-place_lt (c ∷ cs) id n h = step (c.0 == id) (place_of cs id) n (length cs) h (λ m. place_lt cs id m)
-  where
-    step : (b : Bool) (o : Option ℕ) (n k : ℕ) → (if b then Some 0 else option_map suc o) ≡ Some n → ((m : ℕ) → o ≡ Some m → m < k) → n < suc k
-    step true o n k h ih = let e : 0 ≡ n = cc in omega arith
-    step false None n k h ih = cc
-    step false (Some m) n k h ih = let e : suc m ≡ n = cc in let l = ih m refl in omega arith
-
-pub place_none : (cs : Constants) (id : ℕ) → place_of cs id ≡ None → reads id cs ≡ None
-place_none [] id h = refl
-place_none (c ∷ cs) id h = step (c.0 == id) c (place_of cs id) (reads id cs) h (place_none cs id)
-  where
-    step : (b : Bool) (c : ℕ × Row) (o : Option ℕ) (v : Option Row) → (if b then Some 0 else option_map suc o) ≡ None → (o ≡ None → v ≡ None) → (if b then Some c.1 else v) ≡ None
-    step true c o v h ih = cc
-    step false c None v h ih = ih refl
-    step false c (Some m) v h ih = cc
-
-place_push : (cs : Constants) (c : ℕ × Row) (id : ℕ) → place_of (cs ++ c ∷ []) id ≡ option_or (place_of cs id) (if c.0 == id then Some (length cs) else None)
-place_push [] c id = refl
-place_push (d ∷ cs) c id = step (d.0 == id) (c.0 == id) (length cs) (place_of cs id) _ (place_push cs c id)
-  where
-    step : (b c : Bool) (k : ℕ) (o p : Option ℕ) → p ≡ option_or o (if c then Some k else None) → (if b then Some 0 else option_map suc p) ≡ option_or (if b then Some 0 else option_map suc o) (if c then Some (suc k) else None)
-    step true c k o p h = refl
-    step false true k None p h = rw h refl
-    step false false k None p h = rw h refl
-    step false c k (Some m) p h = rw h refl
+use Rattle.spv_consts.specs.Table.{AreInRow, AreRows, Constants, all_cells, entry_row, place_from, row_at, rows_of}
 
 -- ---- entries one behind the other
 
 -- entries within some cells, and the places of their ids
 pub record AreHeld (cells : List Cell) (entries : List Entry) (places : List (Option ℕ)) : Type 0 where
   pub within : AllByRecursion (λ (e : Entry). e.start + e.len ≤ length cells) entries
-  pub places_are : (id : ℕ) → slice_index_or places id None ≡ place_of (rows_of cells entries) id
+  pub places_are : (id : ℕ) → slot places id ≡ place_of (rows_of cells entries) id
 
 -- where they begin and where they end
 row_ends : (start end : ℕ) (es : List Entry) → AreInRow start es end → start ≤ end
@@ -169,9 +142,6 @@ more_cells cells more now es places rows e = rw e (record {
   places_are = λ id. rows.places_are id ∙ ap (λ (cs : Constants). place_of cs id) (sym (rows_kept cells more es rows.within));
 })
 
-pub more_places : (cells : List Cell) (es : List Entry) (places now : List (Option ℕ)) → AreHeld cells es places → ((id : ℕ) → slice_index_or now id None ≡ slice_index_or places id None) → AreHeld cells es now
-more_places cells es places now rows same = record { within = rows.within; places_are = λ id. same id ∙ rows.places_are id }
-
 -- ---- one more entry
 
 new_row : (cells more : List Cell) (n : ℕ) → n ≡ length more → take n (drop (length cells) (cells ++ more)) ≡ more
@@ -192,65 +162,10 @@ pushed_rows cells more now es places id ty start len rows e from long =
     map-append (entry_row now) es (record { id = id; ty = ty; start = start; len = len } ∷ [])
     ∙ rw (same_rows cells more now es places rows e, from, e, new_row cells more len long) refl
 
--- whose place is kept where its id has none
-pub pushed_new : (cells : List Cell) (es : List Entry) (places : List (Option ℕ)) (e : Entry) (n : ℕ) → AreHeld cells es places → e.start + e.len ≤ length cells → slice_index_or places e.id None ≡ None
-    → e.id < length places → n ≡ length es → AreHeld cells (es ++ e ∷ []) (slice_set places e.id (Some n))
-pushed_new cells es places e n rows inside none room long = record {
+-- whose place is put under its id
+pub pushed : (cells : List Cell) (es : List Entry) (places now : List (Option ℕ)) (e : Entry) (n : ℕ) → AreHeld cells es places → e.start + e.len ≤ length cells → n ≡ length es
+    → ((q : ℕ) → slot now q ≡ option_or (slot places q) (if e.id == q then Some n else None)) → AreHeld cells (es ++ e ∷ []) now
+pushed cells es places now e n rows inside number put = record {
   within = within_push (length cells) es e rows.within inside;
-  places_are = λ q. rw map-append (at q (cases_eq e.id q));
+  places_are = λ q. put q ∙ rw (rows.places_are q, number, map-append, place_push, rows_long) refl;
 }
-  where
-    at : (q : ℕ) → (e.id ≡ q) ⊎ (e.id ≡ q → ⊥) → slice_index_or (slice_set places e.id (Some n)) q None ≡ place_of (rows_of cells es ++ entry_row cells e ∷ []) q
-    at q (inl same) =
-        let own : eqb e.id q ≡ true = eq-eqb e.id q same in
-        let old : place_of (rows_of cells es) q ≡ None = sym (rows.places_are q) ∙ rw (← same) none in
-        rw (place_push, own, old, rows_long, ← long, ← same) (get_or-set_same places e.id (Some n) None room)
-    at q (inr apart) =
-        let other : eqb e.id q ≡ false = ne_eqb e.id q apart in
-        rw (place_push, other) (get_or-set_other places e.id q (Some n) None (λ same. apart (sym same)) ∙ rows.places_are q ∙ kept (place_of (rows_of cells es) q))
-      where
-        kept : (o : Option ℕ) → o ≡ option_or o None
-        kept None = refl
-        kept (Some k) = refl
-
-pub pushed_known : (cells : List Cell) (es : List Entry) (places : List (Option ℕ)) (e : Entry) (k : ℕ) → AreHeld cells es places → e.start + e.len ≤ length cells → slice_index_or places e.id None ≡ Some k
-    → AreHeld cells (es ++ e ∷ []) places
-pushed_known cells es places e k rows inside known = record {
-  within = within_push (length cells) es e rows.within inside;
-  places_are = λ q. rw map-append (at q (cases_eq e.id q));
-}
-  where
-    at : (q : ℕ) → (e.id ≡ q) ⊎ (e.id ≡ q → ⊥) → slice_index_or places q None ≡ place_of (rows_of cells es ++ entry_row cells e ∷ []) q
-    at q (inl same) =
-        let old : place_of (rows_of cells es) q ≡ Some k = sym (rows.places_are q) ∙ rw (← same) known in
-        rw (place_push, old) (rows.places_are q ∙ old)
-    at q (inr apart) =
-        let other : eqb e.id q ≡ false = ne_eqb e.id q apart in
-        rw (place_push, other) (rows.places_are q ∙ kept (place_of (rows_of cells es) q))
-      where
-        kept : (o : Option ℕ) → o ≡ option_or o None
-        kept None = refl
-        kept (Some k) = refl
-
--- ---- longer lists of places
-
-pub none_pushed : (places : List (Option ℕ)) (id : ℕ) → slice_index_or (places ++ None ∷ []) id None ≡ slice_index_or places id None
-none_pushed [] zero = refl
-none_pushed [] (suc id) = refl
-none_pushed (p ∷ places) zero = refl
-none_pushed (p ∷ places) (suc id) = none_pushed places id
-
--- ---- what stands at a place
-
-got : {A : Type 0} (xs : List A) (n : ℕ) (x d : A) → n < length xs → x ≡ get_or xs n x → get_or xs n d ≡ x
-got [] n x d l h = absurd (omega arith)
-got (y ∷ xs) zero x d l h = sym h
-got (y ∷ xs) (suc n) x d l h = got xs n x d (omega arith) h
-
-pub none_there : (places : List (Option ℕ)) (id : ℕ) (o : Option ℕ) → id < length places → o ≡ get_or places id o → is_some o ≡ false → slice_index_or places id None ≡ None
-none_there places id None l h e = got places id None None l h
-none_there places id (Some k) l h e = absurd (cc)
-
-pub some_there : (places : List (Option ℕ)) (id : ℕ) (o : Option ℕ) → id < length places → o ≡ get_or places id o → is_some o ≡ true → (k : ℕ) × (slice_index_or places id None ≡ Some k)
-some_there places id None l h e = absurd (cc)
-some_there places id (Some k) l h e = (k, got places id (Some k) None l h)

@@ -4,10 +4,10 @@ use Rattle.std.proofs.Common.{◌≡◌, ◌∙◌, ℕ, zero, suc, ◌==◌, Bo
 use Rattle.std.proofs.Math.Path.{fun_ext}
 use Rattle.std.specs.List.{All, AllZip, flat_map}
 use Rattle.std.proofs.lemmas.List.Elements.{All-cons, All-nil}
-use Rattle.spv_base.specs.Cell.{Cell}
+use Rattle.spv_base.specs.Cell.{Cell, HasWidth}
 use Rattle.spv_base.specs.declared.values.Root.{Root}
 use Rattle.spv_base.specs.declared.values.Value.{Value, Scalar, List as Many}
-use Rattle.spv_base.proofs.PartLemmas.{out_scalar, is_many}
+use Rattle.spv_base.proofs.Exports.{out_scalar, is_many}
 use Rattle.spv_types.specs.declared.forms.Form.{Form}
 use Rattle.spv_types.specs.declared.forms.Form.TheVariants.{Void, Bool as Boolean, Int, Vector, Array, Runtime, Struct, Pointer, Function}
 use Rattle.spv_types.specs.declared.forms.Member.{Member}
@@ -16,16 +16,14 @@ use Rattle.spv_types.specs.Rows.{leaves}
 use Rattle.spv_types.specs.Rules.{is_data, is_scalar, keep_members, keeps_form, keeps_member}
 use Rattle.spv_types.specs.Shapes.{HasShape, shape_step}
 use Rattle.spv_types.specs.Laws.{AreByForms, AreComplete, AreSound, ComesBefore, IsAmong}
-use Rattle.spv_types.proofs.RowLemmas.{leaves_many, scalar_row}
-use Rattle.spv_types.proofs.DataLemmas.{scalar_data, member_data, sized_data}
-use Rattle.spv_types.proofs.SoundLemmas.{impossible}
-use Rattle.spv_typing.proofs.LawLemmas.{parts}
-use Rattle.spv_consts.specs.Laws.{FillType, HasWidth, IsRowAt}
+use Rattle.spv_types.proofs.Exports.{leaves_many, scalar_row, scalar_data, member_data, sized_data, impossible}
+use Rattle.spv_consts.specs.Laws.{FillType, IsRowAt}
 use Rattle.spv_consts.specs.Trees.{Reader, read_among, read_list, read_none, read_parts, read_scalar, read_step, value_at}
 use Rattle.spv_consts.specs.Values.{leaf_widths, part_types, widths_step}
 use Rattle.spv_consts.proofs.FillLemmas.{Fill, fill_split}
 use Rattle.spv_consts.proofs.ScalarShapes.{is_scalar as scalar_has_shape}
 use Rattle.spv_consts.proofs.WidthLemmas.{by_form, listed, widths_by_form}
+use Rattle.std.proofs.lemmas.Bool.{and_parts}
 
 -- ---- types of data
 
@@ -39,10 +37,10 @@ unfolding keep_members
 members_data ts block [] index part k h = cc
 members_data ts block (m ∷ ms) zero part k h =
     let same : m.ty ≡ part = cc in
-    let p = parts (keeps_member ts block (length ms == 0) m.ty) (keep_members ts block ms) k in
+    let p = and_parts (keeps_member ts block (length ms == 0) m.ty) (keep_members ts block ms) k in
     subst (λ (t : ℕ). is_data (form_of ts t) ≡ true) same (member_data ts block (length ms == 0) m.ty p.0)
 members_data ts block (m ∷ ms) (suc index) part k h =
-    let p = parts (keeps_member ts block (length ms == 0) m.ty) (keep_members ts block ms) k in
+    let p = and_parts (keeps_member ts block (length ms == 0) m.ty) (keep_members ts block ms) k in
     members_data ts block ms index part p.1 h
 
 -- the parts of a form that keeps its rule are data
@@ -50,7 +48,7 @@ parts_data : (ts : Types) (f : Form) → keeps_form ts f ≡ true → (index par
 parts_data ts Void k index part h = cc
 parts_data ts Boolean k index part h = cc
 parts_data ts (Int width sign) k index part h = cc
-parts_data ts (Vector component count) k index part h = same_data ts count component index part (scalar_data (form_of ts component) (parts (is_scalar (form_of ts component)) _ k).0) h
+parts_data ts (Vector component count) k index part h = same_data ts count component index part (scalar_data (form_of ts component) (and_parts (is_scalar (form_of ts component)) _ k).0) h
 parts_data ts (Array element None stride) k index part h = cc
 parts_data ts (Array element (Some n) stride) k index part h = same_data ts n element index part (sized_data ts element k) h
 parts_data ts (Runtime element stride) k index part h = cc

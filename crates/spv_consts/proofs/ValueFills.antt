@@ -14,10 +14,8 @@ use Rattle.spv_types.specs.Constants.{is_constant}
 use Rattle.spv_types.specs.Rules.{is_sized_data, is_width}
 use Rattle.spv_types.specs.Laws.{AreSound}
 use Rattle.spv_types.specs.Queries.{is_boolean}
-use Rattle.spv_types.proofs.SoundLemmas.{impossible}
-use Rattle.spv_types.proofs.DataLemmas.{width_narrow}
+use Rattle.spv_types.proofs.Exports.{impossible, width_narrow}
 use Rattle.spv_alu.specs.Results.{integer, truth}
-use Rattle.spv_typing.proofs.LawLemmas.{equal, parts}
 use Rattle.spv_consts.specs.Context.{Context}
 use Rattle.spv_consts.specs.State.{State, given_cells}
 use Rattle.spv_consts.specs.Values.{blank_of, leaf_widths, null_of, widths_step}
@@ -32,6 +30,7 @@ use Rattle.spv_consts.proofs.WidthLemmas.{widths_by_form, widths_narrow}
 use Rattle.spv_consts.proofs.ScalarShapes.{integer_is_lane, truth_is_lane, undefined_is_lane}
 use Rattle.spv_consts.proofs.CompositeFills.{composite_fills}
 use Rattle.spv_consts.proofs.OperationFills.{computed_fills}
+use Rattle.std.proofs.lemmas.Bool.{eqb-true, and_parts}
 
 -- the null value and the undefined value of a type
 pub blanks_fill : (ts : Types) (defined : Bool) (id : ℕ) → AreSound ts → FillType ts id (blank_of defined ts id)
@@ -68,8 +67,8 @@ number_lane op literal h = either (op == 43) refl h
     at n same e = subst (λ (k : ℕ). lane_for k literal ≡ literal) (sym same) e
 
     either : (b : Bool) → (op == 43) ≡ b → (b || op == 50) ≡ true → lane_for op literal ≡ literal
-    either true e h = at 43 (equal op 43 e) refl
-    either false e h = at 50 (equal op 50 h) refl
+    either true e h = at 43 (eqb-true op 43 e) refl
+    either false e h = at 50 (eqb-true op 50 h) refl
 
 literal_fills : (widths : ℕ → List ℕ) (f : Form) (words : List Operand) (o : Option ℤ) → keeps_literal (integer_width (Some f)) words ≡ true
     → Fill (widths_step widths f) (overridden (literal_lane (integer_width (Some f)) words) o ∷ [])
@@ -82,7 +81,7 @@ literal_fills widths (Int width sign) words o h = by_width (is_width width) refl
     by_number (Some n) e h = (overridden_is_lane width (integer width (pos n)) o (refl, integer_is_lane width (pos n) (width_narrow width e)), tt)
 
     by_width : (b : Bool) → is_width width ≡ b → keeps_literal (if b then Some width else None) words ≡ true → Fill (width ∷ []) (overridden (literal_lane (if b then Some width else None) words) o ∷ [])
-    by_width true e h = by_number (literal_number width words) e (parts (length words == word_count width) (is_some (literal_number width words)) h).1
+    by_width true e h = by_number (literal_number width words) e (and_parts (length words == word_count width) (is_some (literal_number width words)) h).1
     by_width false e h = impossible h
 literal_fills widths (Vector component count) words o h = impossible h
 literal_fills widths (Array element n stride) words o h = impossible h
@@ -166,7 +165,7 @@ no_array : (op : ℕ) → is_constant op ≡ true → (op == 28) ≡ false
 no_array op h = by_test (op == 28) refl
   where
     by_test : (b : Bool) → (op == 28) ≡ b → b ≡ false
-    by_test true e = let constant : is_constant 28 ≡ true = subst (λ (k : ℕ). is_constant k ≡ true) (equal op 28 e) h in impossible constant
+    by_test true e = let constant : is_constant 28 ≡ true = subst (λ (k : ℕ). is_constant k ≡ true) (eqb-true op 28 e) h in impossible constant
     by_test false e = refl
 
 pub constant_rules : (m : Context) (s : State) (i : Inst) → is_constant i.op ≡ true → keeps_rules m s i ≡ true → (is_sized_data s.types i.ty && keeps_kind m s i) ≡ true
@@ -179,5 +178,5 @@ constant_rules m s i constant h = by_tests (i.op == 28) (is_constant i.op) (no_a
 
 pub constants_fill : (m : Context) (s : State) (i : Inst) → AreSound s.types → OperandsFillTypes m s i.word → is_constant i.op ≡ true → keeps_rules m s i ≡ true → FillType s.types i.ty (cells_of m s i)
 constants_fill m s i sound operands constant kept =
-    let p = parts (is_sized_data s.types i.ty) (keeps_kind m s i) (constant_rules m s i constant kept) in
+    let p = and_parts (is_sized_data s.types i.ty) (keeps_kind m s i) (constant_rules m s i constant kept) in
     each_kind m s i sound operands (blanks_fill s.types true i.ty sound) (λ op. computed_fills m s i op sound operands) p.1

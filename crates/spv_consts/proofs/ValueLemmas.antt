@@ -1,5 +1,5 @@
 -- The widths of the leaves of a type are made of its form; copies of lists.
-use Rattle.std.proofs.Common.{◌≡◌, ◌∙◌, ℕ, zero, suc, ◌+◌, ◌-◌, ◌*◌, ◌≤◌, List, [], ◌∷◌, ◌++◌, length, drop, take, map, replicate, append_assoc, append-nil, add-one, length-append, None, Result, Ok, Err, refl, sym, ap, arith}
+use Rattle.std.proofs.Common.{◌≡◌, ◌∙◌, ℕ, zero, suc, ◌+◌, ◌-◌, ◌*◌, ◌≤◌, List, [], ◌∷◌, ◌++◌, length, drop, take, map, replicate, append_assoc, append-nil, add-one, length-append, None, Result, refl, sym, ap, arith}
 use Rattle.std.proofs.lemmas.List.{drop-append-le, length-drop, map-append}
 use Rattle.std.proofs.Math.Nat.{add_comm, mul-le-mul_right, suc-mul}
 use Rattle.std.proofs.Math.Seq.{drop-append_seam, take-append_seam}
@@ -8,7 +8,8 @@ use Rattle.std.specs.Option.{option_map_or}
 use Rattle.std.specs.Result.{OnOk}
 use Rattle.spv_types.specs.declared.forms.Form.{Form}
 use Rattle.spv_types.specs.Types.{Types, found_among}
-use Rattle.spv_types.proofs.TypeLemmas.{in_first-is}
+use Rattle.spv_types.proofs.Exports.{in_first-is}
+use Rattle.std.proofs.lemmas.Result.{on_ok_weaker}
 use Rattle.spv_consts.specs.Copies.{copies}
 use Rattle.spv_consts.specs.Values.{widths_among, widths_step}
 
@@ -85,13 +86,9 @@ pub map_members : {A B C : Type 0} (f : A → B) (g : ℕ → List A) (h : C →
 map_members f g h [] = refl
 map_members f g h (m ∷ ms) = map-append f (g (h m)) (flat_map g (map h ms)) ∙ ap (λ (ys : List _). map f (g (h m)) ++ ys) (map_members f g h ms)
 
-on_ok_map : {T E : Type 0} (r : Result T E) (P Q : Type 0) → (P → Q) → OnOk r P → OnOk r Q
-on_ok_map (Ok x) P Q f h = f h
-on_ok_map (Err x) P Q f h = h
-
 pub repeated_is : {A T E : Type 0} (r : Result T E) (count start : ℕ) (old row mid new : List A) → (count ≡ 0 → ⊥) → start ≡ length old → mid ≡ old ++ row
     → OnOk r (new ≡ mid ++ copies (count - 1) (drop start mid)) → OnOk r (new ≡ old ++ copies count row)
-repeated_is r count start old row mid new some from same h = on_ok_map r _ _ (λ e. e ∙ rw (same, from, drop-append_seam old row, append_assoc) (ap (λ (ys : List _). old ++ ys) (one_more count some))) h
+repeated_is r count start old row mid new some from same h = on_ok_weaker r (λ e. e ∙ rw (same, from, drop-append_seam old row, append_assoc) (ap (λ (ys : List _). old ++ ys) (one_more count some))) h
   where
     one_more : (n : ℕ) → (n ≡ 0 → ⊥) → row ++ copies (n - 1) row ≡ copies n row
     one_more zero none = absurd (none refl)

@@ -15,7 +15,7 @@ use Rattle.spv_types.specs.Constants.{is_constant}
 use Rattle.spv_types.specs.Laws.{AreByForms, AreComplete, AreNamed, AreSound, HasResult, IsAmong}
 use Rattle.spv_types.specs.Rules.{is_data, is_sized_data}
 use Rattle.spv_types.specs.Types.{IsUnset, Types, form_of, lengthened as with_size, number_of, with_length}
-use Rattle.spv_types.specs.Typing.{defined_form, types_in}
+use Rattle.spv_types.specs.Typing.{defined_form, types_in, types_read}
 use Rattle.spv_index.specs.Definitions.{before_functions, defining, result_type, type_in}
 use Rattle.spv_consts.specs.Table.{Constants, Row}
 use Rattle.spv_consts.specs.Context.{Context}
@@ -29,14 +29,14 @@ use Rattle.spv_consts.specs.Build.{constants_of, context_of, front_breaches, kno
 use Rattle.spv_consts.specs.Lengths.{lengthened}
 use Rattle.spv_consts.specs.Rules.{keeps_kind, keeps_rules}
 use Rattle.spv_consts.specs.Steps.{breaches_at, breaches_from, with_entry, after_one, after_all, with_constant, with_type}
-use Rattle.spv_types.proofs.TypeLemmas.{number_lt}
+use Rattle.spv_types.proofs.Exports.{number_lt, form_number, accepted_is}
 use Rattle.spv_consts.proofs.TreeLemmas.{row_is}
 use Rattle.spv_consts.proofs.ValueFills.{blanks_fill, constants_fill}
-use Rattle.spv_consts.proofs.WalkIds.{before_is_front, each_weaker}
-use Rattle.spv_consts.proofs.WalkTypes.{no_breach, number_of_form}
+use Rattle.spv_consts.proofs.WalkIds.{before_is_front}
 use Rattle.spv_consts.proofs.WalkStates.{array_length, constant_no_array, constant_no_type, no_length, only_arrays_unset, passed}
-use Rattle.spv_consts.proofs.WalkPlaces.{IsPlaced, declared, placed}
+use Rattle.spv_consts.proofs.WalkPlaces.{IsPlaced, placed}
 use Rattle.spv_consts.proofs.WalkSteps.{Follows, IsFilled, constant_follows, follows_start, length_follows, length_sets, other_follows, type_follows}
+use Rattle.spv_base.proofs.Exports.{each_weaker, both_empty}
 
 -- ---- the type of a constant
 
@@ -58,7 +58,7 @@ data_number ts id h = by_form (form_of ts id) refl h
   where
     by_form : (o : Option Form) → form_of ts id ≡ o → is_data o ≡ true → (n : ℕ) × (number_of ts id ≡ Some n)
     by_form None e data_is = cc
-    by_form (Some f) e data_is = number_of_form ts id f e
+    by_form (Some f) e data_is = form_number ts id f e
 
 pub constant_rules : (m : Context) (s : State) (i : Inst) → is_constant i.op ≡ true → keeps_rules m s i ≡ true → is_data (form_of s.types i.ty) ≡ true
 constant_rules m s i constant rules =
@@ -134,11 +134,6 @@ ends insts ts over known is = by_breaches (front_breaches ts insts over) (lowest
         by_word true h = cc
         by_word false h = cc
 
--- no breach of two lists is none of either
-pub none_of : (rs ss : List Refusal) → rs ++ ss ≡ [] → (rs ≡ []) × (ss ≡ [])
-none_of [] ss h = (refl, h)
-none_of (r ∷ rs) ss h = absurd (cc)
-
 -- ---- by what the laws of types and of values say
 
 module _
@@ -154,7 +149,7 @@ module _
         → Follows m.all (front ++ i ∷ []) (with_entry m u i)
     type_passes m front i s u f follows place form rules lengthens = by_array (cases_Bool (i.op == 28))
       where
-        at : (number_of (declared m.all) i.id ≡ Some (length (types_in m.all front))) × (form_of (declared m.all) i.id ≡ Some f)
+        at : (number_of (types_read m.all) i.id ≡ Some (length (types_in m.all front))) × (form_of (types_read m.all) i.id ≡ Some f)
         at = place.type_at f form
 
         number : number_of s.types i.id ≡ Some s.known
@@ -228,7 +223,7 @@ module _
         let all_of : front ≡ before_functions m.all = sym (place ∙ append-nil front) in
         subst (λ (is : List Inst). Follows m.all is s) all_of follows
     walk_follows m front (i ∷ rest) tail s ascend named none place whole follows no_breaches =
-        let both = none_of (breaches_at m s i) (breaches_from m (after_one m s i) rest) no_breaches in
+        let both = both_empty (breaches_at m s i) (breaches_from m (after_one m s i) rest) no_breaches in
         walk_follows m (front ++ i ∷ []) rest tail (after_one m s i) ascend named none (place ∙ sym (append_assoc front (i ∷ []) rest)) (whole ∙ sym (append_assoc front (i ∷ []) (rest ++ tail)))
         (step_follows m front i s follows (placed m.all front rest tail i place whole ascend named none) both.0) both.1
 
@@ -240,9 +235,9 @@ module _
     walked_by : (insts : List Inst) (ts : Types) (over : Numbers) (known : Types × Constants) → Ascend 0 insts → AreNamed insts → types_of insts ≡ Ok ts → constants_of ts insts over ≡ Ok known → Walked insts known
     walked_by insts ts over known ascend named typed is =
         let ended = ends insts ts over known is in
-        let rules = no_breach insts ts typed in
+        let rules = accepted_is insts ts typed in
         let front = before_is_front insts in
-        let sound_start : AreSound (declared insts) = subst AreSound (sym rules.1) (sound insts ts named.results typed) in
+        let sound_start : AreSound (types_read insts) = subst AreSound (sym rules.1) (sound insts ts named.results typed) in
         let start : Follows insts [] (start_of ts) = follows_start insts (start_of ts) refl (sym rules.1) refl sound_start in
         (state_of ts insts over, walk_follows (context_of ts insts over) [] (before_functions insts) front.0 (start_of ts) ascend named rules.0 refl front.1 start ended.0, ended.1)
 
@@ -255,7 +250,7 @@ module _
       where
         complete : (s : State) → Follows insts (before_functions insts) s → AreComplete s.types (length s.types)
         complete s follows = λ id among.
-            let below : among.number < length (declared insts) = number_lt (declared insts) id among.number (sym (follows.numbers id) ∙ among.is) in
+            let below : among.number < length (types_read insts) = number_lt (types_read insts) id among.number (sym (follows.numbers id) ∙ among.is) in
             follows.complete id (record { number = among.number; is = among.is; below = subst (λ (n : ℕ). among.number < n) (sym follows.known) below })
 
     -- each constant has a value of the shape of its type

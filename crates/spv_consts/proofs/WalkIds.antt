@@ -1,6 +1,7 @@
 -- Ids that no two instructions share: what each of them defines, and where it stands.
 use Rattle.std.proofs.Common.{◌≡◌, ◌≢◌, ◌⊎◌, ◌∙◌, ℕ, zero, suc, ◌<◌, ◌≤◌, ◌==◌, Bool, true, false, cond, eqb, List, [], ◌∷◌, ◌++◌, map, append_assoc, append-nil, Some, None, inl, inr, refl, sym, ap, arith}
 use Rattle.std.proofs.lemmas.Bool.{cases_eq, eq-eqb, lt-ltb, ne_eqb}
+use Rattle.spv_base.proofs.Exports.{each_weaker}
 use Rattle.std.specs.Prelude.{nat_lt, find, if◌then◌else◌}
 use Rattle.std.specs.List.{AllByRecursion, Contains}
 use Rattle.spv_base.specs.Order.{AreDistinct, Ascend}
@@ -23,10 +24,6 @@ each_right P (x ∷ xs) ys (first, rest) = each_right P xs ys rest
 pub each_push : {X : Type 0} (P : X → Type 0) (xs : List X) (y : X) → AllByRecursion P xs → P y → AllByRecursion P (xs ++ y ∷ [])
 each_push P [] y h last = (last, tt)
 each_push P (x ∷ xs) y (first, rest) last = (first, each_push P xs y rest last)
-
-pub each_weaker : {X : Type 0} (P Q : X → Type 0) → ((x : X) → P x → Q x) → (xs : List X) → AllByRecursion P xs → AllByRecursion Q xs
-each_weaker P Q weaker [] h = tt
-each_weaker P Q weaker (x ∷ xs) (first, rest) = (weaker x first, each_weaker P Q weaker xs rest)
 
 -- ---- distinct ids
 

@@ -16,10 +16,9 @@ use Rattle.spv_types.specs.Limits.{limit_among, limit_of, limit_step, no_limit}
 use Rattle.spv_types.specs.Rules.{is_data, is_sized_data}
 use Rattle.spv_types.specs.Types.{IsUnset, Types, form_of, number_of, with_length}
 use Rattle.spv_index.specs.Definitions.{before_functions}
-use Rattle.spv_types.specs.Typing.{defined_form, types_in}
+use Rattle.spv_types.specs.Typing.{defined_form, types_in, types_read}
 use Rattle.spv_types.specs.Cells.{cells_of}
-use Rattle.spv_types.proofs.LimitLemmas.{limit_unknown}
-use Rattle.spv_types.proofs.TypeLemmas.{in_first-found, number_lt}
+use Rattle.spv_types.proofs.Exports.{limit_unknown, in_first-found, number_lt, form_number, accepted_is}
 use Rattle.spv_consts.specs.Table.{Constants, Row}
 use Rattle.spv_consts.specs.Context.{Context}
 use Rattle.spv_consts.specs.State.{State, is_next}
@@ -32,10 +31,11 @@ use Rattle.spv_consts.specs.Rules.{keeps_kind, keeps_rules}
 use Rattle.spv_consts.specs.Evaluation.{value_of}
 use Rattle.spv_consts.specs.Steps.{breaches_at, breaches_from, cells_with, with_entry, is_great, is_great_type, passes_limit, after_one, after_all, with_constant, with_type}
 use Rattle.spv_consts.proofs.LengthLemmas.{in_first_kept}
-use Rattle.spv_consts.proofs.WalkIds.{before_is_front, each_push, each_weaker}
-use Rattle.spv_consts.proofs.WalkTypes.{no_breach, number_of_form, same_number, types_joined}
+use Rattle.spv_consts.proofs.WalkIds.{before_is_front, each_push}
+use Rattle.spv_consts.proofs.WalkTypes.{same_number, types_joined}
 use Rattle.spv_consts.proofs.WalkStates.{array_length, constant_no_array, no_length, passed}
-use Rattle.spv_consts.proofs.WalkPlaces.{IsPlaced, declared, placed, wider}
+use Rattle.spv_consts.proofs.WalkPlaces.{IsPlaced, placed, wider}
+use Rattle.spv_base.proofs.Exports.{each_weaker, both_empty}
 
 -- ---- one type
 
@@ -130,7 +130,7 @@ data_number ts id h = by_form (form_of ts id) refl h
   where
     by_form : (o : Option Form) → form_of ts id ≡ o → is_data o ≡ true → (n : ℕ) × (number_of ts id ≡ Some n)
     by_form None e data_is = cc
-    by_form (Some f) e data_is = number_of_form ts id f e
+    by_form (Some f) e data_is = form_number ts id f e
 
 constant_data : (m : Context) (s : State) (i : Inst) → is_constant i.op ≡ true → keeps_rules m s i ≡ true → is_data (form_of s.types i.ty) ≡ true
 constant_data m s i constant rules =
@@ -144,7 +144,7 @@ constant_data m s i constant rules =
 -- limits; constants have types among them; and the cells that were counted are those of the constants.
 record Limited (insts front : List Inst) (s : State) : Type 0 where
   known : s.known ≡ length (types_in insts front)
-  numbers : (q : ℕ) → number_of s.types q ≡ number_of (declared insts) q
+  numbers : (q : ℕ) → number_of s.types q ≡ number_of (types_read insts) q
   types : (id : ℕ) → IsAmong s.types s.known id → IsWithin (limit_of s.types id)
   typed : AllByRecursion (Typed s.types s.known) s.values
   cells : constant_cells s.types s.values ≡ s.cells
@@ -162,7 +162,7 @@ types_same insts front i e =
     let own : types_in insts (i ∷ []) ≡ [] = rw e refl in
     rw (types_joined, own, append-nil) refl
 
-limited_start : (insts : List Inst) (ts : Types) → ts ≡ declared insts → Limited insts [] (start_of ts)
+limited_start : (insts : List Inst) (ts : Types) → ts ≡ types_read insts → Limited insts [] (start_of ts)
 unfolding types_in
 limited_start insts ts types = record {
   known = refl;
@@ -244,10 +244,6 @@ other_entered insts front i s limited form = record {
 }
 
 -- ---- all of them
-
-none_of : (rs ss : List Refusal) → rs ++ ss ≡ [] → (rs ≡ []) × (ss ≡ [])
-none_of [] ss h = (refl, h)
-none_of (r ∷ rs) ss h = absurd (cc)
 
 ends : (insts : List Inst) (ts : Types) (over : Numbers) (known : Types × Constants) → constants_of ts insts over ≡ Ok known
     → (front_breaches ts insts over ≡ []) × (known ≡ known_of (state_of ts insts over))
@@ -348,7 +344,7 @@ module _
         let all_of : front ≡ before_functions m.all = sym (place ∙ append-nil front) in
         subst (λ (is : List Inst). Limited m.all is s) all_of limited
     walk_limited m front (i ∷ rest) tail s ascend named none place whole limited no_breaches =
-        let both = none_of (breaches_at m s i) (breaches_from m (after_one m s i) rest) no_breaches in
+        let both = both_empty (breaches_at m s i) (breaches_from m (after_one m s i) rest) no_breaches in
         walk_limited m (front ++ i ∷ []) rest tail (after_one m s i) ascend named none (place ∙ sym (append_assoc front (i ∷ []) rest)) (whole ∙ sym (append_assoc front (i ∷ []) (rest ++ tail)))
         (step_limited m front i s limited (placed m.all front rest tail i place whole ascend named none) both.0) both.1
 
@@ -366,7 +362,7 @@ module _
         by_number : (id : ℕ) (o : Option ℕ) → number_of s.types id ≡ o → IsWithin (limit_of s.types id)
         by_number id None e = unknown_within s.types id e
         by_number id (Some n) e =
-            let below : n < length (declared insts) = number_lt (declared insts) id n (sym (limited.numbers id) ∙ e) in
+            let below : n < length (types_read insts) = number_lt (types_read insts) id n (sym (limited.numbers id) ∙ e) in
             limited.types id (record { number = n; is = e; below = subst (λ (k : ℕ). n < k) (sym limited.known) below })
 
         within : (id : ℕ) → IsWithin (limit_of s.types id)
@@ -376,7 +372,7 @@ module _
         → KeepLimits known.0 known.1
     limits_are_kept insts ts over known ascend named typed is =
         let ended = ends insts ts over known is in
-        let rules = no_breach insts ts typed in
+        let rules = accepted_is insts ts typed in
         let front = before_is_front insts in
         let start : Limited insts [] (start_of ts) = limited_start insts ts (sym rules.1) in
         let end : Limited insts (before_functions insts) (state_of ts insts over) = walk_limited (context_of ts insts over) [] (before_functions insts) front.0 (start_of ts) ascend named rules.0 refl front.1 start ended.0 in

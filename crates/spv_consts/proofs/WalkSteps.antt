@@ -13,8 +13,8 @@ use Rattle.spv_types.specs.Constants.{is_constant}
 use Rattle.spv_types.specs.Laws.{AreComplete, AreSound, IsAmong}
 use Rattle.spv_types.specs.Rules.{is_data}
 use Rattle.spv_types.specs.Types.{IsUnset, Types, form_of, lengthened as with_size, number_of, with_length}
-use Rattle.spv_types.specs.Typing.{defined_form, types_in}
-use Rattle.spv_types.proofs.TypeLemmas.{number_form}
+use Rattle.spv_types.specs.Typing.{defined_form, types_in, types_read}
+use Rattle.spv_types.proofs.Exports.{number_form}
 use Rattle.spv_index.specs.Definitions.{defining}
 use Rattle.spv_consts.specs.Table.{Constants, Row}
 use Rattle.spv_consts.specs.Values.{leaf_widths}
@@ -26,10 +26,11 @@ use Rattle.spv_consts.specs.Steps.{with_constant, with_type}
 use Rattle.spv_consts.specs.Values.{widths_among, widths_step}
 use Rattle.spv_consts.proofs.FillLemmas.{Fill}
 use Rattle.spv_consts.proofs.LengthLemmas.{in_first_kept}
-use Rattle.spv_consts.proofs.WalkIds.{each_push, each_weaker}
+use Rattle.spv_consts.proofs.WalkIds.{each_push}
 use Rattle.spv_consts.proofs.WalkTypes.{same_number, types_joined}
 use Rattle.spv_consts.proofs.WalkStates.{sized_data, sized_is_set}
-use Rattle.spv_consts.proofs.WalkPlaces.{declared, wider}
+use Rattle.spv_consts.proofs.WalkPlaces.{wider}
+use Rattle.spv_base.proofs.Exports.{each_weaker}
 
 -- a constant has the type of its id, which is data and among the first types, and its cells fill it
 abbrev pub IsFilled : List Inst → Types → ℕ → ℕ × Row → Type 0
@@ -43,9 +44,9 @@ HasValue constants i = is_constant i.op ≡ true → IsSome (reads i.id constant
 -- declared types: numbers and kinds stayed, and no array lost a length.
 pub record Follows (insts front : List Inst) (s : State) : Type 0 where
   pub known : s.known ≡ length (types_in insts front)
-  pub numbers : (q : ℕ) → number_of s.types q ≡ number_of (declared insts) q
-  pub unset : (q : ℕ) → IsUnset (form_of s.types q) → IsUnset (form_of (declared insts) q)
-  pub kinds : (q : ℕ) → is_data (form_of s.types q) ≡ is_data (form_of (declared insts) q)
+  pub numbers : (q : ℕ) → number_of s.types q ≡ number_of (types_read insts) q
+  pub unset : (q : ℕ) → IsUnset (form_of s.types q) → IsUnset (form_of (types_read insts) q)
+  pub kinds : (q : ℕ) → is_data (form_of s.types q) ≡ is_data (form_of (types_read insts) q)
   pub sound : AreSound s.types
   pub complete : AreComplete s.types s.known
   pub shaped : AllByRecursion (IsFilled insts s.types s.known) s.values
@@ -53,7 +54,7 @@ pub record Follows (insts front : List Inst) (s : State) : Type 0 where
 
 -- ---- no instruction is passed yet
 
-pub follows_start : (insts : List Inst) (s : State) → s.known ≡ 0 → s.types ≡ declared insts → s.values ≡ [] → AreSound (declared insts) → Follows insts [] s
+pub follows_start : (insts : List Inst) (s : State) → s.known ≡ 0 → s.types ≡ types_read insts → s.values ≡ [] → AreSound (types_read insts) → Follows insts [] s
 unfolding types_in
 follows_start insts s known types values sound = record {
   known = known;
@@ -193,12 +194,12 @@ module _
       valued = follows.valued;
     }
       where
-        unset_by : (q : ℕ) → (id ≡ q) ⊎ (id ≡ q → ⊥) → IsUnset (form_of (with_length s.types id n) q) → IsUnset (form_of (declared insts) q)
+        unset_by : (q : ℕ) → (id ≡ q) ⊎ (id ≡ q → ⊥) → IsUnset (form_of (with_length s.types id n) q) → IsUnset (form_of (types_read insts) q)
         unset_by q (inl same) u = absurd (length_sets s.types id n s.known number (subst (λ (p : ℕ). IsUnset (form_of (with_length s.types id n) p)) (sym same) u))
         unset_by q (inr apart) u = follows.unset q (subst IsUnset (other_kept s.types id n q apart) u)
 
-        kinds_by : (q : ℕ) → (id ≡ q) ⊎ (id ≡ q → ⊥) → is_data (form_of (with_length s.types id n) q) ≡ is_data (form_of (declared insts) q)
-        kinds_by q (inl same) = subst (λ (p : ℕ). is_data (form_of (with_length s.types id n) p) ≡ is_data (form_of (declared insts) p)) same (length_kinds s.types id n s.known number ∙ follows.kinds id)
+        kinds_by : (q : ℕ) → (id ≡ q) ⊎ (id ≡ q → ⊥) → is_data (form_of (with_length s.types id n) q) ≡ is_data (form_of (types_read insts) q)
+        kinds_by q (inl same) = subst (λ (p : ℕ). is_data (form_of (with_length s.types id n) p) ≡ is_data (form_of (types_read insts) p)) same (length_kinds s.types id n s.known number ∙ follows.kinds id)
         kinds_by q (inr apart) = ap is_data (other_kept s.types id n q apart) ∙ follows.kinds q
 
         complete_by : (q : ℕ) → IsAmong (with_length s.types id n) s.known q → (id ≡ q) ⊎ (id ≡ q → ⊥) → IsUnset (form_of (with_length s.types id n) q) → ⊥

@@ -1,23 +1,20 @@
 -- The number of each type that a module declares, and what its rules say of an undefined value's type.
-use Rattle.std.proofs.Common.{◌≡◌, ◌∙◌, ℕ, suc, ◌+◌, ◌<◌, ◌==◌, Bool, true, false, eqb, List, [], ◌∷◌, ◌++◌, map, length, append_assoc, append-nil, Option, Some, None, Ok, inl, inr, refl, sym, ap, arith}
+use Rattle.std.proofs.Common.{◌≡◌, ◌∙◌, ℕ, suc, ◌+◌, ◌<◌, ◌==◌, Bool, true, false, eqb, List, [], ◌∷◌, ◌++◌, map, length, append_assoc, append-nil, Option, Some, None, inl, inr, refl, sym, ap, arith}
 use Rattle.std.proofs.lemmas.Bool.{eq-eqb, eqb-true, ne_eqb, or_left}
 use Rattle.std.specs.Prelude.{◌||◌, if◌then◌else◌}
 use Rattle.std.specs.List.{AllByRecursion, Contains}
 use Rattle.std.specs.Option.{is_some, option_map, option_or}
 use Rattle.spv_base.specs.Order.{AreDistinct}
-use Rattle.spv_base.specs.declared.causes.Refusal.{Refusal}
 use Rattle.spv_base.specs.declared.instructions.Inst.{Inst}
 use Rattle.spv_types.specs.declared.forms.Form.{Form}
 use Rattle.spv_ops.specs.declared.op.TheConstants.{UNDEF}
-use Rattle.spv_types.specs.Build.{type_breaches, type_code, types_of, unless_refused}
+use Rattle.spv_types.specs.Build.{type_breaches, type_code}
 use Rattle.spv_types.specs.Constants.{is_constant}
 use Rattle.spv_types.specs.Laws.{HasResult, IsAmong}
 use Rattle.spv_types.specs.Rules.{is_data, is_sized_data, keeps_rules}
 use Rattle.spv_types.specs.Types.{Types, form_of, number_of}
-use Rattle.spv_index.specs.Definitions.{before_functions}
 use Rattle.spv_types.specs.Typing.{defined_form, types_in, with_form}
-use Rattle.spv_types.proofs.GrowthLemmas.{form_append}
-use Rattle.spv_types.proofs.TypeLemmas.{number_lt, number_none}
+use Rattle.spv_types.proofs.Exports.{form_append, number_lt, number_none, form_number}
 use Rattle.spv_consts.proofs.WalkIds.{Differs, differ_before, differ_behind, differ_from_earlier, each_left, each_right}
 
 -- ---- joined types
@@ -54,14 +51,6 @@ form_left ts us id f h = form_append ts us id ∙ ap (λ (o : Option Form). opti
 
 form_right : (ts us : Types) (id : ℕ) → form_of ts id ≡ None → form_of (ts ++ us) id ≡ form_of us id
 form_right ts us id h = form_append ts us id ∙ ap (λ (o : Option Form). option_or o (form_of us id)) h
-
--- a type with a form has a number
-pub number_of_form : (ts : Types) (id : ℕ) (f : Form) → form_of ts id ≡ Some f → (n : ℕ) × (number_of ts id ≡ Some n)
-number_of_form ts id f h = by_number (number_of ts id) refl
-  where
-    by_number : (o : Option ℕ) → number_of ts id ≡ o → (n : ℕ) × (number_of ts id ≡ Some n)
-    by_number None e = let none : form_of ts id ≡ None = number_none ts id e in let clash : Some f ≡ None = sym h ∙ none in absurd (cc)
-    by_number (Some n) e = (n, e)
 
 -- two types with one number are one
 pub same_number : (ts : Types) (a b n : ℕ) → number_of ts a ≡ Some n → number_of ts b ≡ Some n → a ≡ b
@@ -175,7 +164,7 @@ module _ (all : List Inst) where
       by_form : (o : Option Form) → form_of (types_in all xs) ty ≡ o → is_data o ≡ true → IsAmong (types_in all (xs ++ ys)) (length (types_in all xs)) ty × (is_data (form_of (types_in all (xs ++ ys)) ty) ≡ true)
       by_form None e data_is = cc
       by_form (Some f) e data_is =
-          let number = number_of_form (types_in all xs) ty f e in
+          let number = form_number (types_in all xs) ty f e in
           rw (types_joined) (
             record {
               number = number.0;
@@ -184,12 +173,3 @@ module _ (all : List Inst) where
             },
             rw (form_left (types_in all xs) (types_in all ys) ty f e) data_is,
           )
-
--- types that were found, found without a breach
-pub no_breach : (insts : List Inst) (ts : Types) → types_of insts ≡ Ok ts → (type_breaches insts [] (before_functions insts) ≡ []) × (types_in insts (before_functions insts) ≡ ts)
-unfolding types_of
-no_breach insts ts h = by_breaches (type_breaches insts [] (before_functions insts)) h
-  where
-    by_breaches : (rs : List Refusal) → unless_refused (types_in insts (before_functions insts)) rs ≡ Ok ts → (rs ≡ []) × (types_in insts (before_functions insts) ≡ ts)
-    by_breaches [] e = (refl, cc)
-    by_breaches (r ∷ rs) e = cc

@@ -11,10 +11,8 @@ use Rattle.spv_types.specs.Types.{Types, form_of, in_first, is_number, number_of
 use Rattle.spv_types.specs.Rules.{is_width, keeps_form}
 use Rattle.spv_types.specs.Shapes.{part_type}
 use Rattle.spv_types.specs.Laws.{AreSound, ComesBefore}
-use Rattle.spv_types.proofs.TypeLemmas.{in_first-found, number_lt}
-use Rattle.spv_types.proofs.ShapeLemmas.{form_number}
-use Rattle.spv_types.proofs.DataLemmas.{width_narrow}
-use Rattle.spv_typing.proofs.LawLemmas.{parts}
+use Rattle.spv_types.proofs.Exports.{in_first-found, number_lt, form_number, width_narrow}
+use Rattle.std.proofs.lemmas.Bool.{and_parts}
 use Rattle.spv_consts.specs.Values.{leaf_widths, own_width, part_types, widths_among, widths_step}
 
 -- ---- the parts of a form, listed
@@ -94,7 +92,7 @@ narrow_parts g each (t ∷ types) = narrow_append (g t) (flat_map g types) (each
 narrow_own : (ts : Types) (f : Form) → keeps_form ts f ≡ true → Narrow (own_width f)
 narrow_own ts Void h = tt
 narrow_own ts Boolean h = (omega arith, tt)
-narrow_own ts (Int width sign) h = (width_narrow width (parts (is_width width) _ h).0, tt)
+narrow_own ts (Int width sign) h = (width_narrow width (and_parts (is_width width) _ h).0, tt)
 narrow_own ts (Vector component count) h = tt
 narrow_own ts (Array element n stride) h = tt
 narrow_own ts (Runtime element stride) h = tt

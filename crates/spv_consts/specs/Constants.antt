@@ -1,7 +1,6 @@
 -- The value of each constant of a module, with the overrides of its specialization constants (SPIR-V 1.6 sections 2.9 and 3.42.7), as
 -- a fact on the whole table: the row under the id of an instruction is what the instruction gives of the rows under the ids of its
 -- operands. No order of instructions is in it.
-use Rattle.spv_alu.specs.Select.{select_of}
 use Rattle.std.specs.Prelude.{◌≡◌, ℕ, ◌==◌, if◌then◌else◌, true, false, pos, List, [], ◌∷◌, map, Option, Some}
 use Rattle.std.specs.List.{AllByRecursion, flat_map}
 use Rattle.std.specs.Option.{IsSomeAnd, option_and_then, option_map, option_map_or, option_or}
@@ -16,9 +15,10 @@ use Rattle.spv_index.specs.Operands.{id_in, id_operand}
 use Rattle.spv_alu.specs.Results.{integer, truth}
 use Rattle.spv_alu.specs.Unary.{unary_lane, unary_op}
 use Rattle.spv_alu.specs.Binary.{binary_lane, binary_op}
+use Rattle.spv_alu.specs.Select.{selected}
 use Rattle.spv_consts.specs.Context.{Context}
 use Rattle.spv_consts.specs.Literals.{integer_width, literal_number}
-use Rattle.spv_consts.specs.Operations.{by_three, by_two, lane_width}
+use Rattle.spv_consts.specs.Operations.{by_two, lane_width}
 use Rattle.spv_consts.specs.Overrides.{overridden, override_of}
 use Rattle.spv_consts.specs.Rules.{opcode_of}
 use Rattle.spv_consts.specs.Table.{Constants, Row}
@@ -52,17 +52,11 @@ literal k i = option_and_then (λ width. option_map (λ n. integer width (pos n)
 abbrev pub specialized : Context → Inst → Cell → Cell
 specialized m i lane = overridden lane (override_of m.all m.held i)
 
--- OpSelect: one condition for all leaves, or one for each
-abbrev pub chosen : List Cell → List Cell → List Cell → List Cell
-chosen [] xs ys = []
-chosen (c ∷ []) xs ys = by_two (select_of c) xs ys
-chosen (c ∷ d ∷ cs) xs ys = by_three select_of (c ∷ d ∷ cs) xs ys
-
 -- What an opcode gives of the operands behind it, lane by lane as in a function: OpSelect 169, the unary operations, and the
 -- binary ones.
 abbrev pub result_of : Context → Known → Inst → ℕ → Option (List Cell)
 result_of m k i op =
-    if op == 169 then Some (chosen (operand m k i 1) (operand m k i 2) (operand m k i 3))
+    if op == 169 then Some (selected (operand m k i 1) (operand m k i 2) (operand m k i 3))
     else option_or
     (option_map (λ o. map (λ a. unary_lane o a (lane_width k.0 (form_of k.0 i.ty))) (operand m k i 1)) (unary_op op))
     (option_map (λ o. by_two (binary_lane o) (operand m k i 1) (operand m k i 2)) (binary_op op))

@@ -3,7 +3,7 @@ use Rattle.std.specs.Option.{option_map}
 use Rattle.std.specs.Prelude.{◌≡◌, ℕ, true, List, Option, Some, IsSome}
 use Rattle.std.specs.List.{AllByRecursion, AllZip}
 use Rattle.spv_base.specs.Entries.{reads}
-use Rattle.spv_base.specs.Cell.{IsCell, Cell}
+use Rattle.spv_base.specs.Cell.{Cell, HasWidth}
 use Rattle.spv_base.specs.declared.instructions.Inst.{Inst}
 use Rattle.spv_base.specs.declared.values.Root.{Root}
 use Rattle.spv_types.specs.Constants.{is_constant}
@@ -16,10 +16,6 @@ use Rattle.spv_consts.specs.Trees.{value_at}
 use Rattle.spv_consts.specs.Values.{leaf_widths}
 use Rattle.spv_consts.specs.Context.{Context}
 use Rattle.spv_consts.specs.State.{State, is_operand, operand_cells}
-
--- a lane of a width, whose number fits it, and is 0 where it is undefined
-abbrev pub HasWidth : ℕ → Cell → Type 0
-HasWidth width c = (c.width ≡ width) × IsCell c
 
 -- leaves fill a type: there is one for each of its leaves, of that width
 abbrev pub FillType : Types → ℕ → List Cell → Type 0

@@ -2,6 +2,7 @@
 -- of any value (SPIR-V 1.6 sections 3.42.7, OpSpecConstantOp, and 3.42.15, OpSelect).
 use Rattle.std.specs.Prelude.{ℕ, min, List, [], ◌∷◌, Option, Some, None}
 use Rattle.spv_base.specs.Cell.{Cell}
+use Rattle.spv_alu.specs.Lanes.{zip3}
 use Rattle.spv_types.specs.declared.forms.Form.{Form}
 use Rattle.spv_types.specs.declared.forms.Form.TheVariants.{Void, Bool as Boolean, Int, Vector, Array, Runtime, Struct, Pointer, Function}
 use Rattle.spv_types.specs.Types.{Types, form_of}
@@ -14,23 +15,17 @@ abbrev pub lane_of : PairOp → Cell → Cell → Cell
 lane_of (Binary op) a b = binary_lane op a b
 lane_of (Select condition) a b = select_lane condition a b
 
--- a function of two lanes, and of three, on rows, as far as all of them go
+-- a function of two lanes on rows, as far as both of them go
 abbrev pub by_two : (Cell → Cell → Cell) → List Cell → List Cell → List Cell
 by_two f [] ys = []
 by_two f (x ∷ xs) [] = []
 by_two f (x ∷ xs) (y ∷ ys) = f x y ∷ by_two f xs ys
 
-abbrev pub by_three : (Cell → Cell → Cell → Cell) → List Cell → List Cell → List Cell → List Cell
-by_three f [] ys zs = []
-by_three f (x ∷ xs) [] zs = []
-by_three f (x ∷ xs) (y ∷ ys) [] = []
-by_three f (x ∷ xs) (y ∷ ys) (z ∷ zs) = f x y z ∷ by_three f xs ys zs
-
 -- Select: one condition for all leaves, or one for each
 abbrev pub selected : List Cell → List Cell → List Cell → List Cell
 selected [] xs ys = []
 selected (c ∷ []) xs ys = by_two (select_lane c) xs ys
-selected (c ∷ d ∷ cs) xs ys = by_three select_lane (c ∷ d ∷ cs) xs ys
+selected (c ∷ d ∷ cs) xs ys = zip3 select_lane (c ∷ d ∷ cs) xs ys
 
 -- the width of a scalar; no lane is wider than 64 bits
 abbrev pub scalar_width : Option Form → ℕ

@@ -1,9 +1,10 @@
 -- Where a decoration SpecId stands on what takes none (SPIR-V 1.6 section 3.20): on a member, or on anything but
 -- OpSpecConstantTrue, OpSpecConstantFalse and OpSpecConstant. It stands at the later one of the decoration and of what it
 -- decorates. A decoration of an id that nothing defines is ignored.
-use Rattle.std.specs.Prelude.{ℕ, ◌==◌, ◌&&◌, ◌||◌, max, min, if◌then◌else◌, Bool, List, [], ◌∷◌, Option, Some, None}
+use Rattle.std.specs.Prelude.{ℕ, ◌==◌, ◌&&◌, ◌||◌, max, if◌then◌else◌, Bool, List, [], ◌∷◌, Option, Some, None}
 use Rattle.std.specs.Option.{option_and_then}
 use Rattle.spv_base.specs.declared.instructions.Inst.{Inst}
+use Rattle.spv_base.specs.Lowest.{lower}
 use Rattle.spv_index.specs.Definitions.{defining}
 use Rattle.spv_index.specs.Operands.{id_operand, literal_operand}
 use Rattle.spv_consts.specs.Overrides.{is_same, is_specializable}
@@ -22,12 +23,6 @@ wrong_on d i = if takes_spec_id d i then None else Some (max d.word i.word)
 -- the word where a decoration is a SpecId on what takes none
 abbrev pub wrong_spec_id : List Inst → Inst → Option ℕ
 wrong_spec_id all d = if is_spec_id d then option_and_then (wrong_on d) (option_and_then (defining all) (id_operand d 0)) else None
-
--- the lower of two words
-abbrev pub lower : Option ℕ → Option ℕ → Option ℕ
-lower None b = b
-lower (Some a) None = Some a
-lower (Some a) (Some b) = Some (min a b)
 
 -- the lowest of these words
 unfoldable pub lowest_wrong : List Inst → List Inst → Option ℕ

@@ -6,7 +6,7 @@ use Rattle.std.specs.Option.{option_map_or}
 use Rattle.spv_base.specs.declared.instructions.Inst.{Inst}
 use Rattle.spv_base.specs.declared.causes.Refusal.{Refusal}
 use Rattle.spv_types.specs.declared.limits.Limit.{Limit}
-use Rattle.spv_types.specs.Saturation.{saturated}
+use Rattle.spv_base.specs.Saturation.{saturated}
 use Rattle.spv_types.specs.Types.{form_of}
 use Rattle.spv_types.specs.Constants.{is_constant}
 use Rattle.spv_types.specs.Limits.{limit_among, limit_step}

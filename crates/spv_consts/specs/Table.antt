@@ -1,10 +1,11 @@
 -- The constants of a module in its order, each id with its row: its type, and the leaves of its value in order (SPIR-V 1.6
 -- section 3.42.7).
-use Rattle.std.specs.Prelude.{◌≡◌, ℕ, suc, ◌+◌, List, [], ◌∷◌, length, map, take, drop, slice_index_or, Option, Some, None, if◌then◌else◌, ◌==◌}
+use Rattle.std.specs.Prelude.{◌≡◌, ℕ, ◌+◌, List, [], ◌∷◌, length, map, take, drop, Option, Some, None, if◌then◌else◌, ◌==◌}
 use Rattle.std.specs.List.{flat_map}
-use Rattle.std.specs.Option.{option_and_then, option_map}
+use Rattle.std.specs.Option.{option_and_then}
 use Rattle.spv_base.specs.Entries.{reads}
 use Rattle.spv_base.specs.Cell.{Cell}
+use Rattle.spv_index.specs.Firsts.{place_of, slot}
 use Rattle.spv_consts.specs.declared.table.Entry.{Entry}
 use Rattle.spv_consts.specs.declared.table.RowPlace.{RowPlace}
 
@@ -14,11 +15,6 @@ pub record Row : Type 0 where
 
 abbrev pub Constants : Type 0
 Constants = List (ℕ × Row)
-
--- the place of the first entry under an id, counted from 0
-abbrev pub place_of : Constants → ℕ → Option ℕ
-place_of [] id = None
-place_of (c ∷ cs) id = if c.0 == id then Some 0 else option_map suc (place_of cs id)
 
 -- the one leaf of a row that has one
 abbrev pub only : List Cell → Option Cell
@@ -64,4 +60,4 @@ AreInRow start (e ∷ es) end = (e.start ≡ start) × AreInRow (start + e.len) 
 -- entries take all the cells, and a list has by ids the places of their first entries
 pub record AreRows (cells : List Cell) (entries : List Entry) (places : List (Option ℕ)) : Type 0 where
   pub in_row : AreInRow 0 entries (length cells)
-  pub places_are : (id : ℕ) → slice_index_or places id None ≡ place_of (rows_of cells entries) id
+  pub places_are : (id : ℕ) → slot places id ≡ place_of (rows_of cells entries) id

@@ -1,5 +1,6 @@
 //! The leaves that an operation of OpSpecConstantOp gives.
 ghost use Rattle.std.specs.Prelude.{◌≡◌, IfOk, map, slice_get};
+ghost use Rattle.spv_alu.specs.Lanes.{zip3};
 ghost use Rattle.spv_types.specs.Types.{form_of};
 ghost use Rattle.spv_consts.specs.Lanes.{select_lane, unary_lane};
 ghost use Rattle.spv_consts.specs.Operations as spec;
@@ -70,7 +71,7 @@ fn by_three(
     first: &[Cell],
     second: &[Cell],
 ) -> Result<Vec<Cell>, NoMemory>
-    ensures { IfOk result (λ cells. cells.items ≡ spec.by_three select_lane conditions.now first.now second.now) }
+    ensures { IfOk result (λ cells. cells.items ≡ zip3 select_lane conditions.now first.now second.now) }
 {
     let mut cells = Vec::new(alloc);
     for (n, condition) in conditions.iter().enumerate() {

@@ -1,5 +1,5 @@
 //! The rules of constants and of array lengths.
-ghost use Rattle.std.specs.Prelude.{◌≡◌, ◌+◌, drop};
+ghost use Rattle.std.specs.Prelude.{◌≡◌, ◌+◌};
 ghost use Rattle.spv_typing.specs.Operands.{types_by};
 ghost use Rattle.spv_types.specs.Types.{form_of};
 ghost use Rattle.spv_consts.specs.Rules as spec;
@@ -9,7 +9,7 @@ use crate::lengths::length_at;
 use crate::literals::{integer_width, keeps_literal};
 use crate::walk::Walk;
 use spv_base::{Inst, Operand};
-use spv_index::{id_in, id_operand, literal_operand};
+use spv_index::{id_in, id_operand, literal_operand, operands_from};
 use spv_ops::op;
 use spv_types::constants::is_constant;
 use spv_types::queries::is_boolean;
@@ -62,17 +62,6 @@ pub(crate) fn opcode_of(inst: &Inst) -> Option<u16>
 {
     let op = literal_operand(inst, 0)?;
     if op < 65_536 { Some(op as u16) } else { None }
-}
-
-/// The operands of an OpSpecConstantOp after its opcode.
-fn operands_of(inst: &Inst) -> &[Operand]
-    ensures { result.now ≡ drop 1 inst.now.operands }
-{
-    let operands = inst.operands.as_slice();
-    if operands.is_empty() {
-        return operands;
-    }
-    &operands[1..]
 }
 
 /// The type of the operand at a place, where it has one.
@@ -150,13 +139,13 @@ fn are_operands(walk: &Walk, context: &Context, word: u32, operands: &[Operand])
 }
 
 /// Whether an operation has as many operands as it wants, of types that fit the result.
-#[tactic(auto, using(spv_typing::proofs::LawLemmas::fits_by))]
+#[tactic(auto, using(spv_typing::proofs::Exports::fits_by))]
 fn keeps_opcode(walk: &Walk, context: &Context, inst: &Inst, op: u16) -> bool
     ensures { result ≡ spec.keeps_opcode context.now walk.now inst.now op }
 {
     is_constant_operation(op)
         && keeps_count(inst, op)
-        && are_operands(walk, context, inst.word, operands_of(inst))
+        && are_operands(walk, context, inst.word, operands_from(inst, 1))
         && fits_types(&walk.types, op, inst.ty, operand_types(context, inst))
 }
 

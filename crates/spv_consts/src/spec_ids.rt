@@ -4,7 +4,7 @@ ghost use Rattle.spv_consts.specs.SpecIds as spec;
 
 use crate::context::Context;
 use crate::overrides::is_specializable;
-use spv_base::Inst;
+use spv_base::{Inst, lower};
 use spv_index::{id_operand, literal_operand};
 use spv_ops::{decoration, op};
 
@@ -27,17 +27,6 @@ fn wrong_on(mark: &Inst, inst: &Inst) -> Option<u32>
         None
     } else {
         Some(mark.word.max(inst.word))
-    }
-}
-
-/// The lower of two words.
-fn lower(a: Option<u32>, b: Option<u32>) -> Option<u32>
-    ensures { result ≡ spec.lower a b }
-{
-    match (a, b) {
-        (Some(a), Some(b)) => Some(a.min(b)),
-        (Some(a), None) => Some(a),
-        (None, b) => b,
     }
 }
 

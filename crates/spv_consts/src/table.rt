@@ -1,11 +1,13 @@
 //! The table of the constants of a module.
-ghost use Rattle.std.specs.Prelude.{◌≡◌, ℕ, ◌≤◌, [], ◌∷◌, ◌++◌, length, take, drop, None, IfOk, OnOk, slice_index_or, option_map};
+ghost use Rattle.std.specs.Prelude.{◌≡◌, ◌≤◌, [], ◌∷◌, ◌++◌, length, take, drop, IfOk, option_map};
 ghost use Rattle.spv_base.specs.Entries.{reads};
-ghost use Rattle.spv_consts.specs.Table.{AreRows, only, place_from, place_of, row_at, rows_of, scalar_of};
+ghost use Rattle.spv_index.specs.Firsts.{place_of};
+ghost use Rattle.spv_consts.specs.Table.{AreRows, only, place_from, row_at, rows_of, scalar_of};
 ghost use Rattle.spv_consts.specs.Values.{null_of};
 
 use crate::values::append_blank;
 use spv_base::{Cell, NoMemory};
+use spv_index::Firsts;
 use spv_types::TypeTable;
 use std::alloc::Global;
 use std::marker::Model;
@@ -41,7 +43,7 @@ pub struct ConstTable {
     cells: Vec<Cell>,
     entries: Vec<Entry>,
     /// By id, the place of its first entry.
-    places: Vec<Option<usize>>,
+    places: Firsts<usize>,
 }
 
 impl Model for ConstTable {
@@ -54,18 +56,7 @@ impl Model for ConstTable {
 
     ghost coded = { Prim.hlevel (codes) };
 
-    ghost invariant = { λ t. AreRows t.cells.items t.entries.items t.places.items };
-}
-
-/// Makes a list long enough to have an item for each number below `len`.
-fn lengthen(places: &mut Vec<Option<usize>>, len: usize) -> Result<(), NoMemory>
-    ensures same { (id : ℕ) → slice_index_or places.new.items id None ≡ slice_index_or places.old.items id None }
-    ensures long { OnOk result (len ≤ length places.new.items) }
-{
-    while places.len() < len {
-        places.push(None)?;
-    }
-    Ok(())
+    ghost invariant = { λ t. AreRows t.cells.items t.entries.items t.places };
 }
 
 /// So many cells behind the first `start`, as far as there are any.
@@ -80,7 +71,7 @@ fn part(cells: &[Cell], start: usize, len: usize) -> &[Cell]
 }
 
 /// The one cell of a row that has one.
-fn only(cells: &[Cell]) -> Option<Cell>
+pub fn only(cells: &[Cell]) -> Option<Cell>
     ensures { result ≡ only cells.now }
 {
     match cells {
@@ -93,22 +84,19 @@ fn only(cells: &[Cell]) -> Option<Cell>
 fn with_entry(
     cells: Vec<Cell>,
     mut entries: Vec<Entry>,
-    mut places: Vec<Option<usize>>,
+    mut places: Firsts<usize>,
     start: usize,
     id: u32,
     ty: u32,
 ) -> Result<ConstTable, NoMemory>
     requires inside { start ≤ length cells.items }
-    requires rows { AreRows (take start cells.items) entries.items places.items }
+    requires rows { AreRows (take start cells.items) entries.items places }
     ensures { IfOk result (λ table. table ≡ rows_of (take start cells.items) entries.items ++ (id, record { ty = ty; cells = drop start cells.items }) ∷ []) }
 {
-    lengthen(&mut places, id as usize + 1)?;
     let number = entries.len();
     let len = cells.len() - start;
     entries.push(Entry { id, ty, start, len })?;
-    if places[id as usize].is_none() {
-        places[id as usize] = Some(number);
-    }
+    places.put(id, number)?;
     Ok(ConstTable {
         cells,
         entries,
@@ -124,7 +112,7 @@ impl ConstTable {
         ConstTable {
             cells: Vec::new(alloc),
             entries: Vec::new(alloc),
-            places: Vec::new(alloc),
+            places: Firsts::new(alloc),
         }
     }
 
@@ -169,7 +157,7 @@ impl ConstTable {
     fn place(&self, id: u32) -> Option<usize>
         ensures { result ≡ place_of self.now id }
     {
-        *self.places.get(id as usize)?
+        self.places.get(id)
     }
 
     /// The place of the row of the constant with an id, in constant time.

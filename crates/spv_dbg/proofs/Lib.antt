@@ -1,7 +1,7 @@
-pub mod PlaceLemmas
-pub mod OperandLemmas
-pub mod MeasureLemmas
-pub mod InlinedLemmas
-pub mod WellformedLemmas
-pub mod NameLemmas
-pub mod SourceLemmas
+mod PlaceLemmas
+mod OperandLemmas
+mod MeasureLemmas
+mod InlinedLemmas
+mod WellformedLemmas
+mod NameLemmas
+mod SourceLemmas

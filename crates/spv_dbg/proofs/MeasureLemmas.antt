@@ -3,8 +3,8 @@ use Rattle.std.proofs.Common.{◌≡◌, ◌∙◌, Bool, true, false, ◌&&◌,
 use Rattle.std.specs.Prelude.{max, if◌then◌else◌}
 use Rattle.std.proofs.Math.ListN.{drop_of_length-le}
 use Rattle.std.proofs.Math.Nat.{mul_assoc}
-use Rattle.spv_types.specs.Saturation.{saturated}
-use Rattle.spv_types.proofs.SaturationLemmas.{saturated-mul, unsaturated}
+use Rattle.spv_base.specs.Saturation.{saturated}
+use Rattle.spv_base.proofs.Exports.{saturated-mul, unsaturated}
 use Rattle.spv_valid.specs.Acceptance.{Accepted}
 use Rattle.spv_dbg.specs.declared.measures.Measure.{Measure}
 use Rattle.spv_dbg.specs.Saturation.{saturated_measure}

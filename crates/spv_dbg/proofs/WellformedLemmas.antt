@@ -1,11 +1,12 @@
 -- The tests of well-formed debug instructions tell the relation.
-use Rattle.std.proofs.Common.{◌≡◌, ◌≢◌, inl, inr, ℕ, ◌≤◌, ◌==◌, ◌&&◌, ◌||◌, Bool, true, false, nat_le, List, [], ◌∷◌, length, drop, Option, Some, None, refl, ap, subst, arith}
+use Rattle.std.proofs.Common.{◌≡◌, ◌≢◌, inl, inr, ℕ, ◌≤◌, ◌==◌, ◌&&◌, ◌||◌, Bool, true, false, nat_le, List, [], ◌∷◌, length, drop, Option, Some, None, refl, ap, subst}
 use Rattle.std.specs.Prelude.{if◌then◌else◌, not}
 use Rattle.std.specs.Bool.{Decides}
 use Rattle.std.specs.List.{list_all}
 use Rattle.std.specs.Option.{is_some, option_and_then, option_map_or}
 use Rattle.std.proofs.lemmas.Bool.{cases_eq, eq-eqb, ne_eqb}
 use Rattle.std.proofs.lemmas.Bool.Decides.{Decides-eqb}
+use Rattle.spv_base.proofs.Exports.{itself, at_most}
 use Rattle.spv_base.specs.Entries.{reads}
 use Rattle.spv_valid.specs.Acceptance.{Accepted}
 use Rattle.spv_dbg.specs.declared.insts.DebugInst.{DebugInst}
@@ -33,12 +34,6 @@ some_decides (Some x) = ((λ h. (x, refl)), (λ h. refl))
 or_decides : {T : Type 0} (f : T → Bool) (P : T → Type 0) → ((x : T) → Decides (f x) (P x)) → (o : Option T) → Decides (option_map_or f o false) ((x : T) × (o ≡ Some x) × P x)
 or_decides f P d None = ((λ h. absurd (cc)), (λ h. let e = h.1 in absurd (cc)))
 or_decides {T} f P d (Some x) = ((λ h. (x, refl, (d x).0 h)), (λ h. let e : h.0 ≡ x = (let s = h.1 in cc) in (d x).1 (subst P e h.2)))
-
-itself : (b : Bool) → Decides b (b ≡ true)
-itself b = ((λ h. h), (λ h. h))
-
-le_decides : (a b : ℕ) → Decides (nat_le a b) (a ≤ b)
-le_decides a b = ((λ h. grind arith), (λ h. grind arith))
 
 module _ (m : Accepted) (marks : Marks) where
   names_decides : (role : Role) (id : ℕ) → Decides (leads_to m marks role id) ((k : Mark) × (known m marks id ≡ Some k) × (is_one_of (numbers_for role) k.number ≡ true))
@@ -160,7 +155,7 @@ module _ (m : Accepted) (marks : Marks) where
   IsWithin x = (x.bits ≤ 268435456) × (x.nesting ≤ 64)
 
   within_decides : (x : Measure) → Decides (is_within x) (IsWithin x)
-  within_decides x = and_decides (nat_le x.bits 268435456) (nat_le x.nesting 64) (x.bits ≤ 268435456) (x.nesting ≤ 64) (le_decides x.bits 268435456) (le_decides x.nesting 64)
+  within_decides x = and_decides (nat_le x.bits 268435456) (nat_le x.nesting 64) (x.bits ≤ 268435456) (x.nesting ≤ 64) (at_most x.bits 268435456) (at_most x.nesting 64)
 
   abbrev Parts : Bool → DebugInst → Type 0
   Parts inside d = ((HasKind d × HasPlace inside d) × IsExact d) × IsWithin (measure_of m marks d.number d.operands)

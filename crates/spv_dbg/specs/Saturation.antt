@@ -1,5 +1,5 @@
 -- Bits and nesting, each saturated.
-use Rattle.spv_types.specs.Saturation.{saturated}
+use Rattle.spv_base.specs.Saturation.{saturated}
 use Rattle.spv_dbg.specs.declared.measures.Measure.{Measure}
 
 abbrev pub saturated_measure : Measure → Measure

@@ -7,7 +7,7 @@ ghost use Rattle.spv_index.specs.Operands.{id_operand};
 ghost use Rattle.spv_dbg.specs.Marks as spec;
 
 use spv_base::{Inst, NoMemory, Operand, Places};
-use spv_index::{Index, id_in, id_operand, literal_operand, text_operand};
+use spv_index::{Index, id_in, id_operand, literal_operand, operands_from, text_operand};
 use spv_ops::op;
 use std::alloc::Global;
 
@@ -76,10 +76,8 @@ fn id_or_0(operand: &Operand) -> u32
 fn ids_behind(alloc: Global, inst: &Inst) -> Result<Vec<u32>, NoMemory>
     ensures { IfOk result (λ ids. ids.items ≡ spec.ids_behind inst.now) }
 {
-    let operands = inst.operands.as_slice();
-    let behind = operands.get(2..).unwrap_or(&[]);
     Ok(
-        behind
+        operands_from(inst, 2)
             .iter()
             .map(|operand| id_or_0(operand))
             .collect(alloc)?,

@@ -1,10 +1,9 @@
 //! The numbers and strings that operands of debug instructions name.
 ghost use Rattle.std.specs.Prelude.{◌≡◌, ◌<◌, option_copied};
-ghost use Rattle.spv_consts.specs.Table.{only};
 ghost use Rattle.spv_dbg.specs.Literals as spec;
 
 use spv_base::{Cell, Inst};
-use spv_consts::table::Row;
+use spv_consts::table::{Row, only};
 use spv_index::{Index, text_operand};
 use spv_ops::op;
 use spv_types::TypeTable;
@@ -19,16 +18,6 @@ fn word_in(cell: Cell) -> Option<u32>
         return None;
     }
     Some(cell.bits as u32)
-}
-
-/// The one scalar of a row that has one.
-fn only(cells: &[Cell]) -> Option<Cell>
-    ensures { result ≡ only cells.now }
-{
-    match cells {
-        [cell] => Some(*cell),
-        _ => None,
-    }
 }
 
 /// The number of a constant, where its type is an integer of 32 bits.

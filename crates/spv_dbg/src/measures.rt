@@ -1,6 +1,6 @@
 //! How many bits the values of debug types have, and how deep the types are nested. Numbers stop at the greatest u64.
 ghost use Rattle.std.specs.Prelude.{◌≡◌, ◌*◌, ◌<◌, drop, length};
-ghost use Rattle.spv_types.specs.Saturation.{saturated};
+ghost use Rattle.spv_base.specs.Saturation.{saturated};
 ghost use Rattle.spv_dbg.specs.Saturation.{saturated_measure};
 ghost use Rattle.spv_dbg.specs.Marks as spec;
 

@@ -1,6 +1,6 @@
 //! The texts of source files.
 ghost use Rattle.std.specs.Prelude.{◌≡◌, ◌≤◌, ◌++◌, IfOk, OnOk, length, map};
-ghost use Rattle.spv_types.specs.Saturation.{saturated};
+ghost use Rattle.spv_base.specs.Saturation.{saturated};
 ghost use Rattle.spv_dbg.specs.Seen.{seen, seen_in};
 ghost use Rattle.spv_dbg.specs.Sources as spec;
 

@@ -4,7 +4,7 @@ use Rattle.spv_alu.specs.declared.extended_op.ExtendedOp.{ExtendedOp}
 use Rattle.spv_base.specs.Cell.{Cell}
 use Rattle.spv_base.specs.declared.values.Value.{Value}
 use Rattle.spv_types.specs.Rows.{leaves}
-use Rattle.spv_types.proofs.RowLemmas.{leaves_many}
+use Rattle.spv_types.proofs.Exports.{leaves_many}
 use Rattle.spv_effects.specs.ExtendedOps.{extended_value, high_lanes, low_lanes}
 use Rattle.spv_effects.specs.Lanes.{of_lanes}
 use Rattle.spv_effects.proofs.LaneLemmas.{leaves_of_lanes}

@@ -8,8 +8,7 @@ use Rattle.spv_base.specs.declared.values.Pointer.{Pointer}
 use Rattle.spv_base.specs.declared.values.Value.{Value, List as Many, fold-roll-Value, ind-Value, map-Value, roll-Value}
 use Rattle.spv_base.specs.declared.values.Value.TheOpen.{Value-F}
 use Rattle.spv_types.specs.Rows.{leaves, leaves_step, pointer_lane}
-use Rattle.spv_types.proofs.RowLemmas.{leaves_many}
-use Rattle.spv_values.proofs.RowLemmas.{scalar_leaf}
+use Rattle.spv_types.proofs.Exports.{leaves_many, leaves_scalar}
 use Rattle.spv_effects.specs.Forms.{Filler, fill_each, fill_scalar, fill_step, filled, with_leaves}
 
 -- filled with as many leaves as it has, a value has these, and leaves what is behind them
@@ -48,7 +47,7 @@ each_fills (e ∷ es) cs rest h =
 
 one_fills : (v : Value) (c : Cell) → filled v ≡ fill_scalar → leaves v ≡ c ∷ [] → Fills v
 one_fills v c e row [] rest h = let n : length (leaves v) ≡ 1 = ap length row in absurd (omega arith)
-one_fills v c e row (d ∷ []) rest h = rw e (scalar_leaf d, refl)
+one_fills v c e row (d ∷ []) rest h = rw e (leaves_scalar d, refl)
 one_fills v c e row (d ∷ (g ∷ cs)) rest h = let n : length (leaves v) ≡ 1 = ap length row in absurd (omega arith)
 
 scalar_fills : (c : Cell) → Fills (roll-Value (Value-F.Scalar c))

@@ -9,15 +9,14 @@ use Rattle.spv_base.specs.Cell.{IsCell, Cell}
 use Rattle.spv_base.specs.Parts.{parts_in}
 use Rattle.spv_base.specs.declared.values.Value.{Value, List as Many, fold-roll-Value, out-Value, roll-Value, roll-out-Value}
 use Rattle.spv_base.specs.declared.values.Value.TheOpen.{Value-F}
-use Rattle.spv_base.proofs.PartLemmas.{out_many}
+use Rattle.spv_base.proofs.Exports.{out_many}
 use Rattle.spv_types.specs.declared.forms.Form.{Form}
 use Rattle.spv_types.specs.declared.forms.Form.TheVariants.{Void, Bool as Boolean, Int, Vector, Array, Runtime, Struct, Pointer, Function}
 use Rattle.spv_types.specs.declared.forms.Member.{Member}
 use Rattle.spv_types.specs.Types.{Types, form_of, is_number, number_of}
 use Rattle.spv_types.specs.Rows.{leaves, no_roots}
-use Rattle.spv_types.specs.Shapes.{HasShape, HasShapeAmong, IsScalar, LeadsTo, pointer_in, scalar_in, shape_step}
-use Rattle.spv_types.proofs.RowCounts.{many_is}
-use Rattle.spv_types.proofs.RowLemmas.{many_row, scalar_row}
+use Rattle.spv_types.specs.Shapes.{HasShape, HasShapeAmong, IsScalar, scalar_in, shape_step}
+use Rattle.spv_types.proofs.Exports.{many_is, many_row, scalar_row, no_pointer}
 use Rattle.spv_effects.specs.Forms.{Filler, fill_each, fill_scalar, fill_step, filled, with_leaves}
 use Rattle.spv_effects.proofs.FormLemmas.{fills, many_filled}
 use Rattle.spv_effects.proofs.TypeLemmas.{is_scalar_of}
@@ -125,14 +124,6 @@ scalar_keeps w v cs rest p h = go (out-Value v) refl p
     go (Value-F.List vs) e s = absurd s
     go (Value-F.Ptr p) e s = absurd s
 
-leads_nowhere : (ts : Types) (v : Value) (target : ℕ) → IsSomeAnd (pointer_in (out-Value v)) (λ p. LeadsTo ts no_roots p target) → ⊥
-leads_nowhere ts v target h = level (out-Value v) h
-  where
-    level : (l : Value-F Value) → IsSomeAnd (pointer_in l) (λ p. LeadsTo ts no_roots p target) → ⊥
-    level (Value-F.Scalar c) h = h
-    level (Value-F.List vs) h = h
-    level (Value-F.Ptr p) h = cc
-
 parts_keep : (P Q : List Value → Type 0) (v : Value) (cs rest : List Cell) → ((vs : List Value) → P vs → AreLike cs (flat_map leaves vs) → Q (each_filled vs (cs ++ rest)))
     → IsSomeAnd (parts_in (out-Value v)) P → AreLike cs (leaves v) → IsSomeAnd (parts_in (out-Value (filled v (cs ++ rest)).0)) Q
 parts_keep P Q v cs rest keep has h =
@@ -156,7 +147,7 @@ step_keeps ts shape (Runtime element stride) keeps v cs rest p h =
 step_keeps ts shape (Struct members block) keeps v cs rest p h =
     parts_keep (λ vs. AllZip (λ (m : Member). shape m.ty) members vs) (λ vs. AllZip (λ (m : Member). shape m.ty) members vs) v cs rest
     (λ vs has k. members_keep shape members vs cs rest keeps has k) p h
-step_keeps ts shape (Pointer class target) keeps v cs rest p h = absurd (leads_nowhere ts v target p)
+step_keeps ts shape (Pointer class target) keeps v cs rest p h = absurd (no_pointer ts v target p)
 step_keeps ts shape (Function returns parameters) keeps v cs rest p h = absurd p
 
 -- ---- all levels

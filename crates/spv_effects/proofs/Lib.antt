@@ -1,10 +1,11 @@
-pub mod ListLemmas
-pub mod LaneLemmas
-pub mod VectorLemmas
-pub mod FormLemmas
-pub mod SelectLemmas
-pub mod CompositeLemmas
-pub mod ExtendedLemmas
-pub mod TypeLemmas
-pub mod FormShapes
-pub mod ResultLemmas
+mod ListLemmas
+mod LaneLemmas
+mod VectorLemmas
+mod FormLemmas
+mod SelectLemmas
+mod CompositeLemmas
+mod ExtendedLemmas
+mod TypeLemmas
+mod FormShapes
+mod ResultLemmas
+pub mod Exports

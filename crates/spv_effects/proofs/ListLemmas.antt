@@ -3,7 +3,7 @@ use Rattle.std.proofs.Common.{◌≡◌, ℕ, zero, suc, ◌+◌, ◌*◌, ◌<�
 use Rattle.std.proofs.Math.Nat.{mul-le-mul_right}
 use Rattle.std.specs.Simd.Lanes.{zip2}
 use Rattle.spv_base.specs.Cell.{Cell}
-use Rattle.spv_effects.specs.Lanes.{zip3}
+use Rattle.spv_alu.specs.Lanes.{zip3}
 
 pub map-more : (f : Cell → Cell) (xs : List Cell) (i : ℕ) (x : Cell) → i < length xs → x ≡ get_or xs i x → map f (take (suc i) xs) ≡ map f (take i xs) ++ (f x ∷ [])
 map-more f [] i x h e = absurd (omega arith)

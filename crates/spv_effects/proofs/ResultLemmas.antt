@@ -1,5 +1,5 @@
 -- The results of operations on lanes are lanes of a width whose numbers fit it.
-use Rattle.std.proofs.Common.{◌≡◌, ◌∙◌, ℕ, suc, ◌+◌, ◌*◌, ◌%◌, ◌^◌, ◌<◌, ◌≤◌, ◌==◌, ◌&&◌, nat_le, nat_lt, ℤ, Bool, true, false, List, [], ◌∷◌, ◌++◌, map, length, length-append, ◌⊎◌, slice_set, refl, sym, ap, subst, arith, inl, inr}
+use Rattle.std.proofs.Common.{◌≡◌, ◌∙◌, ℕ, suc, ◌+◌, ◌*◌, ◌%◌, ◌^◌, ◌<◌, ◌≤◌, ◌==◌, ◌&&◌, nat_le, nat_lt, Bool, true, false, List, [], ◌∷◌, ◌++◌, map, length, length-append, ◌⊎◌, slice_set, refl, sym, ap, subst, arith, inl, inr}
 use Rattle.std.specs.Prelude.{if◌then◌else◌}
 use Rattle.std.proofs.Math.ListN.{length-map}
 use Rattle.std.proofs.lemmas.Bool.{cases_lt}
@@ -11,7 +11,7 @@ use Rattle.std.proofs.lemmas.Nat.Bits.{bit_at-lt}
 use Rattle.std.proofs.lemmas.Simd.{length-zip2}
 use Rattle.std.specs.List.{All, range_with_len}
 use Rattle.std.specs.Simd.Lanes.{zip2}
-use Rattle.spv_base.specs.Cell.{IsCell, Cell, undefined_cell}
+use Rattle.spv_base.specs.Cell.{IsCell, Cell, undefined_cell, HasWidth}
 use Rattle.spv_alu.specs.Binary.{BinaryRow, BinaryWidths, binary_lane, binary_result, binary_row, binary_width}
 use Rattle.spv_alu.specs.Binary as binary
 use Rattle.spv_alu.specs.Extended.{extended_lanes}
@@ -19,7 +19,7 @@ use Rattle.spv_alu.specs.Fields.{field_defined, field_lane, field_result, field_
 use Rattle.spv_alu.specs.Glsl.{GlslRow, clamp, glsl_lane, glsl_result, glsl_row, of_one, of_two}
 use Rattle.spv_alu.specs.Integers.{number_of_bits}
 use Rattle.spv_alu.specs.Results.{defined_if, integer, truth}
-use Rattle.spv_alu.specs.Select.{select_of}
+use Rattle.spv_alu.specs.Select.{select_of, selected, conditions}
 use Rattle.spv_alu.specs.Unary.{UnaryRow, UnaryWidths, arithmetic, conversion, logical, unary_lane, unary_result, unary_row}
 use Rattle.spv_alu.specs.Vectors.{bitcast_of, component_at, component_width, joined_bit, vector_lane, vector_row}
 use Rattle.spv_alu.specs.declared.binary_op.BinaryOp.{BinaryOp}
@@ -28,46 +28,35 @@ use Rattle.spv_alu.specs.declared.field_op.FieldOp.{FieldOp}
 use Rattle.spv_alu.specs.declared.glsl_op.GlslOp.{GlslOp}
 use Rattle.spv_alu.specs.declared.unary_op.UnaryOp.{UnaryOp}
 use Rattle.spv_alu.specs.declared.vector_op.VectorOp.{VectorOp}
-use Rattle.spv_alu.proofs.BitNumbers.{number_of_bits_below, low_bits_below}
+use Rattle.spv_alu.proofs.Exports.{number_of_bits_below, integer_has_width, truth_has_width, defined_has_width}
 use Rattle.spv_effects.specs.BinaryOps.{MayMeet}
 use Rattle.spv_effects.specs.Bitcasts.{MayCast}
 use Rattle.spv_effects.specs.ExtendedOps.{MayExtend, high_lanes, low_lanes}
 use Rattle.spv_effects.specs.Fields.{HaveFields}
 use Rattle.spv_effects.specs.GlslOps.{MayJoin}
-use Rattle.spv_effects.specs.Lanes.{AreScalars, zip3}
-use Rattle.spv_effects.specs.Selects.{MaySelect, conditions, selected}
+use Rattle.spv_effects.specs.Lanes.{AreScalars}
+use Rattle.spv_effects.specs.Selects.{MaySelect}
 use Rattle.spv_effects.specs.UnaryOps.{MayTurn}
 use Rattle.spv_effects.specs.Vectors.{component, shuffled, with_component}
-use Rattle.spv_effects.proofs.TypeLemmas.{HasWidth}
+use Rattle.spv_alu.specs.Lanes.{zip3}
 
 -- ---- one lane
-
-integer_fits : (w : ℕ) (z : ℤ) → w ≤ 64 → HasWidth w (integer w z)
-integer_fits w z h = (refl, record { narrow = h; fits = low_bits_below w z; zero = λ e. absurd (cc) })
-
-truth_fits : (b : Bool) → HasWidth 1 (truth b)
-truth_fits true = (refl, record { narrow = omega arith; fits = omega arith; zero = λ e. absurd (cc) })
-truth_fits false = (refl, record { narrow = omega arith; fits = omega arith; zero = λ e. absurd (cc) })
 
 pub undefined_fits : (w : ℕ) → w ≤ 64 → HasWidth w (undefined_cell w)
 undefined_fits w h = (refl, record { narrow = h; fits = pow_pos w; zero = λ e. refl })
 
-pub if_fits : (test : Bool) (w : ℕ) (c : Cell) → HasWidth w c → HasWidth w (defined_if test c)
-if_fits true w c h = h
-if_fits false w c h = (h.0, record { narrow = h.1.narrow; fits = pow_pos c.width; zero = λ e. refl })
-
 -- ---- unary operations
 
 unary_fits : (row : UnaryRow) (v n w : ℕ) → UnaryWidths row v w → HasWidth w (unary_result row v n w)
-unary_fits (conversion f) v n w h = integer_fits w (f v n) h.1.1
-unary_fits (arithmetic f) v n w h = integer_fits w (f w n) (subst (λ (k : ℕ). k ≤ 64) (sym h.1) h.0.1)
-unary_fits (logical f) v n w h = subst (λ (k : ℕ). HasWidth k (truth (f (n == 1)))) (sym h.1) (truth_fits (f (n == 1)))
+unary_fits (conversion f) v n w h = integer_has_width w (f v n) h.1.1
+unary_fits (arithmetic f) v n w h = integer_has_width w (f w n) (subst (λ (k : ℕ). k ≤ 64) (sym h.1) h.0.1)
+unary_fits (logical f) v n w h = subst (λ (k : ℕ). HasWidth k (truth (f (n == 1)))) (sym h.1) (truth_has_width (f (n == 1)))
 
 pub unary_scalars : (op : UnaryOp) (width n : ℕ) (cs : List Cell) → MayTurn op width cs n → AreScalars width n (map (λ c. unary_lane op c width) cs)
 unary_scalars op width n cs m =
     let f : Cell → Cell = λ c. unary_lane op c width in
     let each : (c : Cell) → c.width ≡ m.from → HasWidth width (f c) =
-    λ c e. if_fits c.defined width (unary_result (unary_row op) c.width c.bits width) (unary_fits (unary_row op) c.width c.bits width (subst (λ (k : ℕ). UnaryWidths (unary_row op) k width) (sym e) m.fits)) in
+    λ c e. defined_has_width c.defined width (unary_result (unary_row op) c.width c.bits width) (unary_fits (unary_row op) c.width c.bits width (subst (λ (k : ℕ). UnaryWidths (unary_row op) k width) (sym e) m.fits)) in
     record { count = length-map cs f ∙ m.operand.count; fit = All-map (HasWidth width) f cs (All-weaker (λ (c : Cell). c.width ≡ m.from) (λ (c : Cell). HasWidth width (f c)) each cs m.operand.widths) }
 
 -- ---- two operands
@@ -79,20 +68,20 @@ zip2_fits P R Q f (c ∷ cs) (d ∷ ds) each p r =
     All-cons Q (f c d) (zip2 f cs ds) (each c d (All-head P c cs p) (All-head R d ds r)) (zip2_fits P R Q f cs ds each (All-tail P c cs p) (All-tail R d ds r))
 
 binary_fits : (row : BinaryRow) (v w x y : ℕ) → BinaryWidths row v w → HasWidth (binary_width row v) (binary_result row v x y)
-binary_fits (binary.arithmetic f) v w x y h = integer_fits v _ h.0.1
-binary_fits (binary.unsigned_division f) v w x y h = if_fits _ v _ (integer_fits v _ h.0.1)
-binary_fits (binary.signed_division f) v w x y h = if_fits _ v _ (integer_fits v _ h.0.1)
-binary_fits (binary.logical f) v w x y h = truth_fits _
-binary_fits (binary.unsigned_comparison f) v w x y h = truth_fits _
-binary_fits (binary.signed_comparison f) v w x y h = truth_fits _
-binary_fits (binary.shift f) v w x y h = if_fits _ v _ (integer_fits v _ h.0.1)
+binary_fits (binary.arithmetic f) v w x y h = integer_has_width v _ h.0.1
+binary_fits (binary.unsigned_division f) v w x y h = defined_has_width _ v _ (integer_has_width v _ h.0.1)
+binary_fits (binary.signed_division f) v w x y h = defined_has_width _ v _ (integer_has_width v _ h.0.1)
+binary_fits (binary.logical f) v w x y h = truth_has_width _
+binary_fits (binary.unsigned_comparison f) v w x y h = truth_has_width _
+binary_fits (binary.signed_comparison f) v w x y h = truth_has_width _
+binary_fits (binary.shift f) v w x y h = defined_has_width _ v _ (integer_has_width v _ h.0.1)
 
 pub binary_scalars : (op : BinaryOp) (n : ℕ) (cs ds : List Cell) (m : MayMeet op cs ds n) → AreScalars (binary_width (binary_row op) m.v) n (zip2 (binary_lane op) cs ds)
 binary_scalars op n cs ds m =
     let row : BinaryRow = binary_row op in
     let w : ℕ = binary_width row m.v in
     let each : (c d : Cell) → c.width ≡ m.v → d.width ≡ m.w → HasWidth w (binary_lane op c d) =
-    λ c d e g. if_fits (c.defined && d.defined) w (binary_result row c.width c.bits d.bits)
+    λ c d e g. defined_has_width (c.defined && d.defined) w (binary_result row c.width c.bits d.bits)
     (subst (λ (k : ℕ). HasWidth w (binary_result row k c.bits d.bits)) (sym e) (binary_fits row m.v m.w c.bits d.bits m.fits)) in
     record {
       count = length-zip2 (binary_lane op) cs ds (m.first.count ∙ sym m.second.count) ∙ m.first.count;
@@ -104,9 +93,9 @@ field_scalars op o k n cs ds m =
     let f : Cell → Cell → Cell = λ c d. field_lane op c d o k in
     let each : (c d : Cell) → c.width ≡ m.width → Unit {0} → HasWidth m.width (f c d) =
     λ c d e u. subst (λ (w : ℕ). HasWidth w (f c d)) e
-    (if_fits (field_defined op c.defined d.defined o.defined k.defined) c.width (field_result op c.width c.bits d.bits o.bits k.bits)
-    (if_fits (nat_le (o.bits + k.bits) c.width) c.width (integer c.width (field_row op c.width c.bits d.bits o.bits k.bits))
-    (integer_fits c.width (field_row op c.width c.bits d.bits o.bits k.bits) (subst (λ (w : ℕ). w ≤ 64) (sym e) m.fits.1)))) in
+    (defined_has_width (field_defined op c.defined d.defined o.defined k.defined) c.width (field_result op c.width c.bits d.bits o.bits k.bits)
+    (defined_has_width (nat_le (o.bits + k.bits) c.width) c.width (integer c.width (field_row op c.width c.bits d.bits o.bits k.bits))
+    (integer_has_width c.width (field_row op c.width c.bits d.bits o.bits k.bits) (subst (λ (w : ℕ). w ≤ 64) (sym e) m.fits.1)))) in
     record {
       count = length-zip2 f cs ds (m.base.count ∙ sym m.insert) ∙ m.base.count;
       fit = zip2_fits (λ (c : Cell). c.width ≡ m.width) (λ (d : Cell). Unit {0}) (HasWidth m.width) f cs ds each m.base.widths (λ i d below. tt);
@@ -116,7 +105,7 @@ pub low_scalars : (op : ExtendedOp) (n : ℕ) (cs ds : List Cell) (m : MayExtend
 low_scalars op n cs ds m =
     let f : Cell → Cell → Cell = λ c d. (extended_lanes op c d).0 in
     let each : (c d : Cell) → c.width ≡ m.width → d.width ≡ m.width → HasWidth m.width (f c d) =
-    λ c d e g. subst (λ (w : ℕ). HasWidth w (f c d)) e (if_fits _ c.width _ (integer_fits c.width _ (subst (λ (w : ℕ). w ≤ 64) (sym e) m.fits.1))) in
+    λ c d e g. subst (λ (w : ℕ). HasWidth w (f c d)) e (defined_has_width _ c.width _ (integer_has_width c.width _ (subst (λ (w : ℕ). w ≤ 64) (sym e) m.fits.1))) in
     record {
       count = length-zip2 f cs ds (m.first.count ∙ sym m.second.count) ∙ m.first.count;
       fit = zip2_fits (λ (c : Cell). c.width ≡ m.width) (λ (d : Cell). d.width ≡ m.width) (HasWidth m.width) f cs ds each m.first.widths m.second.widths;
@@ -126,7 +115,7 @@ pub high_scalars : (op : ExtendedOp) (n : ℕ) (cs ds : List Cell) (m : MayExten
 high_scalars op n cs ds m =
     let f : Cell → Cell → Cell = λ c d. (extended_lanes op c d).1 in
     let each : (c d : Cell) → c.width ≡ m.width → d.width ≡ m.width → HasWidth m.width (f c d) =
-    λ c d e g. subst (λ (w : ℕ). HasWidth w (f c d)) e (if_fits _ c.width _ (integer_fits c.width _ (subst (λ (w : ℕ). w ≤ 64) (sym e) m.fits.1))) in
+    λ c d e g. subst (λ (w : ℕ). HasWidth w (f c d)) e (defined_has_width _ c.width _ (integer_has_width c.width _ (subst (λ (w : ℕ). w ≤ 64) (sym e) m.fits.1))) in
     record {
       count = length-zip2 f cs ds (m.first.count ∙ sym m.second.count) ∙ m.first.count;
       fit = zip2_fits (λ (c : Cell). c.width ≡ m.width) (λ (d : Cell). d.width ≡ m.width) (HasWidth m.width) f cs ds each m.first.widths m.second.widths;
@@ -152,15 +141,15 @@ length-zip3 f (x ∷ xs) (y ∷ ys) (z ∷ zs) h g =
     ap suc (length-zip3 f xs ys zs e k)
 
 glsl_fits : (row : GlslRow) (w a b c : ℕ) → w ≤ 64 → HasWidth w (glsl_result row w a b c)
-glsl_fits (of_one f) w a b c h = integer_fits w _ h
-glsl_fits (of_two f) w a b c h = integer_fits w _ h
-glsl_fits (clamp f) w a b c h = if_fits _ w _ (integer_fits w _ h)
+glsl_fits (of_one f) w a b c h = integer_has_width w _ h
+glsl_fits (of_two f) w a b c h = integer_has_width w _ h
+glsl_fits (clamp f) w a b c h = defined_has_width _ w _ (integer_has_width w _ h)
 
 pub glsl_scalars : (op : GlslOp) (n : ℕ) (cs ds es : List Cell) (m : MayJoin cs ds es n) → AreScalars m.width n (zip3 (glsl_lane op) cs ds es)
 glsl_scalars op n cs ds es m =
     let each : (c d e : Cell) → c.width ≡ m.width → d.width ≡ m.width → e.width ≡ m.width → HasWidth m.width (glsl_lane op c d e) =
     λ c d e g h k. subst (λ (w : ℕ). HasWidth w (glsl_lane op c d e)) g
-    (if_fits _ c.width _ (glsl_fits (glsl_row op) c.width c.bits d.bits e.bits (subst (λ (w : ℕ). w ≤ 64) (sym g) m.fits.1))) in
+    (defined_has_width _ c.width _ (glsl_fits (glsl_row op) c.width c.bits d.bits e.bits (subst (λ (w : ℕ). w ≤ 64) (sym g) m.fits.1))) in
     record {
       count = length-zip3 (glsl_lane op) cs ds es (m.first.count ∙ sym m.second.count) (m.first.count ∙ sym m.third.count) ∙ m.first.count;
       fit = zip3_fits (λ (c : Cell). c.width ≡ m.width) (λ (d : Cell). d.width ≡ m.width) (λ (e : Cell). e.width ≡ m.width) (HasWidth m.width) (glsl_lane op) cs ds es each m.first.widths m.second.widths m.third.widths;
@@ -173,7 +162,7 @@ unfolding bitcast_of
 bitcast_fits cs w i h =
     let bit : ℕ → ℕ = λ k. joined_bit cs (i * w + k) in
     let below : number_of_bits w bit < 2 ^ w = number_of_bits_below w bit (λ k. bit_at-lt (component_at cs (i * w + k)).bits ((i * w + k) % component_width cs)) in
-    if_fits _ w _ (refl, record { narrow = h; fits = below; zero = λ e. absurd (cc) })
+    defined_has_width _ w _ (refl, record { narrow = h; fits = below; zero = λ e. absurd (cc) })
 
 pub bitcast_scalars : (count width : ℕ) (cs : List Cell) → MayCast count width cs → AreScalars width count (map (bitcast_of cs width) (range_with_len 0 count))
 bitcast_scalars count width cs m = record {
@@ -182,12 +171,12 @@ bitcast_scalars count width cs m = record {
 }
 
 pub truth_scalars : (op : VectorOp) (cs : List Cell) → AreScalars 1 1 (vector_lane op cs ∷ [])
-truth_scalars op cs = record { count = refl; fit = All-cons (HasWidth 1) (vector_lane op cs) [] (if_fits _ 1 _ (truth_fits (vector_row op cs))) (All-nil (HasWidth 1)) }
+truth_scalars op cs = record { count = refl; fit = All-cons (HasWidth 1) (vector_lane op cs) [] (defined_has_width _ 1 _ (truth_has_width (vector_row op cs))) (All-nil (HasWidth 1)) }
 
 -- ---- selections and components
 
 select_fits : (w : ℕ) (c a b : Cell) → HasWidth w a → HasWidth w b → HasWidth w (select_of c a b)
-select_fits w c a b h g = if_fits (c.defined && a.defined && b.defined) w (if c.bits == 1 then a else b) (chosen (c.bits == 1))
+select_fits w c a b h g = defined_has_width (c.defined && a.defined && b.defined) w (if c.bits == 1 then a else b) (chosen (c.bits == 1))
   where
     chosen : (t : Bool) → HasWidth w (if t then a else b)
     chosen true = h
@@ -245,7 +234,7 @@ component_fits w n cs i h s = elim (cases_lt i (length cs)) [
 pub extracted_scalars : (w n : ℕ) (cs : List Cell) (index : Cell) → 0 < length cs → AreScalars w n cs → AreScalars w 1 (defined_if index.defined (component cs index.bits) ∷ [])
 extracted_scalars w n cs index h s = record {
   count = refl;
-  fit = All-cons (HasWidth w) (defined_if index.defined (component cs index.bits)) [] (if_fits index.defined w (component cs index.bits) (component_fits w n cs index.bits h s)) (All-nil (HasWidth w));
+  fit = All-cons (HasWidth w) (defined_if index.defined (component cs index.bits)) [] (defined_has_width index.defined w (component cs index.bits) (component_fits w n cs index.bits h s)) (All-nil (HasWidth w));
 }
 
 pub inserted_scalars : (w n : ℕ) (cs : List Cell) (c index : Cell) → HasWidth w c → AreScalars w n cs → AreScalars w n (with_component cs c index)

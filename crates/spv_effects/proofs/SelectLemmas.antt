@@ -1,10 +1,9 @@
 -- The conditions of a selection.
 use Rattle.std.proofs.Common.{◌≡◌, ◌∙◌, ℕ, zero, suc, ◌<◌, List, [], ◌∷◌, length, map, get_or, refl, sym, ap, arith, replicate}
 use Rattle.std.specs.Simd.Lanes.{zip2}
-use Rattle.spv_alu.specs.Select.{select_of}
+use Rattle.spv_alu.specs.Select.{select_of, selected}
 use Rattle.spv_base.specs.Cell.{Cell}
-use Rattle.spv_effects.specs.Lanes.{zip3}
-use Rattle.spv_effects.specs.Selects.{selected}
+use Rattle.spv_alu.specs.Lanes.{zip3}
 
 repeated : (f : Cell → Cell → Cell → Cell) (c : Cell) (xs ys : List Cell) → zip2 (f c) xs ys ≡ zip3 f (replicate (length xs) c) xs ys
 repeated f c [] ys = refl

@@ -5,12 +5,12 @@ use Rattle.std.proofs.lemmas.Bool.Decides.{nat_tests}
 use Rattle.std.proofs.lemmas.List.Elements.{All-cons, All-head, All-map, All-nil, All-tail, All-weaker}
 use Rattle.std.specs.List.{All, flat_map}
 use Rattle.std.specs.Option.{IsSomeAnd, option_and_then}
-use Rattle.spv_base.specs.Cell.{IsCell, Cell}
+use Rattle.spv_base.specs.Cell.{IsCell, Cell, HasWidth}
 use Rattle.spv_base.specs.Parts.{parts_in}
 use Rattle.spv_base.specs.declared.values.Root.{Root}
 use Rattle.spv_base.specs.declared.values.Value.{Value, Scalar, List as Many, out-Value}
 use Rattle.spv_base.specs.declared.values.Value.TheOpen.{Value-F}
-use Rattle.spv_base.proofs.PartLemmas.{out_many, out_scalar}
+use Rattle.spv_base.proofs.Exports.{out_many, out_scalar}
 use Rattle.spv_types.specs.declared.forms.Form.{Form}
 use Rattle.spv_types.specs.declared.forms.Form.TheVariants.{Void, Bool as Boolean, Int, Vector, Array, Runtime, Struct, Pointer, Function}
 use Rattle.spv_types.specs.Types.{Types, form_of}
@@ -18,14 +18,9 @@ use Rattle.spv_types.specs.Laws.{AreSound}
 use Rattle.spv_types.specs.Rows.{leaves}
 use Rattle.spv_types.specs.Rules.{is_scalar}
 use Rattle.spv_types.specs.Shapes.{HasShape, IsScalar, scalar_in, shape_step}
-use Rattle.spv_types.proofs.RowCounts.{many_is}
-use Rattle.spv_types.proofs.RowLemmas.{many_by, many_row, scalar_by, scalar_row}
-use Rattle.spv_types.proofs.ShapeLemmas.{shapes_are_by_forms}
+use Rattle.spv_types.proofs.Exports.{many_is, many_by, many_row, scalar_by, scalar_row, shapes_are_by_forms}
 use Rattle.spv_effects.specs.LaneTypes.{HasLaneType, IsLaneForm, scalar_width}
 use Rattle.spv_effects.specs.Lanes.{AreLanes, AreScalars, of_lanes}
-
-abbrev pub HasWidth : ℕ → Cell → Type 0
-HasWidth w c = (c.width ≡ w) × IsCell c
 
 -- a value that is n scalars of a width
 pub record IsOfLanes (w n : ℕ) (v : Value) : Type 0 where

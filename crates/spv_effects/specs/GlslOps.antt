@@ -6,7 +6,8 @@ use Rattle.spv_alu.specs.Integers.{IsWidth}
 use Rattle.spv_alu.specs.declared.glsl_op.GlslOp.{GlslOp}
 use Rattle.spv_base.specs.Cell.{Cell}
 use Rattle.spv_base.specs.declared.values.Value.{Value}
-use Rattle.spv_effects.specs.Lanes.{AreLanes, of_lanes, zip3}
+use Rattle.spv_alu.specs.Lanes.{zip3}
+use Rattle.spv_effects.specs.Lanes.{AreLanes, of_lanes}
 use Rattle.spv_types.specs.Rows.{leaves}
 
 abbrev pub glsl_value : GlslOp → Value → Value → Value → Value

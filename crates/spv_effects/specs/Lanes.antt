@@ -16,12 +16,6 @@ of_lanes (c ∷ (d ∷ cs)) = Many (map Scalar (c ∷ (d ∷ cs)))
 abbrev pub lane_of : Value → Cell
 lane_of v = slice_index_or (leaves v) 0 (undefined_cell 0)
 
-abbrev pub zip3 : (Cell → Cell → Cell → Cell) → List Cell → List Cell → List Cell → List Cell
-zip3 f [] ys zs = []
-zip3 f (x ∷ xs) [] zs = []
-zip3 f (x ∷ xs) (y ∷ ys) [] = []
-zip3 f (x ∷ xs) (y ∷ ys) (z ∷ zs) = f x y z ∷ zip3 f xs ys zs
-
 -- n lanes of a width
 pub record AreLanes (w n : ℕ) (cs : List Cell) : Type 0 where
   pub count : length cs ≡ n

@@ -1,22 +1,12 @@
 -- OpSelect 169: a scalar condition governs all leaves of two values of one form, and a vector of conditions has one for each
 -- lane (SPIR-V 1.6, section "Relational and Logical Instructions"). A leaf is not defined where its condition isn't, or where
 -- either object's leaf isn't.
-use Rattle.std.specs.Prelude.{◌≡◌, ◌⊎◌, ℕ, List, [], ◌∷◌, length, map, replicate}
-use Rattle.spv_alu.specs.Select.{select_of}
+use Rattle.std.specs.Prelude.{◌≡◌, ◌⊎◌, ℕ, List, length, map}
+use Rattle.spv_alu.specs.Select.{selected}
 use Rattle.spv_base.specs.Cell.{Cell}
 use Rattle.spv_base.specs.declared.values.Value.{Value}
 use Rattle.spv_effects.specs.Forms.{with_leaves}
-use Rattle.spv_effects.specs.Lanes.{zip3}
 use Rattle.spv_types.specs.Rows.{leaves}
-
--- the condition of each of n leaves
-abbrev pub conditions : List Cell → ℕ → List Cell
-conditions [] n = []
-conditions (c ∷ []) n = replicate n c
-conditions (c ∷ (d ∷ cs)) n = c ∷ (d ∷ cs)
-
-abbrev pub selected : List Cell → List Cell → List Cell → List Cell
-selected cs xs ys = zip3 select_of (conditions cs (length xs)) xs ys
 
 -- the result, of the form of the first object
 abbrev pub select_value : Value → Value → Value → Value

@@ -84,7 +84,7 @@ pub fn extract(composite: &Part, path: &Path, start: usize, into: &mut Row)
 
 /// OpCompositeInsert: the composite with the object in place of the part that a path names, which lies behind `start` cells. It
 /// takes no memory.
-#[tactic(auto, using(spv_values::proofs::RowLemmas::row_within))]
+#[tactic(auto, using(spv_values::proofs::Exports::row_within))]
 pub fn insert(object: &Part, composite: &Part, path: &Path, start: usize, into: &mut Row)
     requires place { IsRowAt composite.now path.now start (length (leaves object.now)) }
     requires room { length (leaves into.old) ≡ length (leaves composite.now) }

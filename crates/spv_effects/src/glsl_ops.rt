@@ -1,8 +1,8 @@
 //! The extended instructions of GLSL.std.450 on each lane of integers.
 ghost use Rattle.std.specs.Prelude.{◌≡◌, length};
 ghost use Rattle.spv_alu.specs.Glsl.{glsl_lane};
+ghost use Rattle.spv_alu.specs.Lanes.{zip3};
 ghost use Rattle.spv_effects.specs.GlslOps.{MayJoin, glsl_value};
-ghost use Rattle.spv_effects.specs.Lanes.{zip3};
 ghost use Rattle.spv_types.specs.Rows.{leaves};
 
 use crate::lanes::of_lanes;

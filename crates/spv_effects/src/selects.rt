@@ -2,10 +2,10 @@
 //! Instructions").
 ghost use Rattle.std.specs.Prelude.{◌≡◌, length};
 ghost use Rattle.std.specs.Simd.Lanes.{zip2};
-ghost use Rattle.spv_alu.specs.Select.{select_of};
+ghost use Rattle.spv_alu.specs.Select.{select_of, selected};
+ghost use Rattle.spv_alu.specs.Lanes.{zip3};
 ghost use Rattle.spv_effects.specs.Forms.{with_leaves};
-ghost use Rattle.spv_effects.specs.Lanes.{zip3};
-ghost use Rattle.spv_effects.specs.Selects.{AreAlike, MaySelect, select_value, selected};
+ghost use Rattle.spv_effects.specs.Selects.{AreAlike, MaySelect, select_value};
 ghost use Rattle.spv_types.specs.Rows.{leaves};
 
 use spv_base::{Cell, Ghost, Value};

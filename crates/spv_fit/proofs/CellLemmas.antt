@@ -4,9 +4,9 @@ use Rattle.std.proofs.Math.Nat.{mul_comm}
 use Rattle.std.specs.Prelude.{min, unwrap_or}
 use Rattle.std.specs.Option.{option_map}
 use Rattle.spv_base.specs.declared.instructions.Inst.{Inst}
-use Rattle.spv_types.specs.Saturation.{saturated}
+use Rattle.spv_base.specs.Saturation.{saturated}
 use Rattle.spv_types.specs.Types.{Types}
-use Rattle.spv_types.proofs.SaturationLemmas.{saturated-add, saturated-mul}
+use Rattle.spv_base.proofs.Exports.{saturated-add, saturated-mul}
 use Rattle.spv_setup.specs.declared.settings.Settings.{Settings}
 use Rattle.spv_fit.specs.Cells.{all_own, all_shared, own_cells, shared_cells}
 

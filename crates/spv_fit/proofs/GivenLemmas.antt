@@ -4,14 +4,14 @@ use Rattle.std.specs.List.{find}
 use Rattle.std.specs.Option.{option_map}
 use Rattle.std.specs.Ordering.{is_eq}
 use Rattle.spv_index.specs.Keys.{pair_cmp}
-use Rattle.spv_index.proofs.ListLemmas.{drop_back}
-use Rattle.spv_index.proofs.KeyLemmas.{same_pair}
+use Rattle.spv_index.proofs.Exports.{drop_back, same_pair}
 use Rattle.spv_base.specs.declared.instructions.Inst.{Inst}
+use Rattle.spv_base.specs.Lowest.{lower}
 use Rattle.spv_types.specs.Types.{Types}
 use Rattle.spv_setup.specs.declared.settings.Settings.{Settings}
 use Rattle.spv_setup.specs.declared.settings.Buffer.{Buffer}
 use Rattle.spv_fit.specs.declared.given.Given.{Given}
-use Rattle.spv_fit.specs.Given.{is_bound, buffer_given, given_at, lacks_bytes, some_lack, lower, short_for, lowest_short}
+use Rattle.spv_fit.specs.Given.{is_bound, buffer_given, given_at, lacks_bytes, some_lack, short_for, lowest_short}
 
 given_first : (bs : List Buffer) (b : Buffer) (set binding : ℕ) → given_at (b ∷ bs) set binding ≡ cond (is_bound set binding b) (Some (buffer_given b)) (given_at bs set binding)
 unfolding given_at

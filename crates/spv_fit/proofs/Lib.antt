@@ -1,3 +1,3 @@
-pub mod GivenLemmas
-pub mod CellLemmas
-pub mod FitLemmas
+mod GivenLemmas
+mod CellLemmas
+mod FitLemmas

@@ -1,25 +1,22 @@
 -- The cells of a run: the leaves of the variables that all invocations share, and for each invocation those of its own variables
 -- and of its frames.
-use Rattle.std.specs.Prelude.{ℕ, ◌+◌, ◌-◌, ◌*◌, ◌/◌, ◌==◌, ◌&&◌, ◌||◌, nat_le, if◌then◌else◌, List, [], ◌∷◌, length, slice_get, Option, Some, None, unwrap_or, Result, Ok, Err}
+use Rattle.std.specs.Prelude.{ℕ, ◌+◌, ◌-◌, ◌*◌, ◌==◌, ◌&&◌, ◌||◌, nat_le, if◌then◌else◌, List, [], ◌∷◌, length, slice_get, Option, Some, unwrap_or, Result, Ok, Err}
 use Rattle.std.specs.Option.{option_map_or}
 use Rattle.spv_base.specs.declared.causes.SetupRefusal.{SetupRefusal}
 use Rattle.spv_base.specs.declared.instructions.Inst.{Inst}
 use Rattle.spv_index.specs.Definitions.{holds}
 use Rattle.spv_index.specs.Operands.{literal_operand}
 use Rattle.spv_types.specs.Cells.{cells_of}
+use Rattle.spv_types.specs.InterfaceBlocks.{is_block_variable}
 use Rattle.spv_types.specs.Leaves.{leaf_of}
 use Rattle.spv_types.specs.declared.forms.Form.{Form}
 use Rattle.spv_types.specs.declared.forms.Form.TheVariants.{Pointer, Runtime, Struct}
 use Rattle.spv_types.specs.declared.forms.Member.{Member}
 use Rattle.spv_types.specs.Types.{Types, form_of}
 use Rattle.spv_setup.specs.declared.settings.Settings.{Settings}
+use Rattle.spv_types.specs.Places.{elements_in}
 use Rattle.spv_fit.specs.declared.given.Given.{Given}
-use Rattle.spv_fit.specs.Given.{given_to, is_block_variable}
-
--- as many elements of a runtime array as fit so many bytes, of which it begins at a place
-abbrev pub elements_in : ℕ → ℕ → Option ℕ → ℕ
-elements_in size at None = 0
-elements_in size at (Some stride) = (size - at) / stride
+use Rattle.spv_fit.specs.Given.{given_to}
 
 -- the leaves of a type that has a number of them
 abbrev pub leaves_of : Types → ℕ → ℕ

@@ -1,15 +1,17 @@
 -- The bytes that a setup gives to the variables of blocks: those of the classes Uniform and StorageBuffer by their descriptor
 -- set and binding, and those of PushConstant all the same ones.
-use Rattle.std.specs.Prelude.{ℕ, ◌==◌, ◌&&◌, ◌||◌, not, nat_lt, min, Bool, false, if◌then◌else◌, List, [], ◌∷◌, length, Option, Some, None, Result, Ok, Err}
+use Rattle.std.specs.Prelude.{ℕ, ◌==◌, ◌&&◌, not, nat_lt, Bool, if◌then◌else◌, List, [], ◌∷◌, length, Option, Some, None, Result, Ok, Err}
 use Rattle.std.specs.List.{find, list_any}
-use Rattle.std.specs.Option.{is_some, option_map, option_map_or}
+use Rattle.std.specs.Option.{is_some, option_map}
 use Rattle.spv_base.specs.declared.causes.SetupRefusal.{SetupRefusal}
 use Rattle.spv_base.specs.declared.instructions.Inst.{Inst}
+use Rattle.spv_base.specs.Lowest.{lower}
 use Rattle.spv_index.specs.Definitions.{decoration, holds}
 use Rattle.spv_index.specs.Operands.{literal_operand}
 use Rattle.spv_types.specs.declared.forms.Form.{Form}
 use Rattle.spv_types.specs.declared.forms.Form.TheVariants.{Pointer}
 use Rattle.spv_types.specs.Types.{Types, form_of}
+use Rattle.spv_types.specs.InterfaceBlocks.{is_block_variable}
 use Rattle.spv_types.specs.Layout.{size_of}
 use Rattle.spv_setup.specs.declared.line.Content.{Content}
 use Rattle.spv_setup.specs.declared.line.Content.TheVariants.{Hex, Zero}
@@ -17,14 +19,6 @@ use Rattle.spv_setup.specs.declared.settings.Buffer.{Buffer}
 use Rattle.spv_setup.specs.declared.settings.Push.{Push}
 use Rattle.spv_setup.specs.declared.settings.Settings.{Settings}
 use Rattle.spv_fit.specs.declared.given.Given.{Given}
-
--- a storage class whose variables point to blocks: Uniform, StorageBuffer and PushConstant
-abbrev pub is_block_class : ℕ → Bool
-is_block_class class = (class == 2 || class == 12) || class == 9
-
--- an OpVariable of such a class
-abbrev pub is_block_variable : Inst → Bool
-is_block_variable i = i.op == 59 && option_map_or is_block_class (literal_operand i 0) false
 
 -- The size of the block that a pointer type points to: its fixed part, the greatest of the ends of its members, where a runtime
 -- array ends where it begins.
@@ -71,11 +65,6 @@ short_line size (Some given) = if nat_lt given.bytes size then Some given.line e
 -- the line of bytes that are fewer than the fixed part of a variable's block
 abbrev pub short_for : List Inst → Types → Settings → Inst → Option ℕ
 short_for all ts s i = if is_block_variable i then short_line (block_size ts (form_of ts i.ty)) (given_to all s i) else None
-
-abbrev pub lower : Option ℕ → Option ℕ → Option ℕ
-lower None b = b
-lower (Some a) None = Some a
-lower (Some a) (Some b) = Some (min a b)
 
 -- the lowest line of bytes that are too few for one of some instructions
 unfoldable pub lowest_short : List Inst → Types → Settings → List Inst → Option ℕ

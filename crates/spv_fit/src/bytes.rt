@@ -4,45 +4,23 @@ ghost use Rattle.std.specs.BTreeMap.{get};
 ghost use Rattle.spv_base.specs.Answers.{Answers};
 ghost use Rattle.spv_index.specs.Keys.{pair_cmp};
 ghost use Rattle.spv_types.specs.Types.{form_of};
-ghost use Rattle.std.specs.Option.{option_map_or};
 ghost use Rattle.spv_index.specs.Definitions.{holds};
 ghost use Rattle.spv_index.specs.Operands.{literal_operand};
 ghost use Rattle.spv_types.specs.Measured.{AreSizes};
 ghost use Rattle.spv_fit.specs.Given as due;
 
 use crate::given::Given;
-use spv_base::{Fail, Inst, SetupRefusal};
+use spv_base::{Fail, Inst, SetupRefusal, lower};
 use spv_index::{Index, literal_operand};
-use spv_ops::{decoration, op, storage_class};
+use spv_ops::{decoration, storage_class};
 use spv_setup::Setup;
 use spv_types::layout::{sizes, whole_size};
-use spv_types::{Form, TypeTable};
+use spv_types::{Form, TypeTable, is_block_variable};
 use std::alloc::Global;
 use std::collections::BTreeMap;
 
 /// A variable of a block has no bytes.
 const NO_BYTES: Fail<SetupRefusal> = Fail::Refused(SetupRefusal { code: 6, line: 0 });
-
-/// Whether there is a storage class, and its variables point to blocks.
-fn has_block_class(class: Option<u32>) -> bool
-    ensures { result ≡ option_map_or due.is_block_class class false }
-{
-    match class {
-        Some(class) => {
-            class == storage_class::UNIFORM
-                || class == storage_class::STORAGE_BUFFER
-                || class == storage_class::PUSH_CONSTANT
-        }
-        None => false,
-    }
-}
-
-/// Whether an instruction is a variable of such a class.
-pub fn is_block_variable(inst: &Inst) -> bool
-    ensures { result ≡ due.is_block_variable inst.now }
-{
-    inst.op == op::VARIABLE && has_block_class(literal_operand(inst, 0))
-}
 
 /// Whether an instruction has the storage class PushConstant as its first operand.
 fn is_push(inst: &Inst) -> bool
@@ -113,17 +91,6 @@ fn some_lack(
         }
     }
     false
-}
-
-/// The lower of two lines.
-fn lower(a: Option<u32>, b: Option<u32>) -> Option<u32>
-    ensures { result ≡ due.lower a b }
-{
-    match (a, b) {
-        (Some(a), Some(b)) => Some(a.min(b)),
-        (Some(a), None) => Some(a),
-        (None, b) => b,
-    }
 }
 
 /// The line of bytes that are fewer than a size.

@@ -6,19 +6,20 @@ ghost use Rattle.spv_base.specs.Answers.{Answers};
 ghost use Rattle.spv_index.specs.Definitions.{holds};
 ghost use Rattle.spv_index.specs.Keys.{pair_cmp};
 ghost use Rattle.spv_index.specs.Operands.{literal_operand};
-ghost use Rattle.spv_types.specs.Saturation.{saturated};
+ghost use Rattle.spv_base.specs.Saturation.{saturated};
 ghost use Rattle.spv_types.specs.Leaves.{leaf_of};
 ghost use Rattle.spv_types.specs.Types.{form_of};
 ghost use Rattle.spv_fit.specs.Given as bytes;
 ghost use Rattle.spv_fit.specs.Cells as due;
 
-use crate::bytes::{given_to, is_block_variable};
+use crate::bytes::given_to;
 use crate::given::Given;
 use spv_base::{Fail, Inst, SetupRefusal};
 use spv_index::{Index, literal_operand};
 use spv_ops::{op, storage_class};
 use spv_setup::Setup;
-use spv_types::{Form, Member, TypeTable};
+use spv_types::places::elements_in;
+use spv_types::{Form, Member, TypeTable, is_block_variable};
 use std::collections::BTreeMap;
 
 /// The most cells of a run.
@@ -26,16 +27,6 @@ const MOST_CELLS: u64 = 4_194_304;
 
 /// There are more than 4,194,304 cells.
 const TOO_MANY_CELLS: Fail<SetupRefusal> = Fail::Refused(SetupRefusal { code: 10, line: 0 });
-
-/// How many elements of a runtime array fit so many bytes, of which it begins at a place.
-fn elements_in(size: u64, at: u32, stride: Option<u32>) -> u64
-    ensures { result ≡ due.elements_in size at stride }
-{
-    match stride {
-        Some(stride) if stride > 0 => size.saturating_sub(u64::from(at)) / u64::from(stride),
-        _ => 0,
-    }
-}
 
 /// The leaves of a type that has a number of them, or the greatest u64 where there are more.
 #[tactic(auto, using(crate::proofs::CellLemmas::saturated_or_none))]
@@ -52,7 +43,7 @@ fn array_cells(types: &TypeTable, size: u64, at: u32, form: Option<&Form>) -> u6
 {
     match form {
         Some(Form::Runtime { element, stride }) => {
-            leaves_of(types, *element).saturating_mul(elements_in(size, at, *stride))
+            leaves_of(types, *element).saturating_mul(elements_in(size, u128::from(at), *stride))
         }
         _ => 0,
     }

@@ -4,7 +4,8 @@ use Rattle.std.specs.List.{AllByRecursion, AllZip}
 use Rattle.spv_base.specs.Entries.{reads, writes}
 use Rattle.spv_base.specs.Variables.{Registers}
 use Rattle.spv_base.specs.declared.values.Value.{Value}
-use Rattle.spv_base.proofs.EntryLemmas.{writes_back}
+use Rattle.spv_base.proofs.Exports.{writes_back}
+use Rattle.std.proofs.lemmas.List.{drop_all, take_all}
 use Rattle.spv_frame.specs.declared.contents.Content.{Content}
 use Rattle.spv_frame.specs.declared.contents.Source.{Source}
 use Rattle.spv_frame.specs.declared.slots.Slot.{Slot}
@@ -96,18 +97,6 @@ going_on ss os cs f g g' k s c d differ going at given after was suits =
       suit = suit_set f.plan.values ss cs k s d going.suit at (subst (λ (rs : Rooms). Suits rs s d) plans suits);
     }
 
-drop_whole : {X : Type 0} (xs : List X) (n : ℕ) → length xs ≤ n → drop n xs ≡ []
-drop_whole [] zero h = refl
-drop_whole [] (suc n) h = refl
-drop_whole (x ∷ xs) zero h = absurd (omega arith)
-drop_whole (x ∷ xs) (suc n) h = let e : length xs ≤ n = omega arith in drop_whole xs n e
-
-take_whole : {X : Type 0} (xs : List X) (n : ℕ) → length xs ≤ n → take n xs ≡ xs
-take_whole [] zero h = refl
-take_whole [] (suc n) h = refl
-take_whole (x ∷ xs) zero h = absurd (omega arith)
-take_whole {X} (x ∷ xs) (suc n) h = let e : length xs ≤ n = omega arith in ap (λ (ys : List X). x ∷ ys) (take_whole xs n e)
-
 nothing_more : {X : Type 0} (xs : List X) → xs ++ [] ≡ xs
 nothing_more [] = refl
 nothing_more {X} (x ∷ xs) = ap (λ (ys : List X). x ∷ ys) (nothing_more xs)
@@ -121,8 +110,8 @@ pub record Done (ss : List Slot) (os cs : List Content) (f g : Held) : Type 0 wh
 pub done : (ss : List Slot) (os cs : List Content) (f g : Held) (k : ℕ) → Going ss os cs f g k → length ss ≤ k → Done ss os cs f g
 done ss os cs f g k going all =
     let many : length cs ≡ length ss = as_many f.plan.values ss cs going.suit in
-    let slots : drop k ss ≡ [] = drop_whole ss k all in
-    let taken : take k cs ≡ cs = (let short : length cs ≤ k = omega arith in take_whole cs k short) in
+    let slots : drop k ss ≡ [] = drop_all k ss all in
+    let taken : take k cs ≡ cs = (let short : length cs ≤ k = omega arith in take_all k cs short) in
     let values : g.values ≡ puts ss (map content os) f.values = ap (λ (xs : List Slot). puts xs (map content (drop k cs)) g.values) (sym slots) ∙ going.left in
     record {
       after = going.same ∙ ap (λ (x : Registers). record f { values = x }) values;

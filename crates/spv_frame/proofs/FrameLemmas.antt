@@ -13,10 +13,7 @@ use Rattle.spv_frame.specs.Frames.{Fits, Held, cells_in, fresh, none, shown, tre
 use Rattle.spv_frame.specs.Plans.{rooms}
 use Rattle.spv_frame.specs.declared.slots.Slot.{Slot}
 use Rattle.spv_frame.proofs.RegisterLemmas.{Lies, get_is_read, lies, marks_get, marks_length, marks_set, number_inside, set_is_write, trees_many}
-
-pub map_long : {A B : Type 0} (f : A → B) (xs : List A) → length (map f xs) ≡ length xs
-map_long f [] = refl
-map_long f (x ∷ xs) = ap suc (map_long f xs)
+use Rattle.std.proofs.lemmas.List.{length-map}
 
 -- a register of a value in a frame
 pub record Opened (h : Held) (p : Planned) (row : Value) (has : List Bool) (s : Slot) : Type 0 where
@@ -30,7 +27,7 @@ pub opened : (h : Held) (p : Planned) (pc : ℕ) (row : Value) (has : List Bool)
 opened h p pc row has ps es s e fits slot =
     let here : IsSlotOf p.values s = subst (λ (rs : Rooms). IsSlotOf rs s) (sym (ap (λ (x : Held). x.plan.values) e)) slot in
     let at = lies p.values row s fits.0 fits.1 here in
-    let count : length has ≡ length (trees row) = fits.2 ∙ sym (map_long (λ (r : ℕ × ℕ). r.1) p.values) ∙ sym (ap length fits.1) ∙ map_long cells_in (trees row) in
+    let count : length has ≡ length (trees row) = fits.2 ∙ sym (length-map p.values (λ (r : ℕ × ℕ). r.1)) ∙ sym (ap length fits.1) ∙ length-map (trees row) cells_in in
     record { lies = at; within = let i = at.inside in omega arith; as_many = count; named = here.named }
 
 pub value_is : (h : Held) (p : Planned) (pc : ℕ) (row : Value) (has : List Bool) (ps : List (Option Pointer)) (es : List PassedEvent) (s : Slot) (b : Bool)
@@ -108,7 +105,7 @@ begins p blank n m has ps sized count places marked empty =
     ∙ ap (λ (x : List (ℕ × Option Pointer)). record (fresh p) { pointers = x }) (ap (zip p.pointers) empty ∙ no_places p.pointers m places)
 
 pub rooms_long : (slots : List Slot) → length (rooms slots) ≡ length slots
-rooms_long slots = map_long (λ (s : Slot). (s.id, s.len)) slots
+rooms_long slots = length-map slots (λ (s : Slot). (s.id, s.len))
 
 pub begins_as : (p q : Planned) (first : ℕ) (blank row : Value) (n m : ℕ) (has : List Bool) (ps : List (Option Pointer)) (es : List PassedEvent) → q ≡ p → first ≡ p.first → row ≡ blank
     → map cells_in (trees blank) ≡ sizes p.values → n ≡ length p.values → m ≡ length p.pointers → has ≡ replicate n false → ps ≡ replicate m None → es ≡ [] → shown q first row has ps es ≡ fresh p

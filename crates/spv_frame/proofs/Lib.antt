@@ -1,9 +1,10 @@
-pub mod RegisterLemmas
-pub mod FrameLemmas
-pub mod PlanLemmas
-pub mod NumberLemmas
-pub mod StackLemmas
-pub mod ContentLemmas
-pub mod CallLemmas
-pub mod SlotLemmas
-pub mod ListingLemmas
+mod RegisterLemmas
+mod FrameLemmas
+mod PlanLemmas
+mod NumberLemmas
+mod StackLemmas
+mod ContentLemmas
+mod CallLemmas
+mod SlotLemmas
+mod ListingLemmas
+pub mod Exports

@@ -8,8 +8,8 @@ use Rattle.spv_base.specs.declared.values.Pointer.{Pointer}
 use Rattle.spv_base.specs.declared.values.Value.{Value}
 use Rattle.spv_frame.specs.Registers.{Planned, ids, marks, number_of}
 use Rattle.spv_frame.specs.Frames.{Fits, Held, cells_in, shown, trees}
-use Rattle.spv_frame.proofs.FrameLemmas.{map_long}
 use Rattle.spv_frame.proofs.RegisterLemmas.{marks_length, number_at}
+use Rattle.std.proofs.lemmas.List.{length-map}
 
 -- what is read under a key stands where the key does
 pub read_is_get : {X : Type 0} (ks : List ℕ) (xs : List X) (n id : ℕ) (x : X) → number_of id ks ≡ Some n → reads id (zip ks xs) ≡ Some x
@@ -40,8 +40,8 @@ pub record Listed (h : Held) : Type 0 where
 pub listed : (h : Held) (p : Planned) (pc : ℕ) (row : Value) (has : List Bool) (ps : List (Option Pointer)) (es : List PassedEvent)
     → shown p pc row has ps es ≡ h → Fits p row has ps → Listed h
 listed h p pc row has ps es e fits =
-    let cells : length (trees row) ≡ length p.values = sym (map_long cells_in (trees row)) ∙ ap length fits.1 ∙ map_long (λ (r : ℕ × ℕ). r.1) p.values in
-    let keys : length (ids p.values) ≡ length p.values = map_long (λ (r : ℕ × ℕ). r.0) p.values in
+    let cells : length (trees row) ≡ length p.values = sym (length-map (trees row) cells_in) ∙ ap length fits.1 ∙ length-map p.values (λ (r : ℕ × ℕ). r.1) in
+    let keys : length (ids p.values) ≡ length p.values = length-map p.values (λ (r : ℕ × ℕ). r.0) in
     let long : length (marks (trees row) has) ≡ length (ids p.values) = marks_length (trees row) has (fits.2 ∙ sym cells) ∙ cells ∙ sym keys in
     let values : length (zip (ids p.values) (marks (trees row) has)) ≡ length p.values = zip_long (ids p.values) (marks (trees row) has) long ∙ keys in
     let pointers : length (zip p.pointers ps) ≡ length p.pointers = zip_long p.pointers ps fits.3 in

@@ -14,6 +14,7 @@ use Rattle.spv_frame.specs.Registers.{IsSlotOf, Planned, Rooms, cells_before, id
 use Rattle.spv_frame.specs.declared.slots.Slot.{Slot}
 use Rattle.spv_frame.proofs.FrameLemmas.{Opened, opened}
 use Rattle.spv_frame.proofs.RegisterLemmas.{marks_length, marks_set, set_is_write}
+use Rattle.spv_base.proofs.Exports.{set_same}
 
 -- where a register with a number lies
 abbrev pub slot_at : Rooms → ℕ → ℕ → Slot
@@ -52,11 +53,6 @@ placed h p q pc row has ps es n k path start e fits is cells way begins named =
     }
 
 -- ---- a register without its value
-
-set_same : {A : Type 0} (xs : List A) (n : ℕ) (x : A) → slice_get xs n ≡ Some x → slice_set xs n x ≡ xs
-set_same [] n x h = refl
-set_same (y ∷ xs) zero x h = let e : y ≡ x = cc in ap (λ z. z ∷ xs) (sym e)
-set_same (y ∷ xs) (suc n) x h = ap (λ ys. y ∷ ys) (set_same xs n x h)
 
 some_cells : (rs : Rooms) (n : ℕ) → n < length rs → (k : ℕ) × (slice_get (sizes rs) n ≡ Some k)
 some_cells [] n h = absurd (omega arith)

@@ -4,9 +4,8 @@ use Rattle.std.specs.List.{flat_map}
 use Rattle.std.proofs.lemmas.List.{length-replicate, replicate-append-replicate}
 use Rattle.spv_base.specs.Cell.{Cell, undefined_cell}
 use Rattle.spv_base.specs.declared.values.Value.{Value, Scalar, List as Many}
-use Rattle.spv_base.proofs.PartLemmas.{out_scalar}
 use Rattle.spv_types.specs.Rows.{leaves}
-use Rattle.spv_types.proofs.RowLemmas.{leaves_many, scalar_row}
+use Rattle.spv_types.proofs.Exports.{leaves_many, leaves_scalars}
 use Rattle.spv_frame.specs.Registers.{IsSlotOf, Rooms, cells_before, ids, number_of, sizes}
 use Rattle.spv_frame.specs.Frames.{cells_in, trees}
 use Rattle.spv_frame.specs.Plans.{AreApart, Keeps, blank_of, blank_register, planned, rooms, slots_from, slots_of, total}
@@ -60,12 +59,8 @@ slot_is rs slots k s e apart h =
 
 -- ---- the row without values
 
-scalars : (cs : List Cell) → flat_map leaves (map Scalar cs) ≡ cs
-scalars [] = refl
-scalars (c ∷ cs) = rw (scalar_row (Scalar c) c (out_scalar c)) (ap (λ (x : List Cell). c ∷ x) (scalars cs))
-
 register_row : (r : ℕ × ℕ) → leaves (blank_register r) ≡ replicate r.1 (undefined_cell 1)
-register_row r = leaves_many (map Scalar (replicate r.1 (undefined_cell 1))) ∙ scalars (replicate r.1 (undefined_cell 1))
+register_row r = leaves_many (map Scalar (replicate r.1 (undefined_cell 1))) ∙ leaves_scalars (replicate r.1 (undefined_cell 1))
 
 registers_row : (rs : Rooms) → flat_map leaves (map blank_register rs) ≡ replicate (total rs) (undefined_cell 1)
 registers_row [] = refl

@@ -6,12 +6,11 @@ use Rattle.std.specs.List.{flat_map, zip}
 use Rattle.spv_base.specs.Entries.{reads, writes}
 use Rattle.spv_base.specs.Parts.{part_at, with_part}
 use Rattle.spv_base.specs.declared.values.Value.{Value, List as Many}
-use Rattle.spv_base.proofs.EntryLemmas.{writes_back}
-use Rattle.spv_base.proofs.PartLemmas.{out_many}
+use Rattle.spv_base.proofs.Exports.{writes_back, out_many}
 use Rattle.spv_types.specs.Rows.{HasRow, leaves}
-use Rattle.spv_types.proofs.RowChanges.{slot_has_row}
+use Rattle.spv_types.proofs.Exports.{slot_has_row}
 use Rattle.spv_values.specs.Places.{IsRowAt}
-use Rattle.spv_values.proofs.RowLemmas.{row_at}
+use Rattle.spv_values.proofs.Exports.{row_at}
 use Rattle.spv_frame.specs.Registers.{IsSlotOf, Rooms, cells_before, marked, marks, number_of, sizes}
 use Rattle.spv_frame.specs.Frames.{cells_in, trees}
 use Rattle.spv_frame.specs.declared.slots.Slot.{Slot}

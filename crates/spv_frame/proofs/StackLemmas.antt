@@ -1,11 +1,10 @@
 -- The top frame of a stack, and a change of it.
-use Rattle.std.proofs.Common.{◌≡◌, ◌≢◌, ◌∙◌, ℕ, zero, suc, ◌-◌, ◌<◌, ◌≤◌, List, [], ◌∷◌, ◌++◌, Option, Some, Result, Ok, Err, get_or, length, length-set, set-set, refl, sym, ap, subst, arith, slice_get, slice_set}
+use Rattle.std.proofs.Common.{◌≡◌, ◌≢◌, ◌∙◌, ℕ, zero, suc, ◌-◌, ◌<◌, ◌≤◌, List, [], ◌∷◌, ◌++◌, Option, Some, get_or, length, length-set, set-set, refl, sym, ap, subst, arith, slice_get, slice_set}
 use Rattle.std.specs.Option.{IsSomeAnd}
-use Rattle.std.specs.Result.{IfOk, OnErr, OnOk}
 use Rattle.std.proofs.lemmas.Option.{slice_get-get_or}
 use Rattle.spv_base.specs.Entries.{change}
 use Rattle.spv_base.specs.declared.values.PassedEvent.{PassedEvent}
-use Rattle.spv_base.proofs.PartLemmas.{slice_get-set_same}
+use Rattle.spv_base.proofs.Exports.{slice_get-set_same}
 use Rattle.spv_frame.specs.Frames.{Held}
 use Rattle.spv_frame.specs.Stacks.{Stacked, on_top, top}
 
@@ -46,18 +45,6 @@ not_none [] h = absurd (h refl)
 not_none (f ∷ fs) h = omega arith
 
 -- ---- events
-
-pub on_ok : {T E : Type 0} (r : Result T E) (P Q : Type 0) → (P → Q) → OnOk r P → OnOk r Q
-on_ok (Ok x) P Q f p = f p
-on_ok (Err e) P Q f p = p
-
-pub on_err : {T E : Type 0} (r : Result T E) (P Q : Type 0) → (P → Q) → OnErr r P → OnErr r Q
-on_err (Ok x) P Q f p = p
-on_err (Err e) P Q f p = f p
-
-pub if_ok : {T E : Type 0} (r : Result T E) (P Q : T → Type 0) → ((x : T) → P x → Q x) → IfOk r P → IfOk r Q
-if_ok (Ok x) P Q f p = f x p
-if_ok (Err e) P Q f p = p
 
 same_set : (xs : List Held) (n : ℕ) (x : Held) → slice_get xs n ≡ Some x → slice_set xs n x ≡ xs
 same_set [] n x h = refl

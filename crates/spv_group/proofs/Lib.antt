@@ -1,5 +1,6 @@
-pub mod Histories
-pub mod PositionsLemmas
-pub mod Reaches
-pub mod Runs
-pub mod WindowLemmas
+mod Histories
+mod PositionsLemmas
+mod Reaches
+mod Runs
+mod WindowLemmas
+pub mod Exports

@@ -28,6 +28,7 @@ use Rattle.spv_machine.specs.World.{Held as World, IsRecorded}
 use Rattle.spv_group.proofs.PositionsLemmas.{least_is}
 use Rattle.spv_group.proofs.WindowLemmas.{fitting_length, fitting_size, fitting_light, keeps_window}
 use Rattle.spv_group.proofs.Histories.{happening_is, entry_is, fitting_more, past_less}
+use Rattle.spv_base.proofs.Exports.{opposite}
 
 -- ---- the end
 
@@ -45,15 +46,12 @@ past_cause p es n h = ap (λ o. is_some (cause_in p (run p es n) o)) (slice_get_
 pub cause_at_end : (p : Program) (es : List ℕ) → has_cause p es (end_of p es) ≡ true
 cause_at_end p es = elim (cases_lt (end_of p es) (length es)) [ inl l ↦ (end_is p es).passes l | inr l ↦ past_cause p es (end_of p es) l ]
 
-differ : (b : Bool) → b ≡ true → b ≡ false → ⊥
-differ b p q = cc
-
 -- a position up to the end is the end exactly where it has a cause
 pub is_end : (p : Program) (es : List ℕ) (n : ℕ) → n ≤ end_of p es → has_cause p es n ≡ true → n ≡ end_of p es
-is_end p es n l h = elim (cases_lt n (end_of p es)) [ inl k ↦ absurd (differ (has_cause p es n) h ((end_is p es).before n (omega arith) k)) | inr k ↦ omega arith ]
+is_end p es n l h = elim (cases_lt n (end_of p es)) [ inl k ↦ absurd (opposite (has_cause p es n) h ((end_is p es).before n (omega arith) k)) | inr k ↦ omega arith ]
 
 pub before_end : (p : Program) (es : List ℕ) (n : ℕ) → n ≤ end_of p es → has_cause p es n ≡ false → n < end_of p es
-before_end p es n l h = elim (cases_lt n (end_of p es)) [ inl k ↦ k | inr k ↦ absurd (differ (has_cause p es n) (let e : end_of p es ≡ n = omega arith in subst (λ m. has_cause p es m ≡ true) e (cause_at_end p es)) h) ]
+before_end p es n l h = elim (cases_lt n (end_of p es)) [ inl k ↦ k | inr k ↦ absurd (opposite (has_cause p es n) (let e : end_of p es ≡ n = omega arith in subst (λ m. has_cause p es m ≡ true) e (cause_at_end p es)) h) ]
 
 -- ---- at the end
 

@@ -4,7 +4,7 @@ use Rattle.std.specs.Prelude.{ℕ, ◌==◌, if◌then◌else◌, List, Option, 
 use Rattle.spv_base.specs.declared.happenings.EndCause.{EndCause}
 use Rattle.spv_base.specs.declared.happenings.Status4.{Status4}
 use Rattle.spv_setup.specs.Schedule.{Entries}
-use Rattle.spv_initial.specs.Start.{invocations}
+use Rattle.spv_valid.specs.Acceptance.{invocations}
 use Rattle.spv_statuses.specs.Invocations.{kind}
 use Rattle.spv_statuses.specs.declared.invocations.Status.TheVariants.{Finished}
 use Rattle.spv_state.specs.Program.{Program}

@@ -1,6 +1,6 @@
 //! A run of a module that goes forth and back along its schedule.
 ghost use Rattle.std.specs.Prelude.{◌≡◌, ◌≤◌, ◌<◌, ◌-◌, ◌+◌, Some, IfOk, IsOk, OnOk, OnErr, length};
-ghost use Rattle.spv_initial.specs.Start.{invocations};
+ghost use Rattle.spv_valid.specs.Acceptance.{invocations};
 ghost use Rattle.spv_journal.specs.Events.{size};
 ghost use Rattle.spv_state.specs.Sound.{IsSound};
 ghost use Rattle.spv_state.specs.Start.{start_of};

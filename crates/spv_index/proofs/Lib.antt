@@ -1,7 +1,9 @@
-pub mod ListLemmas
-pub mod FirstLemmas
-pub mod KeyLemmas
-pub mod IndexLemmas
-pub mod StartLemmas
-pub mod StandLemmas
-pub mod StandingLemmas
+mod ListLemmas
+mod FirstLemmas
+mod SlotLemmas
+mod KeyLemmas
+mod IndexLemmas
+mod StartLemmas
+mod StandLemmas
+mod StandingLemmas
+pub mod Exports

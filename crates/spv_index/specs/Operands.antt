@@ -1,6 +1,7 @@
 -- The operands of an instruction behind its result type and its result, by their numbers from 0 on (SPIR-V 1.6 section 2.2.1).
 use Rattle.std.specs.Prelude.{ℕ, List, Option, Some, None, slice_get}
-use Rattle.std.specs.Option.{option_and_then}
+use Rattle.std.specs.List.{flat_map}
+use Rattle.std.specs.Option.{option_and_then, option_to_list}
 use Rattle.spv_base.specs.declared.instructions.Inst.{Inst}
 use Rattle.spv_base.specs.declared.instructions.Operand.{Operand}
 use Rattle.spv_base.specs.declared.instructions.Operand.TheVariants.{Id, Lit, Text}
@@ -19,6 +20,10 @@ abbrev pub text_in : Operand → Option (List ℕ)
 text_in (Id id) = None
 text_in (Lit word) = None
 text_in (Text bytes) = Some bytes
+
+-- the ids among some operands, in their order
+abbrev pub ids_in : List Operand → List ℕ
+ids_in operands = flat_map (λ o. option_to_list (id_in o)) operands
 
 -- the operand with a number, where it is an id
 abbrev pub id_operand : Inst → ℕ → Option ℕ

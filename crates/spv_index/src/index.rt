@@ -11,7 +11,7 @@ ghost use Rattle.spv_index.specs.Positions.{stand_of, standing, stands_of};
 
 use crate::classes::sets_of;
 use crate::decorations::{decorations_of, member_decorations_of};
-use crate::firsts::{first_numbers, number_under};
+use crate::firsts::{Firsts, first_numbers};
 use crate::operands::{id_operand, literal_operand, text_operand};
 use crate::positions::{Standing, standings_of};
 use crate::stands::Stands;
@@ -30,11 +30,11 @@ const ID_LIMIT: u32 = 1_048_576;
 pub struct Index {
     module: DecodedModule,
     /// By id, the number of the instruction that defines it.
-    definitions: Vec<Option<u32>>,
+    definitions: Firsts<u32>,
     /// By word, the number of the instruction that begins there.
-    words: Vec<Option<u32>>,
+    words: Firsts<u32>,
     /// By id, the number of the OpName for it.
-    names: Vec<Option<u32>>,
+    names: Firsts<u32>,
     /// By target and decoration, the number of the OpDecorate.
     decorations: BTreeMap<(u32, u32), u32>,
     /// By structure type, member and decoration, the number of the OpMemberDecorate.
@@ -56,7 +56,7 @@ impl Model for Index {
 
     ghost view = { λ x. x.module };
 
-    ghost invariant = { λ x. IsIndex x.module x.definitions.items x.words.items x.names.items (λ id kind. get pair_cmp x.decorations (id, kind))
+    ghost invariant = { λ x. IsIndex x.module x.definitions x.words x.names (λ id kind. get pair_cmp x.decorations (id, kind))
         (λ id member kind. get triple_cmp x.member_decorations (id, member, kind)) x.functions_start x.sets x.standings.items };
 }
 
@@ -82,9 +82,9 @@ fn words_of(alloc: Global, insts: &[Inst]) -> Result<Vec<u32>, NoMemory>
 }
 
 /// By id, the number of the instruction that defines it.
-fn numbers_by_result(alloc: Global, insts: &[Inst]) -> Result<Vec<Option<u32>>, NoMemory>
+fn numbers_by_result(alloc: Global, insts: &[Inst]) -> Result<Firsts<u32>, NoMemory>
     requires { length insts.now ≤ 1048576 }
-    ensures { IfOk result (λ numbers. (id : ℕ) → id < 1048576 → slot numbers.items id ≡ spec.number_from 0 (spec.has_result id) insts.now) }
+    ensures { IfOk result (λ numbers. (id : ℕ) → id < 1048576 → slot numbers id ≡ spec.number_from 0 (spec.has_result id) insts.now) }
 {
     let ids = results_of(alloc, insts)?;
     let numbers = first_numbers(alloc, ids.as_slice())?;
@@ -92,10 +92,10 @@ fn numbers_by_result(alloc: Global, insts: &[Inst]) -> Result<Vec<Option<u32>>, 
 }
 
 /// By word, the number of the instruction that begins there.
-fn numbers_by_word(alloc: Global, insts: &[Inst]) -> Result<Vec<Option<u32>>, NoMemory>
+fn numbers_by_word(alloc: Global, insts: &[Inst]) -> Result<Firsts<u32>, NoMemory>
     requires few { length insts.now ≤ 1048576 }
     requires words { AllByRecursion (λ i. i.word < 1048576) insts.now }
-    ensures { IfOk result (λ numbers. (word : ℕ) → slot numbers.items word ≡ spec.number_from 0 (spec.stands_at word) insts.now) }
+    ensures { IfOk result (λ numbers. (word : ℕ) → slot numbers word ≡ spec.number_from 0 (spec.stands_at word) insts.now) }
 {
     let words = words_of(alloc, insts)?;
     let numbers = first_numbers(alloc, words.as_slice())?;
@@ -121,9 +121,9 @@ fn named_ids(alloc: Global, insts: &[Inst]) -> Result<Vec<u32>, NoMemory>
 }
 
 /// By id, the number of the OpName for it.
-fn numbers_by_name(alloc: Global, insts: &[Inst]) -> Result<Vec<Option<u32>>, NoMemory>
+fn numbers_by_name(alloc: Global, insts: &[Inst]) -> Result<Firsts<u32>, NoMemory>
     requires { length insts.now ≤ 1048576 }
-    ensures { IfOk result (λ numbers. (id : ℕ) → 0 < id → id < 1048576 → slot numbers.items id ≡ spec.number_from 0 (spec.names_it id) insts.now) }
+    ensures { IfOk result (λ numbers. (id : ℕ) → 0 < id → id < 1048576 → slot numbers id ≡ spec.number_from 0 (spec.names_it id) insts.now) }
 {
     let ids = named_ids(alloc, insts)?;
     let numbers = first_numbers(alloc, ids.as_slice())?;
@@ -141,6 +141,13 @@ fn functions_start(insts: &[Inst]) -> usize
         }
     }
     insts.len()
+}
+
+/// The type of an instruction's result, where it has one.
+pub fn type_in(inst: &Inst) -> Option<u32>
+    ensures { result ≡ spec.type_in inst.now }
+{
+    if inst.ty == 0 { None } else { Some(inst.ty) }
 }
 
 /// The instruction with a number.
@@ -246,7 +253,7 @@ impl Index {
         if !is_id(id) {
             return None;
         }
-        Some(number_under(&self.definitions, id)? as usize)
+        Some(self.definitions.get(id)? as usize)
     }
 
     /// The instruction that defines an id. In constant time.
@@ -256,15 +263,14 @@ impl Index {
         if !is_id(id) {
             return None;
         }
-        inst_with(self.module.insts(), number_under(&self.definitions, id))
+        inst_with(self.module.insts(), self.definitions.get(id))
     }
 
     /// The type of the result with an id, where it has one. In constant time.
     pub fn result_type(&self, id: u32) -> Option<u32>
         ensures { result ≡ spec.result_type self.now.insts id }
     {
-        let inst = self.defining(id)?;
-        if inst.ty == 0 { None } else { Some(inst.ty) }
+        type_in(self.defining(id)?)
     }
 
     /// The number of the instruction that begins at a word. In constant time.
@@ -272,14 +278,14 @@ impl Index {
         ensures number { result ≡ spec.number_at self.now.insts word }
         ensures within { IfSome result (λ n. n < length self.now.insts) }
     {
-        Some(number_under(&self.words, word)? as usize)
+        Some(self.words.get(word)? as usize)
     }
 
     /// The instruction that begins at a word. In constant time.
     pub fn at(&self, word: u32) -> Option<&Inst>
         ensures { option_copied result ≡ spec.at self.now.insts word }
     {
-        inst_with(self.module.insts(), number_under(&self.words, word))
+        inst_with(self.module.insts(), self.words.get(word))
     }
 
     /// The OpName for an id.
@@ -287,7 +293,7 @@ impl Index {
         requires { spec.is_id id ≡ true }
         ensures { option_copied result ≡ find (spec.names_it id) self.now.insts }
     {
-        inst_with(self.module.insts(), number_under(&self.names, id))
+        inst_with(self.module.insts(), self.names.get(id))
     }
 
     /// The name that an OpName gives an id. In constant time.

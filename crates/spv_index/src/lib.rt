@@ -10,6 +10,7 @@ pub mod positions;
 pub mod stands;
 mod table;
 
-pub use index::Index;
-pub use operands::{id_in, id_operand, literal_operand, text_operand};
+pub use firsts::Firsts;
+pub use index::{Index, type_in};
+pub use operands::{id_in, id_operand, literal_in, literal_operand, operands_from, text_operand};
 pub use table::Table;

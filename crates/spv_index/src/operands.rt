@@ -1,5 +1,5 @@
-//! The operands of an instruction by their numbers.
-ghost use Rattle.std.specs.Prelude.{◌≡◌, option_copied};
+//! The operands of an instruction, by their numbers and from one on.
+ghost use Rattle.std.specs.Prelude.{◌≡◌, drop, option_copied};
 ghost use Rattle.spv_index.specs.Operands as spec;
 
 use spv_base::{Inst, Operand};
@@ -14,6 +14,16 @@ pub fn id_in(operand: &Operand) -> Option<u32>
     }
 }
 
+/// The literal word that an operand is.
+pub fn literal_in(operand: &Operand) -> Option<u32>
+    ensures { result ≡ spec.literal_in operand.now }
+{
+    match operand {
+        Operand::Lit(word) => Some(*word),
+        Operand::Id(_) | Operand::Text(_) => None,
+    }
+}
+
 /// The operand with a number, where it is an id. Operands are counted from 0, behind the result type and the result.
 pub fn id_operand(inst: &Inst, n: usize) -> Option<u32>
     ensures { result ≡ spec.id_operand inst.now n }
@@ -25,10 +35,7 @@ pub fn id_operand(inst: &Inst, n: usize) -> Option<u32>
 pub fn literal_operand(inst: &Inst, n: usize) -> Option<u32>
     ensures { result ≡ spec.literal_operand inst.now n }
 {
-    match inst.operands.get(n)? {
-        Operand::Lit(word) => Some(*word),
-        Operand::Id(_) | Operand::Text(_) => None,
-    }
+    literal_in(inst.operands.get(n)?)
 }
 
 /// The bytes of the operand with a number, where it is a string. Operands are counted from 0, behind the result type and the
@@ -40,4 +47,11 @@ pub fn text_operand(inst: &Inst, n: usize) -> Option<&[u8]>
         Operand::Text(text) => Some(text.as_slice()),
         Operand::Id(_) | Operand::Lit(_) => None,
     }
+}
+
+/// The operands from the one with a number on. Operands are counted from 0, behind the result type and the result.
+pub fn operands_from(inst: &Inst, n: usize) -> &[Operand]
+    ensures { result.now ≡ drop n inst.now.operands }
+{
+    inst.operands.as_slice().get(n..).unwrap_or(&[])
 }

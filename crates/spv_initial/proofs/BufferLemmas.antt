@@ -6,8 +6,7 @@ use Rattle.std.specs.Option.{option_and_then}
 use Rattle.std.specs.Ordering.{is_eq}
 use Rattle.std.proofs.lemmas.Option.{slice_get_read}
 use Rattle.spv_index.specs.Keys.{pair_cmp}
-use Rattle.spv_index.proofs.ListLemmas.{drop_back}
-use Rattle.spv_index.proofs.KeyLemmas.{same_pair}
+use Rattle.spv_index.proofs.Exports.{drop_back, same_pair}
 use Rattle.spv_setup.specs.declared.settings.Buffer.{Buffer}
 use Rattle.spv_fit.specs.Given.{is_bound}
 

@@ -1,6 +1,6 @@
 -- Built-in values have the shapes of the types that an Input variable may have.
 use Rattle.std.proofs.Common.{◌≡◌, ◌∙◌, ℕ, ◌+◌, ◌*◌, ◌/◌, ◌^◌, ◌<◌, ◌≤◌, ◌==◌, ◌&&◌, ◌||◌, Bool, true, false, List, [], ◌∷◌, length, Option, Some, None, refl, sym, ap, subst, arith}
-use Rattle.std.proofs.lemmas.Bool.{and_parts}
+use Rattle.std.proofs.lemmas.Bool.{and_parts, eqb-true}
 use Rattle.std.specs.Prelude.{if◌then◌else◌}
 use Rattle.std.specs.List.{All}
 use Rattle.std.proofs.Math.Nat.{div-le_self}
@@ -8,7 +8,7 @@ use Rattle.std.proofs.lemmas.Nat.{mod_below}
 use Rattle.std.proofs.lemmas.List.Elements.{All-cons, All-nil}
 use Rattle.spv_base.specs.Cell.{IsCell, defined_cell}
 use Rattle.spv_base.specs.declared.values.Value.{Value}
-use Rattle.spv_base.proofs.PartLemmas.{is_many}
+use Rattle.spv_base.proofs.Exports.{is_many}
 use Rattle.spv_types.specs.declared.forms.Form.{Form}
 use Rattle.spv_types.specs.declared.forms.Form.TheVariants.{Void, Bool as Boolean, Int, Vector, Array, Runtime, Struct, Pointer, Function}
 use Rattle.spv_types.specs.Laws.{AreSound}
@@ -16,12 +16,10 @@ use Rattle.spv_types.specs.Rows.{no_roots}
 use Rattle.spv_types.specs.Rules.{is_input, is_three_words, is_word}
 use Rattle.spv_types.specs.Shapes.{HasShape}
 use Rattle.spv_types.specs.Types.{Types, form_of}
-use Rattle.spv_types.proofs.ShapeLemmas.{shapes_are_by_forms}
-use Rattle.spv_types.proofs.TypeLemmas.{number_same}
-use Rattle.spv_types.proofs.SoundLemmas.{impossible}
-use Rattle.spv_consts.proofs.ScalarShapes.{is_scalar}
+use Rattle.spv_types.proofs.Exports.{shapes_are_by_forms, impossible}
+use Rattle.spv_consts.proofs.Exports.{is_scalar}
 use Rattle.spv_mem.specs.Targets.{elements_in}
-use Rattle.spv_mem.proofs.BlankLemmas.{scalar_last}
+use Rattle.spv_mem.proofs.Exports.{scalar_last}
 use Rattle.spv_start.specs.BuiltIns.{Three, built_in, global_id, local_id, three_of, three_words, value_of_three, word}
 use Rattle.spv_start.specs.declared.built_ins.Invocation.{Invocation}
 use Rattle.spv_initial.specs.Values.{AreNarrow, IsNarrow}
@@ -98,7 +96,7 @@ word_shape ts id n sound h low = by_form (form_of ts id) refl h
     by_form (Some Void) e g = impossible g
     by_form (Some Boolean) e g = impossible g
     by_form (Some (Int width sign)) e g =
-        let same : width ≡ 32 = number_same width 32 g in
+        let same : width ≡ 32 = eqb-true width 32 g in
         (shapes_are_by_forms ts no_roots sound id (Int width sign) (word n) e).1 (is_scalar (defined_cell 32 n) width (sym same) (word_lane n low))
     by_form (Some (Vector component count)) e g = impossible g
     by_form (Some (Array element len stride)) e g = impossible g
@@ -117,7 +115,7 @@ three_shape ts id n sound h low = by_form (form_of ts id) refl h
     by_form (Some (Int width sign)) e g = impossible g
     by_form (Some (Vector component count)) e g =
         let both = and_parts (count == 3) (is_word (form_of ts component)) g in
-        let same : count ≡ 3 = number_same count 3 both.0 in
+        let same : count ≡ 3 = eqb-true count 3 both.0 in
         let each = word_shape ts component in
         (shapes_are_by_forms ts no_roots sound id (Vector component count) (three_words n) e).1
         (is_many (λ (vs : List Value). (length vs ≡ count) × All (HasShape ts no_roots component) vs) (word n.0 ∷ word n.1 ∷ word n.2 ∷ []) (
@@ -150,7 +148,7 @@ built_in_shape ts i kind id v sound narrow x y input is = by_test (kind == 29) r
 
     by_test : (b : Bool) → (kind == 29) ≡ b → (if b then Some (word i.index) else value_of_three (three_of i kind)) ≡ Some v → HasShape ts no_roots id v
     by_test true e g =
-        let last : kind ≡ 29 = number_same kind 29 e in
+        let last : kind ≡ 29 = eqb-true kind 29 e in
         let same : word i.index ≡ v = cc in
         let of_word : is_word (form_of ts id) ≡ true = subst (λ (k : ℕ). is_input ts (Some k) id ≡ true) last input in
         subst (HasShape ts no_roots id) same (word_shape ts id i.index sound of_word narrow.index)

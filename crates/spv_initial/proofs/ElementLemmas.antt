@@ -8,17 +8,16 @@ use Rattle.spv_types.specs.declared.forms.Form.{Form}
 use Rattle.spv_types.specs.declared.forms.Form.TheVariants.{Void, Bool as Boolean, Int, Vector, Array, Runtime, Struct, Pointer, Function}
 use Rattle.spv_types.specs.declared.forms.Member.{Member}
 use Rattle.spv_types.specs.Counted.{members_of}
-use Rattle.spv_types.specs.Places.{scalar_bytes}
+use Rattle.spv_types.specs.Places.{scalar_bytes, elements_in as elements_within}
 use Rattle.spv_types.specs.Rules.{is_block}
 use Rattle.spv_types.specs.Types.{Types, form_of, found_among}
-use Rattle.spv_types.proofs.CountedLemmas.{FoundAt, form_found, found_at}
-use Rattle.spv_types.proofs.SoundLemmas.{impossible}
-use Rattle.spv_start.specs.Blocks.{Reader, elements_in as elements_within, read_among, read_members, read_row, read_step, value_in}
+use Rattle.spv_types.proofs.Exports.{FoundAt, form_found, found_at, impossible}
+use Rattle.spv_start.specs.Blocks.{Reader, read_among, read_members, read_row, read_step, value_in}
 use Rattle.spv_start.specs.Numbers.{scalar_at}
-use Rattle.spv_start.proofs.BlockLemmas.{found_value, read_among_is}
+use Rattle.spv_start.proofs.Exports.{found_value, read_among_is}
 use Rattle.spv_mem.specs.Blanks.{part_count}
 use Rattle.spv_mem.specs.Targets.{count_in, elements_in, last_of}
-use Rattle.spv_mem.proofs.BlankLemmas.{many_last, many_count, scalar_count}
+use Rattle.spv_mem.proofs.Exports.{many_last, many_count, scalar_count}
 use Rattle.spv_initial.specs.Elements.{array_elements, last_count, member_count}
 
 -- ---- built-in values

@@ -10,11 +10,11 @@ use Rattle.spv_types.specs.declared.forms.Form.TheVariants.{Void, Bool as Boolea
 use Rattle.spv_types.specs.declared.forms.Member.{Member}
 use Rattle.spv_types.specs.Rules.{last_type}
 use Rattle.spv_types.specs.Types.{Types, found_among, in_first}
-use Rattle.spv_types.proofs.TypeLemmas.{in_first-is}
+use Rattle.spv_types.proofs.Exports.{in_first-is}
 use Rattle.spv_consts.specs.Trees.{Reader, read_among, read_none, read_parts, read_scalar, read_step, value_at}
 use Rattle.spv_mem.specs.Blanks.{if_any, last_part, part_count}
 use Rattle.spv_mem.specs.Targets.{count_in, elements_in, last_of}
-use Rattle.spv_mem.proofs.BlankLemmas.{any_is, many_count, many_last, scalar_count, scalar_last}
+use Rattle.spv_mem.proofs.Exports.{any_is, many_count, many_last, scalar_count, scalar_last}
 use Rattle.spv_initial.specs.Elements.{part_parts}
 
 -- the last of some types

@@ -1,9 +1,10 @@
-pub mod VariableLemmas
-pub mod ElementLemmas
-pub mod LeafLemmas
-pub mod ShapeLemmas
-pub mod BuiltInLemmas
-pub mod SuitLemmas
-pub mod BufferLemmas
-pub mod StartLemmas
-pub mod LocalLemmas
+mod VariableLemmas
+mod ElementLemmas
+mod LeafLemmas
+mod ShapeLemmas
+mod BuiltInLemmas
+mod SuitLemmas
+mod BufferLemmas
+mod StartLemmas
+mod LocalLemmas
+pub mod Exports

@@ -10,14 +10,13 @@ use Rattle.spv_base.specs.Variables.{Roots}
 use Rattle.spv_base.specs.declared.values.Value.{Value}
 use Rattle.spv_types.specs.Rows.{no_roots}
 use Rattle.spv_types.specs.Shapes.{HasShape}
-use Rattle.spv_types.proofs.TypeLemmas.{number_same}
 use Rattle.spv_consts.specs.Table.{Row}
 use Rattle.spv_consts.specs.Trees.{tree_of}
 use Rattle.spv_valid.specs.Acceptance.{Accepted}
 use Rattle.spv_valid.specs.Validity.{IsValid}
 use Rattle.spv_mem.specs.Blanks.{blank_of}
 use Rattle.spv_mem.specs.Memory.{AreVariables, IsVariable}
-use Rattle.spv_mem.proofs.BlankLemmas.{blank_shape}
+use Rattle.spv_mem.proofs.Exports.{blank_shape}
 use Rattle.spv_initial.specs.Start.{local_roots, root}
 use Rattle.spv_initial.specs.Values.{initialized, initializer_of, local_value}
 use Rattle.spv_initial.specs.Variables.{AreDeclared, HaveTargets, Holds}
@@ -25,6 +24,7 @@ use Rattle.spv_initial.specs.declared.variables.Declared.{Declared}
 use Rattle.spv_initial.proofs.SuitLemmas.{constant_shape}
 use Rattle.spv_initial.proofs.StartLemmas.{one_fresh}
 use Rattle.spv_initial.proofs.VariableLemmas.{data_of, filter_map_next, root_under, target_of}
+use Rattle.std.proofs.lemmas.Bool.{eqb-true}
 
 abbrev pub local_of : Accepted → Declared → Option (ℕ × Value)
 local_of a d = root d (local_value a d)
@@ -62,7 +62,7 @@ are_variables a targets valid (d ∷ ds) (holds, later) (named, more) id v is = 
         → (if b then Some x else reads id (local_roots a ds)) ≡ Some v → IsVariable a.types targets id v
     by_test x true e value rest g =
         let same : x ≡ v = cc in
-        let own : d.id ≡ id = number_same d.id id e in
+        let own : d.id ≡ id = eqb-true d.id id e in
         record {
           type = d.target;
           named = subst (λ (q : ℕ). reads q targets ≡ Some d.target) own named;

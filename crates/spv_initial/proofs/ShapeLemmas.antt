@@ -1,6 +1,6 @@
 -- What is read from bytes has the shape of its type.
 use Rattle.std.proofs.Common.{◌≡◌, ◌∙◌, ◌⊎◌, ℕ, zero, suc, ◌+◌, ◌/◌, ◌^◌, ◌<◌, ◌==◌, ◌||◌, Bool, true, false, List, [], ◌∷◌, length, get_or, slice_get, Option, Some, None, inl, inr, refl, sym, ap, subst, arith}
-use Rattle.std.proofs.lemmas.Bool.{and_parts}
+use Rattle.std.proofs.lemmas.Bool.{and_parts, eqb-true}
 use Rattle.std.specs.Prelude.{if◌then◌else◌, unwrap_or}
 use Rattle.std.specs.Bool.{MatchBool}
 use Rattle.std.specs.List.{All, AllZip}
@@ -10,27 +10,23 @@ use Rattle.std.proofs.lemmas.List.Elements.{All-cons, All-nil}
 use Rattle.std.proofs.lemmas.Option.{unwrap_or-slice_get}
 use Rattle.spv_base.specs.Cell.{Cell, defined_cell, undefined_cell}
 use Rattle.spv_base.specs.declared.values.Value.{Value, Scalar}
-use Rattle.spv_base.proofs.PartLemmas.{is_many}
+use Rattle.spv_base.proofs.Exports.{is_many}
 use Rattle.spv_types.specs.declared.forms.Form.{Form}
 use Rattle.spv_types.specs.declared.forms.Form.TheVariants.{Void, Bool as Boolean, Int, Vector, Array, Runtime, Struct, Pointer, Function}
 use Rattle.spv_types.specs.declared.forms.Member.{Member}
 use Rattle.spv_types.specs.Cells.{cells_among, cells_of, cells_step, members_cells}
 use Rattle.spv_types.specs.Laws.{AreSound, ComesBefore, IsAmong}
-use Rattle.spv_types.specs.Places.{scalar_bytes}
+use Rattle.spv_types.specs.Places.{scalar_bytes, elements_in}
 use Rattle.spv_types.specs.Rows.{no_roots}
 use Rattle.spv_types.specs.Rules.{is_data, is_scalar, is_width, keep_members, keeps_form, keeps_member}
 use Rattle.spv_types.specs.Shapes.{HasShape, HasShapeAmong, IsScalar, part_type, shape_step}
 use Rattle.spv_types.specs.Types.{Types, form_of, in_first, is_number, number_of}
-use Rattle.spv_types.proofs.CountedLemmas.{cells_whole}
-use Rattle.spv_types.proofs.ShapeLemmas.{among_is, form_number}
-use Rattle.spv_types.proofs.TypeLemmas.{in_first-found, number_lt, number_same}
-use Rattle.spv_types.proofs.DataLemmas.{scalar_data, member_data, sized_data, width_narrow}
-use Rattle.spv_types.proofs.SoundLemmas.{impossible}
-use Rattle.spv_consts.proofs.ScalarShapes.{is_scalar as scalar_is, undefined_is_lane}
-use Rattle.spv_start.specs.Blocks.{Reader, elements_in, read_among, read_members, read_none, read_row, read_step, value_in}
+use Rattle.spv_types.proofs.Exports.{cells_whole, among_is, form_number, in_first-found, number_lt, scalar_data, member_data, sized_data, width_narrow, impossible}
+use Rattle.spv_consts.proofs.Exports.{is_scalar as scalar_is, undefined_is_lane}
+use Rattle.spv_start.specs.Blocks.{Reader, read_among, read_members, read_none, read_row, read_step, value_in}
 use Rattle.spv_start.specs.Numbers.{byte_at, number_at, scalar_at}
 use Rattle.spv_mem.specs.Targets.{end_open, is_counted, is_open_array, is_open_block, may_be_target}
-use Rattle.spv_mem.proofs.BlankLemmas.{both_there, product_there}
+use Rattle.spv_mem.proofs.Exports.{both_there, product_there}
 use Rattle.spv_initial.proofs.ElementLemmas.{row_length}
 
 -- ---- numbers
@@ -55,10 +51,10 @@ width_cases width h = by_tests (width == 8) (width == 16) (width == 32) (width =
   where
     by_tests : (a b c d : Bool) → (width == 8) ≡ a → (width == 16) ≡ b → (width == 32) ≡ c → (width == 64) ≡ d → ((a || b) || (c || d)) ≡ true
         → (width ≡ 8) ⊎ ((width ≡ 16) ⊎ ((width ≡ 32) ⊎ (width ≡ 64)))
-    by_tests true b c d e f g k t = inl (number_same width 8 e)
-    by_tests false true c d e f g k t = inr (inl (number_same width 16 f))
-    by_tests false false true d e f g k t = inr (inr (inl (number_same width 32 g)))
-    by_tests false false false true e f g k t = inr (inr (inr (number_same width 64 k)))
+    by_tests true b c d e f g k t = inl (eqb-true width 8 e)
+    by_tests false true c d e f g k t = inr (inl (eqb-true width 16 f))
+    by_tests false false true d e f g k t = inr (inr (inl (eqb-true width 32 g)))
+    by_tests false false false true e f g k t = inr (inr (inr (eqb-true width 64 k)))
     by_tests false false false false e f g k t = impossible t
 
 bits_below : (bytes : List ℕ) → AreBytes bytes → (at width : ℕ) → is_width width ≡ true → number_at bytes at (width / 8) < 2 ^ width

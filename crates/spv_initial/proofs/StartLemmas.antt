@@ -1,6 +1,6 @@
 -- The memory that a run starts with, a variable after another.
 use Rattle.std.proofs.Common.{◌≡◌, ◌∙◌, ℕ, zero, suc, ◌+◌, ◌-◌, ◌*◌, ◌<◌, ◌≤◌, ◌&&◌, true, List, [], ◌∷◌, ◌++◌, length, map, replicate, take, get_or, slice_get, append-nil, Option, Some, None, refl, sym, ap, subst, arith}
-use Rattle.std.proofs.lemmas.Bool.{and_parts}
+use Rattle.std.proofs.lemmas.Bool.{and_parts, leb-true}
 use Rattle.std.specs.Prelude.{nat_le}
 use Rattle.std.specs.List.{cons_option, filter_map, range_with_len}
 use Rattle.std.specs.Option.{option_map}
@@ -13,17 +13,17 @@ use Rattle.spv_base.specs.Variables.{Roots}
 use Rattle.spv_base.specs.declared.instructions.Inst.{Inst}
 use Rattle.spv_base.specs.declared.values.Value.{Value}
 use Rattle.spv_base.specs.contracts.values.Value.{the_row}
-use Rattle.spv_base.proofs.EntryLemmas.{length_change}
+use Rattle.spv_base.proofs.Exports.{length_change, change_same, change_here}
 use Rattle.spv_types.specs.Laws.{AreSound}
 use Rattle.spv_types.specs.Rows.{no_roots}
 use Rattle.spv_types.specs.Shapes.{HasShape}
 use Rattle.spv_types.specs.Types.{Types}
-use Rattle.spv_valid.specs.Acceptance.{Accepted}
+use Rattle.spv_valid.specs.Acceptance.{Accepted, invocations}
 use Rattle.spv_valid.specs.Entry.{Size, is_size}
 use Rattle.spv_valid.specs.Validity.{IsValid}
 use Rattle.spv_setup.specs.declared.settings.Settings.{Settings}
 use Rattle.spv_mem.specs.Memory.{AreTargets, Held, IsVariable, empty}
-use Rattle.spv_initial.specs.Start.{invocations, own_roots, root, shared_roots, starting_with, variables}
+use Rattle.spv_initial.specs.Start.{own_roots, root, shared_roots, starting_with, variables}
 use Rattle.spv_initial.specs.Values.{Suits, own_value, shared_value}
 use Rattle.spv_initial.specs.Variables.{AreDeclared, Holds, declared_in, targets_of}
 use Rattle.spv_initial.specs.declared.variables.Declared.{Declared}
@@ -54,9 +54,6 @@ pub record IsFit (s : Size) : Type 0 where
   pub all : s.0 * s.1 * s.2 ≤ 1024
   pub two : s.0 * s.1 ≤ 1024
 
-le_true : (m n : ℕ) → nat_le m n ≡ true → m ≤ n
-le_true m n h = grind arith
-
 fewer : (n z : ℕ) → 1 ≤ z → n ≤ n * z
 fewer n (suc k) h = omega arith
 fewer n zero h = absurd (omega (arith, h))
@@ -66,10 +63,10 @@ size_fits s h =
     let both = and_parts (nat_le 1 s.0 && (nat_le 1 s.1 && nat_le 1 s.2)) (nat_le (s.0 * s.1 * s.2) 1024) h in
     let x = and_parts (nat_le 1 s.0) (nat_le 1 s.1 && nat_le 1 s.2) both.0 in
     let y = and_parts (nat_le 1 s.1) (nat_le 1 s.2) x.1 in
-    let all : s.0 * s.1 * s.2 ≤ 1024 = le_true (s.0 * s.1 * s.2) 1024 both.1 in
-    let z : 1 ≤ s.2 = le_true 1 s.2 y.1 in
+    let all : s.0 * s.1 * s.2 ≤ 1024 = leb-true (s.0 * s.1 * s.2) 1024 both.1 in
+    let z : 1 ≤ s.2 = leb-true 1 s.2 y.1 in
     let less : s.0 * s.1 ≤ s.0 * s.1 * s.2 = fewer (s.0 * s.1) s.2 z in
-    record { x = le_true 1 s.0 x.0; y = le_true 1 s.1 y.0; z = z; all = all; two = omega (arith, all, less) }
+    record { x = leb-true 1 s.0 x.0; y = leb-true 1 s.1 y.0; z = z; all = all; two = omega (arith, all, less) }
 
 -- ---- one variable
 
@@ -89,11 +86,6 @@ pub may_add : (a : Accepted) (m : Held) (d : Declared) (v : Value) → ∥ IsVal
 may_add a m d v valid suits holds types named =
     ∥∥₁_map (suits (types_are_sound a valid) holds)
     (λ (shape : HasShape a.types no_roots d.target v). record { type = d.target; named = named; shape = subst (λ (ts : Types). HasShape ts no_roots d.target v) (sym types) shape })
-
-change_same : {A : Type 0} (i : ℕ) (f : A → A) (xs : List A) → ((x : A) → f x ≡ x) → change i f xs ≡ xs
-change_same i f [] same = refl
-change_same zero f (x ∷ xs) same = ap (λ y. y ∷ xs) (same x)
-change_same (suc i) f (x ∷ xs) same = ap (λ ys. x ∷ ys) (change_same i f xs same)
 
 -- a memory with more in the list of an invocation
 abbrev pub more_own : ℕ → Declared → Held → Option Value → Held
@@ -126,11 +118,6 @@ shared_next a s ds k d m new b inside is so_far more =
 abbrev pub own_of : Accepted → Settings → ℕ → Declared → Option (ℕ × Value)
 own_of a s n d = root d (own_value a s n d)
 
-get_change : {A : Type 0} (i : ℕ) (f : A → A) (xs : List A) → slice_get (change i f xs) i ≡ option_map f (slice_get xs i)
-get_change i f [] = refl
-get_change zero f (x ∷ xs) = refl
-get_change (suc i) f (x ∷ xs) = get_change i f xs
-
 change_twice : {A : Type 0} (i : ℕ) (f g : A → A) (xs : List A) → change i f (change i g xs) ≡ change i (λ (x : A). f (g x)) xs
 change_twice i f g [] = refl
 change_twice zero f g (x ∷ xs) = refl
@@ -156,7 +143,7 @@ pub own_fresh : (a : Accepted) (s : Settings) (ds : List Declared) (k i : ℕ) (
     → slice_get b.privates i ≡ Some [] → m ≡ with_own i (own_roots a s (take k ds) i) b → (es : Roots) → slice_get m.privates i ≡ Some es → reads d.id es ≡ None
 own_fresh a s ds k i d m b are inside is none so_far es at =
     let here : slice_get m.privates i ≡ Some (own_roots a s (take k ds) i) =
-    ap (λ (x : Held). slice_get x.privates i) so_far ∙ get_change i (λ (old : Roots). own_roots a s (take k ds) i) b.privates ∙ ap (option_map (λ (old : Roots). own_roots a s (take k ds) i)) none in
+    ap (λ (x : Held). slice_get x.privates i) so_far ∙ change_here i (λ (old : Roots). own_roots a s (take k ds) i) b.privates ∙ ap (option_map (λ (old : Roots). own_roots a s (take k ds) i)) none in
     let same : es ≡ own_roots a s (take k ds) i = cc in
     ap (reads d.id) same ∙ one_fresh a.types (own_of a s i) (root_under (own_value a s i)) ds k d are inside is
 

@@ -13,7 +13,6 @@ use Rattle.spv_types.specs.Laws.{AreSound}
 use Rattle.spv_types.specs.Rows.{leaves, no_roots}
 use Rattle.spv_types.specs.Shapes.{HasShape}
 use Rattle.spv_types.specs.Types.{Types}
-use Rattle.spv_types.proofs.TypeLemmas.{number_same}
 use Rattle.spv_consts.specs.Laws.{IsConstantOf, IsRowAt}
 use Rattle.spv_consts.specs.Table.{Constants, Row}
 use Rattle.spv_consts.specs.Trees.{tree_of}
@@ -21,11 +20,12 @@ use Rattle.spv_valid.specs.Acceptance.{Accepted}
 use Rattle.spv_valid.specs.Validity.{IsValid}
 use Rattle.spv_start.specs.Blocks.{value_in}
 use Rattle.spv_mem.specs.Blanks.{blank_of}
-use Rattle.spv_mem.proofs.BlankLemmas.{blank_shape}
+use Rattle.spv_mem.proofs.Exports.{blank_shape}
 use Rattle.spv_initial.specs.Values.{Suits, if_of_type, initializer_of}
 use Rattle.spv_initial.specs.declared.variables.Declared.{Declared}
 use Rattle.spv_initial.proofs.ShapeLemmas.{AreBytes, read_shape}
 use Rattle.spv_initial.proofs.VariableLemmas.{data_of, target_of}
+use Rattle.std.proofs.lemmas.Bool.{eqb-true}
 
 pub if_ok : {T E : Type 0} {P Q : T → Type 0} (result : Result T E) → ((x : T) → P x → Q x) → IfOk result P → IfOk result Q
 if_ok (Ok x) f h = f x h
@@ -59,7 +59,7 @@ initializer_read a d r h = by_id d.initializer h
     by_type : (id : ℕ) (q : Row) (b : Bool) → (q.ty == d.target) ≡ b → reads id a.constants ≡ Some q → (if b then Some q else None) ≡ Some r → (id : ℕ) × (reads id a.constants ≡ Some r) × (r.ty ≡ d.target)
     by_type id q true e read g =
         let same : q ≡ r = cc in
-        (id, read ∙ ap Some same, ap (λ (x : Row). x.ty) (sym same) ∙ number_same q.ty d.target e)
+        (id, read ∙ ap Some same, ap (λ (x : Row). x.ty) (sym same) ∙ eqb-true q.ty d.target e)
     by_type id q false e read g = absurd (cc)
 
     by_row : (id : ℕ) (o : Option Row) → reads id a.constants ≡ o → option_and_then (if_of_type d.target) o ≡ Some r → (id : ℕ) × (reads id a.constants ≡ Some r) × (r.ty ≡ d.target)

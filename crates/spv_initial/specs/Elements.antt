@@ -5,7 +5,7 @@ use Rattle.spv_types.specs.declared.forms.Form.{Form}
 use Rattle.spv_types.specs.declared.forms.Form.TheVariants.{Runtime}
 use Rattle.spv_types.specs.declared.forms.Member.{Member}
 use Rattle.spv_types.specs.Types.{Types, found_among}
-use Rattle.spv_start.specs.Blocks.{elements_in}
+use Rattle.spv_types.specs.Places.{elements_in}
 use Rattle.spv_mem.specs.Blanks.{last_part, part_count}
 
 -- as many elements of a form that is a runtime array as fit so many bytes, of which it begins at a place

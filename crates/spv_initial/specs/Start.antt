@@ -1,11 +1,11 @@
 -- The memory that a run starts with: each variable of the module, in the order of the module, with the value that it begins with. No
 -- frame is entered yet.
-use Rattle.std.specs.Prelude.{ℕ, ◌*◌, List, [], map, replicate, Option}
+use Rattle.std.specs.Prelude.{ℕ, List, [], map, replicate, Option}
 use Rattle.std.specs.List.{filter_map, range_with_len}
 use Rattle.std.specs.Option.{option_map}
 use Rattle.spv_base.specs.Variables.{Roots}
 use Rattle.spv_base.specs.declared.values.Value.{Value}
-use Rattle.spv_valid.specs.Acceptance.{Accepted}
+use Rattle.spv_valid.specs.Acceptance.{Accepted, invocations}
 use Rattle.spv_setup.specs.declared.settings.Settings.{Settings}
 use Rattle.spv_mem.specs.Memory.{Held}
 use Rattle.spv_initial.specs.Values.{local_value, own_value, shared_value}
@@ -25,10 +25,6 @@ own_roots a s ds n = filter_map (λ (d : Declared). root d (own_value a s n d)) 
 
 abbrev pub local_roots : Accepted → List Declared → Roots
 local_roots a ds = filter_map (λ (d : Declared). root d (local_value a d)) ds
-
--- how many invocations a workgroup has
-abbrev pub invocations : Accepted → ℕ
-invocations a = a.size.0 * a.size.1 * a.size.2
 
 -- the variables of a module
 abbrev pub variables : Accepted → List Declared

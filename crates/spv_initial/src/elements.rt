@@ -6,7 +6,7 @@ ghost use Rattle.spv_types.specs.Rules.{last_type};
 ghost use Rattle.spv_initial.specs.Elements.{array_elements, last_count, member_count};
 
 use spv_base::NoMemory;
-use spv_start::blocks::elements_in;
+use spv_types::places::elements_in;
 use spv_types::{Form, Member, TypeTable};
 
 /// A number of 32 bits. No variable has 2^32 parts: there would be no memory for them.

@@ -5,6 +5,7 @@ ghost use Rattle.std.specs.List.{cons_option, range_with_len};
 ghost use Rattle.spv_base.specs.Entries.{change, reads};
 ghost use Rattle.spv_base.specs.Variables.{Roots};
 ghost use Rattle.spv_index.specs.Keys.{pair_cmp};
+ghost use Rattle.spv_valid.specs.Acceptance.{invocations};
 ghost use Rattle.spv_mem.specs.Memory.{empty};
 ghost use Rattle.spv_initial.specs.Start as spec;
 ghost use Rattle.spv_initial.specs.Values.{AreNumbers, own_value, shared_value};
@@ -21,7 +22,7 @@ use std::rc::Rc;
 
 /// How many invocations a workgroup has, from 1 to 1,024.
 pub fn invocations(accepted: &Module) -> u32
-    ensures { result ≡ spec.invocations accepted.now }
+    ensures { result ≡ invocations accepted.now }
 {
     let _insts = accepted.insts();
     let (x, y, z) = accepted.size();
@@ -35,7 +36,7 @@ fn without_variables(
     list: &[Declared],
 ) -> Result<Memory, NoMemory>
     requires { ∥ AreDeclared accepted.now.types list.now ∥₁ }
-    ensures { IfOk result (λ memory. memory ≡ empty accepted.now.types (targets_of list.now) (spec.invocations accepted.now) accepted.now.depth) }
+    ensures { IfOk result (λ memory. memory ≡ empty accepted.now.types (targets_of list.now) (invocations accepted.now) accepted.now.depth) }
 {
     let _insts = accepted.insts();
     let targets = targets_of(alloc, list)?;

@@ -10,7 +10,7 @@ use Rattle.spv_types.specs.Rows.{leaves}
 use Rattle.spv_types.specs.Shapes.{pointer_in}
 use Rattle.spv_mem.specs.Memory.{Held as Memory, IsMemory, MayStore, load_of, root_value}
 use Rattle.spv_mem.specs.Singles.{NamesRow}
-use Rattle.spv_mem.proofs.PlaceLemmas.{whole_row}
+use Rattle.spv_mem.proofs.Exports.{whole_row}
 use Rattle.spv_frame.specs.Calls.{id_at}
 use Rattle.spv_frame.specs.Frames.{Held as Frame}
 use Rattle.spv_frame.specs.Numbers.{HasCells, HoldsValue, with_value}
@@ -24,10 +24,11 @@ use Rattle.spv_journal.specs.Marks.{register_item, variable_item}
 use Rattle.spv_journal.specs.Undo.{CanUndo, HasTop, Undoes, undo}
 use Rattle.spv_journal.specs.declared.entries.Entry.{Entry}
 use Rattle.spv_journal.specs.declared.entries.Entry.TheVariants.{PcMoved}
-use Rattle.spv_journal.proofs.EntryLemmas.{level_is, same_frames, some_and, value_undone}
+use Rattle.spv_journal.proofs.EntryLemmas.{level_is, same_frames, value_undone}
 use Rattle.spv_journal.proofs.LawLemmas.{frame_back, has_top, pc_undone, value_back}
 use Rattle.spv_journal.proofs.RecordLemmas.{held_of}
 use Rattle.spv_journal.proofs.StoreLemmas.{put_back_leaf}
+use Rattle.spv_base.proofs.Exports.{some_and}
 
 -- ---- variables
 

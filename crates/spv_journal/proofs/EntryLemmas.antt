@@ -1,9 +1,9 @@
 -- Registers, frames and parts whose entries lead back.
-use Rattle.std.proofs.Common.{◌≡◌, ◌∙◌, ℕ, ◌-◌, ◌<◌, ◌==◌, Bool, true, false, cond, List, [], ◌∷◌, Option, Some, None, length, option_map, refl, sym, ap, subst, rules}
+use Rattle.std.proofs.Common.{◌≡◌, ◌∙◌, ℕ, ◌-◌, ◌<◌, ◌==◌, Bool, true, false, cond, List, [], ◌∷◌, Option, Some, None, length, option_map, refl, sym, ap, subst}
 use Rattle.std.specs.Option.{IsSomeAnd, option_map_or}
 use Rattle.spv_base.specs.Entries.{reads, writes}
 use Rattle.spv_base.specs.declared.values.Pointer.{Pointer}
-use Rattle.spv_base.specs.declared.values.Value.{Value, Ptr, out-Value, the_lemmas}
+use Rattle.spv_base.specs.declared.values.Value.{Value, Ptr, out-Value}
 use Rattle.spv_base.specs.declared.values.Value.TheOpen.{Value-F}
 use Rattle.spv_types.specs.Rows.{leaves}
 use Rattle.spv_types.specs.Shapes.{pointer_in}
@@ -12,26 +12,18 @@ use Rattle.spv_frame.specs.Numbers.{HasCells, HasPointer, HoldsPointer, HoldsVal
 use Rattle.spv_frame.specs.Calls.{id_at}
 use Rattle.spv_frame.specs.Registers.{ids, marked, number_of}
 use Rattle.spv_frame.specs.Stacks.{Stacked, top}
-use Rattle.spv_frame.proofs.NumberLemmas.{inside}
+use Rattle.spv_frame.proofs.Exports.{inside}
 use Rattle.spv_valid.specs.Acceptance.{Accepted}
 use Rattle.spv_state.specs.Slots.{IsExchanged, IsHeldPointer}
 use Rattle.spv_state.specs.Sound.{IsSoundFrame}
 use Rattle.spv_state.specs.State.{State, on_frame, on_frames, top_of, with_level, with_register}
-use Rattle.spv_state.proofs.Entries.{writes_nothing}
-use Rattle.spv_state.proofs.Lists.{change_same, change_still}
+use Rattle.spv_state.proofs.Exports.{writes_nothing, change_same, change_still}
 use Rattle.spv_journal.specs.Entries.{KeepsPointer, KeepsValue}
 use Rattle.spv_journal.specs.Undo.{HasTop, Undoes}
 use Rattle.spv_journal.specs.declared.entries.Entry.{Entry}
 use Rattle.spv_journal.specs.declared.entries.Entry.TheVariants.{Leaf, Part, NoValue, CellRegister, RowRegister, PointerRegister, FramePushed, FramePopped, PcMoved, EventAppended, StatusChanged, BarrierOpened}
 use Rattle.spv_journal.proofs.LawLemmas.{frame_back, has_top, pointer_back, top_after, value_back}
-
--- one level of a pointer
-out_pointer : (p : Pointer) → out-Value (Ptr p) ≡ Value-F.Ptr p
-out_pointer p = search (rules, the_lemmas)
-
-pub some_and : {X : Type 0} (o : Option X) (P Q : X → Type 0) → ((x : X) → P x → Q x) → IsSomeAnd o P → IsSomeAnd o Q
-some_and None P Q f h = h
-some_and (Some x) P Q f h = f x h
+use Rattle.spv_base.proofs.Exports.{some_and, out_pointer}
 
 -- ---- values
 

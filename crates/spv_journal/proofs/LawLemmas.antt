@@ -1,36 +1,31 @@
 -- Each change of a state, and the entry that undoes it.
-use Rattle.std.proofs.Common.{◌≡◌, ◌≢◌, ◌∙◌, ℕ, zero, suc, ◌-◌, ◌<◌, ◌≤◌, true, List, [], ◌∷◌, ◌++◌, Option, Some, None, IsSome, length, length-set, option_map, slice_get, slice_set, take, refl, sym, ap, subst, arith}
+use Rattle.std.proofs.Common.{◌≡◌, ◌≢◌, ◌∙◌, ℕ, zero, suc, ◌-◌, ◌<◌, ◌≤◌, true, List, [], ◌∷◌, ◌++◌, Option, Some, None, IsSome, length, length-set, option_map, slice_get, take, refl, sym, ap, subst, arith}
 use Rattle.std.specs.Option.{IsSomeAnd, option_map_or}
 use Rattle.spv_base.specs.Entries.{change}
 use Rattle.spv_base.specs.Variables.{Roots}
 use Rattle.spv_base.specs.declared.values.PassedEvent.{PassedEvent}
 use Rattle.spv_base.specs.declared.values.Pointer.{Pointer}
 use Rattle.spv_base.specs.declared.values.Value.{Value}
-use Rattle.spv_base.proofs.EntryLemmas.{change_back, length_change}
+use Rattle.spv_base.proofs.Exports.{change_back, length_change, change_here, changed_at, set_back}
 use Rattle.spv_frame.specs.Frames.{Held as Frame}
 use Rattle.spv_frame.specs.Numbers.{HoldsPointer, HoldsValue, with_pointer, with_value}
 use Rattle.spv_frame.specs.Stacks.{Stacked, on_top, top}
-use Rattle.spv_frame.proofs.RegisterLemmas.{put_back}
+use Rattle.spv_frame.proofs.Exports.{put_back}
 use Rattle.spv_mem.specs.Memory.{AreVariables, Levels}
 use Rattle.spv_statuses.specs.Group.{all_wait_at}
 use Rattle.spv_statuses.specs.Invocations.{IsWithin}
 use Rattle.spv_statuses.specs.declared.invocations.Status.{Status}
-use Rattle.spv_statuses.proofs.CountLemmas.{passed_all, waits_again}
+use Rattle.spv_statuses.proofs.Exports.{passed_all, waits_again}
 use Rattle.spv_state.specs.State.{State, append_event, drop_event, on_frame, on_frames, open_barrier, pop_frame, push_frame, set_status, top_of, with_pc, with_top, without_last, without_locals, without_top}
-use Rattle.spv_state.proofs.ChangeLemmas.{without_is, some_frames}
-use Rattle.spv_state.proofs.Lists.{change_here}
+use Rattle.spv_state.proofs.Exports.{without_is, some_frames, stacks_stay, without_entered, level_there}
 use Rattle.spv_journal.specs.Undo.{HasRooms, HasTop, Undoes}
 use Rattle.spv_journal.specs.declared.entries.Entry.TheVariants.{Leaf, Part, NoValue, CellRegister, RowRegister, PointerRegister, FramePushed, FramePopped, PcMoved, EventAppended, StatusChanged, BarrierOpened}
 use Rattle.spv_journal.specs.declared.entries.Entry.{Entry}
 use Rattle.spv_journal.specs.declared.entries.OldFrame.{OldFrame}
 use Rattle.spv_journal.specs.Entries.{popped}
 use Rattle.spv_state.specs.Rooms.{HasLocals, IsBounded}
-use Rattle.spv_state.proofs.UndoingLemmas.{level_there}
 
 -- ---- the top frame, changed
-
-get_changed : {A : Type 0} (i : ℕ) (g : A → A) (xs : List A) (x : A) → slice_get xs i ≡ Some x → slice_get (change i g xs) i ≡ Some (g x)
-get_changed i g xs x h = change_here i g xs ∙ ap (option_map g) h
 
 top_changed : (g : Frame → Frame) (fs : List Frame) → top (on_top g fs) ≡ option_map g (top fs)
 top_changed g fs = ap (λ (n : ℕ). slice_get (on_top g fs) (n - 1)) (length_change (length fs - 1) g fs) ∙ change_here (length fs - 1) g fs
@@ -43,16 +38,13 @@ pub top_after : (i : ℕ) (g : Frame → Frame) (s : State) → top_of (on_frame
 top_after i g s =
     ap (λ (o : Option Stacked). top (option_map_or (λ (k : Stacked). k.frames) o [])) (change_here i (on_frames g) s.stacks) ∙ stack_top g (slice_get s.stacks i)
 
-as_many : (i : ℕ) (g : Frame → Frame) (s : State) → i < length s.stacks → i < length (on_frame i g s).stacks
-as_many i g s h = let n = length_change i (on_frames g) s.stacks in omega (arith, n, h)
-
 -- what is so of the top frame before is so of it after
 top_keeps : (o : Option Frame) (g : Frame → Frame) (P : Frame → Type 0) → IsSomeAnd o (λ f. P (g f)) → IsSomeAnd (option_map g o) P
 top_keeps None g P h = h
 top_keeps (Some f) g P h = h
 
 pub has_top : (i : ℕ) (g : Frame → Frame) (s : State) (P : Frame → Type 0) → i < length s.stacks → IsSomeAnd (top_of s i) (λ f. P (g f)) → HasTop (on_frame i g s) i P
-has_top i g s P inside h = (as_many i g s inside, subst (λ (o : Option Frame). IsSomeAnd o P) (sym (top_after i g s)) (top_keeps (top_of s i) g P h))
+has_top i g s P inside h = (stacks_stay i g s inside, subst (λ (o : Option Frame). IsSomeAnd o P) (sym (top_after i g s)) (top_keeps (top_of s i) g P h))
 
 -- a change of the top frame that another one undoes
 pub frame_back : (i : ℕ) (f g : Frame → Frame) (s : State) → IsSomeAnd (top_of s i) (λ x. f (g x) ≡ x) → on_frame i f (on_frame i g s) ≡ s
@@ -70,7 +62,7 @@ frame_back i f g s h = ap (λ (ks : List Stacked). record s { stacks = ks }) (ch
 pub pc_undone : (i pc old : ℕ) (s : State) → i < length s.stacks → IsSome (top_of s i) → option_map (λ (f : Frame). f.pc) (top_of s i) ≡ Some old → Undoes i (PcMoved old) s (on_frame i (with_pc pc) s)
 pc_undone i pc old s inside some was = record {
   back = frame_back i (with_pc old) (with_pc pc) s (each (top_of s i) some was);
-  can = (as_many i (with_pc pc) s inside, subst IsSome (sym (top_after i (with_pc pc) s)) (still (top_of s i) some));
+  can = (stacks_stay i (with_pc pc) s inside, subst IsSome (sym (top_after i (with_pc pc) s)) (still (top_of s i) some));
 }
   where
     each : (o : Option Frame) → IsSome o → option_map (λ (f : Frame). f.pc) o ≡ Some old → IsSomeAnd o (λ f. with_pc old (with_pc pc f) ≡ f)
@@ -111,11 +103,6 @@ pointer_back n o x f h = ap (λ es. record f { pointers = es }) (put_back _ x o 
 
 -- ---- statuses
 
-set_back : {A : Type 0} (xs : List A) (i : ℕ) (x y : A) → slice_get xs i ≡ Some x → slice_set (slice_set xs i y) i x ≡ xs
-set_back [] i x y h = refl
-set_back (z ∷ zs) zero x y h = let e : x ≡ z = cc in ap (λ w. w ∷ zs) e
-set_back (z ∷ zs) (suc i) x y h = ap (λ ws. z ∷ ws) (set_back zs i x y h)
-
 pub status_undone : (i : ℕ) (status old : Status) (s : State) → i < length s.statuses.list → slice_get s.statuses.list i ≡ Some old → IsWithin s.statuses.words old → Undoes i (StatusChanged old) s (set_status i status s)
 status_undone i status old s inside was within = record {
   back = ap (λ (l : List Status). record s { statuses = record s.statuses { list = l } }) (set_back s.statuses.list i old status was);
@@ -133,13 +120,10 @@ barrier_undone i word s waiting within = record {
 stacks_back : (i : ℕ) (f : Frame) (ks : List Stacked) → change i without_top (change i (with_top f) ks) ≡ ks
 stacks_back i f ks = change_back i (with_top f) without_top ks (λ k at. ap (λ (fs : List Frame). record k { frames = fs }) (without_is k.frames f))
 
-levels_back : (i : ℕ) (es : Roots) (ls : List Levels) → change i without_locals (change i (λ (l : Levels). record l { list = l.list ++ es ∷ [] }) ls) ≡ ls
-levels_back i es ls = change_back i (λ (l : Levels). record l { list = l.list ++ es ∷ [] }) without_locals ls (λ l at. ap (λ (xs : List Roots). record l { list = xs }) (without_is l.list es))
-
 pub frame_undone : (i : ℕ) (f : Frame) (es : Roots) (s : State) → i < length s.stacks → i < length s.memory.locals → Undoes i FramePushed s (push_frame i f es s)
 frame_undone i f es s inside levels = record {
   back = ap (λ (ks : List Stacked). record s { memory = record s.memory { locals = change i without_locals (push_frame i f es s).memory.locals }; stacks = ks }) (stacks_back i f s.stacks)
-      ∙ ap (λ (ls : List Levels). record s { memory = record s.memory { locals = ls } }) (levels_back i es s.memory.locals);
+      ∙ ap (λ (ls : List Levels). record s { memory = record s.memory { locals = ls } }) (without_entered i es s.memory.locals);
   can = (
     let n = length_change i (with_top f) s.stacks in omega (arith, n, inside),
     let n = length_change i (λ (l : Levels). record l { list = l.list ++ es ∷ [] }) s.memory.locals in omega (arith, n, levels),
@@ -161,7 +145,7 @@ less_by_one {A} (x ∷ xs) n some h =
     short (suc k) (y ∷ ys) = let r : length (take k ys) ≤ k = short k ys in omega (arith, r)
 
 changed_was : {A : Type 0} (i : ℕ) (g : A → A) (xs : List A) (x y : A) → slice_get xs i ≡ Some x → slice_get (change i g xs) i ≡ Some y → y ≡ g x
-changed_was i g xs x y at is = let e : slice_get (change i g xs) i ≡ Some (g x) = get_changed i g xs x at in cc
+changed_was i g xs x y at is = let e : slice_get (change i g xs) i ≡ Some (g x) = changed_at i g xs x at in cc
 
 pub left_rooms : (i : ℕ) (s t : State) (k : Stacked) → t ≡ pop_frame i s → i < length s.stacks → i < length s.memory.locals → slice_get s.stacks i ≡ Some k → IsBounded k → IsSome (top_of s i) → HasLocals s i
     → HasRooms t i

@@ -1,7 +1,7 @@
-pub mod UndoLemmas
-pub mod RingLemmas
-pub mod StoreLemmas
-pub mod LawLemmas
-pub mod RecordLemmas
-pub mod EntryLemmas
-pub mod CellLemmas
+mod UndoLemmas
+mod RingLemmas
+mod StoreLemmas
+mod LawLemmas
+mod RecordLemmas
+mod EntryLemmas
+mod CellLemmas

@@ -2,6 +2,7 @@
 use Rattle.std.proofs.Common.{◌≡◌, ◌∙◌, ℕ, suc, ◌+◌, ◌-◌, ◌<◌, ◌≤◌, Bool, true, false, nat_le, if◌then◌else◌, List, [], ◌∷◌, ◌++◌, Some, None, length, take, drop, slice_get, refl, sym, ap, subst, arith}
 use Rattle.std.proofs.Math.Seq.{drop-append_seam, take-append_seam}
 use Rattle.std.proofs.lemmas.List.{drop-take, length-append, length-drop, length-take-le, take-take}
+use Rattle.std.proofs.lemmas.Bool.{leb-true, le-leb}
 use Rattle.spv_journal.specs.Events.{Event, fitting, size, size_of}
 use Rattle.spv_journal.specs.Marks.{Marked}
 use Rattle.spv_journal.specs.Rings.{beside, but_oldest, event_of, events, IsRing, mark_size}
@@ -57,23 +58,17 @@ total_append (j ∷ ks) k = let rest = total_append ks k in omega (arith, rest)
 
 -- ---- what fits
 
-le_true : (m n : ℕ) → m ≤ n → nat_le m n ≡ true
-le_true m n h = grind arith
-
-le_of : (m n : ℕ) → nat_le m n ≡ true → m ≤ n
-le_of m n h = grind arith
-
 pub all_fit : (n : ℕ) (vs : List Event) → size vs ≤ n → fitting n vs ≡ vs
 all_fit n [] h = refl
 all_fit n (v ∷ vs) h =
     let first : size_of v ≤ n = omega arith in
     let rest : size vs ≤ n - size_of v = omega arith in
-    rw (le_true (size_of v) n first) (ap (λ (us : List Event). v ∷ us) (all_fit (n - size_of v) vs rest))
+    rw (le-leb (size_of v) n first) (ap (λ (us : List Event). v ∷ us) (all_fit (n - size_of v) vs rest))
 
 pub one_fits : (n need : ℕ) (v : Event) (vs : List Event) → size_of v ≡ need → need ≤ n → v ∷ fitting (n - need) vs ≡ fitting n (v ∷ vs)
 one_fits n need v vs is h =
     let first : size_of v ≤ n = omega (arith, h, is) in
-    rw (le_true (size_of v) n first) (ap (λ (k : ℕ). v ∷ fitting (n - k) vs) (sym is))
+    rw (le-leb (size_of v) n first) (ap (λ (k : ℕ). v ∷ fitting (n - k) vs) (sym is))
 
 -- the oldest goes where there isn't room for all
 pub oldest_goes : (n : ℕ) (vs : List Event) → n < size vs → fitting n (but_oldest vs) ≡ fitting n vs
@@ -81,14 +76,14 @@ oldest_goes n [] h = refl
 oldest_goes n (v ∷ []) h = by_room (nat_le (size_of v) n) refl
   where
     by_room : (b : Bool) → nat_le (size_of v) n ≡ b → [] ≡ (if nat_le (size_of v) n then v ∷ [] else [])
-    by_room true e = let l = le_of (size_of v) n e in absurd (omega (arith, h))
+    by_room true e = let l = leb-true (size_of v) n e in absurd (omega (arith, h))
     by_room false e = rw e refl
 oldest_goes n (v ∷ u ∷ vs) h = by_room (λ m more. oldest_goes m (u ∷ vs) more) (nat_le (size_of v) n) refl
   where
     by_room : ((m : ℕ) → m < size (u ∷ vs) → fitting m (but_oldest (u ∷ vs)) ≡ fitting m (u ∷ vs)) → (b : Bool) → nat_le (size_of v) n ≡ b
         → (if nat_le (size_of v) n then v ∷ fitting (n - size_of v) (but_oldest (u ∷ vs)) else []) ≡ (if nat_le (size_of v) n then v ∷ fitting (n - size_of v) (u ∷ vs) else [])
     by_room ih true e =
-        let l = le_of (size_of v) n e in
+        let l = leb-true (size_of v) n e in
         let more : n - size_of v < size (u ∷ vs) = omega (arith, h, l) in
         ap (λ (us : List Event). if nat_le (size_of v) n then v ∷ us else []) (ih (n - size_of v) more)
     by_room ih false e = rw e refl

@@ -1,5 +1,5 @@
 -- A part of a variable that was stored, and the old one that is put back.
-use Rattle.std.proofs.Common.{◌≡◌, ◌∙◌, ℕ, ◌+◌, ◌≤◌, ◌==◌, Bool, true, false, cond, List, [], ◌∷◌, ◌++◌, Option, Some, None, IsSome, set-set, length, length-append, take, drop, slice_get, slice_set, unwrap_or, refl, sym, ap, subst, arith}
+use Rattle.std.proofs.Common.{◌≡◌, ◌∙◌, ℕ, ◌+◌, ◌≤◌, ◌==◌, Bool, true, false, cond, List, [], ◌∷◌, ◌++◌, Option, Some, None, IsSome, length, length-append, take, drop, slice_get, unwrap_or, refl, sym, ap, subst, arith}
 use Rattle.std.specs.Option.{option_and_then, option_map}
 use Rattle.std.proofs.Math.Logic.{∥∥₁_elim, ∥∥₁_map}
 use Rattle.std.proofs.Props.{props}
@@ -8,24 +8,20 @@ use Rattle.std.proofs.lemmas.List.{length-take-le}
 use Rattle.spv_base.specs.Entries.{reads, writes}
 use Rattle.spv_base.specs.Cell.{Cell}
 use Rattle.spv_base.specs.Parts.{part_at, with_part}
-use Rattle.spv_base.specs.Variables.{Roots}
+use Rattle.spv_base.specs.Variables.{Roots, root_id}
 use Rattle.spv_base.specs.declared.values.Pointer.{Pointer}
 use Rattle.spv_base.specs.declared.values.Root.{Root}
 use Rattle.spv_base.specs.declared.values.Root.TheVariants.{Shared, Private, Local}
 use Rattle.spv_base.specs.declared.values.Value.{Value}
-use Rattle.spv_base.proofs.EntryLemmas.{change_back, writes_back}
-use Rattle.spv_base.proofs.PartLemmas.{slice_get-set_same}
+use Rattle.spv_base.proofs.Exports.{change_back, writes_back, change_here, slice_get-set_same, set_back}
 use Rattle.spv_types.specs.Rows.{leaves, no_roots}
 use Rattle.spv_types.specs.Shapes.{HasShape, reached_type}
-use Rattle.spv_types.proofs.RowChanges.{put_back, put_is_there, put_twice}
-use Rattle.spv_types.proofs.RowShapes.{shapes_keep}
+use Rattle.spv_types.proofs.Exports.{put_back, put_is_there, put_twice, shapes_keep}
 use Rattle.spv_values.specs.Places.{IsRowAt}
-use Rattle.spv_mem.specs.Memory.{Held as Memory, IsMemory, Levels, MayStore, id_in, load_of, root_value, roots_in, stored, with_level, with_roots}
+use Rattle.spv_mem.specs.Memory.{Held as Memory, IsMemory, Levels, MayStore, load_of, root_value, roots_in, stored, with_level, with_roots}
 use Rattle.spv_mem.specs.Singles.{NamesRow}
 use Rattle.spv_mem.specs.Targets.{is_counted}
-use Rattle.spv_mem.proofs.MemoryLemmas.{set_same}
 use Rattle.spv_state.specs.State.{State, put_store}
-use Rattle.spv_state.proofs.Lists.{change_here}
 
 -- ---- the list in which the variable stands
 
@@ -38,9 +34,6 @@ roots_put m i (Shared id) es xs h = refl
 roots_put m i (Private id) es xs h = slice_get-set_same m.privates i xs es h
 roots_put m i (Local depth id) es xs h =
     ap (λ (o : Option Levels). option_and_then (λ (l : Levels). slice_get l.list depth) o) (change_here i (with_level depth es) m.locals) ∙ level_put depth es xs (slice_get m.locals i) h
-
-set_back : {A : Type 0} (xs : List A) (i : ℕ) (x y : A) → slice_get xs i ≡ Some x → slice_set (slice_set xs i y) i x ≡ xs
-set_back xs i x y h = set-set xs i y x ∙ set_same xs i x h
 
 level_at : (depth : ℕ) (xs : Roots) (o : Option Levels) (l : Levels) → option_and_then (λ (x : Levels). slice_get x.list depth) o ≡ Some xs → o ≡ Some l → slice_get l.list depth ≡ Some xs
 level_at depth xs None l h e = cc
@@ -74,37 +67,37 @@ record Part (m : Memory) (i : ℕ) (p : Pointer) (w : Value) : Type 0 where
   roots : Roots
   value : Value
   list : roots_in m i p.root ≡ Some roots
-  variable : reads (id_in p.root) roots ≡ Some value
+  variable : reads (root_id p.root) roots ≡ Some value
   part : part_at value p.path ≡ Some w
 
 part_of : (m : Memory) (i : ℕ) (p : Pointer) (w : Value) → load_of m i p ≡ Some w → Part m i p w
 part_of m i p w h = outer (roots_in m i p.root) refl h
   where
-    inner : (es : Roots) → roots_in m i p.root ≡ Some es → (o : Option Value) → reads (id_in p.root) es ≡ o → option_and_then (λ v. part_at v p.path) o ≡ Some w → Part m i p w
+    inner : (es : Roots) → roots_in m i p.root ≡ Some es → (o : Option Value) → reads (root_id p.root) es ≡ o → option_and_then (λ v. part_at v p.path) o ≡ Some w → Part m i p w
     inner es at None e g = absurd cc
     inner es at (Some v) e g = record { roots = es; value = v; list = at; variable = e; part = g }
 
-    outer : (o : Option Roots) → roots_in m i p.root ≡ o → option_and_then (λ v. part_at v p.path) (option_and_then (reads (id_in p.root)) o) ≡ Some w → Part m i p w
+    outer : (o : Option Roots) → roots_in m i p.root ≡ o → option_and_then (λ v. part_at v p.path) (option_and_then (reads (root_id p.root)) o) ≡ Some w → Part m i p w
     outer None at g = absurd cc
-    outer (Some es) at g = inner es at (reads (id_in p.root) es) refl g
+    outer (Some es) at g = inner es at (reads (root_id p.root) es) refl g
 
 -- the memory with another part
 record After (m : Memory) (i : ℕ) (p : Pointer) (u w : Value) (x : Part m i p w) : Type 0 where
-  is : stored i p u m ≡ with_roots i p.root (writes (id_in p.root) (with_part x.value p.path u) x.roots) m
-  list : roots_in (stored i p u m) i p.root ≡ Some (writes (id_in p.root) (with_part x.value p.path u) x.roots)
-  variable : reads (id_in p.root) (writes (id_in p.root) (with_part x.value p.path u) x.roots) ≡ Some (with_part x.value p.path u)
+  is : stored i p u m ≡ with_roots i p.root (writes (root_id p.root) (with_part x.value p.path u) x.roots) m
+  list : roots_in (stored i p u m) i p.root ≡ Some (writes (root_id p.root) (with_part x.value p.path u) x.roots)
+  variable : reads (root_id p.root) (writes (root_id p.root) (with_part x.value p.path u) x.roots) ≡ Some (with_part x.value p.path u)
 
 after : (m : Memory) (i : ℕ) (p : Pointer) (u w : Value) (x : Part m i p w) → After m i p u w x
 after m i p u w x =
-    let is : stored i p u m ≡ with_roots i p.root (writes (id_in p.root) (with_part x.value p.path u) x.roots) m = rw (x.list, x.variable) refl in
+    let is : stored i p u m ≡ with_roots i p.root (writes (root_id p.root) (with_part x.value p.path u) x.roots) m = rw (x.list, x.variable) refl in
     record {
       is = is;
-      list = ap (λ (n : Memory). roots_in n i p.root) is ∙ roots_put m i p.root (writes (id_in p.root) (with_part x.value p.path u) x.roots) x.roots x.list;
-      variable = reads_put (id_in p.root) (with_part x.value p.path u) x.value x.roots x.variable;
+      list = ap (λ (n : Memory). roots_in n i p.root) is ∙ roots_put m i p.root (writes (root_id p.root) (with_part x.value p.path u) x.roots) x.roots x.list;
+      variable = reads_put (root_id p.root) (with_part x.value p.path u) x.value x.roots x.variable;
     }
 
 value_after : (m : Memory) (i : ℕ) (p : Pointer) (u w : Value) (x : Part m i p w) → root_value (stored i p u m) i p.root ≡ Some (with_part x.value p.path u)
-value_after m i p u w x = let a = after m i p u w x in ap (λ (o : Option Roots). option_and_then (reads (id_in p.root)) o) a.list ∙ a.variable
+value_after m i p u w x = let a = after m i p u w x in ap (λ (o : Option Roots). option_and_then (reads (root_id p.root)) o) a.list ∙ a.variable
 
 -- ---- what is put back
 
@@ -112,7 +105,7 @@ pub store_back : (m : Memory) (i : ℕ) (p : Pointer) (u w : Value) → load_of 
 store_back m i p u w h =
     let x = part_of m i p w h in
     let a = after m i p u w x in
-    let id = id_in p.root in
+    let id = root_id p.root in
     let old : with_part (with_part x.value p.path u) p.path w ≡ x.value = put_twice p.path x.value w u w x.part ∙ put_back p.path x.value w x.part in
     let entries : writes id (with_part (with_part x.value p.path u) p.path w) (writes id (with_part x.value p.path u) x.roots) ≡ x.roots =
     ap (λ (v : Value). writes id v (writes id (with_part x.value p.path u) x.roots)) old ∙ writes_back id (with_part x.value p.path u) x.value x.roots (ap (λ (o : Option Value). unwrap_or o x.value) x.variable) in
@@ -132,14 +125,14 @@ may_after m i p u w h is may = ∥∥₁_elim is (hlevel props) (λ (k : IsMemor
 
     go : IsMemory m → MayStore m i p u → MayStore (stored i p u m) i p w
     go k a ty v named there t y reach at =
-        let types = types_stay m i p.root (writes (id_in p.root) (with_part x.value p.path u) x.roots) in
+        let types = types_stay m i p.root (writes (root_id p.root) (with_part x.value p.path u) x.roots) in
         let same_types : (stored i p u m).types ≡ m.types = ap (λ (n : Memory). n.types) (after m i p u w x).is ∙ types.0 in
         let same_targets : (stored i p u m).targets ≡ m.targets = ap (λ (n : Memory). n.targets) (after m i p u w x).is ∙ types.1 in
-        let typed : reads (id_in p.root) m.targets ≡ Some ty = ap (reads (id_in p.root)) (sym same_targets) ∙ named in
+        let typed : reads (root_id p.root) m.targets ≡ Some ty = ap (reads (root_id p.root)) (sym same_targets) ∙ named in
         let value : root_value m i p.root ≡ Some x.value = rw x.list x.variable in
         let reach' : reached_type m.types ty p.path ≡ Some t = subst (λ ts. reached_type ts ty p.path ≡ Some t) same_types reach in
         let put = a ty x.value typed value t w reach' x.part in
-        let var = k.variables i p.root x.roots x.list (id_in p.root) x.value x.variable in
+        let var = k.variables i p.root x.roots x.list (root_id p.root) x.value x.variable in
         let one : var.type ≡ ty = let e = var.named in cc in
         let shape : HasShape m.types no_roots ty x.value = subst (λ (n : ℕ). HasShape m.types no_roots n x.value) one var.shape in
         let kept = shapes_keep m.types no_roots k.sound p.path ty t x.value w u shape reach' x.part in

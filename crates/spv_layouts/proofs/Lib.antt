@@ -1,1 +1,1 @@
-pub mod CallLemmas
+mod CallLemmas

@@ -1,3 +1,4 @@
-pub mod WordsLemmas
-pub mod NumberLemmas
-pub mod HexLemmas
+mod WordsLemmas
+mod NumberLemmas
+mod HexLemmas
+pub mod Exports

@@ -1,27 +1,11 @@
 -- Digits: a number that was read digit by digit, up to 2 ^ 64, is the number that they spell; decimal texts.
-use Rattle.std.proofs.Common.{◌≡◌, ℕ, ◌+◌, ◌-◌, ◌*◌, ◌<◌, ◌≤◌, ◌^◌, min, Bool, true, false, cond, ◌&&◌, nat_lt, nat_le, List, length, Some, None, decimal, fold, refl, ap, ◌∙◌, arith}
+use Rattle.std.proofs.Common.{◌≡◌, ℕ, ◌+◌, ◌-◌, ◌*◌, ◌<◌, ◌≤◌, ◌^◌, min, Bool, true, false, cond, ◌&&◌, List, length, Some, None, decimal, fold, refl, ap, ◌∙◌, arith}
 use Rattle.std.specs.Int.{IsInRange}
 use Rattle.std.specs.List.{list_all}
-use Rattle.std.proofs.lemmas.Bool.{and_parts}
-use Rattle.std.proofs.lemmas.Bool.Decides.{nat_tests}
+use Rattle.std.proofs.lemmas.Bool.{and_parts, and_from, leb-true, le-leb, lt-ltb, ltb-true}
 use Rattle.std.proofs.lemmas.Fmt.{digits_decimal, digits_value-decimal, decimal_nonempty}
 use Rattle.std.proofs.lemmas.Str.Parse.{IsDigitsTest, IsNumeralModel, numerals_by_fold}
 use Rattle.spv_line.specs.Numbers.{number_of, value_of, is_digit}
-
-pub below : (n m : ℕ) → n < m → nat_lt n m ≡ true
-below n m h = grind arith
-
-pub at_most : (n m : ℕ) → n ≤ m → nat_le n m ≡ true
-at_most n m h = grind arith
-
-pub lt_true : (a b : ℕ) → nat_lt a b ≡ true → a < b
-lt_true a b h = grind (arith, nat_tests)
-
-pub le_true : (a b : ℕ) → nat_le a b ≡ true → a ≤ b
-le_true a b h = grind (arith, nat_tests)
-
-pub both_true : (a b : Bool) → a ≡ true → b ≡ true → (a && b) ≡ true
-both_true a b p q = ap (λ x. x && b) p ∙ q
 
 pub all_true : (a b c : Bool) → a ≡ true → b ≡ true → c ≡ true → (a && (b && c)) ≡ true
 all_true a b c p q r = ap (λ x. x && (b && c)) p ∙ ap (λ x. x && c) q ∙ r
@@ -31,7 +15,7 @@ unfolding number_of
 number_is digits v limit some all is small le =
     let e : value_of digits ≡ v = omega arith in
     let l : value_of digits ≤ limit = omega arith in
-    ap (λ b. cond b (Some (value_of digits)) None) (all_true _ _ _ (below 0 (length digits) some) all (at_most (value_of digits) limit l)) ∙ ap Some e
+    ap (λ b. cond b (Some (value_of digits)) None) (all_true _ _ _ (lt-ltb 0 (length digits) some) all (le-leb (value_of digits) limit l)) ∙ ap Some e
 
 some_where : (b : Bool) (v n : ℕ) → cond b (Some v) None ≡ Some n → (b ≡ true) × (v ≡ n)
 some_where true v n h = (refl, cc)
@@ -44,8 +28,8 @@ number_parts limit digits n h =
     let one = some_where _ (value_of digits) n h in
     let two = and_parts _ _ one.0 in
     let three = and_parts _ _ two.1 in
-    let le : value_of digits ≤ limit = le_true _ _ three.1 in
-    (lt_true _ _ two.0, three.0, one.1, omega (arith, le, one.1))
+    let le : value_of digits ≤ limit = leb-true _ _ three.1 in
+    (ltb-true _ _ two.0, three.0, one.1, omega (arith, le, one.1))
 
 -- ---- decimal texts
 
@@ -54,14 +38,14 @@ digits_test : IsDigitsTest (λ ds. list_all is_digit ds ≡ true)
 digits_test = record {
   empty = refl;
   parts = λ c cs h. digit_in c cs (and_parts (is_digit c) (list_all is_digit cs) h);
-  more = λ c cs r h. both_true (is_digit c) (list_all is_digit cs) (in_digit c r) h;
+  more = λ c cs r h. and_from (is_digit c) (list_all is_digit cs) (in_digit c r) h;
 }
   where
     digit_in : (c : ℕ) (cs : List ℕ) → (is_digit c ≡ true) × (list_all is_digit cs ≡ true) → IsInRange 48 57 c × (list_all is_digit cs ≡ true)
-    digit_in c cs h = let both = and_parts _ _ h.0 in let low = le_true 48 c both.0 in let high = lt_true c 58 both.1 in ((low, omega (arith, high)), h.1)
+    digit_in c cs h = let both = and_parts _ _ h.0 in let low = leb-true 48 c both.0 in let high = ltb-true c 58 both.1 in ((low, omega (arith, high)), h.1)
 
     in_digit : (c : ℕ) → IsInRange 48 57 c → is_digit c ≡ true
-    in_digit c r = both_true _ _ (at_most 48 c r.0) (below c 58 (omega (arith, r.1)))
+    in_digit c r = and_from _ _ (le-leb 48 c r.0) (lt-ltb c 58 (omega (arith, r.1)))
 
 pub own : IsNumeralModel (λ ds. list_all is_digit ds ≡ true) value_of
 own = numerals_by_fold _ digits_test (λ n ds. fold (λ m b. 10 * m + (b - 48)) n ds) (record {
@@ -90,4 +74,4 @@ unfolding number_of
 number_decimal n h =
     let value = value_decimal n h in
     let le : value_of (decimal n) ≤ 4294967295 = omega (arith, value) in
-    ap (λ b. cond b (Some (value_of (decimal n))) None) (all_true _ _ _ (below 0 (length (decimal n)) (decimal_some n h)) (decimal_digits n h) (at_most (value_of (decimal n)) 4294967295 le)) ∙ ap Some value
+    ap (λ b. cond b (Some (value_of (decimal n))) None) (all_true _ _ _ (lt-ltb 0 (length (decimal n)) (decimal_some n h)) (decimal_digits n h) (le-leb (value_of (decimal n)) 4294967295 le)) ∙ ap Some value

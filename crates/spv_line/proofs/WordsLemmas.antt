@@ -5,6 +5,7 @@ use Rattle.std.proofs.lemmas.List.{length-take-le, take_all, drop-drop}
 use Rattle.std.specs.List.{position, position_or_len, slice_split, list_all}
 use Rattle.std.proofs.lemmas.List.Splits.{slice_split-cons_yes, slice_split_first, slice_split_none}
 use Rattle.std.proofs.lemmas.List.Sums.{passes_at_first, fails_before_first}
+use Rattle.spv_base.proofs.Exports.{no_place}
 use Rattle.spv_line.specs.Words.{is_space, is_other, words_in, HasFirstWord, HasOnlyWord}
 
 words_space : (x : ℕ) (xs : List ℕ) → is_space x ≡ true → words_in (x ∷ xs) ≡ words_in xs
@@ -29,10 +30,6 @@ place_within p (x ∷ xs) = within_by (not (p x)) (position_or_len p xs) (length
 
 no_words : (n : ℕ) (xs : List ℕ) → length xs ≤ n → words_in (drop n xs) ≡ []
 no_words n xs h = ap words_in (drop_of_length-le xs h)
-
--- what a place that was looked for says
-pub no_place : (n m : ℕ) → None ≡ cond (nat_lt n m) (Some n) None → m ≤ n
-no_place n m h = grind arith
 
 pub at_place : (s n m : ℕ) → Some s ≡ cond (nat_lt n m) (Some n) None → (s ≡ n) × (n < m)
 at_place s n m h = (grind arith, grind arith)

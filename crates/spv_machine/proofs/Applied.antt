@@ -7,7 +7,7 @@ use Rattle.spv_base.specs.Entries.{reads}
 use Rattle.spv_base.specs.declared.instructions.Inst.{Inst}
 use Rattle.spv_base.specs.declared.values.Pointer.{Pointer}
 use Rattle.spv_base.specs.declared.values.Value.{Value}
-use Rattle.spv_base.proofs.EntryLemmas.{length_change}
+use Rattle.spv_base.proofs.Exports.{length_change}
 use Rattle.spv_valid.specs.Acceptance.{Accepted}
 use Rattle.spv_frame.specs.Frames.{Held as Frame}
 use Rattle.spv_frame.specs.Stacks.{on_top}
@@ -16,13 +16,13 @@ use Rattle.spv_statuses.specs.declared.invocations.Status.TheVariants.{Arrived, 
 use Rattle.spv_actions.specs.Effects.{Control, Effect, Next, Jump, Enter, Leave, Wait}
 use Rattle.spv_actions.specs.Fits.{ControlFits, ControlRooted, Fits, LeaveFits, ResultRooted}
 use Rattle.spv_actions.specs.Planned.{gained, gone, shown}
-use Rattle.spv_actions.proofs.SoundFrames.{register_stays}
+use Rattle.spv_actions.proofs.Exports.{register_stays}
 use Rattle.spv_actions.specs.declared.effects.Effect.{Effect as CodeEffect}
 use Rattle.spv_state.specs.Program.{Program}
 use Rattle.spv_state.specs.Roots.{IsRooted}
 use Rattle.spv_state.specs.Sound.{IsSound}
 use Rattle.spv_state.specs.State.{State, frames_of, on_frame, open_barrier, pop_frame, put_store, top_of, with_register}
-use Rattle.spv_state.proofs.RootLemmas.{ids_below, rooted_stays}
+use Rattle.spv_state.proofs.Exports.{ids_below, rooted_stays}
 use Rattle.spv_machine.specs.Reached.{IsReached}
 use Rattle.spv_machine.specs.Step.{apply, arrived, go, go_on, leave, opened, opens, put_result, resume}
 use Rattle.spv_machine.proofs.SoundBarriers.{arrive_sound}

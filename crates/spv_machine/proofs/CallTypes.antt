@@ -30,10 +30,9 @@ use Rattle.spv_valid.specs.Acceptance.{Accepted, IsAccepted, decoded_in}
 use Rattle.spv_valid.specs.Validity.{IsValid}
 use Rattle.spv_results.specs.Operands.{known}
 use Rattle.spv_state.specs.Sound.{StandsIn}
-use Rattle.spv_state.proofs.AcceptedLemmas.{IsKnown}
-use Rattle.spv_state.proofs.ExecutableLemmas.{Standing, at_standing, standing}
-use Rattle.spv_actions.proofs.RunLemmas.{IsKept, Runs, each_kept, runs_there}
-use Rattle.spv_plans.proofs.PlanLemmas.{each_at}
+use Rattle.spv_state.proofs.Exports.{IsKnown, Standing, at_standing, standing}
+use Rattle.spv_actions.proofs.Exports.{IsKept, Runs, each_kept, runs_there}
+use Rattle.spv_base.proofs.Exports.{each_at}
 
 -- ---- the rule of a function
 

@@ -10,22 +10,20 @@ use Rattle.spv_base.specs.Entries.{reads}
 use Rattle.spv_base.specs.declared.instructions.Inst.{Inst}
 use Rattle.spv_index.specs.declared.classes.Class.TheVariants.{Function}
 use Rattle.spv_index.specs.Positions.{Stand, in_function, stands_of}
-use Rattle.spv_cfg.specs.Calls.{IsChain, IsLongest, call_of, callee_of, calls_of, depths, functions_of, lengths, limit, longest, numbered}
+use Rattle.spv_cfg.specs.Calls.{call_of, callee_of, calls_of, depths, functions_of, numbered}
+use Rattle.spv_cfg.specs.Chains.{IsChain, IsLongest, lengths, limit, longest}
 use Rattle.spv_cfg.specs.Flow.{Flow, lengths_of}
 use Rattle.spv_cfg.specs.Laws.{HasDepth}
-use Rattle.spv_cfg.proofs.LongestChains.{longest_is_longest}
+use Rattle.spv_cfg.proofs.Exports.{longest_is_longest}
 use Rattle.spv_frame.specs.Frames.{Held as Frame}
 use Rattle.spv_valid.specs.Acceptance.{Accepted, IsAccepted, Passes}
 use Rattle.spv_valid.specs.Validity.{IsValid}
-use Rattle.spv_valid.proofs.AcceptedLemmas.{accepted_passes}
-use Rattle.spv_valid.proofs.PassLemmas.{flow_is}
+use Rattle.spv_valid.proofs.Exports.{accepted_passes, flow_is}
 use Rattle.spv_plans.specs.Plans.{functions_in}
-use Rattle.spv_plans.proofs.NumberLemmas.{at_contains, contains_at}
-use Rattle.spv_plans.proofs.PlanLemmas.{each_at}
+use Rattle.spv_plans.proofs.Exports.{at_contains, contains_at}
 use Rattle.spv_state.specs.Sound.{IsCallOf, IsSoundFrame}
-use Rattle.spv_state.proofs.Blocks.{Begun, rooted}
-use Rattle.spv_state.proofs.AcceptedLemmas.{IsKnown, known}
-use Rattle.spv_state.proofs.ExecutableLemmas.{Standing, at_standing, function_known, standing}
+use Rattle.spv_state.proofs.Exports.{Begun, rooted, IsKnown, known, Standing, at_standing, function_known, standing}
+use Rattle.spv_base.proofs.Exports.{each_at}
 
 -- ---- numbers of functions
 

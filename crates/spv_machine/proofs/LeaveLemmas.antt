@@ -11,9 +11,9 @@ use Rattle.spv_state.specs.Sound.{HasVariables}
 use Rattle.spv_state.specs.State.{State, top_of}
 use Rattle.spv_machine.specs.Reached.{IsReached}
 use Rattle.spv_machine.proofs.Depths.{frames_within}
-use Rattle.spv_machine.proofs.SoundCalls.{zip_length}
 use Rattle.spv_machine.proofs.ReturnLemmas.{own_stack}
 use Rattle.spv_machine.proofs.ReachedLemmas.{Facts}
+use Rattle.std.proofs.lemmas.Slice.Zip.{AllZip-long}
 
 some_frames : (fs : List Frame) (f : Frame) → top fs ≡ Some f → 1 ≤ length fs
 some_frames [] f h = absurd (cc)
@@ -27,7 +27,7 @@ pub leave_locals : (p : Program) → Facts p.accepted → (s : State) (i : ℕ) 
 leave_locals p known s i d r l at =
     let own = own_stack p known s i d r in
     let same : own.2 ≡ l = let one = own.3 in cc in
-    let as_many = zip_length (HasVariables p.accepted) own.0.frames own.2.list own.4.variables in
+    let as_many = AllZip-long (HasVariables p.accepted) own.0.frames own.2.list own.4.variables in
     let some = some_frames own.0.frames r.frame own.5 in
     let within = frames_within p.accepted own.0.frames known.accepted known.valid own.4.frames own.4.calls own.4.first in
     let levels = own.4.levels in

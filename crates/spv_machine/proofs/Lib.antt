@@ -1,19 +1,19 @@
-pub mod CallTypes
-pub mod Depths
-pub mod SoundStacks
-pub mod SoundStores
-pub mod SoundControl
-pub mod SoundJumps
-pub mod SoundCalls
-pub mod SoundBarriers
-pub mod ReachedLemmas
-pub mod ReturnLemmas
-pub mod LeaveLemmas
-pub mod Phis
-pub mod Applied
-pub mod StatusSteps
-pub mod WeightLemmas
-pub mod EventLemmas
-pub mod Recording
-pub mod PassedLemmas
-pub mod CellLemmas
+mod CallTypes
+mod Depths
+mod SoundStacks
+mod SoundStores
+mod SoundControl
+mod SoundJumps
+mod SoundCalls
+mod SoundBarriers
+mod ReachedLemmas
+mod ReturnLemmas
+mod LeaveLemmas
+mod Phis
+mod Applied
+mod StatusSteps
+mod WeightLemmas
+mod EventLemmas
+mod Recording
+mod PassedLemmas
+mod CellLemmas

@@ -4,7 +4,6 @@ use Rattle.std.proofs.lemmas.Bool.Decides.{nat_tests}
 use Rattle.std.proofs.lemmas.List.{length-map, nil_from_length}
 use Rattle.std.specs.Option.{IsSomeAnd, option_map_or}
 use Rattle.spv_base.specs.declared.values.PassedEvent.{PassedEvent}
-use Rattle.spv_base.proofs.EntryLemmas.{length_change}
 use Rattle.spv_valid.specs.Acceptance.{Accepted}
 use Rattle.spv_frame.specs.Frames.{Held as Frame}
 use Rattle.spv_frame.specs.Stacks.{Stacked}
@@ -12,8 +11,7 @@ use Rattle.spv_journal.specs.Held.{Held as Recorded, Records}
 use Rattle.spv_state.specs.Events.{IsReadable, IsReadableAt, captured, captures_before, due, due_at, pass, passed}
 use Rattle.spv_state.specs.Sound.{IsSoundFrame}
 use Rattle.spv_state.specs.State.{State, append_event, depth_of, on_frame, on_frames, top_of, with_pc}
-use Rattle.spv_state.proofs.EventLemmas.{passed_is, readable}
-use Rattle.spv_state.proofs.Lists.{change_same}
+use Rattle.spv_state.proofs.Exports.{passed_is, readable, change_same, stacks_stay}
 use Rattle.spv_machine.specs.Weights.{events_before}
 use Rattle.spv_machine.proofs.Phis.{on_frame_still, on_frame_twice}
 use Rattle.spv_machine.proofs.ReachedLemmas.{frame_changed}
@@ -36,9 +34,6 @@ pub frame_stays : (i : ℕ) (g : Frame → Frame) (s : State) → IsSome (top_of
 frame_stays i g s some =
     let there = some_top (top_of s i) some in
     subst (λ (o : Option Frame). IsSome o) (sym (frame_changed s i g there.0 there.1)) refl
-
-pub stacks_stay : (i : ℕ) (g : Frame → Frame) (s : State) → i < length s.stacks → i < length (on_frame i g s).stacks
-stacks_stay i g s inside = subst (λ (n : ℕ). i < n) (sym (length_change i (on_frames g) s.stacks)) inside
 
 -- ---- events that are appended in turn
 

@@ -1,10 +1,10 @@
 -- The phis of a block take their values one after the other, as all at once.
-use Rattle.std.proofs.Common.{◌≡◌, ◌∙◌, ℕ, zero, suc, ◌-◌, ◌≤◌, List, [], ◌∷◌, Some, drop, length, length-set, map, slice_get, slice_set, refl, sym, ap, subst, arith}
+use Rattle.std.proofs.Common.{◌≡◌, ◌∙◌, ℕ, zero, suc, ◌-◌, ◌≤◌, List, [], ◌∷◌, Some, drop, length, length-set, map, slice_get, slice_set, refl, sym, ap, subst}
 use Rattle.std.specs.List.{AllByRecursion}
 use Rattle.spv_base.specs.Entries.{change, reads}
 use Rattle.spv_base.specs.declared.instructions.Inst.{Inst}
 use Rattle.spv_base.specs.declared.values.Value.{Value}
-use Rattle.spv_base.proofs.EntryLemmas.{length_change}
+use Rattle.spv_base.proofs.Exports.{length_change, change_twice, drop_here}
 use Rattle.spv_index.specs.Definitions.{result_type}
 use Rattle.spv_types.specs.Rows.{no_roots}
 use Rattle.spv_types.specs.Shapes.{HasShape}
@@ -14,23 +14,19 @@ use Rattle.spv_frame.specs.Stacks.{Stacked, on_top}
 use Rattle.spv_actions.specs.Fits.{IsOfType, JumpFits}
 use Rattle.spv_actions.specs.Planned.{phi_value}
 use Rattle.spv_actions.specs.declared.effects.PhiValue.{PhiValue}
-use Rattle.spv_actions.proofs.RootedLemmas.{plain_rooted}
+use Rattle.spv_actions.proofs.Exports.{plain_rooted}
 use Rattle.spv_state.specs.Program.{Program}
 use Rattle.spv_state.specs.Sound.{StandsIn}
 use Rattle.spv_state.specs.State.{State, frames_of, on_frame, on_frames, with_pc, with_register, with_registers}
-use Rattle.spv_state.proofs.Lists.{change_none, change_same, change_still}
+use Rattle.spv_state.proofs.Exports.{change_none, change_same, change_still}
 use Rattle.spv_machine.specs.Reached.{IsReached}
 use Rattle.spv_machine.specs.Step.{first_of, to_block}
 use Rattle.spv_machine.proofs.SoundJumps.{type_fits}
 use Rattle.spv_machine.proofs.ReachedLemmas.{Facts, register_reached, word_is}
 use Rattle.spv_machine.proofs.ReturnLemmas.{own_frame}
+use Rattle.std.proofs.lemmas.List.{drop_all}
 
 -- ---- two changes of the top frame
-
-change_twice : {A : Type 0} (i : ℕ) (g h : A → A) (xs : List A) → change i g (change i h xs) ≡ change i (λ x. g (h x)) xs
-change_twice i g h [] = refl
-change_twice zero g h (x ∷ xs) = refl
-change_twice (suc i) g h (x ∷ xs) = ap (λ l. x ∷ l) (change_twice i g h xs)
 
 on_top_twice : (g h : Frame → Frame) (fs : List Frame) → on_top g (on_top h fs) ≡ on_top (λ f. g (h f)) fs
 on_top_twice g h fs = ap (λ (n : ℕ). change (n - 1) g (on_top h fs)) (length_change (length fs - 1) h fs) ∙ change_twice (length fs - 1) g h fs
@@ -72,11 +68,6 @@ jump_first p known s i d block rs r fits =
 
 -- ---- phis in turn
 
-drop_at : {A : Type 0} (xs : List A) (n : ℕ) (x : A) → slice_get xs n ≡ Some x → drop n xs ≡ x ∷ drop (suc n) xs
-drop_at [] n x h = absurd (cc)
-drop_at (y ∷ xs) zero x h = let same : y ≡ x = cc in ap (λ z. z ∷ xs) same
-drop_at (y ∷ xs) (suc n) x h = drop_at xs n x h
-
 drop_suc : {A : Type 0} (n : ℕ) (xs : List A) → drop (suc n) xs ≡ drop 1 (drop n xs)
 drop_suc zero xs = refl
 drop_suc (suc n) [] = refl
@@ -86,12 +77,6 @@ drop_set : {A : Type 0} (n : ℕ) (xs : List A) (y : A) → drop (suc n) (slice_
 drop_set n [] y = refl
 drop_set zero (x ∷ xs) y = refl
 drop_set (suc n) (x ∷ xs) y = drop_set n xs y
-
-drop_all : {A : Type 0} (n : ℕ) (xs : List A) → length xs ≤ n → drop n xs ≡ []
-drop_all zero [] h = refl
-drop_all (suc n) [] h = refl
-drop_all zero (x ∷ xs) h = absurd (omega (arith, h))
-drop_all (suc n) (x ∷ xs) h = drop_all n xs (omega (arith, h))
 
 -- so many phis have their values
 pub record PhisGoing (p : Program) (i : ℕ) (d : Inst) (all now : List PhiValue) (n : ℕ) (s end : State) : Type 0 where
@@ -106,7 +91,7 @@ phis_begin p i d all s r values = record { left = (r, values, refl); rest = refl
 module _ (p : Program) (i : ℕ) (d : Inst) (all now : List PhiValue) (n : ℕ) (s end : State) (going : PhisGoing p i d all now n s end) where
   phi_first : (phi : PhiValue) → slice_get now n ≡ Some phi → drop n all ≡ phi ∷ drop (suc n) all
   phi_first phi here =
-      let own : drop n now ≡ phi ∷ drop (suc n) now = drop_at now n phi here in
+      let own : drop n now ≡ phi ∷ drop (suc n) now = drop_here now n phi here in
       let later : drop (suc n) now ≡ drop (suc n) all = drop_suc n now ∙ ap (drop 1) going.rest ∙ sym (drop_suc n all) in
       sym going.rest ∙ own ∙ ap (λ (xs : List PhiValue). phi ∷ xs) later
 

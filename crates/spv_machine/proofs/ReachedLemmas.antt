@@ -8,7 +8,7 @@ use Rattle.spv_base.specs.declared.instructions.Inst.{Inst}
 use Rattle.spv_base.specs.declared.values.Pointer.{Pointer}
 use Rattle.spv_base.specs.declared.values.Value.{Value, Scalar, out-Value, the_lemmas}
 use Rattle.spv_base.specs.declared.values.Value.TheOpen.{Value-F}
-use Rattle.spv_base.proofs.EntryLemmas.{length_change}
+use Rattle.spv_base.proofs.Exports.{length_change, change_here, changed_at}
 use Rattle.spv_index.specs.Definitions.{at, result_type}
 use Rattle.spv_types.specs.Rows.{no_roots}
 use Rattle.spv_types.specs.Shapes.{HasShape, pointer_in}
@@ -26,14 +26,11 @@ use Rattle.spv_actions.specs.declared.effects.Control.{Control as CodeControl}
 use Rattle.spv_actions.specs.declared.effects.Control.TheVariants.{Next as CodeNext, Jump as CodeJump, Enter as CodeEnter, Leave as CodeLeave, Give as CodeGive, Wait as CodeWait}
 use Rattle.spv_actions.specs.declared.effects.Gain.{Gain}
 use Rattle.spv_actions.specs.declared.effects.Gain.TheVariants.{Nothing, Row, Pointer as PointerTo, Handed}
-use Rattle.spv_actions.proofs.SoundFrames.{RegisterFits, register_kept, register_stays}
-use Rattle.spv_actions.proofs.RootedLemmas.{register_rooted}
+use Rattle.spv_actions.proofs.Exports.{RegisterFits, register_kept, register_stays, register_rooted}
 use Rattle.spv_state.specs.Program.{Program}
 use Rattle.spv_state.specs.Sound.{StandsAs}
 use Rattle.spv_state.specs.State.{State, frames_of, on_frame, on_frames, put_store, top_of, with_register}
-use Rattle.spv_state.proofs.AcceptedLemmas.{IsKnown, known_as}
-use Rattle.spv_state.proofs.Lists.{change_here, changed_at}
-use Rattle.spv_state.proofs.Stands.{Stood, stand_inst, stood}
+use Rattle.spv_state.proofs.Exports.{IsKnown, known_as, Stood, stand_inst, stood}
 use Rattle.spv_machine.specs.Reached.{IsHeld, IsReached}
 use Rattle.spv_machine.specs.Step.{put_result}
 use Rattle.spv_machine.proofs.SoundBarriers.{word_within}

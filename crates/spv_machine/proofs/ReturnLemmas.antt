@@ -17,18 +17,19 @@ use Rattle.spv_frame.specs.Frames.{Held as Frame}
 use Rattle.spv_frame.specs.Stacks.{Stacked, top}
 use Rattle.spv_statuses.specs.declared.invocations.Status.TheVariants.{Ready, Finished}
 use Rattle.spv_actions.specs.Fits.{EnterFits, LeaveFits, ResultFits, ResultRooted}
-use Rattle.spv_actions.proofs.RootedLemmas.{plain_rooted}
+use Rattle.spv_actions.proofs.Exports.{plain_rooted}
 use Rattle.spv_state.specs.Program.{Program}
 use Rattle.spv_state.specs.Sound.{IsCallOf, IsSoundFrame, IsSoundStack, StandsIn}
 use Rattle.spv_state.specs.State.{State, pop_frame, set_status, top_of, without_last}
-use Rattle.spv_state.proofs.Stands.{stood}
+use Rattle.spv_state.proofs.Exports.{stood}
 use Rattle.spv_machine.specs.Reached.{IsReached}
 use Rattle.spv_machine.specs.Step.{go_on, leave, put_result, resume}
 use Rattle.spv_machine.proofs.CallTypes.{call_goes, call_to}
 use Rattle.spv_machine.proofs.SoundCalls.{Below, below, has_levels, has_room, popped_sound, popped_top}
-use Rattle.spv_machine.proofs.SoundControl.{got, stands_before}
+use Rattle.spv_machine.proofs.SoundControl.{stands_before}
 use Rattle.spv_machine.proofs.SoundJumps.{type_fits}
 use Rattle.spv_machine.proofs.ReachedLemmas.{Facts, word_is}
+use Rattle.spv_base.proofs.Exports.{element_at}
 
 -- a function that gives a value of its type to a call gives one of the call's type
 given_fits : (a : Accepted) (d c : Inst) (function : ℕ) (o : Option Value) → StandsIn a function d.word → result_type a.insts function ≡ Some c.ty → LeaveFits a d o → ResultFits a c o
@@ -51,8 +52,8 @@ module _ (p : Program) (known : Facts p.accepted) (s : State) (i : ℕ) (d : Ins
       let inside = slice_get_within s.statuses.list i Ready r.ready in
       let stacks = r.sound.stacks in
       let levels = r.sound.levels in
-      let k = got s.stacks i (omega arith) in
-      let l = got s.memory.locals i (omega arith) in
+      let k = element_at s.stacks i (omega arith) in
+      let l = element_at s.memory.locals i (omega arith) in
       let top_is : top k.0.frames ≡ Some r.frame = sym (ap (λ (o : Option Stacked). top (option_map_or (λ (x : Stacked). x.frames) o [])) k.1) ∙ r.top in
       (k.0, k.1, l.0, l.1, r.sound.each i Ready k.0 l.0 r.ready k.1 l.1, top_is)
 

@@ -23,11 +23,10 @@ use Rattle.spv_valid.specs.Acceptance.{Accepted, IsAccepted}
 use Rattle.spv_state.specs.Program.{Program, words_of}
 use Rattle.spv_state.specs.Sound.{IsBarrier, IsSound, IsSoundStack, StandsAs}
 use Rattle.spv_state.specs.State.{State, open_barrier, set_status, top_of}
-use Rattle.spv_state.proofs.Lists.{change_none, set_is_change}
-use Rattle.spv_state.proofs.Stands.{Stood, stand_inst, stood}
-use Rattle.spv_state.proofs.EventLemmas.{top_at}
+use Rattle.spv_state.proofs.Exports.{change_none, set_is_change, Stood, stand_inst, stood, top_at}
 use Rattle.spv_machine.specs.Step.{arrive, arrived, opens}
 use Rattle.spv_machine.proofs.SoundStacks.{AreSoundStacks, one_changed}
+use Rattle.spv_base.proofs.Exports.{element_at}
 
 -- ---- another status
 
@@ -85,11 +84,6 @@ replicated zero i x y h = absurd (cc)
 replicated (suc n) zero x y h = let same : x ≡ y = cc in (sym same, omega arith)
 replicated (suc n) (suc i) x y h = let rest = replicated n i x y h in (rest.0, let within = rest.1 in omega arith)
 
-status_there : {A : Type 0} (xs : List A) (i : ℕ) → i < length xs → (x : A) × (slice_get xs i ≡ Some x)
-status_there [] i h = absurd (omega (arith, h))
-status_there (x ∷ xs) zero h = (x, refl)
-status_there (x ∷ xs) (suc i) h = status_there xs i (omega (arith, h))
-
 passes_on : (a : Accepted) (word : ℕ) (t : Status) (k : Stacked) (l : Levels) → waits_at word t ≡ true → IsSoundStack a t k l → IsSoundStack a Passed k l
 passes_on a word Ready k l waits s = absurd (cc)
 passes_on a word (Arrived at) k l waits s =
@@ -110,7 +104,7 @@ opened_sound p s word sound all = record {
   own = sound.own;
   each = λ i t k l status stack level.
       let is = replicated (length s.statuses.list) i Passed t status in
-      let old = status_there s.statuses.list i is.1 in
+      let old = element_at s.statuses.list i is.1 in
       let waits = each_passes (waits_at word) s.statuses.list i old.0 all old.1 in
       subst (λ (u : Status). IsSoundStack p.accepted u k l) (sym is.0) (passes_on p.accepted word old.0 k l waits (sound.each i old.0 k l old.1 stack level));
 }
@@ -158,7 +152,7 @@ last_word is k d ascend h = by_last (slice_get is (length is - 1)) refl
 
     by_last : (o : Option Inst) → slice_get is (length is - 1) ≡ o → d.word < option_map_or (λ (i : Inst). suc i.word) o 0
     by_last None e =
-        let there = status_there is (length is - 1) (let w = within in omega arith) in
+        let there = element_at is (length is - 1) (let w = within in omega arith) in
         let some = there.1 in
         absurd (cc)
     by_last (Some last) e =

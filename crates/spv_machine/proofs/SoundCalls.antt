@@ -6,7 +6,7 @@ use Rattle.std.specs.Option.{option_map_or}
 use Rattle.spv_base.specs.Entries.{change}
 use Rattle.spv_base.specs.Variables.{Roots}
 use Rattle.spv_base.specs.declared.instructions.Inst.{Inst}
-use Rattle.spv_base.proofs.EntryLemmas.{length_change}
+use Rattle.spv_base.proofs.Exports.{length_change, changed_at}
 use Rattle.spv_mem.specs.Memory.{Levels}
 use Rattle.spv_frame.specs.Frames.{Held as Frame}
 use Rattle.spv_frame.specs.Stacks.{Stacked, top}
@@ -19,10 +19,10 @@ use Rattle.spv_state.specs.Program.{Program}
 use Rattle.spv_state.specs.Roots.{IsRooted}
 use Rattle.spv_state.specs.Sound.{HasVariables, IsCallOf, IsSound, IsSoundFrame, IsSoundStack}
 use Rattle.spv_state.specs.State.{State, frames_of, pop_frame, push_frame, set_status, top_of, with_top, without_last, without_locals, without_top}
-use Rattle.spv_state.proofs.Lists.{change_none, changed_at, set_is_change}
-use Rattle.spv_state.proofs.RootLemmas.{ids_taken, rooted_more, rooted_stays}
+use Rattle.spv_state.proofs.Exports.{change_none, set_is_change, ids_taken, rooted_more, rooted_stays}
 use Rattle.spv_machine.proofs.Depths.{AreCalls, AreSoundFrames, frames_within}
 use Rattle.spv_machine.proofs.SoundStacks.{AreSoundStacks, one_changed}
+use Rattle.std.proofs.lemmas.Slice.Zip.{AllZip-long}
 
 -- ---- lists with one more
 
@@ -41,12 +41,6 @@ zip_one P [] [] x y all one = (one, tt)
 zip_one P [] (b ∷ ys) x y all one = absurd all
 zip_one P (a ∷ xs) [] x y all one = absurd all
 zip_one P (a ∷ xs) (b ∷ ys) x y all one = (all.0, zip_one P xs ys x y all.1 one)
-
-pub zip_length : {A B : Type 0} (P : A → B → Type 0) (xs : List A) (ys : List B) → AllZip P xs ys → length ys ≡ length xs
-zip_length P [] [] all = refl
-zip_length P [] (b ∷ ys) all = absurd all
-zip_length P (a ∷ xs) [] all = absurd all
-zip_length P (a ∷ xs) (b ∷ ys) all = ap suc (zip_length P xs ys all.1)
 
 -- ---- and with one fewer
 
@@ -126,7 +120,7 @@ module _ (a : Accepted) (k : Stacked) (l : Levels) (s : IsSoundStack a Ready k l
   pub has_levels : ∥ IsAccepted a ∥₁ → ∥ IsValid a ∥₁ → length l.list < l.room
   has_levels accepted valid =
       let room = has_room accepted valid in
-      let same = zip_length (HasVariables a) k.frames l.list s.variables in
+      let same = AllZip-long (HasVariables a) k.frames l.list s.variables in
       let one = s.room in
       let other = s.levels in
       omega arith
@@ -156,7 +150,7 @@ module _ (a : Accepted) (k : Stacked) (l : Levels) (s : IsSoundStack a Ready k l
 
 without_same : (a : Accepted) (k : Stacked) (l : Levels) → AllZip (HasVariables a) k.frames l.list → AllZip (HasVariables a) (without_last k.frames) (without_last l.list)
 without_same a k l all =
-    subst (λ (n : ℕ). AllZip (HasVariables a) (without_last k.frames) (take (n - 1) l.list)) (sym (zip_length (HasVariables a) k.frames l.list all))
+    subst (λ (n : ℕ). AllZip (HasVariables a) (without_last k.frames) (take (n - 1) l.list)) (sym (AllZip-long (HasVariables a) k.frames l.list all))
     (zip_take (HasVariables a) (length k.frames - 1) k.frames l.list all)
 
 popped_rooted : (a : Accepted) (t : Status) (k : Stacked) (l : Levels) → IsSoundStack a t k l → (depth : ℕ) (f : Frame) → slice_get (without_last k.frames) depth ≡ Some f → IsRooted a (without_last k.frames) depth f

@@ -1,9 +1,9 @@
 -- Control that goes on leaves a sound state: to the next executable, or past a barrier.
-use Rattle.std.proofs.Common.{◌≡◌, ◌∙◌, ℕ, zero, suc, ◌-◌, ◌<◌, List, [], ◌∷◌, length, Option, Some, None, length-set, slice_get, slice_set, refl, sym, ap, subst, true, false, arith}
+use Rattle.std.proofs.Common.{◌≡◌, ◌∙◌, ℕ, ◌-◌, List, [], length, Option, Some, None, length-set, slice_get, slice_set, refl, sym, ap, subst, true, false}
 use Rattle.std.specs.Option.{is_some, option_and_then, option_map_or}
 use Rattle.spv_base.specs.Entries.{change, reads}
 use Rattle.spv_base.specs.declared.instructions.Inst.{Inst}
-use Rattle.spv_base.proofs.EntryLemmas.{length_change}
+use Rattle.spv_base.proofs.Exports.{length_change}
 use Rattle.spv_index.specs.Classes.{class_of, is_terminator, sets_of}
 use Rattle.spv_index.specs.Definitions.{at}
 use Rattle.spv_mem.specs.Memory.{Levels}
@@ -18,17 +18,9 @@ use Rattle.spv_state.specs.Roots.{IsRooted}
 use Rattle.spv_state.specs.Sound.{IsSound, IsSoundFrame, IsSoundStack, StandsAs, StandsIn}
 use Rattle.spv_state.specs.State.{State, depth_of, on_frame, on_frames, set_status, top_of, with_pc}
 use Rattle.spv_machine.specs.Step.{go_on, next_of, to_next}
-use Rattle.spv_actions.proofs.SoundFrames.{moved_kept}
+use Rattle.spv_actions.proofs.Exports.{moved_kept}
 use Rattle.spv_machine.proofs.SoundStacks.{AreSoundStacks, one_changed, top_kept}
-use Rattle.spv_state.proofs.EventRoots.{passed_rooted}
-use Rattle.spv_state.proofs.AcceptedLemmas.{IsKnown, goes_on}
-use Rattle.spv_state.proofs.Lists.{change_none, set_is_change}
-use Rattle.spv_state.proofs.OperandRoots.{frame_there}
-use Rattle.spv_state.proofs.RootLemmas.{rooted_moved}
-use Rattle.spv_state.proofs.StartSound.{passed_sound}
-use Rattle.spv_state.proofs.ExecutableLemmas.{Standing, at_standing, next_stands, standing, stands_there}
-use Rattle.spv_state.proofs.Stands.{class_is}
-use Rattle.spv_state.proofs.EventLemmas.{top_at}
+use Rattle.spv_state.proofs.Exports.{passed_rooted, IsKnown, goes_on, change_none, set_is_change, frame_there, rooted_moved, passed_sound, Standing, at_standing, next_stands, standing, stands_there, class_is, top_at}
 
 -- ---- a sound state after a change of one invocation
 
@@ -96,11 +88,6 @@ pass_kept p s i known sound =
         (passed_rooted p.accepted known.accepted known.valid k.frames (length k.frames - 1) f (frame_there p.accepted k.frames (length k.frames - 1) f here) sound rooted)
 
 -- ---- the top frame of an invocation
-
-pub got : {A : Type 0} (xs : List A) (i : ℕ) → i < length xs → (x : A) × (slice_get xs i ≡ Some x)
-got [] i h = absurd (omega arith)
-got (x ∷ xs) zero h = (x, refl)
-got (x ∷ xs) (suc i) h = got xs i (omega arith)
 
 -- ---- on to the next executable
 

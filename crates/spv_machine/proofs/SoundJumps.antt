@@ -25,26 +25,19 @@ use Rattle.spv_frame.specs.Registers.{Planned}
 use Rattle.spv_statuses.specs.declared.invocations.Status.{Status}
 use Rattle.spv_statuses.specs.declared.invocations.Status.TheVariants.{Ready}
 use Rattle.spv_valid.specs.Acceptance.{Accepted, IsAccepted, Passes}
-use Rattle.spv_valid.proofs.AcceptedLemmas.{accepted_passes}
-use Rattle.spv_valid.proofs.PassLemmas.{flow_is}
+use Rattle.spv_valid.proofs.Exports.{accepted_passes, flow_is}
 use Rattle.spv_actions.specs.Fits.{IsOfType, JumpFits, LevelFits}
-use Rattle.spv_actions.proofs.SoundFrames.{RegisterFits, moved_kept, register_kept, register_stays}
-use Rattle.spv_actions.proofs.RootedLemmas.{register_rooted}
+use Rattle.spv_actions.proofs.Exports.{RegisterFits, moved_kept, register_kept, register_stays, register_rooted}
 use Rattle.spv_state.specs.Program.{Program}
 use Rattle.spv_state.specs.Roots.{IsRooted}
 use Rattle.spv_state.specs.Sound.{IsSound, IsSoundFrame, StandsAs, StandsIn}
 use Rattle.spv_state.specs.State.{State, with_pc, with_register, with_registers}
-use Rattle.spv_state.proofs.Blocks.{Entered, Listed, listed, rooted}
-use Rattle.spv_state.proofs.AcceptedLemmas.{IsKnown}
-use Rattle.spv_state.proofs.RootLemmas.{rooted_moved}
-use Rattle.spv_state.proofs.ExecutableLemmas.{stands_there}
-use Rattle.spv_state.proofs.Stands.{IsOne}
-use Rattle.spv_state.proofs.EventLemmas.{top_at}
+use Rattle.spv_state.proofs.Exports.{Entered, Listed, listed, rooted, IsKnown, rooted_moved, stands_there, IsOne, top_at}
 use Rattle.spv_machine.specs.Reached.{IsReached}
 use Rattle.spv_machine.specs.Step.{first_of, jump, to_block}
 use Rattle.spv_machine.proofs.SoundControl.{frame_kept, pass_kept}
 use Rattle.spv_machine.proofs.SoundStacks.{top_kept}
-use Rattle.spv_plans.proofs.MemberLemmas.{block_inside}
+use Rattle.spv_plans.proofs.Exports.{block_inside}
 
 -- ---- where a block begins
 

@@ -5,7 +5,7 @@ use Rattle.std.proofs.lemmas.Option.{slice_get_within}
 use Rattle.std.specs.List.{AllZip}
 use Rattle.spv_base.specs.Entries.{change}
 use Rattle.spv_base.specs.Variables.{Roots}
-use Rattle.spv_base.proofs.EntryLemmas.{length_change}
+use Rattle.spv_base.proofs.Exports.{length_change, change_here}
 use Rattle.spv_mem.specs.Memory.{Levels}
 use Rattle.spv_frame.specs.Frames.{Held as Frame}
 use Rattle.spv_frame.specs.Registers.{Planned}
@@ -16,8 +16,7 @@ use Rattle.spv_valid.specs.Acceptance.{Accepted}
 use Rattle.spv_state.specs.Sound.{HasVariables, IsCallOf, IsSoundFrame, IsSoundStack, StandsAs}
 use Rattle.spv_state.specs.Roots.{IsRooted}
 use Rattle.spv_state.specs.State.{on_frames}
-use Rattle.spv_state.proofs.Lists.{change_here, change_other, changed_from}
-use Rattle.spv_state.proofs.RootLemmas.{ids_changed, rooted_stays}
+use Rattle.spv_state.proofs.Exports.{change_other, changed_from, ids_changed, rooted_stays}
 
 -- ---- invocation by invocation
 

@@ -5,13 +5,13 @@ use Rattle.std.specs.List.{AllZip}
 use Rattle.std.specs.Option.{option_and_then, option_map_or}
 use Rattle.spv_base.specs.Entries.{change, reads, writes}
 use Rattle.spv_base.specs.Parts.{with_part}
-use Rattle.spv_base.specs.Variables.{Roots}
+use Rattle.spv_base.specs.Variables.{Roots, root_id}
 use Rattle.spv_base.specs.declared.values.Pointer.{Pointer}
 use Rattle.spv_base.specs.declared.values.Root.{Root}
 use Rattle.spv_base.specs.declared.values.Root.TheVariants.{Shared, Private, Local}
 use Rattle.spv_base.specs.declared.values.Value.{Value}
-use Rattle.spv_base.proofs.EntryLemmas.{length_change}
-use Rattle.spv_mem.specs.Memory.{Held as Memory, Levels, id_in, roots_in, stored, with_level, with_roots}
+use Rattle.spv_base.proofs.Exports.{length_change, change_here}
+use Rattle.spv_mem.specs.Memory.{Held as Memory, Levels, roots_in, stored, with_level, with_roots}
 use Rattle.spv_mem.specs.Roots.{put_in}
 use Rattle.spv_frame.specs.Frames.{Held as Frame}
 use Rattle.spv_frame.specs.Stacks.{Stacked}
@@ -21,8 +21,7 @@ use Rattle.spv_state.specs.Program.{Program}
 use Rattle.spv_state.specs.Roots.{ids_in as keys}
 use Rattle.spv_state.specs.Sound.{HasVariables, IsSound, IsSoundStack}
 use Rattle.spv_state.specs.State.{State, put_store}
-use Rattle.spv_state.proofs.Entries.{keys_stay}
-use Rattle.spv_state.proofs.Lists.{change_here, change_other, changed_from}
+use Rattle.spv_state.proofs.Exports.{keys_stay, change_other, changed_from}
 
 -- ---- the variables of frames are those that they were
 
@@ -135,9 +134,9 @@ stored_in m i (Local depth id) es new at same = record {
 pub stored_same : (m : Memory) (i : ℕ) (p : Pointer) (u : Value) → SameVariables m (stored i p u m)
 stored_same m i p u = by_roots (roots_in m i p.root) refl
   where
-    by_roots : (o : Option Roots) → roots_in m i p.root ≡ o → SameVariables m (option_map_or (λ es. with_roots i p.root (put_in (id_in p.root) p.path u es) m) o m)
+    by_roots : (o : Option Roots) → roots_in m i p.root ≡ o → SameVariables m (option_map_or (λ es. with_roots i p.root (put_in (root_id p.root) p.path u es) m) o m)
     by_roots None e = same_memory m
-    by_roots (Some es) e = stored_in m i p.root es (put_in (id_in p.root) p.path u es) e (put_keys (id_in p.root) p.path u es)
+    by_roots (Some es) e = stored_in m i p.root es (put_in (root_id p.root) p.path u es) e (put_keys (root_id p.root) p.path u es)
 
 -- ---- sound states
 

@@ -23,11 +23,9 @@ use Rattle.spv_state.specs.State.{State, on_frame, on_frames, set_status, top_of
 use Rattle.spv_machine.specs.Step.{Idles, Moves, at_frame, at_inst, by_status, fault_in, go_on, next_of, outcome, past_frame, plain, step_of, to_next}
 use Rattle.spv_actions.specs.declared.causes.Cause.{Cause}
 use Rattle.spv_actions.specs.declared.effects.Effect.{Effect}
-use Rattle.spv_machine.proofs.SoundControl.{got, stands_before}
-use Rattle.spv_state.proofs.AcceptedLemmas.{IsKnown}
-use Rattle.spv_state.proofs.Lists.{change_same}
-use Rattle.spv_state.proofs.ExecutableLemmas.{at_standing, standing}
-use Rattle.spv_state.proofs.EventLemmas.{top_at}
+use Rattle.spv_machine.proofs.SoundControl.{stands_before}
+use Rattle.spv_state.proofs.Exports.{IsKnown, change_same, at_standing, standing, top_at}
+use Rattle.spv_base.proofs.Exports.{element_at}
 
 -- ---- the top frame of an invocation that is not finished
 
@@ -39,14 +37,14 @@ pub record HasTop (p : Program) (s : State) (i : ℕ) (t : Status) : Type 0 wher
 
 pub last_frame : (fs : List Frame) → fs ≢ [] → (f : Frame) × (top fs ≡ Some f)
 last_frame [] some = absurd (some refl)
-last_frame (f ∷ fs) some = got (f ∷ fs) (length (f ∷ fs) - 1) (omega arith)
+last_frame (f ∷ fs) some = element_at (f ∷ fs) (length (f ∷ fs) - 1) (omega arith)
 
 pub has_top : (p : Program) (s : State) (i : ℕ) (t : Status) → IsSound p s → i < length s.statuses.list → slice_get s.statuses.list i ≡ Some t → t ≢ Finished → HasTop p s i t
 has_top p s i t sound inside status moves =
     let stacks = sound.stacks in
     let levels = sound.levels in
-    let k = got s.stacks i (omega arith) in
-    let l = got s.memory.locals i (omega arith) in
+    let k = element_at s.stacks i (omega arith) in
+    let l = element_at s.memory.locals i (omega arith) in
     let own : IsSoundStack p.accepted t k.0 l.0 = sound.each i t k.0 l.0 status k.1 l.1 in
     let f = last_frame k.0.frames (λ none. moves (own.finished.1 none)) in
     record { frame = f.0; top = top_at s i k.0 f.0 k.1 f.1; sound = own.frames (length k.0.frames - 1) f.0 f.1; waits = own.waits f.0 f.1 }

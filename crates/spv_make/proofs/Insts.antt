@@ -9,7 +9,7 @@ use Rattle.spv_ops.specs.Grammar.{row_of}
 use Rattle.spv_ops.specs.Opcodes.{table}
 use Rattle.spv_ops.specs.Reading.{inst_of, inst_by, operands_of, part_at}
 use Rattle.spv_ops.specs.Strings.{text_at, text_len, text_bytes, is_padded}
-use Rattle.spv_ops.proofs.InstLaws.{words_from, inst_takes}
+use Rattle.spv_ops.proofs.Exports.{words_from, inst_takes}
 use Rattle.spv_make.specs.Instructions.{instructions}
 
 abbrev pub are_words : List ℕ → Bool

@@ -10,11 +10,11 @@ use Rattle.spv_ops.specs.Grammar.{row_of}
 use Rattle.spv_ops.specs.Opcodes.{table}
 use Rattle.spv_words.specs.Header.{HasHeader}
 use Rattle.spv_words.specs.Words.{words_of}
-use Rattle.spv_words.proofs.WordLemmas.{words_of-little_bytes}
+use Rattle.spv_words.proofs.Exports.{words_of-little_bytes}
 use Rattle.spv_make.specs.Inputs.{words_for}
 use Rattle.spv_make.specs.Instructions.{instructions}
 use Rattle.spv_make.proofs.Insts.{are_words, all_fit}
-use Rattle.spv_ops.proofs.InstLaws.{words_from}
+use Rattle.spv_ops.proofs.Exports.{words_from}
 
 pub length_is : (n : ℕ) → length (words_for n) ≡ 444
 unfolding words_for instructions raw_of row_of table

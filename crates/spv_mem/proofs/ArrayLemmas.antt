@@ -1,5 +1,5 @@
 -- A block with a runtime array in it is a whole variable, and the array is its last member.
-use Rattle.std.proofs.Common.{◌≡◌, ◌∙◌, ◌⊎◌, ℕ, zero, suc, ◌&&◌, Bool, true, false, List, [], ◌∷◌, ◌++◌, slice_get, Option, Some, None, inl, inr, refl, sym, ap, subst}
+use Rattle.std.proofs.Common.{◌≡◌, ◌∙◌, ◌⊎◌, ℕ, zero, suc, Bool, true, false, List, [], ◌∷◌, ◌++◌, slice_get, Option, Some, None, inl, inr, refl, sym, ap, subst}
 use Rattle.std.proofs.Math.Logic.{∥∥₁_elim}
 use Rattle.std.proofs.Props.{props}
 use Rattle.std.specs.List.{AllZip}
@@ -20,21 +20,16 @@ use Rattle.spv_types.specs.Laws.{AreSound}
 use Rattle.spv_types.specs.Rows.{no_roots}
 use Rattle.spv_types.specs.Rules.{is_runtime}
 use Rattle.spv_types.specs.Shapes.{HasShape, part_type, reached_type}
-use Rattle.spv_types.proofs.CellLemmas.{added_is}
-use Rattle.spv_types.proofs.RowCounts.{many_is, times_is}
-use Rattle.spv_types.proofs.ShapeLemmas.{shapes_are_by_forms}
-use Rattle.spv_types.proofs.OffsetLemmas.{cells_by_form}
+use Rattle.spv_types.proofs.Exports.{added_is, many_is, times_is, shapes_are_by_forms, cells_by_form}
 use Rattle.spv_mem.specs.Targets.{Fits, count_in, elements_in, end_open, is_array_at, is_counted, is_open_array, last_of}
-use Rattle.spv_mem.specs.Memory.{Held, IsMemory, NamesArray, id_in, load_of, member_of}
+use Rattle.spv_mem.specs.Memory.{Held, IsMemory, NamesArray, load_of, member_of}
 use Rattle.spv_mem.specs.Roots.{AreFit}
 use Rattle.spv_mem.proofs.MemoryLemmas.{fits_in}
-use Rattle.spv_mem.proofs.CountLemmas.{counted_is, is_counted_by, open_member}
+use Rattle.spv_mem.proofs.CountLemmas.{is_counted_by, open_member}
 use Rattle.spv_mem.proofs.PartLemmas.{array_is, block_is, counted_no_array, open_target, part_cons}
-
-both_true : (a b : Bool) → (a && b) ≡ true → (a ≡ true) × (b ≡ true)
-both_true true true h = (refl, refl)
-both_true true false h = absurd cc
-both_true false b h = absurd cc
+use Rattle.std.proofs.lemmas.Bool.{and_parts}
+use Rattle.spv_base.proofs.Exports.{some_at}
+use Rattle.spv_base.specs.Variables.{root_id}
 
 -- the last of some values counts, whatever the part of the value that has them
 last_counts : (v u : Value) (vs : List Value) → out-Value v ≡ Value-F.List vs → last_of vs ≡ Some u → elements_in v ≡ count_in u
@@ -110,7 +105,7 @@ module _ (ts : Types) (sound : AreSound ts) where
   reached_counted [] t b h g = subst (λ (x : ℕ). is_counted ts x ≡ true) (reached_nil t b g) h
   reached_counted (i ∷ path) t b h g =
       let s = step_is t i b path g in
-      let n = counted_is (cells_of ts t) h in
+      let n = some_at (cells_of ts t) h in
       reached_counted path s.type b (part_counted s.form i n.0 s.type (sym (cells_by_form ts sound t s.form s.is) ∙ n.1) s.part) s.rest
 
   -- ---- blocks with a runtime array
@@ -142,7 +137,7 @@ module _ (ts : Types) (sound : AreSound ts) where
   no_block : (b k : ℕ) → is_counted ts b ≡ true → is_array_at ts (form_of ts b) k ≡ true → ⊥
   no_block b k h array =
       let a = array_at (form_of ts b) k array in
-      let n = counted_is (cells_of ts b) h in
+      let n = some_at (cells_of ts b) h in
       let counted = member_counted a.members k n.0 a.member (sym (cells_by_form ts sound b (Struct a.members a.block) a.form) ∙ n.1) a.is in
       let not = counted_no_array ts no_roots sound a.member.ty counted in
       let is = a.array in
@@ -153,10 +148,10 @@ module _ (ts : Types) (sound : AreSound ts) where
   member_kind (k ∷ []) zero m h g = let e : k ≡ m = cc in inr (subst (λ (x : Member). is_open_array ts (form_of ts x.ty) ≡ true) e h)
   member_kind (k ∷ []) (suc i) m h g = absurd cc
   member_kind (k ∷ l ∷ ms) zero m h g =
-      let both = both_true (is_counted ts k.ty) (end_open ts (l ∷ ms)) h in
+      let both = and_parts (is_counted ts k.ty) (end_open ts (l ∷ ms)) h in
       let e : k ≡ m = cc in
       inl (subst (λ (x : Member). is_counted ts x.ty ≡ true) e both.0)
-  member_kind (k ∷ l ∷ ms) (suc i) m h g = member_kind (l ∷ ms) i m (both_true (is_counted ts k.ty) (end_open ts (l ∷ ms)) h).1 g
+  member_kind (k ∷ l ∷ ms) (suc i) m h g = member_kind (l ∷ ms) i m (and_parts (is_counted ts k.ty) (end_open ts (l ∷ ms)) h).1 g
 
   -- no block with a runtime array lies in the runtime array of another
   no_block_in : (path : List ℕ) (t b k : ℕ) → is_open_array ts (form_of ts t) ≡ true → reached_type ts t path ≡ Some b → is_array_at ts (form_of ts b) k ≡ true → ⊥
@@ -216,10 +211,10 @@ count_at ts path id b k v f r array = go (is_counted ts id) refl
     go false e = whole path e r
 
 pub counts_at : (m : Held) (p : Reference) (k i : ℕ) → ∥ IsMemory m ∥₁ → ∥ NamesArray m p k ∥₁
-    → option_map count_in (load_of m i (member_of p k)) ≡ Some (option_map_or elements_in (reads (id_in p.root) m.shared) 0)
+    → option_map count_in (load_of m i (member_of p k)) ≡ Some (option_map_or elements_in (reads (root_id p.root) m.shared) 0)
 counts_at m p k i is names = ∥∥₁_elim names (hlevel props) (λ (n : NamesArray m p k). named n)
   where
-    named : NamesArray m p k → option_map count_in (load_of m i (member_of p k)) ≡ Some (option_map_or elements_in (reads (id_in p.root) m.shared) 0)
+    named : NamesArray m p k → option_map count_in (load_of m i (member_of p k)) ≡ Some (option_map_or elements_in (reads (root_id p.root) m.shared) 0)
     named n = ∥∥₁_elim (fits_in m i (Shared n.id) m.shared n.type n.id is refl n.named) (hlevel props) (λ (fit : AreFit m.types n.type n.id m.shared).
-        subst (λ (r : Root). option_map count_in (load_of m i (record { root = r; path = p.path ++ k ∷ [] })) ≡ Some (option_map_or elements_in (reads (id_in r) m.shared) 0)) (sym n.shared)
+        subst (λ (r : Root). option_map count_in (load_of m i (record { root = r; path = p.path ++ k ∷ [] })) ≡ Some (option_map_or elements_in (reads (root_id r) m.shared) 0)) (sym n.shared)
         (rw (n.there) (count_at m.types p.path n.type n.block k n.value (fit n.value n.there) n.leads n.array)))

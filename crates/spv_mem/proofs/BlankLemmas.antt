@@ -1,5 +1,5 @@
 -- Undefined values: they are made of their forms, and have their shapes.
-use Rattle.std.proofs.Common.{◌≡◌, ◌∙◌, ℕ, zero, suc, ◌+◌, ◌<◌, ◌≤◌, ◌*◌, ◌==◌, ◌||◌, min, Bool, true, false, List, [], ◌∷◌, ◌++◌, length, map, replicate, slice_get, append-nil, Option, Some, None, refl, sym, ap, subst, arith, rules}
+use Rattle.std.proofs.Common.{◌≡◌, ◌∙◌, ℕ, zero, suc, ◌+◌, ◌<◌, ◌≤◌, ◌*◌, ◌==◌, ◌||◌, min, Bool, true, false, List, [], ◌∷◌, ◌++◌, length, map, replicate, slice_get, Option, Some, None, refl, sym, ap, subst, arith}
 use Rattle.std.specs.Prelude.{if◌then◌else◌, unwrap_or}
 use Rattle.std.specs.Bool.{MatchBool}
 use Rattle.std.specs.List.{All, AllZip, flat_map}
@@ -11,8 +11,8 @@ use Rattle.std.proofs.Math.Logic.{∥∥₁_map}
 use Rattle.std.proofs.lemmas.Bool.{and_parts, lt-ltb}
 use Rattle.spv_base.specs.Entries.{reads}
 use Rattle.spv_base.specs.Cell.{IsCell, Cell, undefined_cell}
-use Rattle.spv_base.specs.declared.values.Value.{Value, Scalar, List as Many, the_lemmas}
-use Rattle.spv_base.proofs.PartLemmas.{out_many, out_scalar, is_many}
+use Rattle.spv_base.specs.declared.values.Value.{Value, Scalar, List as Many}
+use Rattle.spv_base.proofs.Exports.{out_many, out_scalar, is_many}
 use Rattle.spv_types.specs.declared.forms.Form.{Form}
 use Rattle.spv_types.specs.declared.forms.Form.TheVariants.{Void, Bool as Boolean, Int, Vector, Array, Runtime, Struct, Pointer, Function}
 use Rattle.spv_types.specs.declared.forms.Member.{Member}
@@ -22,12 +22,7 @@ use Rattle.spv_types.specs.Laws.{AreSound, ComesBefore, IsAmong}
 use Rattle.spv_types.specs.Rows.{leaves, no_roots}
 use Rattle.spv_types.specs.Rules.{is_data, is_scalar, is_width, keep_members, keeps_form, keeps_member, last_type}
 use Rattle.spv_types.specs.Shapes.{HasShape, HasShapeAmong, IsScalar, part_type, shape_step}
-use Rattle.spv_types.proofs.CountedLemmas.{cells_whole}
-use Rattle.spv_types.proofs.RowLemmas.{leaves_many}
-use Rattle.spv_types.proofs.ShapeLemmas.{among_is, form_number}
-use Rattle.spv_types.proofs.TypeLemmas.{in_first-found, in_first-is, number_lt}
-use Rattle.spv_types.proofs.DataLemmas.{scalar_data, member_data, sized_data, width_narrow}
-use Rattle.spv_types.proofs.SoundLemmas.{impossible}
+use Rattle.spv_types.proofs.Exports.{cells_whole, leaves_many, no_leaves, among_is, form_number, in_first-found, in_first-is, number_lt, scalar_data, member_data, sized_data, width_narrow, impossible}
 use Rattle.spv_mem.specs.Blanks.{blank_among, blank_in, blank_of, blank_step, if_any, last_part, part_count}
 use Rattle.spv_mem.specs.Memory.{Held, IsMemory, IsVariable}
 use Rattle.spv_mem.specs.Targets.{count_in, elements_in, end_open, is_counted, is_open_array, is_open_block, last_of, may_be_target}
@@ -39,13 +34,6 @@ unfolding blank_among
 blank_among_is ts e n id = in_first-is (Many []) (blank_step e) ts n id
 
 -- ---- rows
-
-pub scalar_leaves : (c : Cell) → leaves (Scalar c) ≡ c ∷ []
-unfolding leaves
-scalar_leaves c = search (rules, the_lemmas)
-
-pub no_leaves : (xs : List Cell) → xs ≡ xs ++ leaves (Many [])
-no_leaves xs = rw (leaves_many []) (sym (append-nil xs))
 
 pub none_blank : (ts : Types) (e n id : ℕ) (xs : List Cell) → found_among ts n id ≡ None → xs ≡ xs ++ leaves (blank_among ts e n id)
 none_blank ts e n id xs none = rw (blank_among_is ts e n id, none) (no_leaves xs)

@@ -1,5 +1,5 @@
 -- The one leaf of a scalar.
-use Rattle.std.proofs.Common.{◌≡◌, ◌∙◌, ℕ, ◌<◌, List, Option, Some, None, Result, Ok, Err, get_or, length, refl, sym, ap, subst, arith, rules}
+use Rattle.std.proofs.Common.{◌≡◌, ◌∙◌, ℕ, List, Option, Some, None, Result, Ok, Err, get_or, refl, sym, ap, subst, rules}
 use Rattle.std.specs.Prelude.{IsSome}
 use Rattle.spv_base.specs.Cell.{Cell}
 use Rattle.spv_base.specs.declared.values.Value.{Value, Scalar, out-Value, the_lemmas}
@@ -11,15 +11,7 @@ use Rattle.spv_base.specs.declared.values.Pointer.{Pointer}
 use Rattle.spv_mem.specs.Memory.{Held, IsScalarAt, Stores, StoresCell, load_of, stored}
 use Rattle.spv_types.specs.Rows.{leaves}
 use Rattle.spv_types.specs.Shapes.{scalar_in}
-use Rattle.spv_types.proofs.RowLemmas.{scalar_by, scalar_row}
-
-pub one_leaf : (v : Value) → IsSome (scalar_in (out-Value v)) → 0 < length (leaves v)
-one_leaf v h = level (out-Value v) refl h
-  where
-    level : (l : Value-F Value) → out-Value v ≡ l → IsSome (scalar_in l) → 0 < length (leaves v)
-    level (Value-F.Scalar c) e h = let n : length (leaves v) ≡ 1 = ap length (scalar_row v c e) in omega (arith, n)
-    level (Value-F.List vs) e h = absurd cc
-    level (Value-F.Ptr p) e h = absurd cc
+use Rattle.spv_types.proofs.Exports.{scalar_by, scalar_row}
 
 pub is_scalar : (v : Value) (d : Cell) → IsSome (scalar_in (out-Value v)) → v ≡ Scalar (get_or (leaves v) 0 d)
 is_scalar v d h = level (out-Value v) refl h

@@ -12,15 +12,11 @@ use Rattle.spv_base.specs.declared.values.Root.TheVariants.{Shared, Private, Loc
 use Rattle.spv_base.specs.declared.values.Value.{Value}
 use Rattle.spv_types.specs.Types.{Types}
 use Rattle.spv_mem.specs.Memory.{AreTargets, AreVariables, Held, IsMemory, IsVariable, Leaves, Levels, empty, entered, roots_in, with_private, with_roots}
-use Rattle.spv_mem.proofs.MemoryLemmas.{change_set, get_set, set_same, with_roots_in}
+use Rattle.spv_mem.proofs.MemoryLemmas.{change_set, get_set, with_roots_in}
 use Rattle.spv_mem.proofs.RootLemmas.{reads_snoc}
+use Rattle.spv_base.proofs.Exports.{slice_get-set_same, set_same, get_replicate}
 
 -- ---- no variables
-
-none_there : {A : Type 0} (n i : ℕ) (x y : A) → slice_get (replicate n x) i ≡ Some y → y ≡ x
-none_there zero i x y h = absurd cc
-none_there (suc n) zero x y h = cc
-none_there (suc n) (suc i) x y h = none_there n i x y h
 
 pub empty_keeps : (ts : Types) (targets : List (ℕ × ℕ)) (n depth : ℕ) → ∥ AreTargets ts targets ∥₁ → ∥ IsMemory (empty ts targets n depth) ∥₁
 empty_keeps ts targets n depth may = ∥∥₁_map may (λ (h : AreTargets ts targets). record { sound = h.0; targets = h.1; variables = each })
@@ -34,8 +30,8 @@ empty_keeps ts targets n depth may = ∥∥₁_map may (λ (h : AreTargets ts ta
 
     each : (i : ℕ) (r : Root) (es : Roots) → roots_in (empty ts targets n depth) i r ≡ Some es → AreVariables ts targets es
     each i (Shared id) es h = none es (let e : [] ≡ es = cc in sym e)
-    each i (Private id) es h = none es (none_there n i [] es h)
-    each i (Local d id) es h = level (slice_get (replicate n (record { list = []; room = depth })) i) (λ l at. ap (λ (x : Levels). x.list) (none_there n i (record { list = []; room = depth }) l at)) d es h
+    each i (Private id) es h = none es (get_replicate n i [] es h)
+    each i (Local d id) es h = level (slice_get (replicate n (record { list = []; room = depth })) i) (λ l at. ap (λ (x : Levels). x.list) (get_replicate n i (record { list = []; room = depth }) l at)) d es h
 
 -- ---- a variable more
 
@@ -170,11 +166,6 @@ left_kept m i l y result at is p = ∥∥₁_map is (λ (h : IsMemory m). levels
     all : IsMemory m → (d : ℕ) (xs : Roots) → slice_get y.list d ≡ Some xs → AreVariables m.types m.targets xs
     all h d xs k = h.variables i (Local d 0) xs (let e = shorter l y result p d xs k in rw at e)
 
-get_set_here : {A : Type 0} (xs : List A) (k : ℕ) (x y : A) → slice_get xs k ≡ Some x → slice_get (slice_set xs k y) k ≡ Some y
-get_set_here [] k x y h = absurd cc
-get_set_here (z ∷ xs) zero x y h = refl
-get_set_here (z ∷ xs) (suc k) x y h = get_set_here xs k x y h
-
 set_set : {A : Type 0} (xs : List A) (k : ℕ) (x y : A) → slice_set (slice_set xs k x) k y ≡ slice_set xs k y
 set_set [] k x y = refl
 set_set (z ∷ xs) zero x y = refl
@@ -189,7 +180,7 @@ leaves_is m now i l y None view at p =
 leaves_is m now i l y (Some last) view at p =
     let whole : record y { list = y.list ++ last ∷ [] } ≡ l = ap (λ (n : ℕ). record { list = y.list ++ last ∷ []; room = n }) p.0 ∙ ap (λ (ls : List Roots). record { list = ls; room = l.room }) (sym p.1) in
     let back : change i (λ (x : Levels). record x { list = x.list ++ last ∷ [] }) (slice_set m.locals i y) ≡ m.locals =
-    change_set i (λ (x : Levels). record x { list = x.list ++ last ∷ [] }) (slice_set m.locals i y) y (get_set_here m.locals i l y at)
+    change_set i (λ (x : Levels). record x { list = x.list ++ last ∷ [] }) (slice_set m.locals i y) y (slice_get-set_same m.locals i l y at)
     ∙ ap (slice_set (slice_set m.locals i y) i) whole ∙ set_set m.locals i y l ∙ set_same m.locals i l at in
     sym (ap (λ (ls : List Levels). record m { locals = ls }) back ∙ view)
 

@@ -10,17 +10,16 @@ use Rattle.spv_base.specs.Parts.{part_at}
 use Rattle.spv_base.specs.declared.values.Pointer.{Pointer}
 use Rattle.spv_base.specs.declared.values.Root.TheVariants.{Shared}
 use Rattle.spv_base.specs.declared.values.Value.{Value, Scalar, out-Value}
-use Rattle.spv_base.proofs.PartLemmas.{out_scalar}
+use Rattle.spv_base.proofs.Exports.{out_scalar}
+use Rattle.spv_base.specs.Variables.{root_id}
 use Rattle.spv_types.specs.declared.forms.Form.{Form}
 use Rattle.spv_types.specs.declared.forms.Form.TheVariants.{Void, Bool as Boolean, Int, Vector, Array, Runtime, Struct, Pointer as PointerForm, Function}
 use Rattle.spv_types.specs.Rows.{no_roots}
 use Rattle.spv_types.specs.Shapes.{HasShape, IsScalar, reached_type, scalar_in}
 use Rattle.spv_types.specs.Types.{Types, form_of}
-use Rattle.spv_types.proofs.RowShapes.{shapes_keep}
-use Rattle.spv_types.proofs.ShapeLemmas.{shapes_are_by_forms}
-use Rattle.spv_types.proofs.OffsetLemmas.{cells_by_form}
+use Rattle.spv_types.proofs.Exports.{shapes_keep, shapes_are_by_forms, cells_by_form}
 use Rattle.spv_mem.specs.Conditions.{integer_width, width_at}
-use Rattle.spv_mem.specs.Memory.{Held, IsMemory, IsScalarAt, IsVariable, MayBeTargets, MayStore, NamesArray, id_in, load_of, root_value, roots_in}
+use Rattle.spv_mem.specs.Memory.{Held, IsMemory, IsScalarAt, IsVariable, MayBeTargets, MayStore, NamesArray, load_of, root_value, roots_in}
 use Rattle.spv_mem.specs.Targets.{is_array_at, is_counted, may_be_target}
 
 -- ---- options
@@ -41,7 +40,7 @@ and_some (Some a) P h = refl
 
 pub record LeadsToInteger (m : Held) (p : Pointer) (width : ℕ) : Type 0 where
   pub type : ℕ
-  pub named : reads (id_in p.root) m.targets ≡ Some type
+  pub named : reads (root_id p.root) m.targets ≡ Some type
   pub part : ℕ
   pub reaches : reached_type m.types type p.path ≡ Some part
   pub sign : ℕ
@@ -61,18 +60,18 @@ form_is (Some (Function returns parameters)) width h = absurd cc
 
 leads : (m : Held) (p : Pointer) (width : ℕ) → width_at m p ≡ Some width → LeadsToInteger m p width
 leads m p width h =
-    let first = some_then (λ type. option_and_then (λ t. integer_width (form_of m.types t)) (reached_type m.types type p.path)) (reads (id_in p.root) m.targets) width h in
+    let first = some_then (λ type. option_and_then (λ t. integer_width (form_of m.types t)) (reached_type m.types type p.path)) (reads (root_id p.root) m.targets) width h in
     let second = some_then (λ t. integer_width (form_of m.types t)) (reached_type m.types first.0 p.path) width first.2 in
     let third = form_is (form_of m.types second.0) width second.2 in
     record { type = first.0; named = first.1; part = second.0; reaches = second.1; sign = third.0; form = third.1 }
 
-pub width_unnamed : (m : Held) (p : Pointer) → reads (id_in p.root) m.targets ≡ None → None ≡ width_at m p
+pub width_unnamed : (m : Held) (p : Pointer) → reads (root_id p.root) m.targets ≡ None → None ≡ width_at m p
 width_unnamed m p h = rw h refl
 
-pub width_unreached : (m : Held) (p : Pointer) (type : ℕ) → reads (id_in p.root) m.targets ≡ Some type → reached_type m.types type p.path ≡ None → None ≡ width_at m p
+pub width_unreached : (m : Held) (p : Pointer) (type : ℕ) → reads (root_id p.root) m.targets ≡ Some type → reached_type m.types type p.path ≡ None → None ≡ width_at m p
 width_unreached m p type h g = rw (h, g) refl
 
-pub width_reached : (m : Held) (p : Pointer) (type part : ℕ) → reads (id_in p.root) m.targets ≡ Some type → reached_type m.types type p.path ≡ Some part → integer_width (form_of m.types part) ≡ width_at m p
+pub width_reached : (m : Held) (p : Pointer) (type part : ℕ) → reads (root_id p.root) m.targets ≡ Some type → reached_type m.types type p.path ≡ Some part → integer_width (form_of m.types part) ≡ width_at m p
 width_reached m p type part h g = rw (h, g) refl
 
 -- ---- what is there is a scalar
@@ -80,8 +79,8 @@ width_reached m p type part h g = rw (h, g) refl
 there_scalar : (m : Held) (p : Pointer) (width i : ℕ) (w : Value) → IsMemory m → LeadsToInteger m p width → load_of m i p ≡ Some w → is_some (scalar_in (out-Value w)) ≡ true
 there_scalar m p width i w is l load =
     let value = some_then (λ v. part_at v p.path) (root_value m i p.root) w load in
-    let roots = some_then (reads (id_in p.root)) (roots_in m i p.root) value.0 value.1 in
-    let variable : IsVariable m.types m.targets (id_in p.root) value.0 = is.variables i p.root roots.0 roots.1 (id_in p.root) value.0 roots.2 in
+    let roots = some_then (reads (root_id p.root)) (roots_in m i p.root) value.0 value.1 in
+    let variable : IsVariable m.types m.targets (root_id p.root) value.0 = is.variables i p.root roots.0 roots.1 (root_id p.root) value.0 roots.2 in
     let type : Some variable.type ≡ Some l.type = sym variable.named ∙ l.named in
     let same : variable.type ≡ l.type = cc in
     let shape : HasShape m.types no_roots l.type value.0 = subst (λ (k : ℕ). HasShape m.types no_roots k value.0) same variable.shape in

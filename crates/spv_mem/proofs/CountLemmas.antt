@@ -1,8 +1,7 @@
 -- The leaves of types, by their forms, and the parts of values, each with its type.
-use Rattle.std.proofs.Common.{◌≡◌, ◌⊎◌, ℕ, zero, suc, ◌+◌, ◌<◌, ◌≤◌, Bool, true, false, List, [], ◌∷◌, length, length-append, take, slice_get, Option, Some, None, nat_lt, refl, subst, inl, inr, arith}
+use Rattle.std.proofs.Common.{◌≡◌, ◌⊎◌, ℕ, zero, suc, ◌+◌, ◌<◌, ◌≤◌, true, List, [], ◌∷◌, length, length-append, take, slice_get, Option, Some, None, refl, subst, inl, inr, arith}
 use Rattle.std.proofs.lemmas.Bool.{and_parts}
-use Rattle.std.specs.Bool.{MatchBool}
-use Rattle.std.specs.Option.{MatchOption, is_some, option_and_then}
+use Rattle.std.specs.Option.{is_some, option_and_then}
 use Rattle.std.specs.List.{All, AllZip, flat_map}
 use Rattle.std.proofs.lemmas.List.Elements.{All-head, All-tail}
 use Rattle.spv_base.specs.Parts.{parts_in}
@@ -11,43 +10,21 @@ use Rattle.spv_base.specs.declared.values.Value.{Value, out-Value}
 use Rattle.spv_base.specs.declared.values.Value.TheOpen.{Value-F}
 use Rattle.spv_types.specs.declared.forms.Form.{Form}
 use Rattle.spv_types.specs.declared.forms.Member.{Member}
-use Rattle.spv_types.specs.Types.{Types, form_of, is_number, number_of}
+use Rattle.spv_types.specs.Types.{Types, form_of}
 use Rattle.spv_types.specs.Cells.{cells_of, members_cells}
 use Rattle.spv_types.specs.Leaves.{part_of}
 use Rattle.spv_types.specs.Rows.{leaves}
-use Rattle.spv_types.specs.Shapes.{HasShape, HasShapeAmong, part_type, shape_step}
-use Rattle.spv_types.proofs.CellLemmas.{added_is}
-use Rattle.spv_types.proofs.RowCounts.{shapes_count}
+use Rattle.spv_types.specs.Shapes.{HasShape, part_type}
+use Rattle.spv_types.proofs.Exports.{added_is, shapes_count}
+use Rattle.spv_base.proofs.Exports.{some_at}
 use Rattle.spv_mem.specs.Targets.{end_open, is_counted, is_open_array, last_of}
 
 -- ---- numbers of leaves
-
-pub counted_is : (o : Option ℕ) → is_some o ≡ true → (n : ℕ) × (o ≡ Some n)
-counted_is None h = absurd cc
-counted_is (Some n) h = (n, refl)
 
 pub is_counted_by : (o : Option ℕ) (n : ℕ) → o ≡ Some n → is_some o ≡ true
 is_counted_by o n h = rw h refl
 
 -- ---- a value of a shape has a type with a form
-
-pub no_form : (ts : Types) (roots : Root → Option ℕ) (n id : ℕ) (v : Value) → form_of ts id ≡ None → HasShapeAmong ts roots n id v → ⊥
-unfolding HasShapeAmong
-no_form ts roots zero id v none h = h
-no_form ts roots (suc n) id v none h = go (no_form ts roots n id v none) (is_number n (number_of ts id)) (form_of ts id) none h
-  where
-    go : (HasShapeAmong ts roots n id v → ⊥) → (b : Bool) (o : Option Form) → o ≡ None → MatchBool b (MatchOption o ⊥ (λ f. shape_step ts roots (HasShapeAmong ts roots n) f v)) (HasShapeAmong ts roots n id v) → ⊥
-    go below true None e has = has
-    go below true (Some f) e has = absurd cc
-    go below false o e has = below has
-
-pub shape_formed : (ts : Types) (roots : Root → Option ℕ) (id : ℕ) (v : Value) → HasShape ts roots id v → (f : Form) × (form_of ts id ≡ Some f)
-unfolding HasShape
-shape_formed ts roots id v h = go (form_of ts id) refl
-  where
-    go : (o : Option Form) → form_of ts id ≡ o → (f : Form) × (form_of ts id ≡ Some f)
-    go None e = absurd (no_form ts roots (length ts) id v e h)
-    go (Some f) e = (f, e)
 
 -- ---- one part of a value
 
@@ -84,12 +61,6 @@ pub all_at : (P : Value → Type 0) (vs : List Value) (i : ℕ) (u : Value) → 
 all_at P [] i u all h = absurd cc
 all_at P (v ∷ vs) zero u all h = let e : v ≡ u = cc in subst P e (All-head P v vs all)
 all_at P (v ∷ vs) (suc i) u all h = all_at P vs i u (All-tail P v vs all) h
-
-pub below_is : (i n : ℕ) → i < n → nat_lt i n ≡ true
-below_is i n h = grind arith
-
-pub past_is : (i n : ℕ) → n ≤ i → nat_lt i n ≡ false
-past_is i n h = grind arith
 
 -- members: their values, and the leaves before one of them
 pub record MemberAt (ts : Types) (roots : Root → Option ℕ) (ms : List Member) (vs : List Value) (k : ℕ) : Type 0 where
@@ -170,7 +141,7 @@ module _ (ts : Types) (roots : Root → Option ℕ) where
       inr (record { member = m; part = v; before = 0; is = refl; found = refl; sum = sum_none; shape = all.0; kind = inl both.0 })
   open_member (m ∷ n ∷ ms) (v ∷ u ∷ vs) (suc k) all h =
       let both = and_parts (is_counted ts m.ty) (end_open ts (n ∷ ms)) h in
-      let c = counted_is (cells_of ts m.ty) both.0 in
+      let c = some_at (cells_of ts m.ty) both.0 in
       elim (open_member (n ∷ ms) (u ∷ vs) k all.1 both.1) [
         | inl none ↦ inl none
         | inr at ↦ inr (record {

@@ -12,7 +12,7 @@ use Rattle.spv_base.specs.declared.values.Pointer.{Pointer as Reference}
 use Rattle.spv_base.specs.declared.values.Root.{Root}
 use Rattle.spv_base.specs.declared.values.Value.{Value, out-Value}
 use Rattle.spv_base.specs.declared.values.Value.TheOpen.{Value-F}
-use Rattle.spv_base.proofs.PartLemmas.{out_many}
+use Rattle.spv_base.proofs.Exports.{out_many, some_at}
 use Rattle.spv_types.specs.declared.forms.Form.{Form}
 use Rattle.spv_types.specs.declared.forms.Form.TheVariants.{Void, Bool as Boolean, Int, Vector, Array, Runtime, Struct, Pointer, Function}
 use Rattle.spv_types.specs.declared.forms.Member.{Member}
@@ -21,15 +21,10 @@ use Rattle.spv_types.specs.Cells.{cells_of, cells_step, members_cells}
 use Rattle.spv_types.specs.Laws.{AreSound}
 use Rattle.spv_types.specs.Rows.{leaves, no_roots}
 use Rattle.spv_types.specs.Shapes.{HasShape, pointer_in, reached_type, scalar_in, shape_step}
-use Rattle.spv_types.proofs.CellLemmas.{added_is}
-use Rattle.spv_types.proofs.RowCounts.{many_is, shapes_count, times_is}
-use Rattle.spv_types.proofs.RowPlaces.{changed, has_part}
-use Rattle.spv_types.proofs.RowShapes.{shapes_keep}
-use Rattle.spv_types.proofs.ShapeLemmas.{shapes_are_by_forms}
-use Rattle.spv_types.proofs.OffsetLemmas.{cells_by_form}
+use Rattle.spv_types.proofs.Exports.{added_is, many_is, shapes_count, times_is, changed, has_part, shapes_keep, shapes_are_by_forms, shape_formed, cells_by_form}
 use Rattle.spv_values.specs.Places.{IsRowAt}
 use Rattle.spv_mem.specs.Targets.{Fits, MayBePut, count_in, elements_in, is_counted, is_past, last_of}
-use Rattle.spv_mem.proofs.CountLemmas.{counted_is, is_counted_by, shape_formed}
+use Rattle.spv_mem.proofs.CountLemmas.{is_counted_by}
 use Rattle.spv_mem.proofs.PartLemmas.{Found, NotFound, names}
 
 -- ---- how many values a list has
@@ -103,7 +98,7 @@ set_last (v ∷ w ∷ vs) (suc (suc k)) x y g h = set_last (w ∷ vs) (suc k) x 
 
 module _ (ts : Types) (roots : Root → Option ℕ) (sound : AreSound ts) where
   counted_form : (t : ℕ) (f : Form) → form_of ts t ≡ Some f → is_counted ts t ≡ true → (n : ℕ) × (cells_step (cells_of ts) f ≡ Some n)
-  counted_form t f e h = let n = counted_is (cells_of ts t) h in (n.0, sym (cells_by_form ts sound t f e) ∙ n.1)
+  counted_form t f e h = let n = some_at (cells_of ts t) h in (n.0, sym (cells_by_form ts sound t f e) ∙ n.1)
 
   count_alike : (f : Form) (n : ℕ) (a b : Value) → cells_step (cells_of ts) f ≡ Some n → shape_step ts roots (HasShape ts roots) f a → shape_step ts roots (HasShape ts roots) f b → count_in a ≡ count_in b
   count_alike Void n a b c s t = absurd s
@@ -242,7 +237,7 @@ new_length : (ts : Types) (id : ℕ) (v : Value) (path : List ℕ) (u : Value) (
 new_length ts id v path u n k at f may =
     let w = some_is (part_at v path) at.there in
     let p = put_is ts id v path w.0 u f may w.1 in
-    let c = counted_is (cells_of ts p.type) p.counted in
+    let c = some_at (cells_of ts p.type) p.counted in
     sym (row_length v w.0 path n k at w.1) ∙ shapes_count ts no_roots p.type w.0 c.0 p.old c.1 ∙ sym (shapes_count ts no_roots p.type u c.0 p.new c.1)
 
 pub row_for : (ts : Types) (id : ℕ) (v : Value) (path : List ℕ) (u : Value) (n k : ℕ) → IsRowAt v path n k → ∥ Fits ts id v ∥₁ → ∥ MayBePut ts id v path u ∥₁ → IsRowAt v path n (length (leaves u))

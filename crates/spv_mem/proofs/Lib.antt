@@ -1,12 +1,13 @@
-pub mod CountLemmas
-pub mod PartLemmas
-pub mod PlaceLemmas
-pub mod ElementLemmas
-pub mod RootLemmas
-pub mod MemoryLemmas
-pub mod ChangeLemmas
-pub mod CellLemmas
-pub mod ArrayLemmas
-pub mod BlankLemmas
-pub mod ConditionLemmas
-pub mod SingleLemmas
+mod CountLemmas
+mod PartLemmas
+mod PlaceLemmas
+mod ElementLemmas
+mod RootLemmas
+mod MemoryLemmas
+mod ChangeLemmas
+mod CellLemmas
+mod ArrayLemmas
+mod BlankLemmas
+mod ConditionLemmas
+mod SingleLemmas
+pub mod Exports

@@ -7,7 +7,7 @@ use Rattle.std.proofs.Props.{props}
 use Rattle.std.specs.Coded.{codes}
 use Rattle.spv_base.specs.Entries.{change, reads, writes}
 use Rattle.spv_base.specs.Parts.{part_at, with_part}
-use Rattle.spv_base.specs.Variables.{Roots}
+use Rattle.spv_base.specs.Variables.{Roots, root_id}
 use Rattle.spv_base.specs.contracts.values.Value.{the_row}
 use Rattle.spv_base.specs.declared.causes.MemErr.{MemErr}
 use Rattle.spv_base.specs.declared.causes.MemErr.TheVariants.{OutOfBounds}
@@ -17,20 +17,16 @@ use Rattle.spv_base.specs.declared.values.Root.TheVariants.{Shared, Private, Loc
 use Rattle.spv_base.specs.declared.values.Value.{Value}
 use Rattle.spv_types.specs.Rows.{no_roots}
 use Rattle.spv_types.specs.Shapes.{HasShape}
-use Rattle.spv_types.proofs.RowShapes.{shapes_keep}
+use Rattle.spv_types.proofs.Exports.{shapes_keep}
 use Rattle.spv_mem.specs.Levels.{ExchangedAt, ExchangedLevel, ExchangesAt, ExchangesLevel, FitAt, FitLevel, MayBePutAt, MayBePutLevel}
-use Rattle.spv_mem.specs.Memory.{AreVariables, Held, IsMemory, IsVariable, Levels, MayStore, Stores, id_in, load_of, root_value, roots_in, stored, with_level, with_roots}
+use Rattle.spv_mem.specs.Memory.{AreVariables, Held, IsMemory, IsVariable, Levels, MayStore, Stores, load_of, root_value, roots_in, stored, with_level, with_roots}
 use Rattle.spv_mem.specs.Roots.{AreFit, ExchangesIn, MayBePutIn, put_in}
 use Rattle.spv_mem.specs.Targets.{Fits}
 use Rattle.spv_mem.proofs.ElementLemmas.{put_is}
 use Rattle.spv_mem.proofs.RootLemmas.{reads_writes}
+use Rattle.spv_base.proofs.Exports.{set_same}
 
 -- ---- lists
-
-pub set_same : {A : Type 0} (xs : List A) (k : ℕ) (x : A) → slice_get xs k ≡ Some x → slice_set xs k x ≡ xs
-set_same [] k x h = refl
-set_same (y ∷ xs) zero x h = let e : y ≡ x = cc in ap (λ z. z ∷ xs) (sym e)
-set_same (y ∷ xs) (suc k) x h = ap (λ ys. y ∷ ys) (set_same xs k x h)
 
 pub get_set : {A : Type 0} (xs : List A) (k j : ℕ) (x y : A) → slice_get (slice_set xs k x) j ≡ Some y → (slice_get xs j ≡ Some y) ⊎ ((j ≡ k) × (y ≡ x))
 get_set [] k j x y h = inl h
@@ -83,12 +79,12 @@ answered there b h = ap answer h
 
 -- what an exchange in the list of a root is to the memory
 in_list : (m new : Held) (i : ℕ) (p : Pointer) (u : Value) (es after : Roots) (handed : Value) (there : Bool) → roots_in m i p.root ≡ Some es → (after ≡ es → new ≡ m) → new ≡ with_roots i p.root after m
-    → ExchangesIn es (id_in p.root) p.path u after handed there → Stores m i p u new handed (answer there)
+    → ExchangesIn es (root_id p.root) p.path u after handed there → Stores m i p u new handed (answer there)
 in_list m new i p u es after handed there at same is h =
-    rw at (go (option_and_then (λ v. part_at v p.path) (reads (id_in p.root) es)) h)
+    rw at (go (option_and_then (λ v. part_at v p.path) (reads (root_id p.root) es)) h)
   where
-    go : (o : Option Value) → MatchOption o ((there ≡ false) × (after ≡ es) × (handed ≡ u)) (λ w. (there ≡ true) × (after ≡ put_in (id_in p.root) p.path u es) × (handed ≡ w))
-        → MatchOption o ((answer there ≡ Err OutOfBounds) × (new ≡ m) × (handed ≡ u)) (λ w. (answer there ≡ Ok tt) × (new ≡ with_roots i p.root (put_in (id_in p.root) p.path u es) m) × (handed ≡ w))
+    go : (o : Option Value) → MatchOption o ((there ≡ false) × (after ≡ es) × (handed ≡ u)) (λ w. (there ≡ true) × (after ≡ put_in (root_id p.root) p.path u es) × (handed ≡ w))
+        → MatchOption o ((answer there ≡ Err OutOfBounds) × (new ≡ m) × (handed ≡ u)) (λ w. (answer there ≡ Ok tt) × (new ≡ with_roots i p.root (put_in (root_id p.root) p.path u es) m) × (handed ≡ w))
     go None k = (answered there false k.0, same k.1, k.2)
     go (Some w) k = (answered there true k.0, is ∙ ap (λ (x : Roots). with_roots i p.root x m) k.1, k.2)
 
@@ -170,18 +166,18 @@ with_roots_in m i j (Local d id) (Local depth k) es xs h = outer (slice_get m.lo
         ap (λ (ls : List Levels). option_and_then (λ (x : Levels). slice_get x.list depth) (slice_get ls j)) (sym (change_set i (with_level d es) m.locals l at)) ∙ h in
         level l at (slice_get (slice_set m.locals i (with_level d es l)) j) refl is
 
-some_roots : (m : Held) (i : ℕ) (p : Pointer) (w : Value) → load_of m i p ≡ Some w → (es : Roots) × (v : Value) × (roots_in m i p.root ≡ Some es) × (reads (id_in p.root) es ≡ Some v) × (part_at v p.path ≡ Some w)
+some_roots : (m : Held) (i : ℕ) (p : Pointer) (w : Value) → load_of m i p ≡ Some w → (es : Roots) × (v : Value) × (roots_in m i p.root ≡ Some es) × (reads (root_id p.root) es ≡ Some v) × (part_at v p.path ≡ Some w)
 some_roots m i p w h = outer (roots_in m i p.root) refl h
   where
-    inner : (es : Roots) → roots_in m i p.root ≡ Some es → (o : Option Value) → reads (id_in p.root) es ≡ o → option_and_then (λ v. part_at v p.path) o ≡ Some w
-        → (es : Roots) × (v : Value) × (roots_in m i p.root ≡ Some es) × (reads (id_in p.root) es ≡ Some v) × (part_at v p.path ≡ Some w)
+    inner : (es : Roots) → roots_in m i p.root ≡ Some es → (o : Option Value) → reads (root_id p.root) es ≡ o → option_and_then (λ v. part_at v p.path) o ≡ Some w
+        → (es : Roots) × (v : Value) × (roots_in m i p.root ≡ Some es) × (reads (root_id p.root) es ≡ Some v) × (part_at v p.path ≡ Some w)
     inner es at None e g = absurd cc
     inner es at (Some v) e g = (es, v, at, e, g)
 
-    outer : (o : Option Roots) → roots_in m i p.root ≡ o → option_and_then (λ v. part_at v p.path) (option_and_then (reads (id_in p.root)) o) ≡ Some w
-        → (es : Roots) × (v : Value) × (roots_in m i p.root ≡ Some es) × (reads (id_in p.root) es ≡ Some v) × (part_at v p.path ≡ Some w)
+    outer : (o : Option Roots) → roots_in m i p.root ≡ o → option_and_then (λ v. part_at v p.path) (option_and_then (reads (root_id p.root)) o) ≡ Some w
+        → (es : Roots) × (v : Value) × (roots_in m i p.root ≡ Some es) × (reads (root_id p.root) es ≡ Some v) × (part_at v p.path ≡ Some w)
     outer None at g = absurd cc
-    outer (Some es) at g = inner es at (reads (id_in p.root) es) refl g
+    outer (Some es) at g = inner es at (reads (root_id p.root) es) refl g
 
 -- a root's variable may have its value, and a value may be put in it
 fits : (m : Held) (i : ℕ) (r : Root) (es : Roots) (ty id : ℕ) → IsMemory m → roots_in m i r ≡ Some es → reads id m.targets ≡ Some ty → AreFit m.types ty id es
@@ -197,14 +193,14 @@ fits_in m i r es ty id is at named = ∥∥₁_map is (λ (h : IsMemory m). fits
 stored_keeps : (m : Held) (i : ℕ) (p : Pointer) (u w : Value) → IsMemory m → MayStore m i p u → load_of m i p ≡ Some w → IsMemory (stored i p u m)
 stored_keeps m i p u w h may is =
     let s = some_roots m i p w is in
-    let old : IsVariable m.types m.targets (id_in p.root) s.1 = h.variables i p.root s.0 s.2 (id_in p.root) s.1 s.3 in
-    let fit : Fits m.types old.type s.1 = record { sound = h.sound; may = h.targets (id_in p.root) old.type old.named; shape = old.shape } in
+    let old : IsVariable m.types m.targets (root_id p.root) s.1 = h.variables i p.root s.0 s.2 (root_id p.root) s.1 s.3 in
+    let fit : Fits m.types old.type s.1 = record { sound = h.sound; may = h.targets (root_id p.root) old.type old.named; shape = old.shape } in
     let value : root_value m i p.root ≡ Some s.1 = rw (s.2) (s.3) in
     let put = put_is m.types old.type s.1 p.path w u fit (may old.type s.1 old.named value) s.4 in
     let shape : HasShape m.types no_roots old.type (with_part s.1 p.path u) = (shapes_keep m.types no_roots h.sound p.path old.type put.type s.1 w u old.shape put.typed s.4).1 put.new in
     subst IsMemory (sym (stored_is s.0 s.1 s.2 s.3)) (kept s.0 s.1 s.2 s.3 (record { type = old.type; named = old.named; shape = shape }))
   where
-    stored_is : (es : Roots) (v : Value) → roots_in m i p.root ≡ Some es → reads (id_in p.root) es ≡ Some v → stored i p u m ≡ with_roots i p.root (writes (id_in p.root) (with_part v p.path u) es) m
+    stored_is : (es : Roots) (v : Value) → roots_in m i p.root ≡ Some es → reads (root_id p.root) es ≡ Some v → stored i p u m ≡ with_roots i p.root (writes (root_id p.root) (with_part v p.path u) es) m
     stored_is es v at e = rw (at, e) refl
 
     types_same : (r : Root) (es : Roots) → ((with_roots i r es m).types ≡ m.types) × ((with_roots i r es m).targets ≡ m.targets)
@@ -212,16 +208,16 @@ stored_keeps m i p u w h may is =
     types_same (Private id) es = (refl, refl)
     types_same (Local depth id) es = (refl, refl)
 
-    variables : (es : Roots) (v : Value) → roots_in m i p.root ≡ Some es → IsVariable m.types m.targets (id_in p.root) (with_part v p.path u)
-        → AreVariables m.types m.targets (writes (id_in p.root) (with_part v p.path u) es)
-    variables es v at new q x k = elim (reads_writes q (id_in p.root) (with_part v p.path u) es x k) [
+    variables : (es : Roots) (v : Value) → roots_in m i p.root ≡ Some es → IsVariable m.types m.targets (root_id p.root) (with_part v p.path u)
+        → AreVariables m.types m.targets (writes (root_id p.root) (with_part v p.path u) es)
+    variables es v at new q x k = elim (reads_writes q (root_id p.root) (with_part v p.path u) es x k) [
       | inl was ↦ h.variables i p.root es at q x was
-      | inr is ↦ subst (λ (n : ℕ). IsVariable m.types m.targets n x) (sym is.0) (subst (IsVariable m.types m.targets (id_in p.root)) (sym is.1) new)
+      | inr is ↦ subst (λ (n : ℕ). IsVariable m.types m.targets n x) (sym is.0) (subst (IsVariable m.types m.targets (root_id p.root)) (sym is.1) new)
     ]
 
-    kept : (es : Roots) (v : Value) → roots_in m i p.root ≡ Some es → reads (id_in p.root) es ≡ Some v → IsVariable m.types m.targets (id_in p.root) (with_part v p.path u)
-        → IsMemory (with_roots i p.root (writes (id_in p.root) (with_part v p.path u) es) m)
-    kept es v at e new = go p.root (writes (id_in p.root) (with_part v p.path u) es) (variables es v at new)
+    kept : (es : Roots) (v : Value) → roots_in m i p.root ≡ Some es → reads (root_id p.root) es ≡ Some v → IsVariable m.types m.targets (root_id p.root) (with_part v p.path u)
+        → IsMemory (with_roots i p.root (writes (root_id p.root) (with_part v p.path u) es) m)
+    kept es v at e new = go p.root (writes (root_id p.root) (with_part v p.path u) es) (variables es v at new)
       where
         each : (r : Root) (ys : Roots) → AreVariables m.types m.targets ys → (j : ℕ) (q : Root) (xs : Roots) → roots_in (with_roots i r ys m) j q ≡ Some xs → AreVariables m.types m.targets xs
         each r ys all j q xs k = elim (with_roots_in m i j r q ys xs k) [
@@ -244,16 +240,16 @@ stores_keep m i p u new handed result is may did = go (load_of m i p) refl did
         (∥∥₁_elim is (hlevel props) (λ (h : IsMemory m). ∥∥₁_map may (λ (a : MayStore m i p u). stored_keeps m i p u w h a e)))
 
 -- there is no variable where none is named
-pub unnamed : (m : Held) (i : ℕ) (p : Pointer) → ∥ IsMemory m ∥₁ → reads (id_in p.root) m.targets ≡ None → load_of m i p ≡ None
+pub unnamed : (m : Held) (i : ℕ) (p : Pointer) → ∥ IsMemory m ∥₁ → reads (root_id p.root) m.targets ≡ None → load_of m i p ≡ None
 unnamed m i p is none = ∥∥₁_elim is (hlevel (props, codes, the_row.coded)) (λ (h : IsMemory m). go h (roots_in m i p.root) refl)
   where
-    inner : IsMemory m → (es : Roots) → roots_in m i p.root ≡ Some es → (o : Option Value) → reads (id_in p.root) es ≡ o → option_and_then (λ v. part_at v p.path) o ≡ None
+    inner : IsMemory m → (es : Roots) → roots_in m i p.root ≡ Some es → (o : Option Value) → reads (root_id p.root) es ≡ o → option_and_then (λ v. part_at v p.path) o ≡ None
     inner h es at None e = refl
-    inner h es at (Some v) e = absurd (let w = (h.variables i p.root es at (id_in p.root) v e).named in cc)
+    inner h es at (Some v) e = absurd (let w = (h.variables i p.root es at (root_id p.root) v e).named in cc)
 
-    go : IsMemory m → (o : Option Roots) → roots_in m i p.root ≡ o → option_and_then (λ v. part_at v p.path) (option_and_then (reads (id_in p.root)) o) ≡ None
+    go : IsMemory m → (o : Option Roots) → roots_in m i p.root ≡ o → option_and_then (λ v. part_at v p.path) (option_and_then (reads (root_id p.root)) o) ≡ None
     go h None at = refl
-    go h (Some es) at = inner h es at (reads (id_in p.root) es) refl
+    go h (Some es) at = inner h es at (reads (root_id p.root) es) refl
 
 -- ---- a call of store, by the root
 
@@ -314,7 +310,7 @@ pub kept_at : (m now : Held) (i : ℕ) (p : Pointer) (u : Value) (new : Held) (h
     → Stores now i p u new handed result → ∥ IsMemory new ∥₁
 kept_at m now i p u new handed result v is may did = stores_keep now i p u new handed result (subst (λ (x : Held). ∥ IsMemory x ∥₁) v is) may did
 
-pub none_stores : (m now : Held) (i : ℕ) (p : Pointer) (u : Value) → m ≡ now → ∥ IsMemory m ∥₁ → reads (id_in p.root) m.targets ≡ None → Stores now i p u now u (Err OutOfBounds)
+pub none_stores : (m now : Held) (i : ℕ) (p : Pointer) (u : Value) → m ≡ now → ∥ IsMemory m ∥₁ → reads (root_id p.root) m.targets ≡ None → Stores now i p u now u (Err OutOfBounds)
 none_stores m now i p u v is none =
     let gone : load_of now i p ≡ None = subst (λ (x : Held). load_of x i p ≡ None) v (unnamed m i p is none) in
     rw gone (refl, refl, refl)

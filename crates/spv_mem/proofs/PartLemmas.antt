@@ -19,12 +19,11 @@ use Rattle.spv_types.specs.Leaves.{element_part, leaf_of, member_part, part_of}
 use Rattle.spv_types.specs.Rows.{leaves}
 use Rattle.spv_types.specs.Rules.{is_runtime}
 use Rattle.spv_types.specs.Shapes.{HasShape, part_type, pointer_in, reached_type, scalar_in, shape_step}
-use Rattle.spv_types.proofs.RowCounts.{many_is, times_is}
-use Rattle.spv_types.proofs.RowLemmas.{many_row}
-use Rattle.spv_types.proofs.ShapeLemmas.{shapes_are_by_forms}
-use Rattle.spv_types.proofs.OffsetLemmas.{cells_by_form}
+use Rattle.spv_types.proofs.Exports.{many_is, times_is, many_row, shapes_are_by_forms, shape_formed, cells_by_form}
 use Rattle.spv_mem.specs.Targets.{element_index, elements_in, end_open, is_array_at, is_counted, is_open_array, is_open_block, is_past, last_of, may_be_target}
-use Rattle.spv_mem.proofs.CountLemmas.{MemberAt, NoMember, NoPart, PartIs, all_at, at_index, below_is, counted_is, counted_member, is_counted_by, item_at, open_member, past_is, shape_formed}
+use Rattle.spv_mem.proofs.CountLemmas.{MemberAt, NoMember, NoPart, PartIs, all_at, at_index, counted_member, is_counted_by, item_at, open_member}
+use Rattle.std.proofs.lemmas.Bool.{lt-ltb}
+use Rattle.spv_base.proofs.Exports.{some_at, not_below}
 
 -- ---- paths, an index at a time
 
@@ -110,14 +109,14 @@ module _ (ts : Types) (roots : Root → Option ℕ) (sound : AreSound ts) where
       type = element;
       values = vs;
       part = at.0;
-      at = same ∙ rw (below_is i count (subst (λ (n : ℕ). i < n) long at.1), h) refl;
+      at = same ∙ rw (lt-ltb i count (subst (λ (n : ℕ). i < n) long at.1), h) refl;
       typed = typed;
       is = e;
       found = at.2;
       shape = all_at (HasShape ts roots element) vs i at.0 all at.2;
       counted = is_counted_by (cells_of ts element) c h;
     })
-    | inr past ↦ inl (same ∙ rw (past_is i count (subst (λ (n : ℕ). n ≤ i) long past.0)) refl, no_item v vs i e past.1)
+    | inr past ↦ inl (same ∙ rw (not_below i count (subst (λ (n : ℕ). n ≤ i) long past.0)) refl, no_item v vs i e past.1)
   ]
 
   -- a member of a struct
@@ -193,7 +192,7 @@ module _ (ts : Types) (roots : Root → Option ℕ) (sound : AreSound ts) where
   counted_path [] id v counted shape = inr (record { before = 0; type = id; part = v; leaf = leaf_nil ts id; typed = reached_nil ts id; is = refl; counted = counted })
   counted_path (i ∷ path) id v counted shape =
       let f = shape_formed ts roots id v shape in
-      let n = counted_is (cells_of ts id) counted in
+      let n = some_at (cells_of ts id) counted in
       let step : shape_step ts roots (HasShape ts roots) f.0 v = (shapes_are_by_forms ts roots sound id f.0 v f.1).0 shape in
       elim (part_step f.0 v i n.0 (sym (cells_by_form ts sound id f.0 f.1) ∙ n.1) step) [
         | inl none ↦ inl (leaf_none ts id i f.0 path f.1 none.0, part_none v i path none.1)
@@ -217,7 +216,7 @@ module _ (ts : Types) (roots : Root → Option ℕ) (sound : AreSound ts) where
       go (Some (Array element length stride)) e = refl
       go (Some (Runtime element stride)) e =
           let none : cells_of ts t ≡ None = cells_by_form ts sound t (Runtime element stride) e in
-          absurd (let n = counted_is (cells_of ts t) h in let i = n.1 in cc)
+          absurd (let n = some_at (cells_of ts t) h in let i = n.1 in cc)
       go (Some (Struct members block)) e = refl
       go (Some (Pointer class target)) e = refl
       go (Some (Function returns parameters)) e = refl
@@ -283,7 +282,7 @@ module _ (ts : Types) (roots : Root → Option ℕ) (sound : AreSound ts) where
   element_found : (t i : ℕ) (path : List ℕ) (u : Value) (us : List Value) (a : ArrayIs t) (w : Value) → out-Value u ≡ Value-F.List us → slice_get us i ≡ Some w
       → FoundWhole ts a.element path w → FoundWhole ts t (i ∷ path) u
   element_found t i path u us a w e g inner =
-      let c = counted_is (cells_of ts a.element) a.counted in
+      let c = some_at (cells_of ts a.element) a.counted in
       let at = runtime_part a.element a.stride i c.0 c.1 in record {
         before = c.0 * i + inner.before;
         type = inner.type;
@@ -297,7 +296,7 @@ module _ (ts : Types) (roots : Root → Option ℕ) (sound : AreSound ts) where
   element_not : (t i : ℕ) (path : List ℕ) (u : Value) (us : List Value) (a : ArrayIs t) (w : Value) → out-Value u ≡ Value-F.List us → slice_get us i ≡ Some w
       → NotFound ts a.element path w → NotFound ts t (i ∷ path) u
   element_not t i path u us a w e g none =
-      let c = counted_is (cells_of ts a.element) a.counted in
+      let c = some_at (cells_of ts a.element) a.counted in
       let at = runtime_part a.element a.stride i c.0 c.1 in
       (leaf_cons ts t i (c.0 * i) a.element (Runtime a.element a.stride) path a.form at ∙ ap (option_map (λ n. c.0 * i + n)) none.0, part_cons u w us i path e g ∙ none.1)
 

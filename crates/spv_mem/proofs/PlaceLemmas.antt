@@ -10,18 +10,15 @@ use Rattle.spv_base.specs.Parts.{part_at}
 use Rattle.spv_base.specs.contracts.values.Value.{the_row}
 use Rattle.spv_base.specs.declared.values.Value.{Value}
 use Rattle.spv_types.specs.Cells.{cells_of}
-use Rattle.spv_types.specs.Saturation.{saturated}
+use Rattle.spv_base.specs.Saturation.{saturated}
 use Rattle.spv_types.specs.Leaves.{leaf_of}
 use Rattle.spv_types.specs.Rows.{HasRow, Lies, leaves, no_roots}
 use Rattle.spv_types.specs.Shapes.{HasShape, reached_type}
 use Rattle.spv_types.specs.Types.{Types}
-use Rattle.spv_types.proofs.RowCounts.{shapes_count}
-use Rattle.spv_types.proofs.RowPlaces.{lies_within, part_lies}
-use Rattle.spv_types.proofs.RowShapes.{shapes_keep}
-use Rattle.spv_types.proofs.SaturationLemmas.{unsaturated}
+use Rattle.spv_types.proofs.Exports.{shapes_count, lies_within, part_lies, shapes_keep}
+use Rattle.spv_base.proofs.Exports.{unsaturated, some_at}
 use Rattle.spv_values.specs.Places.{IsRowAt}
 use Rattle.spv_mem.specs.Targets.{Fits, elements_in, is_counted, is_past}
-use Rattle.spv_mem.proofs.CountLemmas.{counted_is}
 use Rattle.spv_mem.proofs.PartLemmas.{Found, NotFound, names}
 
 saturated_none : (o : Option ℕ) → None ≡ option_map saturated o → o ≡ None
@@ -115,7 +112,7 @@ row_there ts id path v start t fits low short leaf typed = ∥∥₁_map fits (�
         let small : n < 2 ^ 64 = omega (arith, count, within, short) in
         count ∙ sym (unsaturated n small)
     long l None e = elim l.size [
-      | inl c ↦ absurd (let n = counted_is (cells_of ts t) c in let i = n.1 in cc)
+      | inl c ↦ absurd (let n = some_at (cells_of ts t) c in let i = n.1 in cc)
       | inr s ↦ omega (arith, s)
     ]
 

@@ -4,6 +4,8 @@ use Rattle.std.specs.Prelude.{if◌then◌else◌, not}
 use Rattle.std.specs.Option.{MatchOption, is_some, option_or}
 use Rattle.std.proofs.Math.Logic.{∥∥₁_map}
 use Rattle.std.proofs.lemmas.Option.{get_or_from_slice_get, slice_get-get_or}
+use Rattle.std.proofs.lemmas.Bool.{eqb-true, and_parts, eq-eqb}
+use Rattle.spv_base.proofs.Exports.{none_at, set_same, not_same}
 use Rattle.spv_base.specs.Parts.{part_at, with_part}
 use Rattle.spv_types.specs.Types.{Types}
 use Rattle.spv_mem.specs.Targets.{Exchanges, Fits, MayBePut}
@@ -14,40 +16,22 @@ use Rattle.spv_mem.specs.Roots.{AreFit, ExchangesIn, IsAt, MayBePutIn, distinct}
 
 -- ---- numbers
 
-same_true : (a b : ℕ) → a ≡ b → (a == b) ≡ true
-same_true a b h = grind arith
-
-differ_false : (a b : ℕ) → a ≢ b → (a == b) ≡ false
-differ_false a b h = grind arith
-
-true_same : (a b : ℕ) → (a == b) ≡ true → a ≡ b
-true_same a b h = grind arith
-
 false_differ : (a b : ℕ) → (a == b) ≡ false → a ≢ b
 false_differ a b h = grind arith
-
-both_true : (a b : Bool) → (a && b) ≡ true → (a ≡ true) × (b ≡ true)
-both_true true true h = (refl, refl)
-both_true true false h = absurd cc
-both_true false b h = absurd cc
-
-not_some : {X : Type 0} (o : Option X) → not (is_some o) ≡ true → o ≡ None
-not_some None h = refl
-not_some (Some x) h = absurd cc
 
 -- ---- reading
 
 reads_here : {X : Type 0} (k : ℕ) (e : ℕ × X) (es : List (ℕ × X)) → e.0 ≡ k → reads k (e ∷ es) ≡ Some e.1
-reads_here k e es h = rw (same_true e.0 k h) refl
+reads_here k e es h = rw (eq-eqb e.0 k h) refl
 
 reads_there : {X : Type 0} (k : ℕ) (e : ℕ × X) (es : List (ℕ × X)) → e.0 ≢ k → reads k (e ∷ es) ≡ reads k es
-reads_there k e es h = rw (differ_false e.0 k h) refl
+reads_there k e es h = rw (not_same e.0 k h) refl
 
 writes_here : {X : Type 0} (k : ℕ) (u : X) (e : ℕ × X) (es : List (ℕ × X)) → e.0 ≡ k → writes k u (e ∷ es) ≡ (e.0, u) ∷ es
-writes_here k u e es h = rw (same_true e.0 k h) refl
+writes_here k u e es h = rw (eq-eqb e.0 k h) refl
 
 writes_there : {X : Type 0} (k : ℕ) (u : X) (e : ℕ × X) (es : List (ℕ × X)) → e.0 ≢ k → writes k u (e ∷ es) ≡ e ∷ writes k u es
-writes_there k u e es h = rw (differ_false e.0 k h) refl
+writes_there k u e es h = rw (not_same e.0 k h) refl
 
 pub reads_snoc : {X : Type 0} (q : ℕ) (es : List (ℕ × X)) (e : ℕ × X) → reads q (es ++ e ∷ []) ≡ option_or (reads q es) (if e.0 == q then Some e.1 else None)
 reads_snoc q [] e = refl
@@ -68,7 +52,7 @@ reads_next q (d ∷ es) (suc k) e h = go (reads_next q es k e h) (d.0 == q) refl
     go ih false g = rw g ih
 
 pub not_yet : {X : Type 0} (q : ℕ) (es : List (ℕ × X)) (k : ℕ) (e : ℕ × X) → slice_get es k ≡ Some e → e.0 ≢ q → reads q (take k es) ≡ None → reads q (take (k + 1) es) ≡ None
-not_yet q es k e h differ none = rw (add-one k) (reads_next q es k e h ∙ rw (none, differ_false e.0 q differ) refl)
+not_yet q es k e h differ none = rw (add-one k) (reads_next q es k e h ∙ rw (none, not_same e.0 q differ) refl)
 
 -- ---- places
 
@@ -97,9 +81,9 @@ pub at_place : (id : ℕ) (es : Roots) (k : ℕ) (v : Value) → distinct es ≡
 at_place id [] k v d h = absurd cc
 at_place id (e ∷ es) zero v d h = at_first id (e ∷ es) zero v refl h
 at_place id (e ∷ es) (suc k) v d h =
-    let both = both_true (not (is_some (reads e.0 es))) (distinct es) d in
+    let both = and_parts (not (is_some (reads e.0 es))) (distinct es) d in
     let inner = at_place id es k v both.1 h in
-    let gone : reads e.0 es ≡ None = not_some (reads e.0 es) both.0 in
+    let gone : reads e.0 es ≡ None = none_at (reads e.0 es) both.0 in
     let differ : e.0 ≢ id = λ same. absurd (let i = inner.is in let g : reads id es ≡ None = subst (λ (q : ℕ). reads q es ≡ None) same gone in cc) in
     record { value = inner.value; is = reads_there id e es differ ∙ inner.is; at = inner.at; written = λ u. writes_there id u e es differ ∙ ap (λ (xs : Roots). e ∷ xs) (inner.written u) }
 
@@ -107,15 +91,15 @@ at_place id (e ∷ es) (suc k) v d h =
 
 pub distinct_snoc : (es : Roots) (id : ℕ) (v : Value) → distinct es ≡ true → reads id es ≡ None → distinct (es ++ (id, v) ∷ []) ≡ true
 distinct_snoc [] id v d none = refl
-distinct_snoc (e ∷ es) id v d none = go (λ n. distinct_snoc es id v (both_true (not (is_some (reads e.0 es))) (distinct es) d).1 n) (e.0 == id) refl none
+distinct_snoc (e ∷ es) id v d none = go (λ n. distinct_snoc es id v (and_parts (not (is_some (reads e.0 es))) (distinct es) d).1 n) (e.0 == id) refl none
   where
     go : (reads id es ≡ None → distinct (es ++ (id, v) ∷ []) ≡ true) → (b : Bool) → (e.0 == id) ≡ b → (if e.0 == id then Some e.1 else reads id es) ≡ None → (not (is_some (reads e.0 (es ++ (id, v) ∷ []))) && distinct (es ++ (id, v) ∷ [])) ≡ true
     go ih true g n = absurd (let i : (if e.0 == id then Some e.1 else reads id es) ≡ Some e.1 = rw g refl in cc)
     go ih false g n =
         let differ = false_differ e.0 id g in
-        let both = both_true (not (is_some (reads e.0 es))) (distinct es) d in
-        let gone : reads e.0 es ≡ None = not_some (reads e.0 es) both.0 in
-        let back : (id == e.0) ≡ false = differ_false id e.0 (λ same. differ (sym same)) in
+        let both = and_parts (not (is_some (reads e.0 es))) (distinct es) d in
+        let gone : reads e.0 es ≡ None = none_at (reads e.0 es) both.0 in
+        let back : (id == e.0) ≡ false = not_same id e.0 (λ same. differ (sym same)) in
         let less : reads id es ≡ None = sym (reads_there id e es differ) ∙ n in
         let more : reads e.0 (es ++ (id, v) ∷ []) ≡ None = reads_snoc e.0 es (id, v) ∙ rw (gone, back) refl in
         rw (more, ih less) refl
@@ -130,7 +114,7 @@ reads_writes q id u (e ∷ es) x h = go (λ k. reads_writes q id u es x k) (e.0 
 
     other : Rest → (b : Bool) → (e.0 == q) ≡ b → reads q (e ∷ writes id u es) ≡ Some x → (reads q (e ∷ es) ≡ Some x) ⊎ ((q ≡ id) × (x ≡ u))
     other ih true g k =
-        let same = true_same e.0 q g in
+        let same = eqb-true e.0 q g in
         inl (reads_here q e es same ∙ sym (reads_here q e (writes id u es) same) ∙ k)
     other ih false g k =
         let differ = false_differ e.0 q g in
@@ -141,7 +125,7 @@ reads_writes q id u (e ∷ es) x h = go (λ k. reads_writes q id u es x k) (e.0 
 
     first : (b : Bool) → (e.0 == q) ≡ b → e.0 ≡ id → reads q ((e.0, u) ∷ es) ≡ Some x → (reads q (e ∷ es) ≡ Some x) ⊎ ((q ≡ id) × (x ≡ u))
     first true g key k =
-        let same = true_same e.0 q g in
+        let same = eqb-true e.0 q g in
         let is : Some u ≡ Some x = sym (reads_here q (e.0, u) es same) ∙ k in
         inr (sym same ∙ key, cc)
     first false g key k =
@@ -150,7 +134,7 @@ reads_writes q id u (e ∷ es) x h = go (λ k. reads_writes q id u es x k) (e.0 
 
     go : Rest → (b : Bool) → (e.0 == id) ≡ b → (reads q (e ∷ es) ≡ Some x) ⊎ ((q ≡ id) × (x ≡ u))
     go ih true g =
-        let key = true_same e.0 id g in
+        let key = eqb-true e.0 id g in
         first (e.0 == q) refl key (ap (reads q) (sym (writes_here id u e es key)) ∙ h)
     go ih false g =
         let differ = false_differ e.0 id g in
@@ -161,7 +145,7 @@ none_writes q id u [] h = refl
 none_writes q id u (e ∷ es) h = go (λ none. none_writes q id u es none) (e.0 == q) refl h
   where
     rest : (reads q es ≡ None → reads q (writes id u es) ≡ None) → (b : Bool) → (e.0 == id) ≡ b → e.0 ≢ q → reads q es ≡ None → reads q (writes id u (e ∷ es)) ≡ None
-    rest ih true g differ none = ap (reads q) (writes_here id u e es (true_same e.0 id g)) ∙ reads_there q (e.0, u) es differ ∙ none
+    rest ih true g differ none = ap (reads q) (writes_here id u e es (eqb-true e.0 id g)) ∙ reads_there q (e.0, u) es differ ∙ none
     rest ih false g differ none = ap (reads q) (writes_there id u e es (false_differ e.0 id g)) ∙ reads_there q e (writes id u es) differ ∙ ih none
 
     go : (reads q es ≡ None → reads q (writes id u es) ≡ None) → (b : Bool) → (e.0 == q) ≡ b → (if e.0 == q then Some e.1 else reads q es) ≡ None → reads q (writes id u (e ∷ es)) ≡ None
@@ -173,21 +157,16 @@ distinct_writes id u [] d = refl
 distinct_writes id u (e ∷ es) d = go (λ rest. distinct_writes id u es rest) (e.0 == id) refl
   where
     go : (distinct es ≡ true → distinct (writes id u es) ≡ true) → (b : Bool) → (e.0 == id) ≡ b → distinct (writes id u (e ∷ es)) ≡ true
-    go ih true g = ap distinct (writes_here id u e es (true_same e.0 id g)) ∙ d
+    go ih true g = ap distinct (writes_here id u e es (eqb-true e.0 id g)) ∙ d
     go ih false g =
-        let both = both_true (not (is_some (reads e.0 es))) (distinct es) d in
-        let gone = none_writes e.0 id u es (not_some (reads e.0 es) both.0) in
+        let both = and_parts (not (is_some (reads e.0 es))) (distinct es) d in
+        let gone = none_writes e.0 id u es (none_at (reads e.0 es) both.0) in
         ap distinct (writes_there id u e es (false_differ e.0 id g)) ∙ rw (gone, ih both.1) refl
 
 -- ---- the variable at a place
 
 pub item_is : (id : ℕ) (es : Roots) (k : ℕ) (x d : ℕ × Value) (a : IsAt id k es) → x ≡ get_or es k d → x ≡ (id, a.value)
 item_is id es k x d a h = h ∙ get_or_from_slice_get es k (id, a.value) d a.at
-
-set_same : {A : Type 0} (xs : List A) (k : ℕ) (x : A) → slice_get xs k ≡ Some x → slice_set xs k x ≡ xs
-set_same [] k x h = refl
-set_same (y ∷ xs) zero x h = let e : y ≡ x = cc in ap (λ z. z ∷ xs) (sym e)
-set_same (y ∷ xs) (suc k) x h = ap (λ ys. y ∷ ys) (set_same xs k x h)
 
 pub fit_at : (ts : Types) (ty id : ℕ) (es : Roots) (k : ℕ) (v : Value) (a : IsAt id k es) → v ≡ a.value → ∥ AreFit ts ty id es ∥₁ → ∥ Fits ts ty v ∥₁
 fit_at ts ty id es k v a same fit = ∥∥₁_map fit (λ (f : AreFit ts ty id es). subst (Fits ts ty) (sym same) (f a.value a.is))

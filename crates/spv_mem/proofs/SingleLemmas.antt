@@ -5,12 +5,12 @@ use Rattle.std.proofs.Math.Logic.{∥∥₁_elim, ∥∥₁_map}
 use Rattle.std.proofs.Props.{props}
 use Rattle.std.specs.Coded.{codes}
 use Rattle.spv_base.specs.Parts.{part_at, with_part}
-use Rattle.spv_base.specs.Variables.{Roots}
+use Rattle.spv_base.specs.Variables.{Roots, root_id}
 use Rattle.spv_base.specs.declared.values.Root.{Root}
 use Rattle.spv_base.specs.declared.values.Root.TheVariants.{Shared, Private, Local}
 use Rattle.spv_base.specs.declared.values.Value.{Value}
 use Rattle.spv_values.specs.Places.{IsRowAt}
-use Rattle.spv_mem.specs.Memory.{Held, IsMemory, MayStore, id_in, root_value, roots_in}
+use Rattle.spv_mem.specs.Memory.{Held, IsMemory, MayStore, root_value, roots_in}
 use Rattle.spv_mem.specs.Roots.{IsAt}
 use Rattle.spv_mem.specs.Singles.{IsLeafFor, LeafAt, LeafIn, LeafLevel, NamesRow}
 use Rattle.spv_mem.specs.Targets.{Exchanges, Fits, MayBePut, elements_in}
@@ -41,13 +41,13 @@ leaf_at id es k leaf path u v a same may = ∥∥₁_map may (λ (h : LeafIn id 
 -- ---- in a memory
 
 leaf_in : (m : Held) (i : ℕ) (r : Root) (es : Roots) (leaf : ℕ) (path : List ℕ) (u : Value) → IsMemory m → NamesRow m i (record { root = r; path = path }) leaf 1
-    → MayStore m i (record { root = r; path = path }) u → roots_in m i r ≡ Some es → LeafIn (id_in r) es leaf path u
+    → MayStore m i (record { root = r; path = path }) u → roots_in m i r ≡ Some es → LeafIn (root_id r) es leaf path u
 leaf_in m i r es leaf path u h names may at v is =
     let value : root_value m i r ≡ Some v = rw at is in
     let same : names.value ≡ v = let e = names.is in cc in
     let row : IsRowAt v path leaf 1 = subst (λ (x : Value). IsRowAt x path leaf 1) same names.row in
-    let w = h.variables i r es at (id_in r) v is in
-    let fits : Fits m.types w.type v = record { sound = h.sound; may = h.targets (id_in r) w.type w.named; shape = w.shape } in
+    let w = h.variables i r es at (root_id r) v is in
+    let fits : Fits m.types w.type v = record { sound = h.sound; may = h.targets (root_id r) w.type w.named; shape = w.shape } in
     let put : MayBePut m.types w.type v path u = may w.type v w.named value in
     record { row = row; elements = elements_stay m.types w.type v path u leaf 1 row ∣ fits ∣₁ ∣ put ∣₁ }
 

@@ -6,7 +6,7 @@ use Rattle.std.specs.Prelude.{◌≡◌, ℕ, ◌<◌, ◌++◌, ◌∷◌, [], 
 use Rattle.std.specs.Option.{MatchOption, option_and_then, option_map_or}
 use Rattle.spv_base.specs.Entries.{reads, change}
 use Rattle.spv_base.specs.Parts.{part_at}
-use Rattle.spv_base.specs.Variables.{Roots}
+use Rattle.spv_base.specs.Variables.{Roots, root_id}
 use Rattle.spv_base.specs.declared.causes.MemErr.{MemErr}
 use Rattle.spv_base.specs.declared.causes.MemErr.TheVariants.{UndefinedIndex, OutOfBounds, NoMemory}
 use Rattle.spv_base.specs.declared.values.Pointer.{Pointer}
@@ -36,12 +36,6 @@ pub record Held : Type 0 where
 
 -- ---- reading
 
--- the id of the variable that a root names
-abbrev pub id_in : Root → ℕ
-id_in (Shared id) = id
-id_in (Private id) = id
-id_in (Local depth id) = id
-
 -- the list in which the variable stands that a root of an invocation names
 abbrev pub roots_in : Held → ℕ → Root → Option Roots
 roots_in m i (Shared id) = Some m.shared
@@ -50,7 +44,7 @@ roots_in m i (Local depth id) = option_and_then (λ (l : Levels). slice_get l.li
 
 -- the value of the variable that a root of an invocation names
 abbrev pub root_value : Held → ℕ → Root → Option Value
-root_value m i r = option_and_then (reads (id_in r)) (roots_in m i r)
+root_value m i r = option_and_then (reads (root_id r)) (roots_in m i r)
 
 -- the part that a pointer of an invocation names
 abbrev pub load_of : Held → ℕ → Pointer → Option Value
@@ -69,7 +63,7 @@ with_roots i (Local depth id) es m = record m { locals = change i (with_level de
 
 -- another part where a pointer of an invocation leads, in a variable that is there
 abbrev pub stored : ℕ → Pointer → Value → Held → Held
-stored i p u m = option_map_or (λ es. with_roots i p.root (put_in (id_in p.root) p.path u es) m) (roots_in m i p.root) m
+stored i p u m = option_map_or (λ es. with_roots i p.root (put_in (root_id p.root) p.path u es) m) (roots_in m i p.root) m
 
 -- ---- what calls give
 
@@ -87,7 +81,7 @@ Stores m i p u new handed result =
 
 -- a value may be put where a pointer leads, if it leads anywhere: of the part's type, which has no runtime array in it
 abbrev pub MayStore : Held → ℕ → Pointer → Value → Type 0
-MayStore m i p u = (ty : ℕ) (v : Value) → reads (id_in p.root) m.targets ≡ Some ty → root_value m i p.root ≡ Some v → MayBePut m.types ty v p.path u
+MayStore m i p u = (ty : ℕ) (v : Value) → reads (root_id p.root) m.targets ≡ Some ty → root_value m i p.root ≡ Some v → MayBePut m.types ty v p.path u
 
 -- ---- what a memory keeps
 

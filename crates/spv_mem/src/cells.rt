@@ -6,12 +6,12 @@ ghost use Rattle.spv_mem.specs.Targets.{count_in};
 ghost use Rattle.spv_types.specs.Rows.{leaves};
 ghost use Rattle.spv_types.specs.Shapes.{scalar_in};
 
-use crate::storage::{Memory, id_in};
+use crate::storage::Memory;
 use spv_base::{Cell, MemErr, Pointer, Root};
 use spv_values::{Part, Row};
 
 /// The cell of a scalar.
-#[tactic(auto, using(crate::proofs::CellLemmas::one_leaf, crate::proofs::CellLemmas::is_scalar))]
+#[tactic(auto, using(spv_values::proofs::Exports::one_leaf, crate::proofs::CellLemmas::is_scalar))]
 fn cell_of(part: &Part) -> Cell
     requires { IsSome (scalar_in (out-Value part.now)) }
     ensures { part.now ≡ Scalar result }
@@ -65,7 +65,7 @@ impl Memory {
         requires { ∥ NamesArray self.now p.now member ∥₁ }
         ensures { (i : ℕ) → option_map count_in (load_of self.now i (member_of p.now member)) ≡ Some result }
     {
-        let id = id_in(p.root);
+        let id = p.root.id();
         self.shared.elements(id, self.targets.place(id))
     }
 
@@ -73,7 +73,7 @@ impl Memory {
     pub fn root_cells(&self, inv: u32, root: &Root) -> Option<&[Cell]>
         ensures { option_map (λ cells. cells.now) result ≡ option_map leaves (root_value self.now inv root.now) }
     {
-        let id = id_in(*root);
+        let id = root.id();
         let roots = self.roots(inv, *root)?;
         roots.cells(id, self.targets.place(id))
     }

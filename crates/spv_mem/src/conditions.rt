@@ -11,7 +11,7 @@ ghost use Rattle.spv_mem.specs.Targets.{end_open, is_open_array, is_open_block, 
 ghost use Rattle.spv_types.specs.Laws.{AreSound};
 
 use crate::places::{is_array_at, reached_type};
-use crate::storage::{Memory, id_in};
+use crate::storage::Memory;
 use spv_base::{Pointer, Root};
 use spv_types::{Form, Member, TypeTable};
 
@@ -85,7 +85,7 @@ impl Memory {
         ensures may { IfSome result (λ width. (i : ℕ) (c : Cell) → c.width ≡ width → IsCell c → ∥ MayStore self.now i p.now (Scalar c) ∥₁) }
     {
         let types = self.types.as_ref();
-        let id = id_in(p.root);
+        let id = p.root.id();
         let target = self.targets.get(id)?;
         let ty = reached_type(types, target.ty, p.path.as_slice())?;
         integer_width(types.form(ty))

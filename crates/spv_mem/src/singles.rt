@@ -1,7 +1,8 @@
 //! Leaves of variables, exchanged by where they lie, as a journal keeps them. It takes no memory, and the same call undoes it.
 ghost use Rattle.std.specs.Prelude.{◌≡◌, IfSome, true};
+ghost use Rattle.spv_base.specs.Variables.{root_id};
 ghost use Rattle.spv_mem.specs.Levels.{ExchangesAt, ExchangesLevel};
-ghost use Rattle.spv_mem.specs.Memory.{MayStore, Stores, id_in};
+ghost use Rattle.spv_mem.specs.Memory.{MayStore, Stores};
 ghost use Rattle.spv_mem.specs.Roots.{AreFit, ExchangesIn};
 ghost use Rattle.spv_mem.specs.Singles.{IsLeafFor, LeafAt, LeafIn, LeafLevel, LiesIn, NamesRow};
 ghost use Rattle.spv_mem.specs.Targets.{Exchanges};
@@ -9,7 +10,7 @@ ghost use Rattle.spv_mem.specs.Targets.{Exchanges};
 use crate::entries::{Locals, Roots};
 use crate::levels::Levels;
 use crate::places::Place;
-use crate::storage::{Memory, answer, id_in};
+use crate::storage::{Memory, answer};
 use crate::targets::{Target, Targets};
 use crate::variables::Variable;
 use spv_base::{Ghost, MemErr, Path, Pointer, Root};
@@ -26,10 +27,10 @@ pub(crate) struct Spot {
 
 /// A leaf of the variable that a root names.
 fn spot_of(targets: &Targets, root: Root, leaf: usize) -> Spot
-    ensures id { result.id ≡ id_in root }
+    ensures id { result.id ≡ root_id root }
     ensures leaf { result.leaf ≡ leaf }
 {
-    let id = id_in(root);
+    let id = root.id();
     Spot {
         id,
         place: targets.place(id),
@@ -130,7 +131,7 @@ impl Memory {
     pub fn place(&self, inv: u32, p: &Pointer) -> Option<Place>
         ensures { IfSome result (λ at. NamesRow self.now inv p.now at.start at.len) }
     {
-        let id = id_in(p.root);
+        let id = p.root.id();
         let target = self.targets.get(id)?;
         let roots = self.roots(inv, p.root)?;
         roots.part_place(self.types.as_ref(), target, id, &p.path)

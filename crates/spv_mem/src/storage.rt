@@ -1,7 +1,7 @@
 //! Memory: loads and stores of parts of variables.
 ghost use Rattle.std.specs.Prelude.{◌≡◌, IfOk, [], Err, Ok, option_copied, replicate, if◌then◌else◌};
 ghost use Rattle.spv_base.specs.declared.causes.MemErr.TheVariants.{OutOfBounds as Outside};
-ghost use Rattle.spv_mem.specs.Memory.{AreTargets, IsMemory, Loads, MayStore, Stores, empty, id_in, load_of, root_value, roots_in};
+ghost use Rattle.spv_mem.specs.Memory.{AreTargets, IsMemory, Loads, MayStore, Stores, empty, load_of, root_value, roots_in};
 
 use crate::entries::Roots;
 use crate::levels::{Levels, exchange_at, exchange_level};
@@ -36,15 +36,6 @@ impl Model for Memory {
     ghost view = { λ m. record { types = m.types.value; targets = m.targets; shared = m.shared; privates = m.privates.items; locals = m.locals.items } };
 
     ghost invariant = { λ m. ∥ IsMemory (record { types = m.types.value; targets = m.targets; shared = m.shared; privates = m.privates.items; locals = m.locals.items }) ∥₁ };
-}
-
-/// The id of the variable that a root names.
-pub(crate) fn id_in(root: Root) -> u32
-    ensures { result ≡ id_in root }
-{
-    match root {
-        Root::Shared(id) | Root::Private(id) | Root::Local { id, .. } => id,
-    }
 }
 
 /// What a store answers.
@@ -124,7 +115,7 @@ impl Memory {
     pub(crate) fn part(&self, inv: u32, p: &Pointer) -> Option<Part<'_>>
         ensures { result ≡ load_of self.now inv p.now }
     {
-        let id = id_in(p.root);
+        let id = p.root.id();
         let target = self.targets.get(id)?;
         let roots = self.roots(inv, p.root)?;
         roots.load(self.types.as_ref(), target, id, &p.path)
@@ -134,7 +125,7 @@ impl Memory {
     pub fn whole(&self, inv: u32, root: Root) -> Option<Part<'_>>
         ensures { result ≡ root_value self.now inv root }
     {
-        let id = id_in(root);
+        let id = root.id();
         let roots = self.roots(inv, root)?;
         roots.whole(id, self.targets.place(id))
     }
@@ -159,7 +150,7 @@ impl Memory {
         requires { ∥ MayStore self.old inv p.now row.old ∥₁ }
         ensures { Stores self.old inv p.now row.old self.new row.new result }
     {
-        let Some(target) = self.targets.get(id_in(p.root)) else {
+        let Some(target) = self.targets.get(p.root.id()) else {
             return Err(MemErr::OutOfBounds);
         };
         let types = self.types.as_ref();

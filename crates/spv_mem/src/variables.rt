@@ -4,7 +4,7 @@ ghost use Rattle.std.specs.Option.{MatchOption, option_map_or};
 ghost use Rattle.spv_base.specs.Parts.{part_at};
 ghost use Rattle.spv_mem.specs.Targets.{Exchanges, Fits, MayBePut, elements_in, is_past};
 ghost use Rattle.spv_types.specs.Cells.{cells_of};
-ghost use Rattle.spv_types.specs.Saturation.{saturated};
+ghost use Rattle.spv_base.specs.Saturation.{saturated};
 ghost use Rattle.spv_types.specs.Rows.{leaves};
 ghost use Rattle.spv_values.specs.Places.{IsRowAt};
 

@@ -1,7 +1,7 @@
 -- Where the variables of an accepted module live: those before the functions by the rules of their storage classes, and those of functions
 -- in the class Function.
 use Rattle.std.proofs.Common.{◌≡◌, ◌⊎◌, ◌∙◌, inl, inr, ℕ, zero, suc, ◌<◌, ◌==◌, ◌&&◌, ◌||◌, Bool, true, false, cond, List, [], ◌∷◌, ◌++◌, drop, length, Option, Some, None, Ok, refl, sym, ap, subst, arith}
-use Rattle.std.proofs.lemmas.Bool.{and_parts, both_ways, eq-eqb, eqb-true, not-true, or_cases, or_left, or_right}
+use Rattle.std.proofs.lemmas.Bool.{and_parts, both_ways, eq-eqb, eqb-true, not-true, or_cases, or_left, or_right, and_from}
 use Rattle.std.specs.Prelude.{find, if◌then◌else◌, nat_le, not, unwrap_or}
 use Rattle.std.specs.List.{Contains, list_all}
 use Rattle.std.specs.Option.{option_map}
@@ -22,10 +22,9 @@ use Rattle.spv_types.specs.Build.{type_breaches, unless_refused}
 use Rattle.spv_types.specs.InterfaceBlocks.{nothing}
 use Rattle.spv_types.specs.Rules.{has_runtime, is_block, is_class, is_data, is_input, is_three_words, is_word, keeps_initializer, keeps_pointer, keeps_target}
 use Rattle.spv_types.specs.Types.{Types, form_of}
-use Rattle.spv_types.specs.Typing.{types_in}
+use Rattle.spv_types.specs.Typing.{types_in, types_read}
 use Rattle.spv_sections.specs.Sections.{fits_stage, is_line, may_follow, may_stand, order_breach, order_breaches, order_breaches_behind, part_at, part_by, part_of, rank, sections_of}
-use Rattle.spv_consts.proofs.WalkPlaces.{declared}
-use Rattle.spv_consts.proofs.WalkTypes.{kept_at}
+use Rattle.spv_consts.proofs.Exports.{kept_at}
 use Rattle.spv_bodies.specs.Context.{Known, known_of}
 use Rattle.spv_bodies.specs.Memory.{KeepsVariable}
 use Rattle.spv_valid.specs.Acceptance.{Accepted, IsAccepted}
@@ -33,20 +32,16 @@ use Rattle.spv_valid.specs.Meanings.{inside_meanings, meaning_at, meaning_of, ou
 use Rattle.spv_valid.specs.Validity.{IsValid}
 use Rattle.spv_valid.specs.declared.meanings.Meaning.{Meaning}
 use Rattle.spv_valid.specs.declared.meanings.Meaning.TheVariants.{TypeDefinition, Constant, Undefined, ModuleVariable, Variable, Register, Label, Function as Begun, Other}
-use Rattle.spv_valid.proofs.AcceptedLemmas.{accepted_passes}
-use Rattle.spv_plans.proofs.TypeLemmas.{each_behind}
+use Rattle.spv_valid.proofs.Exports.{accepted_passes}
+use Rattle.spv_plans.proofs.Exports.{each_behind}
 use Rattle.spv_operands.proofs.ConstantLemmas.{variable_outside}
 use Rattle.spv_operands.proofs.FormLemmas.{AreAlike, erased_form, pointer_alike, types_alike}
 use Rattle.spv_operands.proofs.ListLemmas.{each_contained}
 use Rattle.spv_operands.proofs.MeaningLemmas.{beginning_opcode, key_unless, local_opcode, module_opcode, stand_defines}
 use Rattle.spv_operands.proofs.VariableLemmas.{form_later, local_kept, variable_kept}
+use Rattle.spv_types.proofs.Exports.{breach_none}
 
 -- ---- tests
-
-both_true : (b c : Bool) → b ≡ true → c ≡ true → (b && c) ≡ true
-both_true true true h g = refl
-both_true true false h g = absurd (cc)
-both_true false c h g = absurd (cc)
 
 implied : (b c : Bool) → b ≡ true → (not b || c) ≡ true → c ≡ true
 implied true c h g = g
@@ -107,7 +102,7 @@ pub record IsModuleVariable (a : Accepted) (i : Inst) : Type 0 where
   pub input : (pointed.class == 1) ≡ true → is_input a.types (decoration a.insts i.id 11) pointed.target ≡ true
 
 module _ (a : Accepted) (is : IsAccepted a) (valid : IsValid a) where
-  alike : AreAlike (declared a.insts) a.types
+  alike : AreAlike (types_read a.insts) a.types
   alike = types_alike a is
 
   module _ (front later : List Inst) (i : Inst) (place : before_functions a.insts ≡ front ++ i ∷ later) where
@@ -118,8 +113,8 @@ module _ (a : Accepted) (is : IsAccepted a) (valid : IsValid a) where
         by_form : (o : Option Form) → form_of (types_in a.insts front) q ≡ o → test o ≡ true → test (form_of a.types q) ≡ true
         by_form None e g = absurd (both_ways (test None) none g)
         by_form (Some f) e g =
-            let there : form_of (declared a.insts) q ≡ Some f = form_later a is valid front later i place q f e in
-            sym (settled (form_of a.types q)) ∙ ap test (alike.forms q) ∙ settled (form_of (declared a.insts) q) ∙ ap test there ∙ g
+            let there : form_of (types_read a.insts) q ≡ Some f = form_later a is valid front later i place q f e in
+            sym (settled (form_of a.types q)) ∙ ap test (alike.forms q) ∙ settled (form_of (types_read a.insts) q) ∙ ap test there ∙ g
 
     words_later : (q : ℕ) → is_three_words (types_in a.insts front) (form_of (types_in a.insts front) q) ≡ true → is_three_words a.types (form_of a.types q) ≡ true
     words_later q h = passes_later (is_three_words a.types) (words_settled a.types) refl q (by_form (form_of (types_in a.insts front) q) h)
@@ -131,7 +126,7 @@ module _ (a : Accepted) (is : IsAccepted a) (valid : IsValid a) where
         by_form (Some (Int width sign)) g = absurd (cc)
         by_form (Some (Vector component count)) g =
             let parts = and_parts (count == 3) (is_word (form_of (types_in a.insts front) component)) g in
-            both_true (count == 3) (is_word (form_of a.types component)) parts.0 (passes_later is_word word_settled refl component parts.1)
+            and_from (count == 3) (is_word (form_of a.types component)) parts.0 (passes_later is_word word_settled refl component parts.1)
         by_form (Some (Array element n stride)) g = absurd (cc)
         by_form (Some (Runtime element stride)) g = absurd (cc)
         by_form (Some (Struct members block)) g = absurd (cc)
@@ -149,10 +144,10 @@ module _ (a : Accepted) (is : IsAccepted a) (valid : IsValid a) where
             → ((three && is_three_words a.types (form_of a.types q)) || (b == 29 && is_word (form_of a.types q))) ≡ true
         by_either (inl words) =
             let parts = and_parts three (is_three_words (types_in a.insts front) (form_of (types_in a.insts front) q)) words in
-            or_left (three && is_three_words a.types (form_of a.types q)) (b == 29 && is_word (form_of a.types q)) (both_true three (is_three_words a.types (form_of a.types q)) parts.0 (words_later q parts.1))
+            or_left (three && is_three_words a.types (form_of a.types q)) (b == 29 && is_word (form_of a.types q)) (and_from three (is_three_words a.types (form_of a.types q)) parts.0 (words_later q parts.1))
         by_either (inr word) =
             let parts = and_parts (b == 29) (is_word (form_of (types_in a.insts front) q)) word in
-            or_right (three && is_three_words a.types (form_of a.types q)) (b == 29 && is_word (form_of a.types q)) (both_true (b == 29) (is_word (form_of a.types q)) parts.0 (passes_later is_word word_settled refl q parts.1))
+            or_right (three && is_three_words a.types (form_of a.types q)) (b == 29 && is_word (form_of a.types q)) (and_from (b == 29) (is_word (form_of a.types q)) parts.0 (passes_later is_word word_settled refl q parts.1))
 
     of_pointer : (class target : ℕ) → form_of (types_in a.insts front) i.ty ≡ Some (Pointer class target) → (holds class (literal_operand i 0) && keeps_target a.insts (types_in a.insts front) i class target) ≡ true → IsModuleVariable a i
     of_pointer class target e h =
@@ -162,7 +157,7 @@ module _ (a : Accepted) (is : IsAccepted a) (valid : IsValid a) where
         let second = and_parts (not (has_runtime ts target) || class == 12) _ first.1 in
         let third = and_parts (not ((class == 12 || class == 2) || class == 9) || is_block (form_of ts target)) _ second.1 in
         let fourth = and_parts (not (class == 1) || is_input ts (decoration a.insts i.id 11) target) (keeps_initializer a.insts class target i) third.1 in
-        let type : form_of a.types i.ty ≡ Some (Pointer class target) = pointer_alike (declared a.insts) a.types alike i.ty class target (form_later a is valid front later i place i.ty (Pointer class target) e) in
+        let type : form_of a.types i.ty ≡ Some (Pointer class target) = pointer_alike (types_read a.insts) a.types alike i.ty class target (form_later a is valid front later i place i.ty (Pointer class target) e) in
         record {
           pointed = record { class = class; target = target };
           type = type;
@@ -267,16 +262,12 @@ variable_part sets x op =
 function_rank : (sets : List (ℕ × Bool)) (x : Inst) → x.op ≡ 54 → rank (part_of (class_of sets x) x.op) ≡ 9
 function_rank sets x op = rw op refl
 
-none_broken : (b : Bool) (r : Refusal) (rs : List Refusal) → (if b then [] else r ∷ []) ++ rs ≡ [] → (b ≡ true) × (rs ≡ [])
-none_broken true r rs h = (refl, h)
-none_broken false r rs h = absurd (cc)
-
 all_parts : (test : Stand → Bool) (xs : List Stand) (y : Stand) → list_all test (xs ++ y ∷ []) ≡ true → (list_all test xs ≡ true) × (test y ≡ true)
 all_parts test [] y h = (refl, (and_parts (test y) true h).0)
 all_parts test (x ∷ xs) y h =
     let parts = and_parts (test x) (list_all test (xs ++ y ∷ [])) h in
     let rest = all_parts test xs y parts.1 in
-    (both_true (test x) (list_all test xs) parts.0 rest.0, rest.1)
+    (and_from (test x) (list_all test xs) parts.0 rest.0, rest.1)
 
 -- it may stand before the functions
 abbrev is_early : Stand → Bool
@@ -288,7 +279,7 @@ outside_before : (p : Inst → Bool) (sets : List (ℕ × Bool)) (position : Pos
 unfolding before_functions order_breaches_behind
 outside_before p sets position before [] s kept h op aside = absurd (cc)
 outside_before p sets position before (x ∷ is) s kept h op aside =
-    by_test (p x) h (none_broken (may_stand before (stand_at sets position x)) (order_breach x) _ kept)
+    by_test (p x) h (breach_none (may_stand before (stand_at sets position x)) (order_breach x) _ kept)
     (λ more g. outside_before p sets (position_after position (class_of sets x) x) (before ++ stand_at sets position x ∷ []) is s more g op aside)
   where
     own : stand_at sets position x ≡ s → may_stand before (stand_at sets position x) ≡ true → Contains (if x.op == 54 then [] else x ∷ before_functions is) s.inst × (list_all is_early before ≡ true)

@@ -29,12 +29,12 @@ use Rattle.spv_consts.specs.Rules.{keeps_rules}
 use Rattle.spv_consts.specs.State.{State, is_next}
 use Rattle.spv_consts.specs.Steps.{breaks_limit, with_entry, left_out, after_one, after_all, with_constant, with_type}
 use Rattle.spv_consts.specs.Table.{Constants, Row}
-use Rattle.spv_consts.proofs.WalkConstants.{ends}
+use Rattle.spv_consts.proofs.Exports.{ends}
 use Rattle.spv_valid.specs.Acceptance.{Accepted, IsAccepted, Passes}
 use Rattle.spv_valid.specs.Meanings.{meaning_at, meaning_of, outside_meanings}
 use Rattle.spv_valid.specs.Validity.{IsValid}
 use Rattle.spv_valid.specs.declared.meanings.Meaning.TheVariants.{Constant}
-use Rattle.spv_valid.proofs.AcceptedLemmas.{accepted_passes}
+use Rattle.spv_valid.proofs.Exports.{accepted_passes}
 use Rattle.spv_operands.proofs.MeaningLemmas.{beginning_opcode, constant_opcode}
 use Rattle.spv_operands.proofs.ListLemmas.{each_contained}
 

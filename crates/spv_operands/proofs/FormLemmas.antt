@@ -10,7 +10,8 @@ use Rattle.spv_types.specs.declared.forms.Member.{Member}
 use Rattle.spv_types.specs.Constants.{is_constant}
 use Rattle.spv_types.specs.Rules.{form_has_runtime, has_runtime, is_data, is_runtime, last_type}
 use Rattle.spv_types.specs.Types.{Types, form_of, lengthened as with_size, number_of, with_length}
-use Rattle.spv_types.proofs.LengthLemmas.{length_here, length_numbers, length_others}
+use Rattle.spv_types.specs.Typing.{types_read}
+use Rattle.spv_types.proofs.Exports.{length_here, length_numbers, length_others, length_none, accepted_is}
 use Rattle.spv_index.specs.Definitions.{before_functions}
 use Rattle.spv_consts.specs.Build.{context_of, start_of, state_of}
 use Rattle.spv_consts.specs.Context.{Context}
@@ -19,11 +20,9 @@ use Rattle.spv_consts.specs.Rules.{keeps_rules}
 use Rattle.spv_consts.specs.State.{State, is_next}
 use Rattle.spv_consts.specs.Steps.{breaks_limit, with_entry, left_out, after_one, after_all, with_constant, with_type}
 use Rattle.spv_consts.specs.Table.{Constants}
-use Rattle.spv_consts.proofs.WalkConstants.{ends}
-use Rattle.spv_consts.proofs.WalkPlaces.{declared}
-use Rattle.spv_consts.proofs.WalkTypes.{no_breach}
+use Rattle.spv_consts.proofs.Exports.{ends}
 use Rattle.spv_valid.specs.Acceptance.{Accepted, IsAccepted, Passes}
-use Rattle.spv_valid.proofs.AcceptedLemmas.{accepted_passes}
+use Rattle.spv_valid.proofs.Exports.{accepted_passes}
 
 -- ---- forms without lengths
 
@@ -65,12 +64,8 @@ alike_then ts us vs one other = record { numbers = λ q. other.numbers q ∙ one
 
 -- ---- the length of an array
 
-length_missing : (ts : Types) (id n : ℕ) → form_of ts id ≡ None → with_length ts id n ≡ ts
-unfolding with_length
-length_missing ts id n h = rw h refl
-
 size_here : (ts : Types) (id n : ℕ) (o : Option Form) → form_of ts id ≡ o → erased_form (form_of (with_length ts id n) id) ≡ erased_form (form_of ts id)
-size_here ts id n None e = ap (λ (us : Types). erased_form (form_of us id)) (length_missing ts id n e)
+size_here ts id n None e = ap (λ (us : Types). erased_form (form_of us id)) (length_none ts id n e)
 size_here ts id n (Some f) e = ap erased_form (length_here ts id n f e) ∙ ap Some (size_erased n f) ∙ sym (ap erased_form e)
 
 size_alike : (ts : Types) (id n : ℕ) → AreAlike ts (with_length ts id n)
@@ -132,12 +127,12 @@ walked_alike m s [] = alike_same s.types
 walked_alike m s (i ∷ is) = alike_then s.types (after_one m s i).types (after_all m (after_one m s i) is).types (stepped_alike m s i) (walked_alike m (after_one m s i) is)
 
 -- the types of an accepted module are those that it declares, but for the lengths of arrays
-pub types_alike : (a : Accepted) → IsAccepted a → AreAlike (declared a.insts) a.types
+pub types_alike : (a : Accepted) → IsAccepted a → AreAlike (types_read a.insts) a.types
 types_alike a is =
     let passes : Passes a is.name is.over = accepted_passes a is.name is.over is.is in
     let ts : Types = passes.declared in
     let ended = ends a.insts ts is.over (a.types, a.constants) passes.constants in
-    let rules = no_breach a.insts ts passes.types in
+    let rules = accepted_is a.insts ts passes.types in
     let walk : AreAlike ts (state_of ts a.insts is.over).types = walked_alike (context_of ts a.insts is.over) (start_of ts) (before_functions a.insts) in
     let end : a.types ≡ (state_of ts a.insts is.over).types = ap (λ (k : Types × Constants). k.0) ended.1 in
     subst (λ (us : Types). AreAlike us a.types) (sym rules.1) (subst (AreAlike ts) (sym end) walk)

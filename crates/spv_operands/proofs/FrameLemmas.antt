@@ -1,6 +1,7 @@
 -- Frames whose registers hold values of their types stay so.
 use Rattle.std.proofs.Common.{◌≡◌, ◌⊎◌, ◌∙◌, inl, inr, ℕ, ◌==◌, Bool, true, false, List, [], ◌∷◌, Option, Some, None, refl, sym, subst}
 use Rattle.std.proofs.lemmas.Bool.{eqb-true}
+use Rattle.spv_frame.proofs.Exports.{plan_stays}
 use Rattle.std.specs.Prelude.{if◌then◌else◌}
 use Rattle.std.specs.List.{AllZip}
 use Rattle.spv_base.specs.Entries.{reads, writes}
@@ -116,18 +117,12 @@ argument_shaped a f (ValueAt n) (Lent q) shaped own = shaped
 argument_shaped a f (PointerAt n) (Data v) shaped own = shaped
 argument_shaped a f (PointerAt n) (Lent q) shaped own = pointer_shaped a f (id_at f.plan.pointers n) (Some q.now) shaped (given_pointer a (id_at f.plan.pointers n) q.now own)
 
-argument_plan : (f : Held) (place : Place) (x : Argument) → (with_argument f place x).plan ≡ f.plan
-argument_plan f (ValueAt n) (Data v) = refl
-argument_plan f (ValueAt n) (Lent q) = refl
-argument_plan f (PointerAt n) (Data v) = refl
-argument_plan f (PointerAt n) (Lent q) = refl
-
 arguments_shaped : (a : Accepted) (p : Planned) (places : List Place) (xs : List Argument) (f : Held) → f.plan ≡ p → AreShaped a f → AllZip (IsShapedArgument a p) places xs
     → AreShaped a (with_arguments places xs f)
 arguments_shaped a p [] xs f plan shaped own = shaped
 arguments_shaped a p (place ∷ places) [] f plan shaped own = shaped
 arguments_shaped a p (place ∷ places) (x ∷ xs) f plan shaped own =
-    arguments_shaped a p places xs (with_argument f place x) (argument_plan f place x ∙ plan)
+    arguments_shaped a p places xs (with_argument f place x) (plan_stays f place x ∙ plan)
     (argument_shaped a f place x shaped (subst (λ (q : Planned). IsShapedArgument a q place x) (sym plan) own.0)) own.1
 
 -- a frame as a call begins it

@@ -1,39 +1,24 @@
 -- The types that the first instructions of a module declare: they are sound, and stay what they are.
 use Rattle.std.proofs.Common.{◌≡◌, ◌∙◌, ℕ, suc, Bool, true, false, List, [], ◌∷◌, ◌++◌, append_assoc, append-nil, slice_get, Option, Some, None, refl, sym, ap, subst}
-use Rattle.std.specs.Prelude.{if◌then◌else◌}
 use Rattle.std.specs.Option.{option_map, option_map_or}
-use Rattle.spv_base.specs.declared.causes.Refusal.{Refusal}
 use Rattle.spv_base.specs.declared.instructions.Inst.{Inst}
 use Rattle.spv_types.specs.declared.forms.Form.{Form}
 use Rattle.spv_types.specs.declared.forms.Form.TheVariants.{Void, Bool as Boolean, Int, Vector, Array, Runtime, Struct, Pointer, Function}
 use Rattle.spv_types.specs.declared.forms.Member.{Member}
-use Rattle.spv_types.specs.Build.{type_breaches, type_code}
+use Rattle.spv_types.specs.Build.{type_breaches}
 use Rattle.spv_types.specs.Laws.{AreSound, ComesBefore}
-use Rattle.spv_types.specs.Rules.{form_has_runtime, has_runtime, is_data, is_runtime, keeps_other, keeps_rules, last_type}
+use Rattle.spv_types.specs.Rules.{form_has_runtime, has_runtime, is_data, is_runtime, last_type}
 use Rattle.spv_types.specs.Types.{Types, form_of}
 use Rattle.spv_types.specs.Typing.{defined_form, types_in, with_form}
-use Rattle.spv_types.proofs.BuildLemmas.{types_push}
-use Rattle.spv_types.proofs.TypeLemmas.{number_form}
-use Rattle.spv_types.proofs.AcceptedLemmas.{form_sound, no_types}
-use Rattle.spv_consts.proofs.WalkTypes.{form_left, types_joined}
+use Rattle.spv_types.proofs.Exports.{types_push, number_form, form_sound, no_types, kept_first}
+use Rattle.spv_consts.proofs.Exports.{form_left, types_joined}
 
 -- ---- they are sound
-
-none_broken : (b : Bool) (r : Refusal) (rs : List Refusal) → (if b then [] else r ∷ []) ++ rs ≡ [] → (b ≡ true) × (rs ≡ [])
-none_broken true r rs h = (refl, h)
-none_broken false r rs h = absurd (cc)
-
--- the first of some instructions keeps its rules, where none breaks any
-first_kept : (all before is : List Inst) (i : Inst) → type_breaches all before (i ∷ is) ≡ []
-    → (keeps_other all (types_in all before) i (defined_form all i) ≡ true) × (type_breaches all (before ++ i ∷ []) is ≡ [])
-unfolding type_breaches keeps_rules
-first_kept all before is i h =
-    none_broken (keeps_other all (types_in all before) i (defined_form all i)) (record { code = type_code; word = i.word }) (type_breaches all (before ++ i ∷ []) is) h
 
 joined_sound : (all before front later : List Inst) → AreSound (types_in all before) → type_breaches all before (front ++ later) ≡ [] → AreSound (types_in all (before ++ front))
 joined_sound all before [] later sound h = rw (append-nil before) sound
 joined_sound all before (i ∷ front) later sound h =
-    let kept = first_kept all before (front ++ later) i h in
+    let kept = kept_first all before (front ++ later) i h in
     let moved : (before ++ i ∷ []) ++ front ≡ before ++ i ∷ front = append_assoc before (i ∷ []) front in
     let pushed : types_in all (before ++ i ∷ []) ≡ with_form (types_in all before) i.id (defined_form all i) = types_push all before i in
     let one : AreSound (types_in all (before ++ i ∷ [])) = rw pushed (form_sound all (types_in all before) i (defined_form all i) sound kept.0) in

@@ -1,12 +1,13 @@
-pub mod ListLemmas
-pub mod FormLemmas
-pub mod FrontLemmas
-pub mod TargetLemmas
-pub mod VariableLemmas
-pub mod MeaningLemmas
-pub mod ConstantLemmas
-pub mod ShapeLemmas
-pub mod OperandLemmas
-pub mod FrameLemmas
-pub mod ReadingLemmas
-pub mod ClassLemmas
+mod ListLemmas
+mod FormLemmas
+mod FrontLemmas
+mod TargetLemmas
+mod VariableLemmas
+mod MeaningLemmas
+mod ConstantLemmas
+mod ShapeLemmas
+mod OperandLemmas
+mod FrameLemmas
+mod ReadingLemmas
+mod ClassLemmas
+pub mod Exports

@@ -23,8 +23,7 @@ use Rattle.spv_types.specs.Typing.{types_in}
 use Rattle.spv_consts.specs.Laws.{IsConstantOf}
 use Rattle.spv_consts.specs.Table.{Constants, Row}
 use Rattle.spv_consts.specs.Trees.{tree_of}
-use Rattle.spv_consts.proofs.WalkIds.{found_of_defining}
-use Rattle.spv_consts.proofs.WalkTypes.{kept_at, undef_is_sized}
+use Rattle.spv_consts.proofs.Exports.{found_of_defining, kept_at, undef_is_sized}
 use Rattle.spv_bodies.specs.declared.rules.MemoryRule.TheVariants.{Undef}
 use Rattle.spv_bodies.specs.declared.rules.Rule.TheVariants.{Memory}
 use Rattle.spv_bodies.specs.Bodies.{KeepsBody, KeepsRule}
@@ -34,7 +33,7 @@ use Rattle.spv_bodies.specs.Places.{Placed}
 use Rattle.spv_bodies.specs.Rules.{memory_rule, rule_of}
 use Rattle.spv_mem.specs.Blanks.{blank_of}
 use Rattle.spv_mem.specs.Targets.{may_be_target}
-use Rattle.spv_mem.proofs.BlankLemmas.{blank_shape}
+use Rattle.spv_mem.proofs.Exports.{blank_shape}
 use Rattle.spv_frame.specs.Frames.{Held}
 use Rattle.spv_frame.specs.Registers.{ids, number_of}
 use Rattle.spv_valid.specs.Acceptance.{Accepted, IsAccepted}
@@ -44,7 +43,7 @@ use Rattle.spv_valid.specs.declared.meanings.Meaning.{Meaning}
 use Rattle.spv_valid.specs.declared.meanings.Meaning.TheVariants.{TypeDefinition, Constant, Undefined, ModuleVariable, Variable, Register, Label, Function, Other}
 use Rattle.spv_initial.specs.Start.{variables}
 use Rattle.spv_initial.specs.Variables.{targets_of}
-use Rattle.spv_plans.proofs.TypeLemmas.{each_behind}
+use Rattle.spv_plans.proofs.Exports.{each_behind}
 use Rattle.spv_operands.specs.Variables.{IsDeclared}
 use Rattle.spv_operands.specs.Shapes.{AreShaped, target_in}
 use Rattle.spv_operands.specs.Values.{is_own, module_root, pointer_to, register_value, storage_class, value_by, value_of}

@@ -30,7 +30,8 @@ use Rattle.spv_operands.specs.Values.{pointer_to, register_value, value_by, valu
 use Rattle.spv_operands.specs.declared.operands.Operand.{Operand}
 use Rattle.spv_operands.specs.declared.operands.Operand.TheVariants.{Value, Undefined, Variable, Pointer}
 use Rattle.spv_operands.proofs.OperandLemmas.{constant_read}
-use Rattle.spv_operands.proofs.ShapeLemmas.{data_plain, out_pointer}
+use Rattle.spv_operands.proofs.ShapeLemmas.{data_plain}
+use Rattle.spv_base.proofs.Exports.{out_pointer}
 
 -- ---- pointers
 

@@ -1,14 +1,14 @@
 -- Shapes of data and of pointers, and of the values that operands stand for.
-use Rattle.std.proofs.Common.{◌≡◌, ◌∙◌, ℕ, true, false, List, [], length, Option, Some, None, refl, ap, rules}
+use Rattle.std.proofs.Common.{◌≡◌, ◌∙◌, ℕ, true, false, List, [], length, Option, Some, None, refl, ap}
 use Rattle.std.proofs.lemmas.Bool.{both_ways}
 use Rattle.std.specs.Option.{IsSomeAnd, is_some, option_map_or}
 use Rattle.spv_base.specs.Cell.{Cell}
 use Rattle.spv_base.specs.Parts.{parts_in}
 use Rattle.spv_base.specs.declared.values.Pointer.{Pointer as Reference}
 use Rattle.spv_base.specs.declared.values.Root.{Root}
-use Rattle.spv_base.specs.declared.values.Value.{Value, Scalar, List as Many, Ptr, out-Value, the_lemmas}
+use Rattle.spv_base.specs.declared.values.Value.{Value, Scalar, List as Many, Ptr, out-Value}
 use Rattle.spv_base.specs.declared.values.Value.TheOpen.{Value-F}
-use Rattle.spv_base.proofs.PartLemmas.{out_many, out_scalar}
+use Rattle.spv_base.proofs.Exports.{out_many, out_scalar, out_pointer}
 use Rattle.spv_types.specs.declared.forms.Form.{Form}
 use Rattle.spv_types.specs.declared.forms.Form.TheVariants.{Void, Bool as Boolean, Int, Vector, Array, Runtime, Struct, Pointer, Function}
 use Rattle.spv_types.specs.Laws.{AreSound}
@@ -16,16 +16,12 @@ use Rattle.spv_types.specs.Queries.{is_pointer}
 use Rattle.spv_types.specs.Rows.{no_roots}
 use Rattle.spv_types.specs.Shapes.{HasShape, LeadsTo, pointer_in, reached_type, scalar_in, shape_step}
 use Rattle.spv_types.specs.Types.{Types, form_of, found_among}
-use Rattle.spv_types.proofs.ShapeLemmas.{shapes_are_by_forms}
+use Rattle.spv_types.proofs.Exports.{shapes_are_by_forms, shape_formed}
 use Rattle.spv_mem.specs.Blanks.{blank_among, blank_of, blank_step}
-use Rattle.spv_mem.proofs.BlankLemmas.{blank_among_is}
-use Rattle.spv_mem.proofs.CountLemmas.{no_form}
+use Rattle.spv_mem.proofs.Exports.{blank_among_is}
 use Rattle.spv_operands.specs.Operands.{pointer_of}
 
 -- ---- values of each kind
-
-pub out_pointer : (p : Reference) → out-Value (Ptr p) ≡ Value-F.Ptr p
-out_pointer p = search (rules, the_lemmas)
 
 many_plain : (vs : List Value) → is_some (pointer_of (Many vs)) ≡ false
 many_plain vs = rw (out_many vs) refl
@@ -45,14 +41,6 @@ no_parts (Value-F.List vs) P h = refl
 no_parts (Value-F.Ptr p) P h = absurd h
 
 -- ---- a shape is that of a form
-
-pub shaped_form : (ts : Types) (roots : Root → Option ℕ) (id : ℕ) (v : Value) → HasShape ts roots id v → (f : Form) × (form_of ts id ≡ Some f)
-unfolding HasShape
-shaped_form ts roots id v h = by_form (form_of ts id) refl
-  where
-    by_form : (o : Option Form) → form_of ts id ≡ o → (f : Form) × (form_of ts id ≡ Some f)
-    by_form None e = absurd (no_form ts roots (length ts) id v e h)
-    by_form (Some f) e = (f, e)
 
 -- ---- data and pointers
 
@@ -100,17 +88,17 @@ module _ (ts : Types) (sound : AreSound ts) where
 
   -- data is no pointer, and its type is no pointer type
   pub data_plain : (id : ℕ) (v : Value) → HasShape ts no_roots id v → is_some (pointer_of v) ≡ false
-  data_plain id v h = let form = shaped_form ts no_roots id v h in step_plain ts (HasShape ts no_roots) form.0 v (shape_of no_roots id v form.0 form.1 h)
+  data_plain id v h = let form = shape_formed ts no_roots id v h in step_plain ts (HasShape ts no_roots) form.0 v (shape_of no_roots id v form.0 form.1 h)
 
   pub data_type : (id : ℕ) (v : Value) → HasShape ts no_roots id v → is_pointer (form_of ts id) ≡ false
   data_type id v h =
-      let form = shaped_form ts no_roots id v h in
+      let form = shape_formed ts no_roots id v h in
       ap is_pointer form.1 ∙ step_data ts (HasShape ts no_roots) form.0 v (shape_of no_roots id v form.0 form.1 h)
 
   -- the type of a pointer is a pointer type
   pub pointer_type : (roots : Root → Option ℕ) (id : ℕ) (p : Reference) → HasShape ts roots id (Ptr p) → is_pointer (form_of ts id) ≡ true
   pointer_type roots id p h =
-      let form = shaped_form ts roots id (Ptr p) h in
+      let form = shape_formed ts roots id (Ptr p) h in
       let some : is_some (pointer_of (Ptr p)) ≡ true = rw (out_pointer p) refl in
       ap is_pointer form.1 ∙ step_pointer ts roots (HasShape ts roots) form.0 (Ptr p) some (shape_of roots id (Ptr p) form.0 form.1 h)
 

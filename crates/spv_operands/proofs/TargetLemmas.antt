@@ -10,12 +10,8 @@ use Rattle.spv_types.specs.Laws.{AreComplete, AreSound}
 use Rattle.spv_types.specs.Rules.{form_has_runtime, has_runtime, is_data, is_runtime, is_sized_data, keep_members, keeps_member, last_type}
 use Rattle.spv_types.specs.Types.{Types, form_of}
 use Rattle.spv_mem.specs.Targets.{end_open, is_counted, is_open_array, is_open_block, may_be_target}
-use Rattle.spv_plans.proofs.CountLemmas.{cells_known}
-
--- a type of data has a form
-pub data_form : (o : Option Form) → is_data o ≡ true → (f : Form) × (o ≡ Some f)
-data_form None h = absurd (cc)
-data_form (Some f) h = (f, refl)
+use Rattle.spv_plans.proofs.Exports.{cells_known}
+use Rattle.spv_types.proofs.Exports.{data_form}
 
 -- a runtime array has its form
 runtime_form : (o : Option Form) → is_runtime o ≡ true → (element : ℕ) × (stride : Option ℕ) × (o ≡ Some (Runtime element stride))

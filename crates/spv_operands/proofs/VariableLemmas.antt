@@ -23,12 +23,10 @@ use Rattle.spv_types.specs.Laws.{AreSound}
 use Rattle.spv_types.specs.Queries.{pointee}
 use Rattle.spv_types.specs.Rules.{has_runtime, is_block, is_class, is_data, keeps_pointer, keeps_rules, keeps_target}
 use Rattle.spv_types.specs.Types.{Types, form_of}
-use Rattle.spv_types.specs.Typing.{defined_form, types_in}
+use Rattle.spv_types.specs.Typing.{defined_form, types_in, types_read}
 use Rattle.spv_sections.specs.Ids.{has_result as results, head_of, is_result}
 use Rattle.spv_sections.specs.Laws.{IsInOrder}
-use Rattle.spv_consts.proofs.WalkIds.{each_weaker}
-use Rattle.spv_consts.proofs.WalkPlaces.{declared}
-use Rattle.spv_consts.proofs.WalkTypes.{kept_at}
+use Rattle.spv_consts.proofs.Exports.{kept_at}
 use Rattle.spv_bodies.specs.declared.rules.MemoryRule.TheVariants.{Variable}
 use Rattle.spv_bodies.specs.declared.rules.Rule.TheVariants.{Memory}
 use Rattle.spv_bodies.specs.Bodies.{KeepsBody, KeepsRule}
@@ -41,13 +39,15 @@ use Rattle.spv_valid.specs.Acceptance.{Accepted, IsAccepted, decoded_in}
 use Rattle.spv_valid.specs.Validity.{IsValid}
 use Rattle.spv_initial.specs.Variables.{declared_by, declared_in, may_hold, targets_of, variable_of}
 use Rattle.spv_initial.specs.declared.variables.Declared.{Declared}
-use Rattle.spv_initial.proofs.VariableLemmas.{by_is}
-use Rattle.spv_plans.proofs.TypeLemmas.{each_behind}
+use Rattle.spv_initial.proofs.Exports.{by_is}
+use Rattle.spv_plans.proofs.Exports.{each_behind}
 use Rattle.spv_operands.specs.Variables.{IsDeclared}
 use Rattle.spv_operands.proofs.FormLemmas.{AreAlike, data_alike, pointer_alike, struct_alike, types_alike, within_alike}
 use Rattle.spv_operands.proofs.FrontLemmas.{form_stays, front_sound, plain_stays}
 use Rattle.spv_operands.proofs.ListLemmas.{each_contained}
-use Rattle.spv_operands.proofs.TargetLemmas.{data_form, plain_counted, struct_target}
+use Rattle.spv_operands.proofs.TargetLemmas.{plain_counted, struct_target}
+use Rattle.spv_base.proofs.Exports.{each_weaker}
+use Rattle.spv_types.proofs.Exports.{data_form}
 
 -- ---- lists
 
@@ -144,7 +144,7 @@ pub local_kept : (k : Known) (p : Placed) → KeepsBody k p → p.inst.op ≡ 59
 local_kept k p kept op = subst (KeepsRule k p) (variable_rule p.inst.op op) kept.1
 
 module _ (a : Accepted) (is : IsAccepted a) (valid : IsValid a) where
-  alike : AreAlike (declared a.insts) a.types
+  alike : AreAlike (types_read a.insts) a.types
   alike = types_alike a is
 
   pointed_data : (ty class target : ℕ) → form_of a.types ty ≡ Some (Pointer class target) → is_data (form_of a.types target) ≡ true
@@ -169,30 +169,30 @@ module _ (a : Accepted) (is : IsAccepted a) (valid : IsValid a) where
     none : type_breaches a.insts [] (front ++ i ∷ later) ≡ []
     none = subst (λ (xs : List Inst). type_breaches a.insts [] xs ≡ []) place valid.declared
 
-    back : types_in a.insts (front ++ i ∷ later) ≡ declared a.insts
+    back : types_in a.insts (front ++ i ∷ later) ≡ types_read a.insts
     back = ap (λ (xs : List Inst). types_in a.insts xs) (sym place)
 
     sound : AreSound (types_in a.insts front)
     sound = front_sound a.insts front (i ∷ later) none
 
-    pub form_later : (q : ℕ) (f : Form) → form_of (types_in a.insts front) q ≡ Some f → form_of (declared a.insts) q ≡ Some f
+    pub form_later : (q : ℕ) (f : Form) → form_of (types_in a.insts front) q ≡ Some f → form_of (types_read a.insts) q ≡ Some f
     form_later q f h = subst (λ (ts : Types). form_of ts q ≡ Some f) back (form_stays a.insts front (i ∷ later) q f h)
 
     pub plain_later : (q : ℕ) → is_data (form_of (types_in a.insts front) q) ≡ true → has_runtime (types_in a.insts front) q ≡ false → has_runtime a.types q ≡ false
     plain_later q data_is plain =
-        within_alike (declared a.insts) a.types alike q
+        within_alike (types_read a.insts) a.types alike q
         ∙ subst (λ (ts : Types). has_runtime ts q ≡ false) back (plain_stays a.insts front (i ∷ later) q sound data_is plain)
 
     pub data_later : (q : ℕ) → is_data (form_of (types_in a.insts front) q) ≡ true → is_data (form_of a.types q) ≡ true
     data_later q data_is =
         let form = data_form (form_of (types_in a.insts front) q) data_is in
-        data_alike (declared a.insts) a.types alike q ∙ ap is_data (form_later q form.0 form.1) ∙ sym (ap is_data form.1) ∙ data_is
+        data_alike (types_read a.insts) a.types alike q ∙ ap is_data (form_later q form.0 form.1) ∙ sym (ap is_data form.1) ∙ data_is
 
     typed_pointer : (class target : ℕ) → form_of (types_in a.insts front) i.ty ≡ Some (Pointer class target) → keeps_target a.insts (types_in a.insts front) i class target ≡ true → IsTyped a i
     typed_pointer class target form kept = record { pointed = record { class = class; target = target }; type = type; may = by_class (class == 12) refl }
       where
         type : form_of a.types i.ty ≡ Some (Pointer class target)
-        type = pointer_alike (declared a.insts) a.types alike i.ty class target (form_later i.ty (Pointer class target) form)
+        type = pointer_alike (types_read a.insts) a.types alike i.ty class target (form_later i.ty (Pointer class target) form)
 
         early : is_data (form_of (types_in a.insts front) target) ≡ true
         early = (and_parts (is_class class) (is_data (form_of (types_in a.insts front) target)) (sound.kept i.ty (Pointer class target) form)).1
@@ -207,7 +207,7 @@ module _ (a : Accepted) (is : IsAccepted a) (valid : IsValid a) where
             let third = and_parts (not ((class == 12 || class == 2) || class == 9) || is_block (form_of (types_in a.insts front) target)) _ second.1 in
             let block = block_form (form_of (types_in a.insts front) target) (asks_block (class == 12) (class == 2) (class == 9) (is_block (form_of (types_in a.insts front) target)) e third.0) in
             let open_end : may_be_target a.types target ≡ true = struct_target a.types valid.types valid.lengths target block.0 block.1
-            (struct_alike (declared a.insts) a.types alike target block.0 block.1 (form_later target (Struct block.0 block.1) block.2)) in
+            (struct_alike (types_read a.insts) a.types alike target block.0 block.1 (form_later target (Struct block.0 block.1) block.2)) in
             holds_open (is_data (form_of a.types target)) (is_counted a.types target) (class == 12) (may_be_target a.types target) data_is e open_end
         by_class false e =
             let first = and_parts (not (class == 7)) _ kept in

@@ -5,6 +5,7 @@ use Rattle.spv_base.specs.Entries.{reads}
 use Rattle.spv_base.specs.declared.values.Pointer.{Pointer}
 use Rattle.spv_base.specs.declared.values.Root.{Root}
 use Rattle.spv_base.specs.declared.values.Value.{Value, Ptr}
+use Rattle.spv_base.specs.Variables.{root_id}
 use Rattle.spv_index.specs.Definitions.{result_type}
 use Rattle.spv_types.specs.Rows.{no_roots}
 use Rattle.spv_types.specs.Shapes.{HasShape}
@@ -15,14 +16,13 @@ use Rattle.spv_frame.specs.declared.slots.Place.TheVariants.{Value as ValueAt, P
 use Rattle.spv_frame.specs.Calls.{id_at}
 use Rattle.spv_frame.specs.Frames.{Held}
 use Rattle.spv_frame.specs.Registers.{Planned, ids}
-use Rattle.spv_mem.specs.Memory.{id_in}
 use Rattle.spv_initial.specs.Start.{variables}
 use Rattle.spv_initial.specs.Variables.{targets_of}
 use Rattle.spv_valid.specs.Acceptance.{Accepted}
 
 -- the type of the value of the variable that a root names
 abbrev pub target_in : Accepted → Root → Option ℕ
-target_in a r = reads (id_in r) (targets_of (variables a))
+target_in a r = reads (root_id r) (targets_of (variables a))
 
 -- Each register holds a value of the shape of its type, if it holds something: a pointer leads to what its type points to.
 pub record AreShaped (a : Accepted) (f : Held) : Type 0 where

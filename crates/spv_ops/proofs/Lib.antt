@@ -1,6 +1,7 @@
-pub mod StringLoop
-pub mod OperandLoop
-pub mod InstLoop
-pub mod StringLaws
-pub mod OperandLaws
-pub mod InstLaws
+mod StringLoop
+mod OperandLoop
+mod InstLoop
+mod StringLaws
+mod OperandLaws
+mod InstLaws
+pub mod Exports

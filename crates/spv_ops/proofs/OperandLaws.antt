@@ -1,8 +1,8 @@
 -- Operands that are read are those that their words spell, and the words of operands are read again.
 use Rattle.std.proofs.Common.{◌≡◌, ℕ, suc, ◌+◌, ◌<◌, ◌≤◌, Bool, true, false, cond, List, [], ◌∷◌, ◌++◌, length, map, get_or, take, Result, Ok, Err, refl, sym, ap, subst, ◌∙◌, inl, inr, append_assoc}
-use Rattle.std.specs.Prelude.{◌==◌, ◌⊎◌, bit_and}
+use Rattle.std.specs.Prelude.{◌==◌, bit_and}
 use Rattle.std.specs.List.{AllByRecursion}
-use Rattle.std.proofs.lemmas.Bool.{ne_eqb, eqb-true, cases_lt, lt-ltb, le-ltb}
+use Rattle.std.proofs.lemmas.Bool.{ne_eqb, eqb-true, cases_lt, lt-ltb, le-ltb, cases_Bool}
 use Rattle.std.proofs.lemmas.Bool.Decides.{eqb_tells}
 use Rattle.std.proofs.lemmas.List.{append-nil, nil_from_length, take_more}
 use Rattle.spv_base.specs.declared.instructions.Operand.{Operand}
@@ -215,11 +215,6 @@ ends_here part.String words e = absurd cc
 ends_here part.MayEnd words e = (refl, nil_from_length words (eqb-true _ _ e))
 ends_here part.MemoryOperands words e = absurd cc
 
--- whether a test holds, with the equation
-tells : (b : Bool) → (b ≡ true) ⊎ (b ≡ false)
-tells true = inl refl
-tells false = inr refl
-
 of_here : (part : Part) (parts : List Part) (r : Rest) (words : List ℕ) → ends_at part words ≡ true → operands_of (part ∷ parts) r words ≡ all []
 unfolding operands_of
 of_here part parts r words here = rw here refl
@@ -243,7 +238,7 @@ operands_take [] r words operands fits e =
     let g = guard_ended (is_rest r words) (rest_operands r words) operands e in
     subst (TakesAll [] r words) g.1 (record { follows = (words, g.0, refl); spelled = sym (words_of_rest r words); sound = rest_is_sound r words })
 operands_take (part ∷ parts) r words operands fits e =
-    elim (tells (ends_at part words)) [
+    elim (cases_Bool (ends_at part words)) [
       | inl here ↦
           let ends = ends_here part words here in
           let nothing : [] ≡ operands = all_is [] operands (sym (of_here part parts r words here) ∙ e) in
@@ -278,7 +273,7 @@ operands_again [] r operands (words, is, e) = subst (ReadsAll [] r) (sym e) (λ 
 operands_again (part ∷ parts) r operands (inl ends) = ended_again part parts r operands ends
 operands_again (part ∷ parts) r operands (inr (first, more, is, has, e)) =
     subst (ReadsAll (part ∷ parts) r) (sym e) (λ sound.
-    elim (tells (ends_at part (words_of_operands (first ++ more)))) [
+    elim (cases_Bool (ends_at part (words_of_operands (first ++ more)))) [
       | inl here ↦
           let nothing : first ++ more ≡ [] = no_words (first ++ more) (ends_here part (words_of_operands (first ++ more)) here).1 in
           of_here part parts r (words_of_operands (first ++ more)) here ∙ ap (λ (ops : List Operand). all ops) (sym nothing)

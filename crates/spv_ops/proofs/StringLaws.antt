@@ -2,7 +2,7 @@
 use Rattle.std.proofs.Common.{◌≡◌, ℕ, suc, ◌/◌, ◌%◌, ◌<◌, ◌^◌, Bool, true, false, cond, List, [], ◌∷◌, ◌++◌, get_or, Result, Ok, Err, refl, sym, ap, subst, ◌∙◌, arith, inl, inr}
 use Rattle.std.specs.Prelude.{◌==◌, ◌&&◌}
 use Rattle.std.specs.List.{AllByRecursion}
-use Rattle.std.proofs.lemmas.Bool.{ne_eqb, eqb-true}
+use Rattle.std.proofs.lemmas.Bool.{ne_eqb, eqb-true, and_parts}
 use Rattle.std.proofs.lemmas.Bool.Decides.{eqb_tells}
 use Rattle.spv_ops.specs.declared.reading.WrongOperands.{WrongOperands}
 use Rattle.spv_ops.specs.Steps.{◌>>=◌}
@@ -113,10 +113,6 @@ passed : (b : Bool) (x y : List ℕ × List ℕ) → cond b (done x) (Err (recor
 passed true x y e = (refl, ok_is x y e)
 passed false x y e = absurd cc
 
-both : (a b : Bool) → (a && b) ≡ true → (a ≡ true) × (b ≡ true)
-both true b e = (refl, e)
-both false b e = absurd cc
-
 -- the string after a word that was read
 read_on : (a b c d : ℕ) (read : Read) (x : List ℕ × List ℕ) → (read >>= λ more. Ok (a ∷ b ∷ c ∷ d ∷ more.0, more.1)) ≡ done x
     → (y : List ℕ × List ℕ) × (read ≡ done y) × ((a ∷ b ∷ c ∷ d ∷ y.0, y.1) ≡ x)
@@ -135,22 +131,22 @@ takes_word word words x lt fits later e =
     elim (eqb_tells (word % 256) 0) [
       | inl a ↦
           let p = passed ((word / 256 % 256 == 0) && ((word / 65536 % 256 == 0) && ((word / 16777216 % 256 == 0) && true))) ([], words) x (sym (at_none word words a.0) ∙ e) in
-          let q = both (word / 256 % 256 == 0) ((word / 65536 % 256 == 0) && ((word / 16777216 % 256 == 0) && true)) p.0 in
-          let r = both (word / 65536 % 256 == 0) ((word / 16777216 % 256 == 0) && true) q.1 in
-          let s = both (word / 16777216 % 256 == 0) true r.1 in
+          let q = and_parts (word / 256 % 256 == 0) ((word / 65536 % 256 == 0) && ((word / 16777216 % 256 == 0) && true)) p.0 in
+          let r = and_parts (word / 65536 % 256 == 0) ((word / 16777216 % 256 == 0) && true) q.1 in
+          let s = and_parts (word / 16777216 % 256 == 0) true r.1 in
           let sp : Spelled word 0 0 0 0 = record { byte0 = a.1; byte1 = eqb-true _ _ q.0; byte2 = eqb-true _ _ r.0; byte3 = eqb-true _ _ s.0 } in
           subst (TakesPair (word ∷ words)) p.1 (record { parts = ap (λ (w : ℕ). w ∷ words) (sym (respelled word 0 0 0 0 lt sp)); text = tt; more_fit = fits })
       | inr a ↦ elim (eqb_tells (word / 256 % 256) 0) [
         | inl b ↦
             let p = passed ((word / 65536 % 256 == 0) && ((word / 16777216 % 256 == 0) && true)) (word % 256 ∷ [], words) x (sym (at_one word words a.0 b.0) ∙ e) in
-            let r = both (word / 65536 % 256 == 0) ((word / 16777216 % 256 == 0) && true) p.0 in
-            let s = both (word / 16777216 % 256 == 0) true r.1 in
+            let r = and_parts (word / 65536 % 256 == 0) ((word / 16777216 % 256 == 0) && true) p.0 in
+            let s = and_parts (word / 16777216 % 256 == 0) true r.1 in
             let sp : Spelled word (word % 256) 0 0 0 = record { byte0 = refl; byte1 = b.1; byte2 = eqb-true _ _ r.0; byte3 = eqb-true _ _ s.0 } in
             subst (TakesPair (word ∷ words)) p.1 (record { parts = ap (λ (w : ℕ). w ∷ words) (sym (respelled word (word % 256) 0 0 0 lt sp)); text = ((omega (arith, a.1), below word), tt); more_fit = fits })
         | inr b ↦ elim (eqb_tells (word / 65536 % 256) 0) [
           | inl c ↦
               let p = passed ((word / 16777216 % 256 == 0) && true) (word % 256 ∷ word / 256 % 256 ∷ [], words) x (sym (at_two word words a.0 b.0 c.0) ∙ e) in
-              let s = both (word / 16777216 % 256 == 0) true p.0 in
+              let s = and_parts (word / 16777216 % 256 == 0) true p.0 in
               let sp : Spelled word (word % 256) (word / 256 % 256) 0 0 = record { byte0 = refl; byte1 = refl; byte2 = c.1; byte3 = eqb-true _ _ s.0 } in
               subst (TakesPair (word ∷ words)) p.1 (record {
                 parts = ap (λ (w : ℕ). w ∷ words) (sym (respelled word (word % 256) (word / 256 % 256) 0 0 lt sp));

@@ -11,8 +11,7 @@ use Rattle.spv_types.specs.Laws.{AreComplete, AreSound, ComesBefore, IsAmong}
 use Rattle.spv_types.specs.Rules.{form_has_runtime, has_runtime, is_data, is_runtime, is_scalar, is_sized_data, keep_members, keeps_form, keeps_member, last_type}
 use Rattle.spv_types.specs.Shapes.{part_type}
 use Rattle.spv_types.specs.Types.{IsUnset, Types, form_of, number_of}
-use Rattle.spv_types.proofs.ShapeLemmas.{form_number}
-use Rattle.spv_types.proofs.TypeLemmas.{in_first-found, number_form, number_lt}
+use Rattle.spv_types.proofs.Exports.{form_number, in_first-found, number_form, number_lt}
 
 -- ---- options of numbers
 

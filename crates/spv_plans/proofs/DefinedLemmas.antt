@@ -28,7 +28,8 @@ use Rattle.spv_plans.specs.Registers.{has_cells, has_pointer, has_result, has_va
 use Rattle.spv_plans.proofs.ApartLemmas.{insts_of_stands}
 use Rattle.spv_plans.proofs.ComesLemmas.{Comes, distinct_stands, place, pointer_comes, same_stand, value_comes}
 use Rattle.spv_plans.proofs.NumberLemmas.{First, first_there, map_at, map_from, number_gets}
-use Rattle.spv_plans.proofs.PlanLemmas.{each_at, result_typed}
+use Rattle.spv_plans.proofs.PlanLemmas.{result_typed}
+use Rattle.spv_base.proofs.Exports.{each_at}
 
 -- ---- the instruction that defines an id
 

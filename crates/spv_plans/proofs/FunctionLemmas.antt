@@ -18,7 +18,6 @@ use Rattle.spv_sections.specs.Ids.{is_result}
 use Rattle.spv_sections.specs.Laws.{IsInOrder}
 use Rattle.spv_valid.specs.Acceptance.{Accepted, IsAccepted, decoded_in}
 use Rattle.spv_valid.specs.Validity.{IsValid}
-use Rattle.spv_consts.proofs.WalkIds.{each_weaker}
 use Rattle.spv_frame.specs.Functions.{numbered}
 use Rattle.spv_frame.specs.Plans.{AreApart}
 use Rattle.spv_frame.specs.Registers.{Planned, number_of}
@@ -31,25 +30,24 @@ use Rattle.spv_plans.proofs.NumberLemmas.{contains_at, leading_at, number_gets}
 use Rattle.spv_plans.proofs.PlacedLemmas.{numbers_are}
 use Rattle.spv_plans.proofs.PlanLemmas.{Facts, each_inst, facts, function_named}
 use Rattle.spv_plans.proofs.PlanOfLemmas.{function_is, has, plan_at, plan_from}
+use Rattle.spv_plans.proofs.ReadLemmas.{function_ids}
+use Rattle.spv_base.proofs.Exports.{each_weaker}
 
 -- ---- no two functions have one id
 
-abbrev ids_of : List Inst → List ℕ
-ids_of insts = map (λ (f : ℕ × ℕ). f.0) (flat_map function_of insts)
-
-others_differ : (id : ℕ) (insts : List Inst) → AllByRecursion (λ (i : Inst). i.id ≢ id) insts → AllByRecursion (λ (k : ℕ). k ≢ id) (ids_of insts)
+others_differ : (id : ℕ) (insts : List Inst) → AllByRecursion (λ (i : Inst). i.id ≢ id) insts → AllByRecursion (λ (k : ℕ). k ≢ id) (function_ids insts)
 others_differ id [] h = tt
 others_differ id (i ∷ is) h = by_op (i.op == 54) (others_differ id is h.1)
   where
-    by_op : (b : Bool) → AllByRecursion (λ (k : ℕ). k ≢ id) (ids_of is) → AllByRecursion (λ (k : ℕ). k ≢ id) (map (λ (f : ℕ × ℕ). f.0) (cond b ((i.id, i.word) ∷ []) [] ++ flat_map function_of is))
+    by_op : (b : Bool) → AllByRecursion (λ (k : ℕ). k ≢ id) (function_ids is) → AllByRecursion (λ (k : ℕ). k ≢ id) (map (λ (f : ℕ × ℕ). f.0) (cond b ((i.id, i.word) ∷ []) [] ++ flat_map function_of is))
     by_op true rest = (h.0, rest)
     by_op false rest = rest
 
-none_twice : (a : Accepted) (insts : List Inst) → AreDistinct insts → AllByRecursion (λ (i : Inst). is_result (decoded_in a) i ≡ true) insts → NoneTwice (ids_of insts)
+none_twice : (a : Accepted) (insts : List Inst) → AreDistinct insts → AllByRecursion (λ (i : Inst). is_result (decoded_in a) i ≡ true) insts → NoneTwice (function_ids insts)
 none_twice a [] distinct results = tt
 none_twice a (i ∷ is) distinct results = by_op (i.op == 54) refl distinct.0 (none_twice a is distinct.1 results.1)
   where
-    by_op : (b : Bool) → (i.op == 54) ≡ b → (i.id ≡ 0) ⊎ AllByRecursion (λ (later : Inst). later.id ≢ i.id) is → NoneTwice (ids_of is)
+    by_op : (b : Bool) → (i.op == 54) ≡ b → (i.id ≡ 0) ⊎ AllByRecursion (λ (later : Inst). later.id ≢ i.id) is → NoneTwice (function_ids is)
         → NoneTwice (map (λ (f : ℕ × ℕ). f.0) (cond b ((i.id, i.word) ∷ []) [] ++ flat_map function_of is))
     by_op true e (inl none) rest = absurd (function_named (decoded_in a) i results.0 (eqb-true i.op 54 e) none)
     by_op true e (inr apart) rest = (others_differ i.id is apart, rest)
@@ -95,7 +93,7 @@ pub record Begun (insts : List Inst) (function : ℕ) : Type 0 where
   pub op : inst.op ≡ 54
   pub is : inst.id ≡ function
 
-pub begun : (insts : List Inst) (k function : ℕ) → slice_get (ids_of insts) k ≡ Some function → Begun insts function
+pub begun : (insts : List Inst) (k function : ℕ) → slice_get (function_ids insts) k ≡ Some function → Begun insts function
 begun [] k function h = absurd (cc)
 begun (i ∷ is) k function h = by_op (i.op == 54) refl k h (λ m. begun is m function)
   where
@@ -103,7 +101,7 @@ begun (i ∷ is) k function h = by_op (i.op == 54) refl k h (λ m. begun is m fu
     later b = record { number = suc b.number; inst = b.inst; at = b.at; op = b.op; is = b.is }
 
     by_op : (b : Bool) → (i.op == 54) ≡ b → (m : ℕ) → slice_get (map (λ (f : ℕ × ℕ). f.0) (cond b ((i.id, i.word) ∷ []) [] ++ flat_map function_of is)) m ≡ Some function
-        → ((j : ℕ) → slice_get (ids_of is) j ≡ Some function → Begun is function) → Begun (i ∷ is) function
+        → ((j : ℕ) → slice_get (function_ids is) j ≡ Some function → Begun is function) → Begun (i ∷ is) function
     by_op true e zero g rest = let same : i.id ≡ function = cc in record { number = 0; inst = i; at = refl; op = eqb-true i.op 54 e; is = same }
     by_op true e (suc m) g rest = later (rest m g)
     by_op false e m g rest = later (rest m g)

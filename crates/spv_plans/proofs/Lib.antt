@@ -1,16 +1,17 @@
-pub mod MemberLemmas
-pub mod StopLemmas
-pub mod ApartLemmas
-pub mod DraftLemmas
-pub mod WalkLemmas
-pub mod CountLemmas
-pub mod TypeLemmas
-pub mod PlanLemmas
-pub mod ReadLemmas
-pub mod NumberLemmas
-pub mod PlacedLemmas
-pub mod ComesLemmas
-pub mod PlanOfLemmas
-pub mod FunctionLemmas
-pub mod DefinedLemmas
-pub mod FoundLemmas
+mod MemberLemmas
+mod StopLemmas
+mod ApartLemmas
+mod DraftLemmas
+mod WalkLemmas
+mod CountLemmas
+mod TypeLemmas
+mod PlanLemmas
+mod ReadLemmas
+mod NumberLemmas
+mod PlacedLemmas
+mod ComesLemmas
+mod PlanOfLemmas
+mod FunctionLemmas
+mod DefinedLemmas
+mod FoundLemmas
+pub mod Exports

@@ -25,23 +25,20 @@ use Rattle.spv_types.specs.Cells.{cells_of}
 use Rattle.spv_types.specs.Laws.{AreByForms, AreSound}
 use Rattle.spv_types.specs.Rules.{has_runtime}
 use Rattle.spv_types.specs.Types.{Types, form_of, lengthened, number_of, with_length}
-use Rattle.spv_types.proofs.TypeLemmas.{number_form, number_none}
-use Rattle.spv_cfg.proofs.FlowLemmas.{flow_accepted}
+use Rattle.spv_types.specs.Typing.{types_read}
+use Rattle.spv_types.proofs.Exports.{number_form, number_none, accepted_is}
+use Rattle.spv_cfg.proofs.Exports.{flow_accepted}
 use Rattle.spv_sections.specs.declared.kinds.Wanted.TheVariants.{DeclaredType}
 use Rattle.spv_sections.specs.Definitions.{definitions_from}
 use Rattle.spv_sections.specs.Ids.{has_result as results, head_of, is_result, names, scope_of}
 use Rattle.spv_sections.specs.Laws.{IsInOrder}
 use Rattle.spv_consts.specs.Build.{context_of, start_of, state_of}
 use Rattle.spv_consts.specs.Table.{Constants}
-use Rattle.spv_consts.proofs.WalkConstants.{ends, walk_follows}
-use Rattle.spv_consts.proofs.WalkIds.{Differs, before_is_front, differ_before, differ_behind, each_weaker}
-use Rattle.spv_consts.proofs.WalkPlaces.{declared}
-use Rattle.spv_consts.proofs.WalkSteps.{Follows, follows_start}
-use Rattle.spv_consts.proofs.WalkTypes.{no_breach}
+use Rattle.spv_consts.proofs.Exports.{ends, walk_follows, Differs, before_is_front, differ_before, differ_behind, Follows, follows_start}
 use Rattle.spv_bodies.specs.Context.{known_of}
 use Rattle.spv_valid.specs.Acceptance.{Accepted, IsAccepted, Passes, decoded_in}
 use Rattle.spv_valid.specs.Validity.{IsValid}
-use Rattle.spv_valid.proofs.AcceptedLemmas.{accepted_passes}
+use Rattle.spv_valid.proofs.Exports.{accepted_passes}
 use Rattle.spv_frame.specs.Plans.{AreApart}
 use Rattle.spv_frame.specs.Registers.{Planned, ids}
 use Rattle.spv_plans.specs.Members.{first_stop, is_stop, leading, members, stands_in}
@@ -52,6 +49,7 @@ use Rattle.spv_plans.proofs.CountLemmas.{cells_known, within_limit}
 use Rattle.spv_plans.proofs.MemberLemmas.{Reached, filter_leading, reached}
 use Rattle.spv_plans.proofs.StopLemmas.{found_leading, function_stops}
 use Rattle.spv_plans.proofs.TypeLemmas.{each_behind, form_found, named_type, no_types_behind, types_defined}
+use Rattle.spv_base.proofs.Exports.{each_weaker, each_at}
 
 -- ---- lists
 
@@ -59,11 +57,6 @@ pub each_drop : {X : Type 0} (P : X → Type 0) (n : ℕ) (xs : List X) → AllB
 each_drop P zero xs h = h
 each_drop P (suc n) [] h = tt
 each_drop P (suc n) (x ∷ xs) h = each_drop P n xs h.1
-
-pub each_at : {X : Type 0} (P : X → Type 0) (xs : List X) (k : ℕ) (x : X) → AllByRecursion P xs → slice_get xs k ≡ Some x → P x
-each_at P [] k x h at = absurd (cc)
-each_at P (y ∷ xs) zero x h at = let same : y ≡ x = cc in subst P same h.0
-each_at P (y ∷ xs) (suc k) x h at = each_at P xs k x h.1 at
 
 inst_at : (ss : List Stand) (m k : ℕ) (s : Stand) → slice_get (drop m ss) k ≡ Some s → slice_get (drop m (map (λ (t : Stand). t.inst) ss)) k ≡ Some s.inst
 inst_at [] zero k s at = absurd (cc)
@@ -135,15 +128,15 @@ module _
     (valid : (a : Accepted) → IsAccepted a → IsValid a)
   where
     -- the types are those that the module declares, but for the lengths of arrays
-    numbers_stay : (a : Accepted) (is : IsAccepted a) (q : ℕ) → number_of a.types q ≡ number_of (declared a.insts) q
+    numbers_stay : (a : Accepted) (is : IsAccepted a) (q : ℕ) → number_of a.types q ≡ number_of (types_read a.insts) q
     numbers_stay a is q =
         let passes : Passes a is.name is.over = accepted_passes a is.name is.over is.is in
         let ts : Types = passes.declared in
         let ended = ends a.insts ts is.over (a.types, a.constants) passes.constants in
-        let rules = no_breach a.insts ts passes.types in
+        let rules = accepted_is a.insts ts passes.types in
         let front = before_is_front a.insts in
         let words : Ascend 0 a.insts = is.decoded.ascend in
-        let sound_start : AreSound (declared a.insts) = subst AreSound (sym rules.1) (sound a.insts ts passes.types) in
+        let sound_start : AreSound (types_read a.insts) = subst AreSound (sym rules.1) (sound a.insts ts passes.types) in
         let start : Follows a.insts [] (start_of ts) = follows_start a.insts (start_of ts) refl (sym rules.1) refl sound_start in
         let follows : Follows a.insts (before_functions a.insts) (state_of ts a.insts is.over)
         = walk_follows (λ insts us _ h. sound insts us h) sound_kept number_kept other_kept own_set by_forms
@@ -159,7 +152,7 @@ module _
         = sym (ap (λ (xs : List Inst). reads s.inst.ty (definitions_from (sets_of a.insts) outside xs)) front.1) ∙ named.1 in
         let none = no_types_behind (known_of a.types a.constants a.insts) a.insts front.0 front.1 v.rules in
         let form = form_found a.insts (sets_of a.insts) outside (before_functions a.insts) front.0 s.inst.ty named.0 (types_defined a.insts [] (before_functions a.insts) v.declared) none found named.2 in
-        form_by_number (declared a.insts) a.types s.inst.ty (numbers_stay a is s.inst.ty) form
+        form_by_number (types_read a.insts) a.types s.inst.ty (numbers_stay a is s.inst.ty) form
 
     register_counted : (a : Accepted) (is : IsAccepted a) (s : Stand) → IsInOrder (decoded_in a) s → has_runtime a.types s.inst.ty ≡ false → is_register a.types s.inst ≡ true
         → is_counted a.types s.inst.ty ≡ true

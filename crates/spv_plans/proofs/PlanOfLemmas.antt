@@ -18,7 +18,7 @@ use Rattle.spv_frame.specs.declared.slots.Place.{Place}
 use Rattle.spv_frame.specs.declared.slots.Place.TheVariants.{Value, Pointer}
 use Rattle.spv_frame.specs.Plans.{AreApart, planned}
 use Rattle.spv_frame.specs.Registers.{Planned, Rooms, ids, number_of}
-use Rattle.spv_frame.proofs.PlanLemmas.{planned_is}
+use Rattle.spv_frame.proofs.Exports.{planned_is}
 use Rattle.spv_plans.specs.Members.{first_stop, members, stands_in}
 use Rattle.spv_plans.specs.Plans.{IsPlan, counted, functions_in, id_at, parameters_among, place_among, plan_of, plans_in, pointers_among, values_among}
 use Rattle.spv_plans.specs.Registered.{HasApart}

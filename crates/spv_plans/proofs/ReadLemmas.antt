@@ -11,11 +11,11 @@ use Rattle.spv_frame.specs.Registers.{Planned}
 use Rattle.spv_plans.specs.Plans.{IsPlan}
 
 -- the ids of the functions among some instructions, and from an instruction on
-abbrev ids_from_list : List Inst → List ℕ
-ids_from_list insts = map (λ (f : ℕ × ℕ). f.0) (flat_map function_of insts)
+abbrev pub function_ids : List Inst → List ℕ
+function_ids insts = map (λ (f : ℕ × ℕ). f.0) (flat_map function_of insts)
 
 abbrev ids_from : List Inst → ℕ → List ℕ
-ids_from insts n = ids_from_list (drop n insts)
+ids_from insts n = function_ids (drop n insts)
 
 -- there is a plan for each function so far
 pub record Reading (a : Accepted) (insts : List Inst) (ps : List Planned) (n : ℕ) : Type 0 where
@@ -42,8 +42,8 @@ one_read a insts ps n i p reading at op id is =
     let next : suc n ≡ n + 1 = omega arith in
     let rest : drop n insts ≡ i ∷ drop (n + 1) insts = drop_here insts n i at ∙ ap (λ (m : ℕ). i ∷ drop m insts) next in
     let test : (i.op == 54) ≡ true = eq-eqb i.op 54 op in
-    let own : ids_from_list (i ∷ drop (n + 1) insts) ≡ i.id ∷ ids_from insts (n + 1) = rw test refl in
-    let left : ids_from insts n ≡ p.function ∷ ids_from insts (n + 1) = ap ids_from_list rest ∙ own ∙ ap (λ (k : ℕ). k ∷ ids_from insts (n + 1)) id in
+    let own : function_ids (i ∷ drop (n + 1) insts) ≡ i.id ∷ ids_from insts (n + 1) = rw test refl in
+    let left : ids_from insts n ≡ p.function ∷ ids_from insts (n + 1) = ap function_ids rest ∙ own ∙ ap (λ (k : ℕ). k ∷ ids_from insts (n + 1)) id in
     record {
       functions =
           ap (λ (ks : List ℕ). ks ++ ids_from insts (n + 1)) (map_push ps p)
@@ -58,16 +58,16 @@ pub none_there : (a : Accepted) (insts : List Inst) (ps : List Planned) (n : ℕ
 none_there a insts ps n i reading at test =
     let next : suc n ≡ n + 1 = omega arith in
     let rest : drop n insts ≡ i ∷ drop (n + 1) insts = drop_here insts n i at ∙ ap (λ (m : ℕ). i ∷ drop m insts) next in
-    let own : ids_from_list (i ∷ drop (n + 1) insts) ≡ ids_from insts (n + 1) = rw test refl in
+    let own : function_ids (i ∷ drop (n + 1) insts) ≡ ids_from insts (n + 1) = rw test refl in
     record {
-      functions = ap (λ (ks : List ℕ). map (λ (q : Planned). q.function) ps ++ ks) (sym (ap ids_from_list rest ∙ own)) ∙ reading.functions;
+      functions = ap (λ (ks : List ℕ). map (λ (q : Planned). q.function) ps ++ ks) (sym (ap function_ids rest ∙ own)) ∙ reading.functions;
       plans = reading.plans;
     }
 
 pub all_read : (a : Accepted) (insts : List Inst) (ps : List Planned) (n : ℕ) → Reading a insts ps n → length insts ≤ n → map (λ (p : Planned). p.function) ps ≡ map (λ (f : ℕ × ℕ). f.0) (functions_of insts)
 all_read a insts ps n reading past =
     sym (append-nil (map (λ (p : Planned). p.function) ps))
-    ∙ ap (λ (ks : List ℕ). map (λ (p : Planned). p.function) ps ++ ks) (sym (ap ids_from_list (drop_all n insts past)))
+    ∙ ap (λ (ks : List ℕ). map (λ (p : Planned). p.function) ps ++ ks) (sym (ap function_ids (drop_all n insts past)))
     ∙ reading.functions
 
 -- ---- as the code has it

@@ -1,5 +1,5 @@
 -- A function has an instruction at which a run stops: in its first block, which goes on to a terminator.
-use Rattle.std.proofs.Common.{◌≡◌, ℕ, ◌==◌, ◌&&◌, Bool, true, false, cond, List, [], ◌∷◌, Some, refl, sym, subst}
+use Rattle.std.proofs.Common.{◌≡◌, ℕ, ◌==◌, Bool, true, false, cond, List, [], ◌∷◌, Some, refl, sym, subst}
 use Rattle.std.specs.Prelude.{find}
 use Rattle.spv_base.specs.declared.instructions.Inst.{Inst}
 use Rattle.spv_index.specs.declared.classes.Class.{Class}
@@ -9,31 +9,29 @@ use Rattle.spv_index.specs.declared.positions.Position.{Position}
 use Rattle.spv_index.specs.Classes.{class_of}
 use Rattle.spv_index.specs.Positions.{Stand, among_variables, begins, in_block, in_function, position_after, stands}
 use Rattle.spv_cfg.specs.Layout.{lacking, layout_breach, unended}
-use Rattle.spv_cfg.proofs.BlockLaws.{same_number}
-use Rattle.spv_cfg.proofs.LayoutLemmas.{IsWhole, nil_parts, stays_inside, whole_parts, not_reported}
+use Rattle.spv_cfg.proofs.Exports.{IsWhole, stays_inside, whole_parts, not_reported}
 use Rattle.spv_plans.specs.Members.{is_stop, is_within, leading, stands_in}
 use Rattle.spv_plans.proofs.MemberLemmas.{block_inside}
+use Rattle.std.proofs.lemmas.Bool.{and_from}
+use Rattle.spv_base.proofs.Exports.{same_number, both_empty}
 
 -- a run stops among the instructions of a function, of which these are the first
 abbrev pub Stops : ℕ → List Stand → Type 0
 Stops id ss = (s : Stand) × (find is_stop (leading (stands_in id) ss) ≡ Some s)
 
-both_true : (p q : Bool) → p ≡ true → q ≡ true → (p && q) ≡ true
-both_true p q h g = rw (h, g) refl
-
 within : (id : ℕ) (position : Position) → in_block position.stage ≡ true → position.function ≡ id → is_within id position ≡ true
 within id position inside function =
     let same : (position.function == id) ≡ true = rw function (same_number id) in
-    both_true (in_function position.stage) (position.function == id) (block_inside position.stage inside) same
+    and_from (in_function position.stage) (position.function == id) (block_inside position.stage inside) same
 
 stops_by_class : (id : ℕ) (r : Class) (position : Position) (inst : Inst) (ss : List Stand) → in_block position.stage ≡ true → position.function ≡ id
     → layout_breach (record { position = position; class = r; inst = inst }) ≡ []
     → (in_block (position_after position r inst).stage ≡ true → (position_after position r inst).function ≡ id → Stops id ss)
     → Stops id (record { position = position; class = r; inst = inst } ∷ ss)
-stops_by_class id Function position inst ss inside function whole behind = absurd (not_reported (in_block position.stage) position.block_word inside (nil_parts (unended position Function) _ whole).0)
+stops_by_class id Function position inst ss inside function whole behind = absurd (not_reported (in_block position.stage) position.block_word inside (both_empty (unended position Function) _ whole).0)
 stops_by_class id Parameter position inst ss inside function whole behind = rw (within id position inside function) (behind inside function)
-stops_by_class id End position inst ss inside function whole behind = absurd (not_reported (in_block position.stage) position.block_word inside (nil_parts (unended position End) _ whole).0)
-stops_by_class id Label position inst ss inside function whole behind = absurd (not_reported (in_block position.stage) position.block_word inside (nil_parts (unended position Label) _ whole).0)
+stops_by_class id End position inst ss inside function whole behind = absurd (not_reported (in_block position.stage) position.block_word inside (both_empty (unended position End) _ whole).0)
+stops_by_class id Label position inst ss inside function whole behind = absurd (not_reported (in_block position.stage) position.block_word inside (both_empty (unended position Label) _ whole).0)
 stops_by_class id Line position inst ss inside function whole behind = rw (within id position inside function) (behind inside function)
 stops_by_class id Phi position inst ss inside function whole behind = rw (within id position inside function) (behind inside function)
 stops_by_class id Variable position inst ss inside function whole behind =
@@ -47,7 +45,7 @@ stops_by_class id Executable position inst ss inside function whole behind =
 
 block_stops : (id : ℕ) (sets : List (ℕ × Bool)) (position : Position) (insts : List Inst) → IsWhole sets position insts → in_block position.stage ≡ true → position.function ≡ id
     → Stops id (stands sets position insts)
-block_stops id sets position [] whole inside function = absurd (not_reported (in_block position.stage) position.block_word inside (nil_parts (unended position Function) (lacking position Function) whole).0)
+block_stops id sets position [] whole inside function = absurd (not_reported (in_block position.stage) position.block_word inside (both_empty (unended position Function) (lacking position Function) whole).0)
 block_stops id sets position (inst ∷ insts) whole inside function =
     let parts = whole_parts sets position inst insts whole in
     stops_by_class id (class_of sets inst) position inst (stands sets (position_after position (class_of sets inst) inst) insts) inside function parts.0

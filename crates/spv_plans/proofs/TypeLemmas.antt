@@ -34,8 +34,8 @@ use Rattle.spv_sections.specs.declared.kinds.Wanted.TheVariants.{DeclaredType}
 use Rattle.spv_sections.specs.Definitions.{definition_at, definitions_from, definitions_of, first}
 use Rattle.spv_sections.specs.Ids.{names, serves}
 use Rattle.spv_sections.specs.Kinds.{fits, is_type as is_type_kind, kind_of, kinds}
-use Rattle.spv_sections.proofs.TypesFirst.{first_read}
-use Rattle.spv_cfg.proofs.TargetLaws.{all_from_test}
+use Rattle.spv_sections.proofs.Exports.{first_read}
+use Rattle.spv_cfg.proofs.Exports.{all_from_test}
 
 -- ---- the opcodes of types
 

@@ -18,10 +18,8 @@ use Rattle.spv_types.specs.Rows.{leaves, no_roots}
 use Rattle.spv_types.specs.Rules.{form_has_runtime, has_runtime, is_scalar, keeps_form}
 use Rattle.spv_types.specs.Shapes.{HasShape, HasShapeAmong, scalar_in, shape_step}
 use Rattle.spv_types.specs.Types.{Types, form_of, is_number, number_of}
-use Rattle.spv_types.proofs.RowCounts.{many_is}
-use Rattle.spv_types.proofs.RowLemmas.{many_row, scalar_row}
-use Rattle.spv_types.proofs.RowValues.{no_pointer}
-use Rattle.spv_plans.proofs.CountLemmas.{scalar_plain, sized_plain, Plain, members_plain}
+use Rattle.spv_types.proofs.Exports.{many_is, many_row, scalar_row, no_pointer}
+use Rattle.spv_plans.proofs.Exports.{scalar_plain, sized_plain, Plain, members_plain}
 
 abbrev pub widths : List Cell → List ℕ
 widths cs = map (λ (c : Cell). c.width) cs

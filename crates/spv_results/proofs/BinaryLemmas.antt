@@ -14,19 +14,18 @@ use Rattle.spv_typing.specs.declared.lanes.Element.{Element}
 use Rattle.spv_typing.specs.declared.lanes.Element.TheVariants.{Bool as Boolean, Int}
 use Rattle.spv_typing.specs.declared.rules.Rule.{Rule}
 use Rattle.spv_typing.specs.declared.rules.Rule.TheVariants.{Booleans, Compare, Integers, Shift}
-use Rattle.spv_typing.specs.Lanes.{lanes_of, repeated}
+use Rattle.spv_typing.specs.Lanes.{lanes_of, repeated, width_of}
 use Rattle.spv_typing.specs.Laws.{IsTyped}
 use Rattle.spv_typing.specs.Rules.{rule_of}
 use Rattle.spv_bodies.specs.Lanes.{KeepsLanes, types_after}
 use Rattle.spv_valid.specs.Acceptance.{Accepted}
 use Rattle.spv_effects.specs.BinaryOps.{MayMeet, binary_value}
 use Rattle.spv_effects.specs.Lanes.{AreScalars}
-use Rattle.spv_effects.proofs.ResultLemmas.{binary_scalars}
-use Rattle.spv_effects.proofs.TypeLemmas.{scalars_are_lanes}
+use Rattle.spv_effects.proofs.Exports.{binary_scalars, scalars_are_lanes}
 use Rattle.spv_results.specs.Operands.{IsOperand, IsResult, known}
-use Rattle.spv_results.specs.Results.{width_in}
 use Rattle.spv_results.proofs.LaneTypes.{lanes_fit, operand_lanes}
-use Rattle.spv_results.proofs.RuleLemmas.{read_from, typed_by}
+use Rattle.spv_results.proofs.RuleLemmas.{typed_by}
+use Rattle.spv_base.proofs.Exports.{reads_each}
 
 -- the rule of operations of a kind
 abbrev row_rule : BinaryRow → Rule
@@ -41,7 +40,7 @@ row_rule (shift f) = Shift
 binary_rule : (op : ℕ) (operation : BinaryOp) → binary_op op ≡ Some operation → rule_of op ≡ Some (row_rule (binary_row operation))
 unfolding binary_op binary_row rule_of
 binary_rule op operation h =
-    read_from (λ (k : ℕ) (o : BinaryOp). rule_of k ≡ Some (row_rule (binary_row o))) op operation binary_opcodes
+    reads_each (λ (k : ℕ) (o : BinaryOp). rule_of k ≡ Some (row_rule (binary_row o))) op operation binary_opcodes
     (refl, (refl, (refl, (refl, (refl, (refl, (refl, (refl, (refl, (refl, (refl, (refl, (refl, (refl, (refl, (refl, (refl, (refl, (refl, (refl, (refl, (refl, (refl, (refl, (refl, (refl, (refl, (refl, tt)))))))))))))))))))))))))))) h
 
 -- two operands of n lanes each, for a result of as many
@@ -58,7 +57,7 @@ record DoMeet (ts : Types) (row : BinaryRow) (ty : ℕ) (cs ds : List Cell) : Ty
   e : Element
   fits : BinaryWidths row v w
   pair : ArePaired ts ty cs ds v w e
-  width : binary_width row v ≡ width_in e
+  width : binary_width row v ≡ width_of e
 
 module _ (a : Accepted) (i : Inst) (x y : Value) (sound : AreSound a.types) (first : IsOperand a i 0 x) (second : IsOperand a i 1 y) where
   abbrev Typed : Rule → Type 0
@@ -119,5 +118,5 @@ module _ (a : Accepted) (i : Inst) (x y : Value) (sound : AreSound a.types) (fir
     pub binary_shape : (v : Value) → v ≡ binary_value operation x y → IsResult a i v
     binary_shape v e =
         let cs : List Cell = zip2 (binary_lane operation) (leaves x) (leaves y) in
-        let scalars : AreScalars (width_in met.e) met.pair.n cs = subst (λ (w : ℕ). AreScalars w met.pair.n cs) met.width (binary_scalars operation met.pair.n (leaves x) (leaves y) meeting) in
+        let scalars : AreScalars (width_of met.e) met.pair.n cs = subst (λ (w : ℕ). AreScalars w met.pair.n cs) met.width (binary_scalars operation met.pair.n (leaves x) (leaves y) meeting) in
         subst (IsResult a i) (sym e) (lanes_fit a.types i.ty met.pair.n met.e cs sound met.pair.result scalars)

@@ -17,7 +17,7 @@ use Rattle.spv_bodies.specs.Lanes.{KeepsLanes, types_after}
 use Rattle.spv_valid.specs.Acceptance.{Accepted}
 use Rattle.spv_effects.specs.Bitcasts.{MayCast, bitcast_value}
 use Rattle.spv_effects.specs.Lanes.{AreScalars}
-use Rattle.spv_effects.proofs.ResultLemmas.{bitcast_scalars}
+use Rattle.spv_effects.proofs.Exports.{bitcast_scalars}
 use Rattle.spv_results.specs.Operands.{IsOperand, IsResult, known}
 use Rattle.spv_results.specs.Results.{lane_count, lane_width}
 use Rattle.spv_results.proofs.LaneTypes.{count_is, lane_type, lanes_fit, operand_lanes, width_is}

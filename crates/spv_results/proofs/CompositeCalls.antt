@@ -8,7 +8,7 @@ use Rattle.spv_base.specs.Parts.{part_at, with_part}
 use Rattle.spv_base.specs.declared.instructions.Inst.{Inst}
 use Rattle.spv_base.specs.declared.values.Value.{Value, List as Many}
 use Rattle.spv_types.specs.declared.forms.Form.{Form}
-use Rattle.spv_types.specs.Saturation.{saturated}
+use Rattle.spv_base.specs.Saturation.{saturated}
 use Rattle.spv_types.specs.Leaves.{leaf_of}
 use Rattle.spv_types.specs.Queries.{components_in}
 use Rattle.spv_types.specs.Rows.{HasRow, leaves, no_roots}
@@ -18,7 +18,7 @@ use Rattle.spv_types.specs.Types.{Types, form_of}
 use Rattle.spv_bodies.specs.Composites.{KeepsConstruct, KeepsExtract, KeepsInsert}
 use Rattle.spv_effects.specs.Composites.{joined_value, leaves_in}
 use Rattle.spv_values.specs.Places.{IsRowAt}
-use Rattle.spv_values.proofs.RowLemmas.{row_at}
+use Rattle.spv_values.proofs.Exports.{row_at}
 use Rattle.spv_valid.specs.Acceptance.{Accepted}
 use Rattle.spv_valid.specs.Validity.{IsValid}
 use Rattle.spv_results.specs.Operands.{IsOperand, IsResult, known}

@@ -6,11 +6,11 @@ use Rattle.std.specs.Option.{is_some, option_and_then, option_map_or}
 use Rattle.std.proofs.lemmas.Bool.{eqb-true}
 use Rattle.std.proofs.lemmas.List.Elements.{All-append, All-cons, All-head, All-nil, All-tail}
 use Rattle.std.proofs.lemmas.List.Sums.{sum_by-cons}
-use Rattle.spv_base.specs.Cell.{Cell}
+use Rattle.spv_base.specs.Cell.{Cell, HasWidth}
 use Rattle.spv_base.specs.declared.instructions.Operand.{Operand}
 use Rattle.spv_base.specs.declared.values.Root.{Root}
 use Rattle.spv_base.specs.declared.values.Value.{Value, List as Many}
-use Rattle.spv_base.proofs.PartLemmas.{is_many}
+use Rattle.spv_base.proofs.Exports.{is_many}
 use Rattle.spv_types.specs.declared.forms.Form.{Form}
 use Rattle.spv_types.specs.declared.forms.Form.TheVariants.{Void, Bool as Boolean, Int, Vector, Array, Runtime, Struct, Pointer, Function}
 use Rattle.spv_types.specs.declared.forms.Member.{Member}
@@ -20,13 +20,11 @@ use Rattle.spv_types.specs.Queries.{components_in}
 use Rattle.spv_types.specs.Rows.{leaves}
 use Rattle.spv_types.specs.Shapes.{HasShape, shape_step}
 use Rattle.spv_types.specs.Types.{form_of}
-use Rattle.spv_types.proofs.RowLemmas.{leaves_many}
-use Rattle.spv_types.proofs.ShapeLemmas.{shapes_are_by_forms}
+use Rattle.spv_types.proofs.Exports.{leaves_many, shapes_are_by_forms}
 use Rattle.spv_effects.specs.Composites.{joined_value, leaves_in}
 use Rattle.spv_effects.specs.LaneTypes.{HasLaneType, scalar_width}
 use Rattle.spv_effects.specs.Lanes.{AreScalars}
-use Rattle.spv_effects.proofs.LaneLemmas.{leaves_of_lanes}
-use Rattle.spv_effects.proofs.TypeLemmas.{HasWidth, lanes_shape}
+use Rattle.spv_effects.proofs.Exports.{leaves_of_lanes, lanes_shape}
 use Rattle.spv_bodies.specs.Composites.{AreParts, given}
 use Rattle.spv_bodies.specs.Context.{Known, type_in}
 use Rattle.spv_results.specs.Results.{constructed}

@@ -14,8 +14,7 @@ use Rattle.spv_bodies.specs.Matching.{KeepsCopyLogical}
 use Rattle.spv_bodies.specs.Memory.{KeepsUndef}
 use Rattle.spv_mem.specs.Blanks.{blank_of}
 use Rattle.spv_mem.specs.Targets.{Fits, is_open_block, may_be_target}
-use Rattle.spv_mem.proofs.BlankLemmas.{blank_shape}
-use Rattle.spv_mem.proofs.CountLemmas.{is_counted_by}
+use Rattle.spv_mem.proofs.Exports.{blank_shape, is_counted_by}
 use Rattle.spv_valid.specs.Acceptance.{Accepted}
 use Rattle.spv_valid.specs.Validity.{IsValid}
 use Rattle.spv_results.specs.Operands.{IsOperand, IsResult, known}

@@ -6,14 +6,14 @@ use Rattle.spv_alu.specs.declared.extended_op.ExtendedOp.{ExtendedOp}
 use Rattle.spv_base.specs.Cell.{Cell}
 use Rattle.spv_base.specs.declared.instructions.Inst.{Inst}
 use Rattle.spv_base.specs.declared.values.Value.{Value, List as Many}
-use Rattle.spv_base.proofs.PartLemmas.{out_many}
+use Rattle.spv_base.proofs.Exports.{out_many, reads_each}
 use Rattle.spv_types.specs.declared.forms.Form.TheVariants.{Struct}
 use Rattle.spv_types.specs.declared.forms.Member.{Member}
 use Rattle.spv_types.specs.Laws.{AreSound}
 use Rattle.spv_types.specs.Rows.{leaves, no_roots}
 use Rattle.spv_types.specs.Shapes.{HasShape, shape_step}
 use Rattle.spv_types.specs.Types.{Types, form_of}
-use Rattle.spv_types.proofs.ShapeLemmas.{shapes_are_by_forms}
+use Rattle.spv_types.proofs.Exports.{shapes_are_by_forms}
 use Rattle.spv_typing.specs.declared.lanes.Element.TheVariants.{Int}
 use Rattle.spv_typing.specs.declared.rules.Rule.TheVariants.{Extended}
 use Rattle.spv_typing.specs.Laws.{IsTyped}
@@ -22,15 +22,14 @@ use Rattle.spv_bodies.specs.Lanes.{KeepsLanes, types_after}
 use Rattle.spv_valid.specs.Acceptance.{Accepted}
 use Rattle.spv_effects.specs.ExtendedOps.{MayExtend, extended_value, high_lanes, low_lanes}
 use Rattle.spv_effects.specs.Lanes.{of_lanes}
-use Rattle.spv_effects.proofs.ResultLemmas.{high_scalars, low_scalars}
-use Rattle.spv_effects.proofs.TypeLemmas.{scalars_are_lanes}
+use Rattle.spv_effects.proofs.Exports.{high_scalars, low_scalars, scalars_are_lanes}
 use Rattle.spv_results.specs.Operands.{IsOperand, IsResult, known}
 use Rattle.spv_results.proofs.LaneTypes.{lane_type, lanes_fit, scalars_of}
-use Rattle.spv_results.proofs.RuleLemmas.{read_from, typed_by}
+use Rattle.spv_results.proofs.RuleLemmas.{typed_by}
 
 extended_rule : (op : ℕ) (operation : ExtendedOp) → extended_op op ≡ Some operation → rule_of op ≡ Some Extended
 unfolding extended_op rule_of
-extended_rule op operation h = read_from (λ (k : ℕ) (o : ExtendedOp). rule_of k ≡ Some Extended) op operation extended_opcodes (refl, (refl, (refl, (refl, tt)))) h
+extended_rule op operation h = reads_each (λ (k : ℕ) (o : ExtendedOp). rule_of k ≡ Some Extended) op operation extended_opcodes (refl, (refl, (refl, (refl, tt)))) h
 
 -- two values have the shape of a struct of two members of their type
 pair_shape : (ts : Types) (ty t : ℕ) (a b : Member) (block : Bool) (v u : Value) → AreSound ts → form_of ts ty ≡ Some (Struct (a ∷ b ∷ []) block) → a.ty ≡ t → b.ty ≡ t

@@ -22,11 +22,11 @@ use Rattle.spv_bodies.specs.Lanes.{KeepsLanes, types_after}
 use Rattle.spv_valid.specs.Acceptance.{Accepted}
 use Rattle.spv_effects.specs.Fields.{HaveFields, field_value}
 use Rattle.spv_effects.specs.Lanes.{AreScalars, lane_of}
-use Rattle.spv_effects.proofs.ResultLemmas.{field_scalars}
-use Rattle.spv_effects.proofs.TypeLemmas.{scalars_are_lanes}
+use Rattle.spv_effects.proofs.Exports.{field_scalars, scalars_are_lanes}
 use Rattle.spv_results.specs.Operands.{IsOperand, IsResult, known}
 use Rattle.spv_results.proofs.LaneTypes.{lanes_fit, operand_lanes}
-use Rattle.spv_results.proofs.RuleLemmas.{read_from, typed_by}
+use Rattle.spv_results.proofs.RuleLemmas.{typed_by}
+use Rattle.spv_base.proofs.Exports.{reads_each}
 
 -- the rule of an operation
 abbrev operation_rule : FieldOp → Rule
@@ -36,7 +36,7 @@ operation_rule BitFieldUExtract = ExtractField
 
 field_rule : (op : ℕ) (operation : FieldOp) → field_op op ≡ Some operation → rule_of op ≡ Some (operation_rule operation)
 unfolding field_op rule_of
-field_rule op operation h = read_from (λ (k : ℕ) (o : FieldOp). rule_of k ≡ Some (operation_rule o)) op operation field_opcodes (refl, (refl, (refl, tt))) h
+field_rule op operation h = reads_each (λ (k : ℕ) (o : FieldOp). rule_of k ≡ Some (operation_rule o)) op operation field_opcodes (refl, (refl, (refl, tt))) h
 
 extraction_rule : (operation : FieldOp) → operation ≢ BitFieldInsert → operation_rule operation ≡ ExtractField
 extraction_rule BitFieldInsert other = absurd (other refl)

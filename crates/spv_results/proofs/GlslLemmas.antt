@@ -22,12 +22,12 @@ use Rattle.spv_bodies.specs.Context.{Known}
 use Rattle.spv_bodies.specs.Lanes.{KeepsExtended, count_of, types_after}
 use Rattle.spv_valid.specs.Acceptance.{Accepted}
 use Rattle.spv_effects.specs.GlslOps.{MayJoin, glsl_value}
-use Rattle.spv_effects.specs.Lanes.{AreScalars, zip3}
-use Rattle.spv_effects.proofs.ResultLemmas.{glsl_scalars}
-use Rattle.spv_effects.proofs.TypeLemmas.{scalars_are_lanes}
+use Rattle.spv_effects.specs.Lanes.{AreScalars}
+use Rattle.spv_effects.proofs.Exports.{glsl_scalars, scalars_are_lanes}
 use Rattle.spv_results.specs.Operands.{IsOperand, IsResult, known}
 use Rattle.spv_results.proofs.LaneTypes.{lanes_fit, operand_lanes}
-use Rattle.spv_results.proofs.RuleLemmas.{read_from}
+use Rattle.spv_base.proofs.Exports.{reads_each}
+use Rattle.spv_alu.specs.Lanes.{zip3}
 
 -- ---- the rule of an instruction
 
@@ -40,7 +40,7 @@ rule_by (suc (suc (suc n))) = Clamp
 
 glsl_rule_is : (number : ℕ) (rule : Rule) → glsl_rule number ≡ Some rule → Some rule ≡ option_map rule_by (rule_count rule)
 glsl_rule_is number rule h =
-    read_from (λ (k : ℕ) (r : Rule). Some r ≡ option_map rule_by (rule_count r)) number rule glsl_rules
+    reads_each (λ (k : ℕ) (r : Rule). Some r ≡ option_map rule_by (rule_count r)) number rule glsl_rules
     (refl, (refl, (refl, (refl, (refl, (refl, (refl, (refl, (refl, (refl, (refl, tt))))))))))) h
 
 typed_glsl : (k : Known) (i : Inst) (n : ℕ) → KeepsExtended k i → is_debug k.sets i ≡ false → count_of i ≡ n → IsTyped k.types (rule_by n) i.ty (types_after k i 2)

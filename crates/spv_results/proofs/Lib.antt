@@ -1,24 +1,25 @@
-pub mod SoundTypes
-pub mod LaneTypes
-pub mod RuleLemmas
-pub mod UnaryLemmas
-pub mod BinaryLemmas
-pub mod BitcastLemmas
-pub mod TruthLemmas
-pub mod FieldLemmas
-pub mod ExtendedLemmas
-pub mod AlikeLemmas
-pub mod SelectLemmas
-pub mod GlslLemmas
-pub mod ShapeProps
-pub mod LogicalShapes
-pub mod NamedParts
-pub mod VectorTypes
-pub mod VectorShapes
-pub mod ConstructShapes
-pub mod RoomLemmas
-pub mod OperandTypes
-pub mod ResultRooms
-pub mod VectorCalls
-pub mod CopyCalls
-pub mod CompositeCalls
+mod SoundTypes
+mod LaneTypes
+mod RuleLemmas
+mod UnaryLemmas
+mod BinaryLemmas
+mod BitcastLemmas
+mod TruthLemmas
+mod FieldLemmas
+mod ExtendedLemmas
+mod AlikeLemmas
+mod SelectLemmas
+mod GlslLemmas
+mod ShapeProps
+mod LogicalShapes
+mod NamedParts
+mod VectorTypes
+mod VectorShapes
+mod ConstructShapes
+mod RoomLemmas
+mod OperandTypes
+mod ResultRooms
+mod VectorCalls
+mod CopyCalls
+mod CompositeCalls
+pub mod Exports

@@ -3,7 +3,7 @@ use Rattle.std.proofs.Common.{◌≡◌, ◌∙◌, ℕ, zero, suc, ◌+◌, ◌
 use Rattle.std.specs.Prelude.{if◌then◌else◌}
 use Rattle.std.specs.List.{All, AllZip}
 use Rattle.std.specs.Option.{option_and_then, option_map, option_map_or}
-use Rattle.std.proofs.lemmas.Bool.{and_parts, not-true}
+use Rattle.std.proofs.lemmas.Bool.{and_parts, not-true, ltb-true}
 use Rattle.spv_base.specs.Parts.{part_at}
 use Rattle.spv_base.specs.declared.instructions.Operand.{Operand}
 use Rattle.spv_base.specs.declared.values.Root.{Root}
@@ -19,10 +19,8 @@ use Rattle.spv_types.specs.Leaves.{element_part, leaf_of, member_part, part_of}
 use Rattle.spv_types.specs.Rules.{form_has_runtime, has_runtime, is_data, is_runtime, is_scalar, is_sized_data, keep_members, keeps_member, last_type}
 use Rattle.spv_types.specs.Shapes.{HasShape, part_type, reached_type, shape_step}
 use Rattle.spv_types.specs.Types.{Types, form_of}
-use Rattle.spv_types.proofs.RowCounts.{many_is}
-use Rattle.spv_types.proofs.ShapeLemmas.{shapes_are_by_forms}
-use Rattle.spv_types.proofs.OffsetLemmas.{cells_by_form}
-use Rattle.spv_mem.proofs.PartLemmas.{part_cons}
+use Rattle.spv_types.proofs.Exports.{many_is, shapes_are_by_forms, cells_by_form}
+use Rattle.spv_mem.proofs.Exports.{part_cons}
 use Rattle.spv_bodies.specs.Composites.{named_type, part}
 use Rattle.spv_bodies.specs.Context.{Known}
 use Rattle.spv_results.specs.Results.{numbers}
@@ -74,9 +72,6 @@ below_there i count element t h = go (nat_lt i count) refl h
     go : (b : Bool) → nat_lt i count ≡ b → (if b then Some element else None) ≡ Some t → (nat_lt i count ≡ true) × (element ≡ t)
     go false e h = cc
     go true e h = let same : element ≡ t = cc in (e, same)
-
-less : (i n : ℕ) → nat_lt i n ≡ true → i < n
-less i n h = grind arith
 
 module _ (ts : Types) (roots : Root → Option ℕ) (sound : AreSound ts) (counted : (id : ℕ) → is_sized_data ts id ≡ true → (n : ℕ) × (cells_of ts id ≡ Some n)) where
   -- a scalar is one leaf
@@ -137,7 +132,7 @@ module _ (ts : Types) (roots : Root → Option ℕ) (sound : AreSound ts) (count
   here (Vector component count) v id i t is s h =
       let below = below_there i count component t h in
       let many = many_is (λ (vs : List Value). (length vs ≡ count) × All (HasShape ts roots component) vs) v s in
-      let item = item_there (HasShape ts roots component) many.0 i (subst (λ (n : ℕ). i < n) (sym many.2.0) (less i count below.0)) many.2.1 in
+      let item = item_there (HasShape ts roots component) many.0 i (subst (λ (n : ℕ). i < n) (sym many.2.0) (ltb-true i count below.0)) many.2.1 in
       let cells = scalar_cells component (and_parts (is_scalar (form_of ts component)) _ (sound.kept id (Vector component count) is)).0 in
       record {
         before = 1 * i;
@@ -154,7 +149,7 @@ module _ (ts : Types) (roots : Root → Option ℕ) (sound : AreSound ts) (count
       let below = below_there i count element t h in
       let many = many_is (λ (vs : List Value). (Some (length vs) ≡ Some count) × All (HasShape ts roots element) vs) v s in
       let long : length many.0 ≡ count = let e = many.2.0 in cc in
-      let item = item_there (HasShape ts roots element) many.0 i (subst (λ (n : ℕ). i < n) (sym long) (less i count below.0)) many.2.1 in
+      let item = item_there (HasShape ts roots element) many.0 i (subst (λ (n : ℕ). i < n) (sym long) (ltb-true i count below.0)) many.2.1 in
       let cells = counted element (sound.kept id (Array element (Some count) stride) is) in
       record {
         before = cells.0 * i;

@@ -7,13 +7,13 @@ use Rattle.std.specs.Option.{option_map}
 use Rattle.spv_base.specs.declared.instructions.Inst.{Inst}
 use Rattle.spv_base.specs.declared.values.Value.{Value}
 use Rattle.spv_types.specs.Cells.{cells_of}
-use Rattle.spv_types.specs.Saturation.{saturated}
+use Rattle.spv_base.specs.Saturation.{saturated}
 use Rattle.spv_types.specs.Rows.{leaves, no_roots}
 use Rattle.spv_types.specs.Rules.{has_runtime}
 use Rattle.spv_valid.specs.Acceptance.{Accepted}
 use Rattle.spv_valid.specs.Validity.{IsValid}
 use Rattle.spv_results.specs.Operands.{IsResult}
-use Rattle.spv_plans.proofs.CountLemmas.{cells_known}
+use Rattle.spv_plans.proofs.Exports.{cells_known}
 use Rattle.spv_results.proofs.RoomLemmas.{AreCounted, room_is}
 
 -- the cells of the result's type

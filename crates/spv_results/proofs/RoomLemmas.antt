@@ -1,5 +1,5 @@
 -- How many cells values have, and where those of their parts lie.
-use Rattle.std.proofs.Common.{◌≡◌, ◌∙◌, ℕ, ◌+◌, ◌<◌, ◌≤◌, ◌^◌, not, true, false, List, length, Option, Some, None, refl, sym, ap, subst, arith}
+use Rattle.std.proofs.Common.{◌≡◌, ◌∙◌, ℕ, ◌+◌, ◌<◌, ◌≤◌, ◌^◌, not, true, false, List, length, Option, Some, sym, ap, subst, arith}
 use Rattle.std.specs.Prelude.{unwrap_or}
 use Rattle.std.specs.Option.{is_some, option_map_or}
 use Rattle.std.proofs.lemmas.Bool.{and_parts, not-true}
@@ -9,21 +9,19 @@ use Rattle.spv_base.specs.declared.values.Root.{Root}
 use Rattle.spv_base.specs.declared.values.Value.{Value}
 use Rattle.spv_types.specs.declared.forms.Form.{Form}
 use Rattle.spv_types.specs.Cells.{cells_of}
-use Rattle.spv_types.specs.Saturation.{saturated}
+use Rattle.spv_base.specs.Saturation.{saturated}
 use Rattle.spv_types.specs.Laws.{AreSound}
 use Rattle.spv_types.specs.Leaves.{leaf_of}
 use Rattle.spv_types.specs.Rows.{HasRow, leaves}
 use Rattle.spv_types.specs.Rules.{has_runtime, is_data, is_sized_data}
 use Rattle.spv_types.specs.Shapes.{HasShape}
 use Rattle.spv_types.specs.Types.{Types, form_of}
-use Rattle.spv_types.proofs.RowCounts.{shapes_count}
-use Rattle.spv_types.proofs.RowPlaces.{lies_within, part_lies}
-use Rattle.spv_types.proofs.RowShapes.{shapes_keep}
-use Rattle.spv_mem.proofs.CountLemmas.{counted_is, shape_formed}
+use Rattle.spv_types.proofs.Exports.{shapes_count, lies_within, part_lies, shapes_keep, shape_formed, data_form}
 use Rattle.spv_bodies.specs.Composites.{named_type}
 use Rattle.spv_bodies.specs.Context.{Known}
 use Rattle.spv_results.specs.Results.{numbers}
 use Rattle.spv_results.proofs.NamedParts.{named_there}
+use Rattle.spv_base.proofs.Exports.{some_at}
 
 -- types without runtime arrays have numbers of cells
 abbrev pub AreCounted : Types → Type 0
@@ -32,18 +30,14 @@ AreCounted ts = (id : ℕ) (f : Form) → form_of ts id ≡ Some f → has_runti
 pub room_is : (ts : Types) (roots : Root → Option ℕ) → AreCounted ts → (id : ℕ) (v : Value) → has_runtime ts id ≡ false → HasShape ts roots id v → length (leaves v) ≡ unwrap_or (cells_of ts id) 0
 room_is ts roots counted id v sized h =
     let f = shape_formed ts roots id v h in
-    let n = counted_is (cells_of ts id) (counted id f.0 f.1 sized) in
+    let n = some_at (cells_of ts id) (counted id f.0 f.1 sized) in
     shapes_count ts roots id v n.0 h n.1 ∙ ap (λ (o : Option ℕ). unwrap_or o 0) (sym n.1)
-
-data_formed : (o : Option Form) → is_data o ≡ true → (f : Form) × (o ≡ Some f)
-data_formed None h = cc
-data_formed (Some f) h = (f, refl)
 
 pub sized_counted : (ts : Types) → AreCounted ts → (id : ℕ) → is_sized_data ts id ≡ true → (n : ℕ) × (cells_of ts id ≡ Some n)
 sized_counted ts counted id h =
     let both = and_parts (is_data (form_of ts id)) (not (has_runtime ts id)) h in
-    let f = data_formed (form_of ts id) both.0 in
-    counted_is (cells_of ts id) (counted id f.0 f.1 (not-true (has_runtime ts id) both.1))
+    let f = data_form (form_of ts id) both.0 in
+    some_at (cells_of ts id) (counted id f.0 f.1 (not-true (has_runtime ts id) both.1))
 
 -- a part that literals name, of a type without a runtime array: its shape, and where its row lies
 pub record IsNamed (k : Known) (roots : Root → Option ℕ) (os : List Operand) (id target : ℕ) (v : Value) : Type 0 where

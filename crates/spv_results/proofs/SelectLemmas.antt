@@ -3,6 +3,7 @@ use Rattle.std.proofs.Common.{◌≡◌, ◌∙◌, ◌⊎◌, inl, inr, ℕ, fa
 use Rattle.spv_base.specs.Cell.{Cell}
 use Rattle.spv_base.specs.declared.instructions.Inst.{Inst}
 use Rattle.spv_base.specs.declared.values.Value.{Value}
+use Rattle.spv_alu.specs.Select.{selected}
 use Rattle.spv_types.specs.Laws.{AreSound}
 use Rattle.spv_types.specs.Rows.{leaves}
 use Rattle.spv_types.specs.Rules.{has_runtime}
@@ -14,9 +15,8 @@ use Rattle.spv_typing.specs.Rules.{rule_of}
 use Rattle.spv_bodies.specs.Context.{type_at}
 use Rattle.spv_bodies.specs.Lanes.{KeepsLanes, types_after}
 use Rattle.spv_valid.specs.Acceptance.{Accepted}
-use Rattle.spv_effects.specs.Selects.{MaySelect, select_value, selected}
-use Rattle.spv_effects.proofs.FormShapes.{form_keeps_shape}
-use Rattle.spv_effects.proofs.ResultLemmas.{selected_widths}
+use Rattle.spv_effects.specs.Selects.{MaySelect, select_value}
+use Rattle.spv_effects.proofs.Exports.{form_keeps_shape, selected_widths}
 use Rattle.spv_results.specs.Operands.{IsOperand, IsResult, known}
 use Rattle.spv_results.proofs.AlikeLemmas.{leaves_alike, leaves_fit}
 use Rattle.spv_results.proofs.LaneTypes.{operand_lanes, scalars_of}

@@ -15,16 +15,17 @@ use Rattle.spv_bodies.specs.Lanes.{KeepsLanes, types_after}
 use Rattle.spv_valid.specs.Acceptance.{Accepted}
 use Rattle.spv_effects.specs.Lanes.{of_lanes}
 use Rattle.spv_effects.specs.Truths.{truth_value}
-use Rattle.spv_effects.proofs.ResultLemmas.{truth_scalars}
+use Rattle.spv_effects.proofs.Exports.{truth_scalars}
 use Rattle.spv_results.specs.Operands.{IsResult, known}
 use Rattle.spv_results.proofs.LaneTypes.{lanes_fit}
-use Rattle.spv_results.proofs.RuleLemmas.{read_from, typed_by}
+use Rattle.spv_results.proofs.RuleLemmas.{typed_by}
+use Rattle.spv_base.proofs.Exports.{reads_each}
 
 truth_rule : (op : ℕ) (operation : VectorOp) → vector_op op ≡ Some operation → rule_of op ≡ Some Reduce
 unfolding vector_op rule_of
-truth_rule op operation h = read_from (λ (k : ℕ) (o : VectorOp). rule_of k ≡ Some Reduce) op operation vector_opcodes (refl, (refl, tt)) h
+truth_rule op operation h = reads_each (λ (k : ℕ) (o : VectorOp). rule_of k ≡ Some Reduce) op operation vector_opcodes (refl, (refl, tt)) h
 
-one_lane : (c : Cell) → of_lanes (c ∷ []) ≡ Scalar c
+pub one_lane : (c : Cell) → of_lanes (c ∷ []) ≡ Scalar c
 unfolding of_lanes
 one_lane c = refl
 

@@ -12,19 +12,19 @@ use Rattle.spv_typing.specs.declared.lanes.Element.{Element}
 use Rattle.spv_typing.specs.declared.lanes.Element.TheVariants.{Bool as Boolean, Int}
 use Rattle.spv_typing.specs.declared.rules.Rule.{Rule}
 use Rattle.spv_typing.specs.declared.rules.Rule.TheVariants.{Boolean as OneBoolean, Convert, Integer}
-use Rattle.spv_typing.specs.Lanes.{lanes_of, repeated}
+use Rattle.spv_typing.specs.Lanes.{lanes_of, repeated, width_of}
 use Rattle.spv_typing.specs.Laws.{IsTyped}
 use Rattle.spv_typing.specs.Rules.{rule_of}
 use Rattle.spv_bodies.specs.Lanes.{KeepsLanes, types_after}
 use Rattle.spv_valid.specs.Acceptance.{Accepted}
 use Rattle.spv_effects.specs.Lanes.{AreScalars}
 use Rattle.spv_effects.specs.UnaryOps.{MayTurn, unary_value}
-use Rattle.spv_effects.proofs.ResultLemmas.{unary_scalars}
-use Rattle.spv_effects.proofs.TypeLemmas.{scalars_are_lanes}
+use Rattle.spv_effects.proofs.Exports.{unary_scalars, scalars_are_lanes}
 use Rattle.spv_results.specs.Operands.{IsOperand, IsResult, known}
-use Rattle.spv_results.specs.Results.{lane_width, width_in}
+use Rattle.spv_results.specs.Results.{lane_width}
 use Rattle.spv_results.proofs.LaneTypes.{lane_type, lanes_fit, operand_lanes, width_is}
-use Rattle.spv_results.proofs.RuleLemmas.{read_from, typed_by}
+use Rattle.spv_results.proofs.RuleLemmas.{typed_by}
+use Rattle.spv_base.proofs.Exports.{reads_each}
 
 -- the rule of operations of a kind
 abbrev row_rule : UnaryRow → Rule
@@ -35,14 +35,14 @@ row_rule (logical f) = OneBoolean
 unary_rule : (op : ℕ) (operation : UnaryOp) → unary_op op ≡ Some operation → rule_of op ≡ Some (row_rule (unary_row operation))
 unfolding unary_op unary_row rule_of
 unary_rule op operation h =
-    read_from (λ (k : ℕ) (o : UnaryOp). rule_of k ≡ Some (row_rule (unary_row o))) op operation unary_opcodes (refl, (refl, (refl, (refl, (refl, (refl, (refl, tt))))))) h
+    reads_each (λ (k : ℕ) (o : UnaryOp). rule_of k ≡ Some (row_rule (unary_row o))) op operation unary_opcodes (refl, (refl, (refl, (refl, (refl, (refl, (refl, tt))))))) h
 
 -- an operand of n lanes of a width that an operation of a kind takes, for a result of as many
 record DoTurn (ts : Types) (row : UnaryRow) (ty : ℕ) (cs : List Cell) : Type 0 where
   n : ℕ
   from : ℕ
   e : Element
-  fits : UnaryWidths row from (width_in e)
+  fits : UnaryWidths row from (width_of e)
   operand : AreScalars from n cs
   result : lanes_of ts ty ≡ Some (repeated n e)
 
@@ -63,7 +63,7 @@ module _ (a : Accepted) (i : Inst) (x : Value) (sound : AreSound a.types) (first
     turned : DoTurn a.types (unary_row operation) i.ty (leaves x)
     turned = by_row (unary_row operation) (typed_by (known a) i (row_rule (unary_row operation)) kept (unary_rule i.op operation is))
 
-    width : lane_width a.types i.ty ≡ width_in turned.e
+    width : lane_width a.types i.ty ≡ width_of turned.e
     width = width_is a.types i.ty turned.n turned.e turned.result
 
     turning : MayTurn operation (lane_width a.types i.ty) (leaves x) turned.n
@@ -80,5 +80,5 @@ module _ (a : Accepted) (i : Inst) (x : Value) (sound : AreSound a.types) (first
     pub unary_shape : (v : Value) → v ≡ unary_value operation (lane_width a.types i.ty) x → IsResult a i v
     unary_shape v e =
         let cs : List Cell = map (λ (c : Cell). unary_lane operation c (lane_width a.types i.ty)) (leaves x) in
-        let scalars : AreScalars (width_in turned.e) turned.n cs = subst (λ (w : ℕ). AreScalars w turned.n cs) width (unary_scalars operation (lane_width a.types i.ty) turned.n (leaves x) turning) in
+        let scalars : AreScalars (width_of turned.e) turned.n cs = subst (λ (w : ℕ). AreScalars w turned.n cs) width (unary_scalars operation (lane_width a.types i.ty) turned.n (leaves x) turning) in
         subst (IsResult a i) (sym e) (lanes_fit a.types i.ty turned.n turned.e cs sound turned.result scalars)

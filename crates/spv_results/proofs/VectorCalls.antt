@@ -26,8 +26,9 @@ use Rattle.spv_results.specs.Results.{numbers}
 use Rattle.spv_results.proofs.OperandTypes.{form_has_type}
 use Rattle.spv_results.proofs.ResultRooms.{fills_room, room_of}
 use Rattle.spv_results.proofs.ShapeProps.{shape_prop}
-use Rattle.spv_results.proofs.VectorShapes.{extract_dynamic_shape, insert_dynamic_shape, scalar_count, shuffle_count, shuffle_shape}
+use Rattle.spv_results.proofs.VectorShapes.{extract_dynamic_shape, insert_dynamic_shape, shuffle_count, shuffle_shape}
 use Rattle.spv_results.proofs.VectorTypes.{integer_lane, lanes_are, vector_type}
+use Rattle.spv_effects.proofs.Exports.{one_leaf}
 
 -- lanes have no runtime arrays
 lanes_sized : (ts : Types) (id w n : ℕ) → HasLaneType ts id w n → has_runtime ts id ≡ false
@@ -70,7 +71,7 @@ extracts_in a i vector index is rule first second =
     record {
       vector = subst (λ (n : ℕ). 0 < n) (sym (lanes_are a.types no_roots t.type type.width v.count vector is.types has type.whole).count) type.some;
       index = one_integer a i 1 index is rule.0 second;
-      room = sym (fills_room a i (extract_dynamic_value vector index) is sized shape) ∙ scalar_count _;
+      room = sym (fills_room a i (extract_dynamic_value vector index) is sized shape) ∙ one_leaf _;
       shape = shape;
     }
 

@@ -1,7 +1,7 @@
 -- What vector operations give has the shape of the result's type.
 use Rattle.std.proofs.Common.{◌≡◌, ◌∙◌, ℕ, ◌<◌, List, [], ◌∷◌, length, map, Option, Some, sym, ap, subst, arith}
 use Rattle.std.proofs.Math.ListN.{length-map}
-use Rattle.spv_base.specs.Cell.{Cell, undefined_cell}
+use Rattle.spv_base.specs.Cell.{Cell, undefined_cell, HasWidth}
 use Rattle.spv_base.specs.declared.values.Root.{Root}
 use Rattle.spv_base.specs.declared.values.Value.{Value, Scalar}
 use Rattle.spv_types.specs.declared.forms.Form.TheVariants.{Vector}
@@ -9,13 +9,10 @@ use Rattle.spv_types.specs.Laws.{AreSound}
 use Rattle.spv_types.specs.Rows.{leaves}
 use Rattle.spv_types.specs.Shapes.{HasShape}
 use Rattle.spv_types.specs.Types.{Types, form_of}
-use Rattle.spv_values.proofs.RowLemmas.{scalar_leaf}
 use Rattle.spv_effects.specs.LaneTypes.{HasLaneType}
 use Rattle.spv_effects.specs.Lanes.{AreScalars, lane_of, of_lanes}
 use Rattle.spv_effects.specs.Vectors.{component, extract_dynamic_value, insert_dynamic_value, shuffle_value, shuffled}
-use Rattle.spv_effects.proofs.LaneLemmas.{leaves_of_lanes}
-use Rattle.spv_effects.proofs.ResultLemmas.{extracted_scalars, inserted_scalars, shuffled_scalars}
-use Rattle.spv_effects.proofs.TypeLemmas.{HasWidth, lanes_shape}
+use Rattle.spv_effects.proofs.Exports.{leaves_of_lanes, extracted_scalars, inserted_scalars, shuffled_scalars, lanes_shape}
 use Rattle.spv_results.proofs.VectorTypes.{lanes_are, vector_type}
 
 lane_shape : (ts : Types) (roots : Root → Option ℕ) (id w : ℕ) (c : Cell) → AreSound ts → HasLaneType ts id w 1 → AreScalars w 1 (c ∷ []) → HasShape ts roots id (Scalar c)
@@ -59,6 +56,3 @@ module _ (ts : Types) (roots : Root → Option ℕ) (sound : AreSound ts) where
 
 pub shuffle_count : (v u : Value) (numbers : List ℕ) → length (leaves (shuffle_value v u numbers)) ≡ length numbers
 shuffle_count v u numbers = ap length (leaves_of_lanes (map (shuffled (leaves v) (leaves u)) numbers)) ∙ length-map numbers (shuffled (leaves v) (leaves u))
-
-pub scalar_count : (c : Cell) → length (leaves (Scalar c)) ≡ 1
-scalar_count c = ap length (scalar_leaf c)

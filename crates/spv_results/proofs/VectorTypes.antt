@@ -13,7 +13,7 @@ use Rattle.spv_types.specs.Shapes.{HasShape}
 use Rattle.spv_types.specs.Types.{Types, form_of}
 use Rattle.spv_effects.specs.LaneTypes.{HasLaneType, IsLaneForm, scalar_width}
 use Rattle.spv_effects.specs.Lanes.{AreScalars}
-use Rattle.spv_effects.proofs.TypeLemmas.{value_lanes}
+use Rattle.spv_effects.proofs.Exports.{value_lanes}
 
 -- a scalar type, and its width
 pub record IsScalarType (ts : Types) (id : ℕ) : Type 0 where

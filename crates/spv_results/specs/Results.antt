@@ -14,9 +14,7 @@ use Rattle.spv_index.specs.Operands.{literal_in}
 use Rattle.spv_types.specs.declared.forms.Form.{Form}
 use Rattle.spv_types.specs.declared.forms.Form.TheVariants.{Vector}
 use Rattle.spv_types.specs.Types.{Types, form_of}
-use Rattle.spv_typing.specs.Lanes.{lanes_of}
-use Rattle.spv_typing.specs.declared.lanes.Element.{Element}
-use Rattle.spv_typing.specs.declared.lanes.Element.TheVariants.{Bool as Boolean, Int}
+use Rattle.spv_typing.specs.Lanes.{lanes_of, width_of}
 use Rattle.spv_typing.specs.declared.lanes.Lanes.{Lanes}
 use Rattle.spv_mem.specs.Blanks.{blank_of}
 use Rattle.spv_effects.specs.BinaryOps.{binary_value}
@@ -36,12 +34,8 @@ use Rattle.spv_results.specs.declared.computations.Computation.TheVariants.{Unde
 
 -- ---- the lanes of a type: how many, and their width; a Boolean has width 1
 
-abbrev pub width_in : Element → ℕ
-width_in Boolean = 1
-width_in (Int width) = width
-
 abbrev pub lane_width : Types → ℕ → ℕ
-lane_width ts ty = option_map_or (λ (l : Lanes). width_in l.element) (lanes_of ts ty) 0
+lane_width ts ty = option_map_or (λ (l : Lanes). width_of l.element) (lanes_of ts ty) 0
 
 abbrev pub lane_count : Types → ℕ → ℕ
 lane_count ts ty = option_map_or (λ (l : Lanes). l.count) (lanes_of ts ty) 0

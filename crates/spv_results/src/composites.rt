@@ -8,7 +8,7 @@ ghost use Rattle.spv_bodies.specs.Context.{type_at};
 ghost use Rattle.spv_effects.specs.Composites.{joined_value, leaves_in};
 ghost use Rattle.spv_results.specs.Operands.{IsOperand, IsResult, known};
 ghost use Rattle.spv_results.specs.Results.{constructed, numbers};
-ghost use Rattle.spv_types.specs.Saturation.{saturated};
+ghost use Rattle.spv_base.specs.Saturation.{saturated};
 ghost use Rattle.spv_types.specs.Leaves.{leaf_of};
 ghost use Rattle.spv_types.specs.Rows.{leaves};
 ghost use Rattle.spv_types.specs.Rules.{has_runtime};

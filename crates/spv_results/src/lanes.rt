@@ -1,6 +1,7 @@
 //! What the operations on lanes share: the types of an accepted module, and the lanes of a type.
 ghost use Rattle.std.specs.Prelude.{◌≡◌, ◌≤◌};
 ghost use Rattle.spv_types.specs.Laws.{AreSound};
+ghost use Rattle.spv_typing.specs.Lanes.{width_of};
 ghost use Rattle.spv_results.specs.Results as spec;
 
 use spv_typing::{Element, lanes_of};
@@ -29,15 +30,15 @@ pub(crate) fn lane_width(accepted: &Module, ty: u32) -> u8
 {
     types_are_sound(accepted);
     match lanes_of(accepted.types(), ty) {
-        Some(lanes) => width_in(lanes.element),
+        Some(lanes) => width_of(lanes.element),
         None => 0,
     }
 }
 
 /// The bits of a lane.
-fn width_in(element: Element) -> u8
-    requires { spec.width_in element ≤ 64 }
-    ensures { result ≡ spec.width_in element }
+fn width_of(element: Element) -> u8
+    requires { width_of element ≤ 64 }
+    ensures { result ≡ width_of element }
 {
     match element {
         Element::Bool => 1,

@@ -4,16 +4,14 @@ ghost use Rattle.spv_index.specs.Operands.{literal_in};
 ghost use Rattle.spv_results.specs.Results.{numbers};
 
 use spv_base::{NoMemory, Operand, Path};
+use spv_index::literal_in;
 use std::alloc::Global;
 
 /// The number that a literal is.
 fn number(operand: &Operand) -> u32
     ensures { result ≡ unwrap_or (literal_in operand.now) 0 }
 {
-    match operand {
-        Operand::Lit(word) => *word,
-        Operand::Id(_) | Operand::Text(_) => 0,
-    }
+    literal_in(operand).unwrap_or(0)
 }
 
 /// The numbers that literals are, put into a place for them.

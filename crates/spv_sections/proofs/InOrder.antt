@@ -3,14 +3,15 @@ use Rattle.std.proofs.Common.{◌≡◌, ◌⊎◌, inl, inr, ◌+◌, ◌==◌,
 use Rattle.std.specs.Prelude.{◌||◌}
 use Rattle.std.specs.List.{AllByRecursion, flat_map, list_all}
 use Rattle.std.proofs.lemmas.Bool.{and_from, and_parts, eq-eqb, eqb-true}
-use Rattle.spv_base.specs.declared.causes.Refusal.{Refusal}
+use Rattle.spv_types.proofs.Exports.{none_refused}
+use Rattle.spv_base.proofs.Exports.{both_empty}
 use Rattle.spv_base.specs.declared.instructions.Inst.{Inst}
 use Rattle.spv_base.specs.declared.instructions.Operand.{Operand}
 use Rattle.spv_base.specs.declared.instructions.Operand.TheVariants.{Id, Lit, Text}
 use Rattle.spv_ops.specs.Module.{Decoded}
 use Rattle.spv_index.specs.declared.classes.Class.{Class}
+use Rattle.spv_index.specs.Operands.{ids_in}
 use Rattle.spv_index.specs.Positions.{Stand, stands_of}
-use Rattle.spv_types.specs.Build.{unless_refused}
 use Rattle.spv_types.specs.InterfaceBlocks.{nothing}
 use Rattle.spv_sections.specs.declared.ids.Scope.{Scope}
 use Rattle.spv_sections.specs.declared.kinds.Uses.{Uses}
@@ -18,22 +19,14 @@ use Rattle.spv_sections.specs.declared.kinds.Wanted.TheVariants.{DeclaredType}
 use Rattle.spv_sections.specs.Kinds.{uses_of, wanted}
 use Rattle.spv_sections.specs.Definitions.{is_id}
 use Rattle.spv_sections.specs.Ids.{breaches_at, breaches_of, ids_of, is_naming, is_numbered, is_operand, is_result, is_type_id, looked_at, names, naming_breach, number_breach, operands_name, scope_of}
-use Rattle.spv_sections.specs.Laws.{AreInOrder, IsInOrder, ids_among}
-
-both_empty : (xs ys : List Refusal) → xs ++ ys ≡ [] → (xs ≡ []) × (ys ≡ [])
-both_empty [] ys e = (refl, e)
-both_empty (x ∷ xs) ys e = absurd (cc)
-
-none_refused : (rs : List Refusal) → unless_refused nothing rs ≡ Ok nothing → rs ≡ []
-none_refused [] e = refl
-none_refused (r ∷ rs) e = absurd (cc)
+use Rattle.spv_sections.specs.Laws.{AreInOrder, IsInOrder}
 
 -- ---- the operands of an instruction
 
 -- each id among operands, of which the first one has a number, is in order
 abbrev Each : Decoded → Scope → Uses → ℕ → List Operand → Type 0
 Each decoded scope uses number operands =
-    (k id : ℕ) → slice_get (ids_among operands) k ≡ Some id → (is_id decoded.bound id ≡ true) × (names decoded scope (wanted uses (number + k)) id ≡ true)
+    (k id : ℕ) → slice_get (ids_in operands) k ≡ Some id → (is_id decoded.bound id ≡ true) × (names decoded scope (wanted uses (number + k)) id ≡ true)
 
 each_from : (decoded : Decoded) (scope : Scope) (uses : Uses) (number : ℕ) (operands : List Operand) → list_all (is_operand decoded.bound) operands ≡ true
     → operands_name decoded scope uses number operands ≡ true → Each decoded scope uses number operands
@@ -74,11 +67,11 @@ from_each decoded scope uses number (Text bytes ∷ more) each = let none : numb
 
 -- counted from the first operand
 from_first : (decoded : Decoded) (scope : Scope) (uses : Uses) (operands : List Operand) → Each decoded scope uses 0 operands
-    → (k id : ℕ) → slice_get (ids_among operands) k ≡ Some id → (is_id decoded.bound id ≡ true) × (names decoded scope (wanted uses k) id ≡ true)
+    → (k id : ℕ) → slice_get (ids_in operands) k ≡ Some id → (is_id decoded.bound id ≡ true) × (names decoded scope (wanted uses k) id ≡ true)
 from_first decoded scope uses operands each k id e = let none : 0 + k ≡ k = omega arith in rw none at (each k id e)
 
 to_first : (decoded : Decoded) (scope : Scope) (uses : Uses) (operands : List Operand)
-    → ((k id : ℕ) → slice_get (ids_among operands) k ≡ Some id → (is_id decoded.bound id ≡ true) × (names decoded scope (wanted uses k) id ≡ true)) → Each decoded scope uses 0 operands
+    → ((k id : ℕ) → slice_get (ids_in operands) k ≡ Some id → (is_id decoded.bound id ≡ true) × (names decoded scope (wanted uses k) id ≡ true)) → Each decoded scope uses 0 operands
 to_first decoded scope uses operands each k id e = let none : 0 + k ≡ k = omega arith in rw none (each k id e)
 
 -- ---- one instruction

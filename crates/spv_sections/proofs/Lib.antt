@@ -1,8 +1,9 @@
-pub mod OrderLemmas
-pub mod CapabilityLemmas
-pub mod DefinitionLemmas
-pub mod IdLemmas
-pub mod InOrder
-pub mod Results
-pub mod TypesFirst
-pub mod NamedResults
+mod OrderLemmas
+mod CapabilityLemmas
+mod DefinitionLemmas
+mod IdLemmas
+mod InOrder
+mod Results
+mod TypesFirst
+mod NamedResults
+pub mod Exports

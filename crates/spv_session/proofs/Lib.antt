@@ -1,5 +1,6 @@
-pub mod CostLemmas
-pub mod RequestLemmas
-pub mod ReplyLemmas
-pub mod RegisterLemmas
-pub mod ShownLemmas
+mod CostLemmas
+mod RequestLemmas
+mod ReplyLemmas
+mod RegisterLemmas
+mod ShownLemmas
+pub mod Exports

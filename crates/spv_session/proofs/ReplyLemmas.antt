@@ -3,7 +3,7 @@ use Rattle.std.proofs.Common.{◌≡◌, ◌∙◌, ◌==◌, ◌≤◌, ◌-◌
 use Rattle.std.specs.List.{flat_map, range_with_len}
 use Rattle.std.proofs.lemmas.List.{flat_map_more}
 use Rattle.spv_group.specs.Group.{end_in}
-use Rattle.spv_group.proofs.WindowLemmas.{range_more}
+use Rattle.spv_group.proofs.Exports.{range_more}
 use Rattle.spv_session.specs.View.{View, view_at, goto_target, back_target}
 use Rattle.spv_session.specs.Reply.{back_reply, has_moved, stop_reply}
 

@@ -4,7 +4,7 @@ use Rattle.std.specs.List.{list_any}
 use Rattle.std.proofs.lemmas.List.Folds.{list_any-append}
 use Rattle.std.specs.Ordering.{nat_cmp, ordering_then, is_eq}
 use Rattle.spv_setup.specs.declared.settings.Buffer.{Buffer}
-use Rattle.spv_base.proofs.OrderLemmas.{is_eq-pair}
+use Rattle.spv_base.proofs.Exports.{is_eq-pair}
 
 put_at : (test old : Bool) → cond test true old ≡ (old || (test || false))
 put_at true true = refl

@@ -1,4 +1,4 @@
-pub mod LineLemmas
-pub mod RowLemmas
-pub mod IndexLemmas
-pub mod ScheduleLemmas
+mod LineLemmas
+mod RowLemmas
+mod IndexLemmas
+mod ScheduleLemmas

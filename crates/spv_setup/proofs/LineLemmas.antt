@@ -5,7 +5,8 @@ use Rattle.std.specs.List.{position, position_or_len, slice_split}
 use Rattle.std.proofs.lemmas.List.Splits.{slice_split_first, slice_split_none, length-slice_split}
 use Rattle.std.proofs.lemmas.List.Sums.{fails_before_first}
 use Rattle.spv_setup.specs.Lines.{is_line_feed, without_return, ended, lines_of, HasFirstLine}
-use Rattle.spv_line.proofs.WordsLemmas.{no_place, at_place}
+use Rattle.spv_line.proofs.Exports.{at_place}
+use Rattle.spv_base.proofs.Exports.{no_place}
 
 ended_more : (line : List ℕ) (lines : List (List ℕ)) → 0 < length lines → ended (line ∷ lines) ≡ without_return line ∷ ended lines
 ended_more line [] h = absurd (omega (arith, h))

@@ -1,5 +1,5 @@
-pub mod SheetLemmas
-pub mod LoopLemmas
-pub mod TextLemmas
-pub mod PointerLemmas
-pub mod ScalarLemmas
+mod SheetLemmas
+mod LoopLemmas
+mod TextLemmas
+mod PointerLemmas
+mod ScalarLemmas

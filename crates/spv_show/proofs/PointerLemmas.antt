@@ -1,5 +1,6 @@
 -- The text of a value that is a pointer is that of the pointer.
-use Rattle.std.proofs.Common.{◌≡◌, ℕ, zero, suc, Bool, true, false, List, length, Option, Some, None, refl, subst, rules}
+use Rattle.std.proofs.Common.{◌≡◌, ℕ, zero, suc, Bool, true, false, List, length, Option, Some, None, refl, subst}
+use Rattle.spv_base.proofs.Exports.{out_pointer}
 use Rattle.std.specs.Bool.{MatchBool}
 use Rattle.std.specs.Option.{IsSomeAnd, MatchOption, option_map_or}
 use Rattle.std.specs.Prelude.{if◌then◌else◌}
@@ -7,7 +8,7 @@ use Rattle.spv_base.specs.Cell.{Cell}
 use Rattle.spv_base.specs.Parts.{parts_in}
 use Rattle.spv_base.specs.declared.values.Pointer.{Pointer as Reference}
 use Rattle.spv_base.specs.declared.values.Root.{Root}
-use Rattle.spv_base.specs.declared.values.Value.{Value, Ptr, out-Value, the_lemmas}
+use Rattle.spv_base.specs.declared.values.Value.{Value, Ptr, out-Value}
 use Rattle.spv_base.specs.declared.values.Value.TheOpen.{Value-F}
 use Rattle.spv_types.specs.declared.forms.Form.{Form}
 use Rattle.spv_types.specs.declared.forms.Form.TheVariants.{Void, Bool as Boolean, Int, Vector, Array, Runtime, Struct, Pointer, Function}
@@ -50,9 +51,6 @@ among_shown ts roots (suc m) id v p left e h = here (λ k. among_shown ts roots 
     here below true h = formed_shown ts roots (HasShapeAmong ts roots m) (text_among ts m) (form_of ts id) v p left e h
     here below false h = below h
 
-opened : (p : Reference) → out-Value (Ptr p) ≡ Value-F.Ptr p
-opened p = search (rules, the_lemmas)
-
 pub pointer_is : (ts : Types) (roots : Root → Option ℕ) (id : ℕ) (p : Reference) → HasShape ts roots id (Ptr p) → value_text ts id (Ptr p) ≡ pointer_text p
 unfolding HasShape value_text
-pointer_is ts roots id p h = among_shown ts roots (length ts) id (Ptr p) p 256 (opened p) h
+pointer_is ts roots id p h = among_shown ts roots (length ts) id (Ptr p) p 256 (out_pointer p) h

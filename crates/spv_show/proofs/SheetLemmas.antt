@@ -6,7 +6,7 @@ use Rattle.spv_base.specs.Cell.{Cell}
 use Rattle.spv_types.specs.declared.forms.Form.{Form}
 use Rattle.spv_types.specs.declared.forms.Member.{Member}
 use Rattle.spv_types.specs.Types.{Types, found_among, in_first}
-use Rattle.spv_types.proofs.TypeLemmas.{in_first-is}
+use Rattle.spv_types.proofs.Exports.{in_first-is}
 use Rattle.spv_show.specs.Scalars.{unavailable}
 use Rattle.spv_show.specs.Sheets.{Change, Written, put, put_among, put_elements, put_leaf, put_members, put_row, put_step, put_struct}
 

@@ -16,10 +16,7 @@ use Rattle.spv_types.specs.Types.{Types, form_of, in_first, is_number, number_of
 use Rattle.spv_types.specs.Cells.{cells_among, cells_of, cells_step, members_cells}
 use Rattle.spv_types.specs.Shapes.{HasShape, HasShapeAmong, scalar_in, shape_step}
 use Rattle.spv_types.specs.Rows.{leaves, no_roots}
-use Rattle.spv_types.proofs.CellLemmas.{added_is}
-use Rattle.spv_types.proofs.RowCounts.{many_is, times_is}
-use Rattle.spv_types.proofs.RowLemmas.{many_row, scalar_row}
-use Rattle.spv_types.proofs.RowValues.{no_pointer}
+use Rattle.spv_types.proofs.Exports.{added_is, many_is, times_is, many_row, scalar_row, no_pointer}
 use Rattle.spv_show.specs.declared.scalars.Reading.{Reading}
 use Rattle.spv_show.specs.declared.scalars.Reading.TheVariants as reading
 use Rattle.spv_show.specs.Lists.{Shown, Writer, bracketed, continued, elements, joined, leaf, named, plain, separator}

@@ -4,15 +4,8 @@ use Rattle.std.specs.Fmt.{signed_decimal}
 use Rattle.std.specs.List.{flat_map}
 use Rattle.spv_alu.specs.Integers.{signed}
 use Rattle.spv_base.specs.declared.values.Pointer.{Pointer}
-use Rattle.spv_base.specs.declared.values.Root.{Root}
-use Rattle.spv_base.specs.declared.values.Root.TheVariants.{Shared, Private, Local}
+use Rattle.spv_base.specs.Variables.{root_id}
 use Rattle.spv_show.specs.Scalars.{unavailable}
-
--- the id of the variable
-abbrev pub root_id : Root → ℕ
-root_id (Shared id) = id
-root_id (Private id) = id
-root_id (Local depth id) = id
 
 abbrev pub index_text : ℕ → List ℕ
 index_text index = codes "[" ++ signed_decimal (signed 64 index) ++ codes "]"

@@ -5,12 +5,12 @@ ghost use Rattle.spv_base.specs.declared.values.Root.{Root as Origin};
 ghost use Rattle.spv_base.specs.declared.values.Value.{Ptr};
 ghost use Rattle.spv_types.specs.Shapes.{HasShape};
 ghost use Rattle.spv_types.specs.Types.{Types};
-ghost use Rattle.spv_show.specs.Pointers.{index_text, pointer_text, root_id};
+ghost use Rattle.spv_show.specs.Pointers.{index_text, pointer_text};
 ghost use Rattle.spv_show.specs.Texts.{value_text};
 
 use crate::scalars::push_number;
 use spv_alu::integers::signed;
-use spv_base::{NoMemory, Pointer, Root};
+use spv_base::{NoMemory, Pointer};
 use std::alloc::Global;
 
 /// Appends the text of a pointer, which is that of the value at its type: `&%ROOT`, and `[I]` for each of its indexes, read as signed. After
@@ -27,23 +27,12 @@ pub fn pointer_text(alloc: Global, pointer: &Pointer, out: &mut Vec<u8>) -> Resu
     Ok(())
 }
 
-/// The id of the variable that a root names.
-fn root_id(root: Root) -> u32
-    ensures { result ≡ root_id root }
-{
-    match root {
-        Root::Shared(id) => id,
-        Root::Private(id) => id,
-        Root::Local { id, .. } => id,
-    }
-}
-
 /// Appends a pointer.
 fn push_pointer(alloc: Global, text: &mut Vec<u8>, pointer: &Pointer) -> Result<(), NoMemory>
     ensures { OnOk result (text.new.items ≡ text.old.items ++ pointer_text pointer.now) }
 {
     text.extend_from_slice(b"&%")?;
-    push_number(alloc, text, u64::from(root_id(pointer.root)))?;
+    push_number(alloc, text, u64::from(pointer.root.id()))?;
     push_indexes(alloc, text, pointer.path.as_slice())
 }
 

@@ -1,16 +1,15 @@
 -- The value of a type is made of its form; the leaves of values, one after another.
-use Rattle.std.proofs.Common.{◌≡◌, ◌∙◌, ℕ, zero, suc, ◌+◌, ◌-◌, ◌*◌, ◌<◌, List, [], ◌∷◌, ◌++◌, append_assoc, append-nil, None, Some, Option, refl, sym, ap, arith, rules}
+use Rattle.std.proofs.Common.{◌≡◌, ◌∙◌, ℕ, zero, suc, ◌+◌, ◌-◌, ◌*◌, ◌<◌, List, [], ◌++◌, append_assoc, None, Some, Option, refl, ap, arith}
 use Rattle.std.specs.List.{flat_map}
 use Rattle.std.specs.Prelude.{Result}
 use Rattle.std.specs.Result.{OnOk}
 use Rattle.std.specs.Option.{option_map_or}
-use Rattle.std.proofs.lemmas.List.Folds.{flat_map-map}
 use Rattle.spv_base.specs.Cell.{Cell}
-use Rattle.spv_base.specs.declared.values.Value.{Value, Scalar, List as Many, the_lemmas}
+use Rattle.spv_base.specs.declared.values.Value.{Value, List as Many}
 use Rattle.spv_types.specs.declared.forms.Form.{Form}
 use Rattle.spv_types.specs.Rows.{leaves}
 use Rattle.spv_types.specs.Types.{Types, found_among, in_first}
-use Rattle.spv_types.proofs.TypeLemmas.{in_first-is}
+use Rattle.spv_types.proofs.Exports.{in_first-is, no_leaves, leaves_many}
 use Rattle.spv_start.specs.Blocks.{Reader, read_among, read_none, read_row, read_step}
 
 -- the value of a type that is found, or none
@@ -26,17 +25,6 @@ read_among_is ts bytes size n id at = ap (λ (f : Reader). f at) (in_first-is {A
     found None = refl
     found (Some f) = refl
 
-pub scalar_leaves : (c : Cell) → leaves (Scalar c) ≡ c ∷ []
-unfolding leaves
-scalar_leaves c = search (rules, the_lemmas)
-
-pub many_leaves : (vs : List Value) → leaves (Many vs) ≡ flat_map leaves vs
-unfolding leaves
-many_leaves vs = search (rules, the_lemmas, flat_map-map)
-
-pub no_leaves : (xs : List Cell) → xs ≡ xs ++ leaves (Many [])
-no_leaves xs = rw (many_leaves []) (sym (append-nil xs))
-
 -- ---- what is appended
 
 pub none_read : (ts : Types) (bytes : List ℕ) (size n id at : ℕ) (xs : List Cell) → found_among ts n id ≡ None → xs ≡ xs ++ leaves (read_among ts bytes size n id at)
@@ -44,7 +32,7 @@ none_read ts bytes size n id at xs none = rw (read_among_is ts bytes size n id a
 
 pub row_of : {E : Type 0} (r : Result (Unit {0}) E) (new old : List Cell) (read : Reader) (at s stride n count : ℕ) → s ≡ stride → n ≡ count
     → OnOk r (new ≡ old ++ flat_map leaves (read_row read at s n)) → OnOk r (new ≡ old ++ leaves (Many (read_row read at stride count)))
-row_of r new old read at s stride n count e f h = rw (many_leaves (read_row read at stride count), ← e, ← f) h
+row_of r new old read at s stride n count e f h = rw (leaves_many (read_row read at stride count), ← e, ← f) h
 
 -- one more value of a row
 pub row_more : (read : Reader) (new old whole : List Cell) (at s stride left : ℕ) → 0 < left → s ≡ stride → new ≡ old ++ leaves (read at)

@@ -4,10 +4,10 @@ use Rattle.std.proofs.Math.Nat.{div-add-mod, div-lt_iff_lt-mul, mod-lt}
 use Rattle.spv_base.specs.Cell.{defined_cell}
 use Rattle.spv_types.specs.Rows.{leaves}
 use Rattle.spv_start.specs.BuiltIns.{IsPlaceOf, Three, local_id, three_words, word}
-use Rattle.spv_start.proofs.BlockLemmas.{many_leaves, scalar_leaves}
+use Rattle.spv_types.proofs.Exports.{leaves_scalar, leaves_many}
 
 pub three_leaves : (n : Three) → leaves (three_words n) ≡ defined_cell 32 n.0 ∷ defined_cell 32 n.1 ∷ defined_cell 32 n.2 ∷ []
-three_leaves n = rw (many_leaves (word n.0 ∷ word n.1 ∷ word n.2 ∷ []), scalar_leaves (defined_cell 32 n.0), scalar_leaves (defined_cell 32 n.1), scalar_leaves (defined_cell 32 n.2)) refl
+three_leaves n = rw (leaves_many (word n.0 ∷ word n.1 ∷ word n.2 ∷ []), leaves_scalar (defined_cell 32 n.0), leaves_scalar (defined_cell 32 n.1), leaves_scalar (defined_cell 32 n.2)) refl
 
 -- a number is put together again of quotients and remainders
 index_of : (x y q r s n a : ℕ) → x * a + s ≡ n → y * q + r ≡ a → q * x * y + r * x + s ≡ n

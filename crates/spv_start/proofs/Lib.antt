@@ -1,3 +1,4 @@
-pub mod NumberLemmas
-pub mod BlockLemmas
-pub mod BuiltInLemmas
+mod NumberLemmas
+mod BlockLemmas
+mod BuiltInLemmas
+pub mod Exports

@@ -1,23 +1,18 @@
 -- The values that variables of blocks begin with: read from the bytes of a buffer, by offsets and strides (SPIR-V 1.6 section 3.20,
 -- Offset and ArrayStride).
-use Rattle.std.specs.Prelude.{ℕ, zero, suc, ◌+◌, ◌-◌, ◌/◌, List, [], ◌∷◌, length, Option, Some, None, unwrap_or}
+use Rattle.std.specs.Prelude.{ℕ, zero, suc, ◌+◌, List, [], ◌∷◌, length, unwrap_or}
 use Rattle.spv_base.specs.Cell.{undefined_cell}
 use Rattle.spv_base.specs.declared.values.Value.{Value, Scalar, List as Many}
 use Rattle.spv_types.specs.declared.forms.Form.{Form}
 use Rattle.spv_types.specs.declared.forms.Form.TheVariants.{Void, Bool as Boolean, Int, Vector, Array, Runtime, Struct, Pointer, Function}
 use Rattle.spv_types.specs.declared.forms.Member.{Member}
-use Rattle.spv_types.specs.Places.{scalar_bytes}
+use Rattle.spv_types.specs.Places.{scalar_bytes, elements_in}
 use Rattle.spv_types.specs.Types.{Types, form_of, in_first}
 use Rattle.spv_start.specs.Numbers.{scalar_at}
 
 -- what a value is that begins at a place
 abbrev pub Reader : Type 0
 Reader = ℕ → Value
-
--- as many elements of a runtime array as fit so many bytes, of which it begins at a place
-abbrev pub elements_in : ℕ → ℕ → Option ℕ → ℕ
-elements_in size at None = 0
-elements_in size at (Some stride) = (size - at) / stride
 
 -- so many values, each a stride behind the one before it
 abbrev pub read_row : Reader → ℕ → ℕ → ℕ → List Value

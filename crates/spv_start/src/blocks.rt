@@ -4,25 +4,13 @@ ghost use Rattle.std.specs.List.{flat_map};
 ghost use Rattle.spv_types.specs.Rows.{leaves};
 ghost use Rattle.spv_types.specs.Places.{scalar_bytes};
 ghost use Rattle.spv_types.specs.Types.{form_of};
-ghost use Rattle.spv_start.specs.Blocks.{elements_in, read_among, read_members, read_row, read_step, value_in};
+ghost use Rattle.spv_start.specs.Blocks.{read_among, read_members, read_row, read_step, value_in};
 
 use crate::numbers::scalar_at;
 use spv_base::{Cell, NoMemory};
+use spv_types::places::elements_in;
 use spv_types::{Form, Member, TypeTable};
 use std::alloc::Global;
-
-/// How many elements of a runtime array fit so many bytes, of which it begins at a place.
-pub fn elements_in(size: u64, at: u128, stride: Option<u32>) -> u64
-    ensures { result ≡ elements_in size at stride }
-{
-    match stride {
-        Some(stride) if stride > 0 => match u64::try_from(at) {
-            Ok(at) => size.saturating_sub(at) / u64::from(stride),
-            Err(_) => 0,
-        },
-        _ => 0,
-    }
-}
 
 /// The bytes of a scalar type in a block.
 fn scalar_bytes(types: &TypeTable, ty: u32) -> u32

@@ -111,7 +111,7 @@ fn three_cells(alloc: Global, x: Cell, y: Cell, z: Cell) -> Result<Vec<Cell>, No
 }
 
 /// The row of one number of 32 bits.
-#[tactic(auto, using(crate::proofs::BlockLemmas::scalar_leaves))]
+#[tactic(auto, using(spv_types::proofs::Exports::leaves_scalar))]
 fn row_of_word(alloc: Global, n: u32) -> Result<Row, NoMemory>
     ghost value: { Value }
     requires { value ≡ spec.word n }

@@ -20,12 +20,11 @@ use Rattle.spv_cfg.specs.Flow.{Flow}
 use Rattle.spv_cfg.specs.Laws.{HasNext}
 use Rattle.spv_valid.specs.Acceptance.{Accepted, IsAccepted, Passes, decoded_in}
 use Rattle.spv_valid.specs.Validity.{IsValid}
-use Rattle.spv_valid.proofs.AcceptedLemmas.{accepted_passes}
-use Rattle.spv_valid.proofs.PassLemmas.{flow_is}
+use Rattle.spv_valid.proofs.Exports.{accepted_passes, flow_is}
 use Rattle.spv_plans.specs.Members.{is_stop}
-use Rattle.spv_plans.proofs.PlanLemmas.{each_at}
 use Rattle.spv_state.proofs.Blocks.{label_named, opcode_of_label}
 use Rattle.spv_state.proofs.Stands.{IsOne, OnePlace, class_is, same_place, stand_inst}
+use Rattle.spv_base.proofs.Exports.{each_at}
 
 -- ---- results
 

@@ -2,13 +2,13 @@
 use Rattle.std.proofs.Common.{◌≡◌, ◌∙◌, ℕ, ◌<◌, ◌^◌, List, [], ◌∷◌, length, map, replicate, sym, ap, subst, arith, slice_get}
 use Rattle.std.proofs.lemmas.List.{length-replicate}
 use Rattle.spv_setup.specs.declared.settings.Settings.{Settings}
-use Rattle.spv_valid.specs.Acceptance.{Accepted}
+use Rattle.spv_valid.specs.Acceptance.{Accepted, invocations}
 use Rattle.spv_valid.specs.Validity.{IsValid}
 use Rattle.spv_frame.specs.Frames.{fresh}
 use Rattle.spv_frame.specs.Registers.{Planned}
 use Rattle.spv_frame.specs.Stacks.{Stacked}
 use Rattle.spv_mem.specs.Memory.{Held as Memory}
-use Rattle.spv_initial.specs.Start.{invocations, local_roots, starting, variables}
+use Rattle.spv_initial.specs.Start.{local_roots, starting, variables}
 use Rattle.spv_initial.specs.Variables.{AreDeclared, HaveTargets, targets_of}
 use Rattle.spv_initial.specs.declared.variables.Declared.{Declared}
 use Rattle.spv_plans.specs.Plans.{plan_of, plans_in}
@@ -21,8 +21,8 @@ use Rattle.spv_state.specs.Start.{begun, start_of}
 use Rattle.spv_state.specs.Variables.{is_variable_of, variables_of}
 use Rattle.spv_state.proofs.ChangeLemmas.{seen}
 use Rattle.spv_state.proofs.EnterLemmas.{with_locals}
-use Rattle.spv_state.proofs.StartSound.{replicated}
 use Rattle.spv_state.proofs.VariableLemmas.{kept_are, kept_targets}
+use Rattle.spv_base.proofs.Exports.{get_replicate}
 
 -- ---- the variables of a function
 
@@ -69,7 +69,7 @@ one_frame a plan room = record { frames = passed a 0 (fresh plan) ∷ []; room =
 
 pub start_bounded : (a : Accepted) (plan : Planned) (room count : ℕ) (ks : List Stacked) → ks ≡ replicate count (one_frame a plan room) → 0 < room → room < 2 ^ 32 → AreBounded ks
 start_bounded a plan room count ks are some narrow i k at =
-    let own : k ≡ one_frame a plan room = replicated count i (one_frame a plan room) k (ap (λ (xs : List Stacked). slice_get xs i) (sym are) ∙ at) in
+    let own : k ≡ one_frame a plan room = get_replicate count i (one_frame a plan room) k (ap (λ (xs : List Stacked). slice_get xs i) (sym are) ∙ at) in
     subst IsBounded (sym own) (record { within = omega (arith, some); narrow = narrow })
 
 -- ---- the state

@@ -8,12 +8,12 @@ use Rattle.spv_base.specs.declared.causes.MemErr.{MemErr}
 use Rattle.spv_base.specs.declared.causes.MemErr.TheVariants.{OutOfBounds}
 use Rattle.spv_base.specs.declared.values.Pointer.{Pointer}
 use Rattle.spv_base.specs.declared.values.Value.{Value}
-use Rattle.spv_base.proofs.EntryLemmas.{length_change}
+use Rattle.spv_base.proofs.Exports.{length_change}
 use Rattle.spv_frame.specs.Frames.{Held as Frame}
 use Rattle.spv_frame.specs.Registers.{Planned}
 use Rattle.spv_frame.specs.Stacks.{Stacked, top}
 use Rattle.spv_mem.specs.Memory.{Held as Memory, Leaves, Levels, Stores, entered, load_of, stored}
-use Rattle.spv_mem.proofs.MemoryLemmas.{change_set, get_set}
+use Rattle.spv_mem.proofs.Exports.{change_set, get_set}
 use Rattle.spv_statuses.specs.Group.{Held as Statuses}
 use Rattle.spv_state.specs.Rooms.{AreBounded, IsBounded}
 use Rattle.spv_state.specs.State.{State, on_frame, on_frames, on_memory, pop_frame, push_frame, top_of, with_top, without_last, without_locals, without_top}
@@ -117,7 +117,7 @@ pub put_stack : (ps : List Planned) (m : Memory) (ks : List Stacked) (ts : Statu
 put_stack ps m ks ts s i k new g view inside here made = ap (λ (xs : List Stacked). seen ps m xs ts) (put_is ks i k new (on_frames g) inside here made) ∙ ap (on_frame i g) view
 
 -- the locals that are taken away
-without_entered : (i : ℕ) (es : Roots) (ls : List Levels) → change i without_locals (change i (λ (l : Levels). record l { list = l.list ++ es ∷ [] }) ls) ≡ ls
+pub without_entered : (i : ℕ) (es : Roots) (ls : List Levels) → change i without_locals (change i (λ (l : Levels). record l { list = l.list ++ es ∷ [] }) ls) ≡ ls
 without_entered i es [] = refl
 without_entered zero es (l ∷ ls) = ap (λ (xs : List Roots). record l { list = xs } ∷ ls) (without_is l.list es)
 without_entered (suc i) es (l ∷ ls) = ap (λ (xs : List Levels). l ∷ xs) (without_entered i es ls)
@@ -170,3 +170,6 @@ some_top ps m ks ts s i k view inside here some =
 
 pub one_bounded : (ks : List Stacked) (i : ℕ) (k : Stacked) → i < length ks → k ≡ get_or ks i k → AreBounded ks → IsBounded k
 one_bounded ks i k inside here all = all i k (slice_get-get_or ks i k inside ∙ ap (λ (x : Stacked). Some x) (sym here))
+
+pub stacks_stay : (i : ℕ) (g : Frame → Frame) (s : State) → i < length s.stacks → i < length (on_frame i g s).stacks
+stacks_stay i g s inside = subst (λ (n : ℕ). i < n) (sym (length_change i (on_frames g) s.stacks)) inside

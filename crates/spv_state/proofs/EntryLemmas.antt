@@ -22,14 +22,10 @@ use Rattle.spv_valid.specs.Acceptance.{Accepted, IsAccepted}
 use Rattle.spv_valid.specs.Entry.{begins_plain, is_plain, is_plain_function}
 use Rattle.spv_valid.specs.Validity.{IsValid}
 use Rattle.spv_plans.specs.Plans.{functions_in}
-use Rattle.spv_plans.proofs.PlanLemmas.{function_class}
+use Rattle.spv_plans.proofs.Exports.{function_class}
+use Rattle.spv_base.proofs.Exports.{each_at}
 
 -- ---- lists
-
-pub each_get : {X : Type 0} (P : X → Type 0) (xs : List X) (k : ℕ) (x : X) → AllByRecursion P xs → slice_get xs k ≡ Some x → P x
-each_get P [] k x all at = absurd (cc)
-each_get P (y ∷ ys) zero x (first, rest) at = let same : y ≡ x = cc in subst P same first
-each_get P (y ∷ ys) (suc k) x (first, rest) at = each_get P ys k x rest at
 
 -- an instruction among some
 record IsInst (insts : List Inst) (code id : ℕ) : Type 0 where
@@ -76,13 +72,13 @@ plain_at ts insts id h = by_id (is_id id) h
 next_contains : (k x : ℕ) (xs : List ℕ) → Contains xs x → Contains (k ∷ xs) x
 next_contains k x xs (n, inside, is) = (suc n, omega (arith, inside), is)
 
-pub listed : (id : ℕ) (insts : List Inst) (k : ℕ) (i : Inst) → slice_get insts k ≡ Some i → i.op ≡ 54 → i.id ≡ id → Contains (map (λ (f : ℕ × ℕ). f.0) (flat_map function_of insts)) id
-listed id [] k i at op is = absurd (cc)
-listed id (j ∷ js) zero i at op is =
+pub function_listed : (id : ℕ) (insts : List Inst) (k : ℕ) (i : Inst) → slice_get insts k ≡ Some i → i.op ≡ 54 → i.id ≡ id → Contains (map (λ (f : ℕ × ℕ). f.0) (flat_map function_of insts)) id
+function_listed id [] k i at op is = absurd (cc)
+function_listed id (j ∷ js) zero i at op is =
     let same : j ≡ i = cc in
     let test : (j.op == 54) ≡ true = rw same (rw op refl) in
     rw test (0, omega arith, ap (λ (x : Inst). x.id) same ∙ is)
-listed id (j ∷ js) (suc k) i at op is = by_test (j.op == 54) (listed id js k i at op is)
+function_listed id (j ∷ js) (suc k) i at op is = by_test (j.op == 54) (function_listed id js k i at op is)
   where
     by_test : (b : Bool) → Contains (map (λ (f : ℕ × ℕ). f.0) (flat_map function_of js)) id → Contains (map (λ (f : ℕ × ℕ). f.0) (cond b ((j.id, j.word) ∷ []) [] ++ flat_map function_of js)) id
     by_test true h = next_contains j.id id _ h
@@ -91,7 +87,7 @@ listed id (j ∷ js) (suc k) i at op is = by_test (j.op == 54) (listed id js k i
 pub entry_listed : (a : Accepted) → IsValid a → Contains (functions_in a) a.entry
 entry_listed a v =
     let f = plain_at a.types a.insts a.entry v.entry.plain in
-    listed a.entry a.insts f.number f.inst f.at f.op f.is
+    function_listed a.entry a.insts f.number f.inst f.at f.op f.is
 
 -- ---- some chain of calls begins with it
 
@@ -118,4 +114,4 @@ entry_depth a valid = ∥∥₁_elim valid (hlevel props) (some_depth a)
 -- ---- words
 
 pub word_small : (a : Accepted) (k : ℕ) (i : Inst) → ∥ IsAccepted a ∥₁ → slice_get a.insts k ≡ Some i → i.word < 1048576
-word_small a k i accepted at = ∥∥₁_elim accepted (hlevel props) (λ (is : IsAccepted a). each_get (λ (x : Inst). x.word < 1048576) a.insts k i is.decoded.words at)
+word_small a k i accepted at = ∥∥₁_elim accepted (hlevel props) (λ (is : IsAccepted a). each_at (λ (x : Inst). x.word < 1048576) a.insts k i is.decoded.words at)

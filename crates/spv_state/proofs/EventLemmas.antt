@@ -1,5 +1,5 @@
 -- The debug events that a run passes.
-use Rattle.std.proofs.Common.{◌≡◌, ◌∙◌, ℕ, zero, suc, ◌-◌, ◌==◌, Bool, true, false, cond, List, [], ◌∷◌, ◌++◌, append-nil, drop, length, ◌≤◌, map, Option, Some, Vec, refl, sym, ap, subst, arith, slice_get}
+use Rattle.std.proofs.Common.{◌≡◌, ◌∙◌, ℕ, ◌-◌, ◌==◌, Bool, true, false, cond, List, [], ◌∷◌, ◌++◌, append-nil, length, map, Option, Some, Vec, refl, sym, ap, subst, slice_get}
 use Rattle.std.specs.Prelude.{unwrap_or}
 use Rattle.std.specs.Option.{option_map_or}
 use Rattle.std.specs.declared.alloc.Global.{Global}
@@ -36,12 +36,6 @@ entries-carried insts before (s ∷ ss) = ap (λ (es : List (ℕ × List Capture
 pub entries_all : (insts : List Inst) (before : List Capture) (es : List (ℕ × List Capture)) (rest all : List Stand) → rest ≡ [] → es ++ carried insts before rest ≡ carried insts [] all → es ≡ entries insts [] all
 entries_all insts before es rest all none e =
     sym (append-nil es) ∙ sym (ap (λ (xs : List Stand). es ++ carried insts before xs) none) ∙ e ∙ sym (entries-carried insts [] all)
-
-pub drop_end : {A : Type 0} (n : ℕ) (xs : List A) → length xs ≤ n → drop n xs ≡ []
-drop_end zero [] le = refl
-drop_end (suc n) [] le = refl
-drop_end zero (x ∷ xs) le = absurd (omega (arith, le))
-drop_end (suc n) (x ∷ xs) le = drop_end n xs (omega (arith, le))
 
 -- ---- as the code keeps them
 

@@ -3,12 +3,12 @@ use Rattle.std.proofs.Common.{◌≡◌, ◌∙◌, ℕ, suc, ◌-◌, ◌==◌,
 use Rattle.std.proofs.Math.Logic.{∥∥₁_elim}
 use Rattle.std.proofs.lemmas.Bool.{eqb-true, ne_eqb}
 use Rattle.std.proofs.lemmas.List.Elements.{All-append, All-map}
-use Rattle.std.specs.Prelude.{find, if◌then◌else◌}
+use Rattle.std.specs.Prelude.{find}
 use Rattle.std.specs.Option.{is_some, option_and_then, option_map}
 use Rattle.spv_base.specs.Entries.{reads}
 use Rattle.spv_base.specs.declared.instructions.Inst.{Inst}
 use Rattle.spv_base.specs.declared.values.Value.{Value}
-use Rattle.spv_index.specs.Definitions.{defining, has_result, is_id, result_type, type_in}
+use Rattle.spv_index.specs.Definitions.{defining, has_result, result_type, type_in}
 use Rattle.spv_index.specs.Positions.{Stand, stand_of}
 use Rattle.spv_valid.specs.Acceptance.{Accepted, IsAccepted}
 use Rattle.spv_valid.specs.Meanings.{meaning_at, meaning_of}
@@ -19,12 +19,10 @@ use Rattle.spv_frame.specs.Frames.{Held as Frame}
 use Rattle.spv_frame.specs.Registers.{Planned, ids}
 use Rattle.spv_plans.specs.Plans.{plan_of}
 use Rattle.spv_plans.specs.Registers.{has_cells}
-use Rattle.spv_plans.proofs.ComesLemmas.{Comes, Placed, place, value_comes}
-use Rattle.spv_plans.proofs.PlanLemmas.{result_typed}
+use Rattle.spv_plans.proofs.Exports.{Comes, Placed, place, value_comes, result_typed}
 use Rattle.spv_operands.specs.Operands.{pointer_of}
 use Rattle.spv_operands.specs.Values.{value_of}
-use Rattle.spv_operands.proofs.MeaningLemmas.{stand_defines}
-use Rattle.spv_operands.proofs.ShapeLemmas.{data_plain}
+use Rattle.spv_operands.proofs.Exports.{stand_defines, data_plain}
 use Rattle.spv_state.specs.Events.{captured, captures_before, due, passed}
 use Rattle.spv_state.specs.Roots.{CapturesRoot, IsRoot, IsRooted}
 use Rattle.spv_state.specs.Sound.{IsSoundFrame}
@@ -33,6 +31,7 @@ use Rattle.spv_state.proofs.AcceptedLemmas.{found_once}
 use Rattle.spv_state.proofs.OperandRoots.{HasFrame, value_root}
 use Rattle.spv_state.proofs.RootLemmas.{ids_last, root_prop, rooted_more}
 use Rattle.spv_state.proofs.Stands.{stand_inst}
+use Rattle.spv_consts.proofs.Exports.{found_of_defining}
 
 -- ---- the register of a value holds no pointer
 
@@ -54,21 +53,13 @@ meant_defined insts id m meant = by_stand (stand_of insts id) (stand_defines ins
     by_stand None e h = absurd (cc)
     by_stand (Some s) e h = (s.inst, sym e)
 
-defining_found : (insts : List Inst) (id : ℕ) (i : Inst) → defining insts id ≡ Some i → find (has_result id) insts ≡ Some i
-unfolding defining
-defining_found insts id i h = by_id (is_id id) h
-  where
-    by_id : (b : Bool) → (if b then find (has_result id) insts else None) ≡ Some i → find (has_result id) insts ≡ Some i
-    by_id true g = g
-    by_id false g = absurd (cc)
-
 -- by the instruction that the register comes from, which has a type
 register_typed : (a : Accepted) → IsValid a → (function n id : ℕ) (i : Inst) → slice_get (ids (plan_of a function).values) n ≡ Some id → defining a.insts id ≡ Some i → result_type a.insts id ≡ Some i.ty
 register_typed a valid function n id i at defined =
     let c : Comes a (has_cells a.types) function id = (value_comes a function n id at).comes in
     let own : Placed a function id c.stand = place a (has_cells a.types) function id c in
     let there = stand_inst a.insts own.number c.stand own.at in
-    let found = subst (λ (k : ℕ). find (has_result k) a.insts ≡ Some i) (sym c.is) (defining_found a.insts id i defined) in
+    let found = subst (λ (k : ℕ). find (has_result k) a.insts ≡ Some i) (sym c.is) (found_of_defining a.insts id i defined) in
     let same : i ≡ c.stand.inst = found_once a.insts own.number c.stand.inst i valid.named.distinct there own.named found in
     let typed : (i.ty == 0) ≡ false = ne_eqb i.ty 0 (λ none. result_typed a.types c.stand.inst c.register (ap (λ (x : Inst). x.ty) (sym same) ∙ none)) in
     let type : type_in i ≡ Some i.ty = rw typed refl in

@@ -9,14 +9,13 @@ use Rattle.spv_index.specs.Definitions.{at}
 use Rattle.spv_index.specs.Positions.{Stand, in_block, in_function, stands_of}
 use Rattle.spv_cfg.specs.Calls.{function_of}
 use Rattle.spv_cfg.specs.Executables.{executables_of, followers_of}
-use Rattle.spv_cfg.proofs.FunctionLaws.{opcode_of_function}
+use Rattle.spv_cfg.proofs.Exports.{opcode_of_function}
 use Rattle.spv_valid.specs.Acceptance.{Accepted}
 use Rattle.spv_plans.specs.Members.{is_stop, stands_in}
 use Rattle.spv_plans.specs.Plans.{functions_in}
 use Rattle.spv_state.specs.Sound.{StandsIn}
 use Rattle.spv_state.proofs.Blocks.{Begun, Entered, Follows, Listed, follows, listed, rooted}
-use Rattle.spv_plans.proofs.NumberLemmas.{at_contains}
-use Rattle.spv_plans.proofs.MemberLemmas.{block_inside}
+use Rattle.spv_plans.proofs.Exports.{at_contains, block_inside}
 use Rattle.spv_state.proofs.AcceptedLemmas.{IsKnown}
 use Rattle.spv_state.proofs.Stands.{IsOne, at_stand, class_is, member_one, one_member, same_stand_at, stand_inst}
 

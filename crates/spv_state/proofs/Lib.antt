@@ -1,25 +1,26 @@
-pub mod Stands
-pub mod Blocks
-pub mod AcceptedLemmas
-pub mod Lists
-pub mod Entries
-pub mod ExecutableLemmas
-pub mod StartLemmas
-pub mod EntryLemmas
-pub mod VariableLemmas
-pub mod EnterLemmas
-pub mod SizeLemmas
-pub mod PlanLemmas
-pub mod RootLemmas
-pub mod VariableStart
-pub mod OperandRoots
-pub mod EventRoots
-pub mod StartSound
-pub mod BegunLemmas
-pub mod ChangeLemmas
-pub mod SlotLemmas
-pub mod TopLemmas
-pub mod EventLemmas
-pub mod UndoingLemmas
-pub mod NumberLemmas
-pub mod SourceLemmas
+mod Stands
+mod Blocks
+mod AcceptedLemmas
+mod Lists
+mod Entries
+mod ExecutableLemmas
+mod StartLemmas
+mod EntryLemmas
+mod VariableLemmas
+mod EnterLemmas
+mod SizeLemmas
+mod PlanLemmas
+mod RootLemmas
+mod VariableStart
+mod OperandRoots
+mod EventRoots
+mod StartSound
+mod BegunLemmas
+mod ChangeLemmas
+mod SlotLemmas
+mod TopLemmas
+mod EventLemmas
+mod UndoingLemmas
+mod NumberLemmas
+mod SourceLemmas
+pub mod Exports

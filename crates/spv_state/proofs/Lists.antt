@@ -3,11 +3,6 @@ use Rattle.std.proofs.Common.{◌≡◌, ◌≢◌, ◌∙◌, ℕ, zero, suc, L
 use Rattle.std.specs.Option.{option_map}
 use Rattle.spv_base.specs.Entries.{change}
 
-pub change_here : {A : Type 0} (i : ℕ) (g : A → A) (xs : List A) → slice_get (change i g xs) i ≡ option_map g (slice_get xs i)
-change_here i g [] = refl
-change_here zero g (x ∷ xs) = refl
-change_here (suc i) g (x ∷ xs) = change_here i g xs
-
 pub change_other : {A : Type 0} (i j : ℕ) (g : A → A) (xs : List A) → i ≢ j → slice_get (change i g xs) j ≡ slice_get xs j
 change_other i j g [] apart = refl
 change_other zero zero g (x ∷ xs) apart = absurd (apart refl)
@@ -34,10 +29,6 @@ change_same (suc i) f g (x ∷ xs) same = ap (λ l. x ∷ l) (change_same i f g 
 -- and one that does nothing to it
 pub change_still : {A : Type 0} (i : ℕ) (g : A → A) (xs : List A) → ((x : A) → slice_get xs i ≡ Some x → g x ≡ x) → change i g xs ≡ xs
 change_still i g xs still = change_same i g (λ x. x) xs still ∙ change_none i xs
-
--- the element after a change
-pub changed_at : {A : Type 0} (i : ℕ) (g : A → A) (xs : List A) (x : A) → slice_get xs i ≡ Some x → slice_get (change i g xs) i ≡ Some (g x)
-changed_at i g xs x at = change_here i g xs ∙ ap (option_map g) at
 
 -- and the one that was there before
 pub record Changed {A : Type 0} (g : A → A) (o : Option A) (y : A) : Type 0 where

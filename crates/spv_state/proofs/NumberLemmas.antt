@@ -1,5 +1,5 @@
 -- The number of the register of an id in the plan of a sound frame, and what it holds.
-use Rattle.std.proofs.Common.{◌≡◌, ◌∙◌, ℕ, zero, suc, ◌-◌, ◌<◌, ◌==◌, Bool, true, List, [], ◌∷◌, Option, Some, None, length, get_or, slice_get, slice_set, inl, inr, sym, ap, subst, arith}
+use Rattle.std.proofs.Common.{◌≡◌, ◌∙◌, ℕ, zero, suc, ◌-◌, ◌<◌, ◌==◌, Bool, List, [], ◌∷◌, Option, Some, None, length, get_or, slice_get, slice_set, inl, inr, sym, ap, subst}
 use Rattle.std.specs.Option.{IsSomeAnd, MatchOption}
 use Rattle.spv_base.specs.Entries.{reads, writes}
 use Rattle.spv_base.specs.declared.values.Pointer.{Pointer}
@@ -12,7 +12,7 @@ use Rattle.spv_frame.specs.Frames.{Held as Frame}
 use Rattle.spv_frame.specs.Numbers.{with_value}
 use Rattle.spv_frame.specs.Registers.{IsPointerSlotOf, IsSlotOf, Planned, Rooms, ids, marked, number_of, sizes}
 use Rattle.spv_frame.specs.Stacks.{Stacked, on_top, top}
-use Rattle.spv_frame.proofs.RegisterLemmas.{number_at, number_inside}
+use Rattle.spv_frame.proofs.Exports.{number_at, number_inside}
 use Rattle.spv_mem.specs.Memory.{Held as Memory}
 use Rattle.spv_statuses.specs.Group.{Held as Statuses}
 use Rattle.spv_plans.specs.Plans.{plan_of}
@@ -25,21 +25,19 @@ use Rattle.spv_state.proofs.ChangeLemmas.{put_stack, seen, top_bounded}
 use Rattle.spv_state.proofs.Lists.{change_same}
 use Rattle.spv_state.proofs.SlotLemmas.{own_plan}
 use Rattle.spv_state.proofs.UndoingLemmas.{stack_kept}
+use Rattle.std.proofs.lemmas.Bool.{eqb-true}
 
 size_at : (rs : Rooms) (n : ℕ) (r : ℕ × ℕ) → slice_get rs n ≡ Some r → slice_get (sizes rs) n ≡ Some r.1
 size_at [] n r h = cc
 size_at (x ∷ rs) zero r h = let e : x ≡ r = cc in ap (λ (y : ℕ × ℕ). Some y.1) e
 size_at (x ∷ rs) (suc n) r h = size_at rs n r h
 
-same_id : (k id : ℕ) → (k == id) ≡ true → k ≡ id
-same_id k id h = grind arith
-
 -- the id that stands where it is found
 found_id : (ks : List ℕ) (id n : ℕ) → number_of id ks ≡ Some n → id_at ks n ≡ id
 found_id [] id n h = cc
 found_id (k ∷ ks) id n h =
     elim (number_at (k == id) id ks n h) [
-      | inl here ↦ ap (id_at (k ∷ ks)) here.1 ∙ same_id k id here.0
+      | inl here ↦ ap (id_at (k ∷ ks)) here.1 ∙ eqb-true k id here.0
       | inr there ↦ ap (id_at (k ∷ ks)) there.1.next ∙ found_id ks id there.1.before there.1.is
     ]
 

@@ -2,7 +2,7 @@
 use Rattle.std.proofs.Common.{◌≡◌, ◌∙◌, ℕ, ◌<◌, List, Option, Some, None, length, map, get_or, refl, sym, ap, subst, slice_get}
 use Rattle.std.proofs.Math.Logic.{∥∥₁_elim, ∥∥₁_map}
 use Rattle.std.proofs.Props.{props}
-use Rattle.std.proofs.lemmas.Option.{slice_get-get_or, slice_get-map, slice_get_within}
+use Rattle.std.proofs.lemmas.Option.{slice_get-get_or, slice_get-map, slice_get_within, same_Some}
 use Rattle.std.specs.List.{Contains}
 use Rattle.std.specs.Option.{option_map}
 use Rattle.spv_base.specs.Entries.{reads}
@@ -27,11 +27,8 @@ some_inside f xs n (Some x) y e h = slice_get_within xs n x e
 pub map_inside : {X Y : Type 0} (f : X → Y) (xs : List X) (n : ℕ) (y : Y) → slice_get (map f xs) n ≡ Some y → n < length xs
 map_inside f xs n y at = some_inside f xs n (slice_get xs n) y refl (sym (slice_get-map f xs n) ∙ at)
 
-some_same : {Y : Type 0} (x y : Y) → Some x ≡ Some y → x ≡ y
-some_same x y e = cc
-
 pub map_is : {X Y : Type 0} (f : X → Y) (xs : List X) (n : ℕ) (x : X) (y : Y) → slice_get (map f xs) n ≡ Some y → x ≡ get_or xs n x → f x ≡ y
-map_is f xs n x y at is = some_same (f x) y (sym (at_number f xs n x (map_inside f xs n y at) is) ∙ at)
+map_is f xs n x y at is = same_Some (f x) y (sym (at_number f xs n x (map_inside f xs n y at) is) ∙ at)
 
 -- ---- numbers
 

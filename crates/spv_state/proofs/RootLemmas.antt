@@ -5,6 +5,7 @@ use Rattle.std.proofs.Props.{props}
 use Rattle.std.proofs.lemmas.Bool.{eq-eqb}
 use Rattle.std.proofs.lemmas.List.Elements.{All-weaker}
 use Rattle.std.proofs.lemmas.Option.{slice_get_within}
+use Rattle.spv_base.proofs.Exports.{element_at}
 use Rattle.std.specs.Coded.{codes}
 use Rattle.std.specs.List.{AllByRecursion, AllZip, Contains, cons_option, filter, filter_map}
 use Rattle.std.specs.Option.{is_some, option_and_then, option_map_or}
@@ -100,11 +101,6 @@ reads_there (e ∷ es) id (suc k, lt, is) = by_test (e.0 == id) (reads_there es 
 read_among : (es : Roots) (ids : List ℕ) (id : ℕ) → ids_in es ≡ ids → ∥ Contains ids id ∥₁ → is_some (reads id es) ≡ true
 read_among es ids id are h = ∥∥₁_elim h (hlevel (props, codes)) (λ (c : Contains ids id). reads_there es id (subst (λ (ks : List ℕ). Contains ks id) (sym are) c))
 
-there_is : {A : Type 0} (xs : List A) (i : ℕ) → i < length xs → (x : A) × (slice_get xs i ≡ Some x)
-there_is [] i h = absurd (omega (arith, h))
-there_is (x ∷ xs) zero h = (x, refl)
-there_is (x ∷ xs) (suc i) h = there_is xs i (omega (arith, h))
-
 -- the variables of a frame
 zipped : (a : Accepted) (fs : List Frame) (ls : List Roots) (n : ℕ) (f : Frame) → AllZip (HasVariables a) fs ls → slice_get fs n ≡ Some f → (es : Roots) × (slice_get ls n ≡ Some es) × HasVariables a f es
 zipped a [] [] n f all at = absurd (cc)
@@ -133,16 +129,16 @@ module _ (p : Program) (s : State) (sound : IsSound p s) (i depth : ℕ) (f : Fr
   pub frame_rooted : IsRooted p.accepted (frames_of s i) depth f
   frame_rooted =
       let k = stack in
-      let t = there_is s.statuses.list i inside in
-      let l = there_is s.memory.locals i (let within = inside in let same = sound.levels in omega arith) in
+      let t = element_at s.statuses.list i inside in
+      let l = element_at s.memory.locals i (let within = inside in let same = sound.levels in omega arith) in
       let one = sound.each i t.0 k.0 l.0 t.1 k.1 l.1 in
       subst (λ (fs : List Frame). IsRooted p.accepted fs depth f) (sym k.2) (one.rooted depth f (subst (λ (fs : List Frame). slice_get fs depth ≡ Some f) k.2 here))
 
   local_there : (at id : ℕ) → ∥ Contains (ids_at p.accepted (frames_of s i) at) id ∥₁ → is_some (root_value s.memory i (Local at id)) ≡ true
   local_there at id h =
       let k = stack in
-      let t = there_is s.statuses.list i inside in
-      let l = there_is s.memory.locals i (let within = inside in let same = sound.levels in omega arith) in
+      let t = element_at s.statuses.list i inside in
+      let l = element_at s.memory.locals i (let within = inside in let same = sound.levels in omega arith) in
       let one = sound.each i t.0 k.0 l.0 t.1 k.1 l.1 in
       by_frame k.0 l.0 l.1 one.variables (slice_get k.0.frames at) refl (subst (λ (fs : List Frame). ∥ Contains (ids_at p.accepted fs at) id ∥₁) k.2 h)
     where
@@ -157,7 +153,7 @@ module _ (p : Program) (s : State) (sound : IsSound p s) (i depth : ℕ) (f : Fr
   pub root_there : (r : Root) → IsRoot p.accepted (frames_of s i) depth r → is_some (root_value s.memory i r) ≡ true
   root_there (Shared id) h = read_among s.memory.shared (shared_ids p.accepted) id sound.shared h
   root_there (Private id) h =
-      let own = there_is s.memory.privates i (let within = inside in let same = sound.privates in omega arith) in
+      let own = element_at s.memory.privates i (let within = inside in let same = sound.privates in omega arith) in
       rw own.1 (read_among own.0 (own_ids p.accepted) id (sound.own i own.0 own.1) h)
   root_there (Local at id) h = local_there at id h.1
 

@@ -12,7 +12,7 @@ use Rattle.spv_frame.specs.Frames.{Held as Frame}
 use Rattle.spv_frame.specs.Registers.{IsSlotOf, Planned, ids, number_of}
 use Rattle.spv_plans.specs.Plans.{functions_in, plan_of}
 use Rattle.spv_plans.specs.Registered.{HasApart, HasValueType}
-use Rattle.spv_plans.proofs.NumberLemmas.{number_there}
+use Rattle.spv_plans.proofs.Exports.{number_there}
 use Rattle.spv_valid.specs.Acceptance.{Accepted}
 use Rattle.spv_state.specs.Sound.{IsSoundFrame}
 use Rattle.spv_state.proofs.ExecutableLemmas.{function_known, standing}

@@ -12,9 +12,9 @@ use Rattle.spv_consts.specs.Trees.{tree_of}
 use Rattle.spv_frame.specs.Frames.{Held}
 use Rattle.spv_frame.specs.Registers.{IsSlotOf, Planned, ids, number_of}
 use Rattle.spv_index.specs.Definitions.{at, number_at, stands_at}
-use Rattle.spv_index.proofs.FirstLemmas.{led}
+use Rattle.spv_index.proofs.Exports.{led}
 use Rattle.spv_operands.specs.Values.{pointer_to, register_value, value_of}
-use Rattle.spv_operands.proofs.ReadingLemmas.{value_meant}
+use Rattle.spv_operands.proofs.Exports.{value_meant}
 use Rattle.spv_plans.specs.Registered.{IsOfFunction}
 use Rattle.spv_valid.specs.Acceptance.{Accepted}
 use Rattle.spv_valid.specs.declared.meanings.Meaning.TheVariants as meaning

@@ -10,8 +10,7 @@ use Rattle.spv_index.specs.Classes.{class_of, sets_of}
 use Rattle.spv_index.specs.Definitions.{at, stands_at}
 use Rattle.spv_index.specs.Positions.{Stand, outside, position_after, stands, stands_of}
 use Rattle.spv_plans.specs.Members.{members, stands_in}
-use Rattle.spv_plans.proofs.ApartLemmas.{insts_of_stands}
-use Rattle.spv_plans.proofs.NumberLemmas.{at_contains, contains_at, filtered, filtered_there, map_at, map_from}
+use Rattle.spv_plans.proofs.Exports.{insts_of_stands, at_contains, contains_at, filtered, filtered_there, map_at, map_from}
 
 -- an instruction is one of a list, with where it stands
 pub record IsOne (ss : List Stand) (s : Stand) : Type 0 where

@@ -1,5 +1,5 @@
 -- The state at the start of a run is sound.
-use Rattle.std.proofs.Common.{◌≡◌, ◌∙◌, ℕ, zero, suc, ◌+◌, ◌==◌, Bool, true, false, cond, List, [], ◌∷◌, length, map, replicate, Option, Some, None, refl, sym, ap, subst, arith, slice_get}
+use Rattle.std.proofs.Common.{◌≡◌, ◌∙◌, ℕ, zero, suc, ◌==◌, Bool, true, false, cond, List, [], ◌∷◌, length, map, replicate, Option, Some, None, refl, sym, ap, subst, arith, slice_get}
 use Rattle.std.proofs.Math.Logic.{∥∥₁_elim, ∥∥₁_map}
 use Rattle.std.proofs.Props.{props}
 use Rattle.std.proofs.lemmas.List.Elements.{All-nil}
@@ -11,16 +11,16 @@ use Rattle.spv_base.specs.Entries.{reads}
 use Rattle.spv_base.specs.declared.values.Pointer.{Pointer}
 use Rattle.spv_base.specs.declared.values.Value.{Value}
 use Rattle.spv_index.specs.Positions.{Stand}
-use Rattle.spv_valid.specs.Acceptance.{Accepted, IsAccepted}
+use Rattle.spv_valid.specs.Acceptance.{Accepted, IsAccepted, invocations}
 use Rattle.spv_valid.specs.Validity.{IsValid}
 use Rattle.spv_frame.specs.Frames.{Held as Frame, fresh, none}
 use Rattle.spv_frame.specs.Registers.{Planned, ids}
 use Rattle.spv_frame.specs.Stacks.{Stacked}
 use Rattle.spv_mem.specs.Memory.{Levels}
-use Rattle.spv_initial.specs.Start.{invocations, own_roots, starting, variables}
+use Rattle.spv_initial.specs.Start.{own_roots, starting, variables}
 use Rattle.spv_plans.specs.Members.{first_stop, is_stop, members}
 use Rattle.spv_plans.specs.Plans.{IsPlan, functions_in, plan_of}
-use Rattle.spv_operands.proofs.FrameLemmas.{fresh_shaped}
+use Rattle.spv_operands.proofs.Exports.{fresh_shaped}
 use Rattle.spv_statuses.specs.declared.invocations.Status.{Status}
 use Rattle.spv_statuses.specs.declared.invocations.Status.TheVariants.{Ready}
 use Rattle.spv_state.specs.Events.{passed}
@@ -31,25 +31,15 @@ use Rattle.spv_state.specs.Start.{frame_roots, start_of}
 use Rattle.spv_state.proofs.EntryLemmas.{entry_listed}
 use Rattle.spv_state.proofs.EventRoots.{above_rooted}
 use Rattle.spv_state.proofs.VariableStart.{own_begins, shared_begin}
+use Rattle.std.proofs.lemmas.List.{length-map}
+use Rattle.spv_base.proofs.Exports.{get_replicate}
+use Rattle.std.proofs.lemmas.List.FromFn.{length-range_with_len}
 
 -- ---- lists
-
-pub replicated : {A : Type 0} (n i : ℕ) (x y : A) → slice_get (replicate n x) i ≡ Some y → y ≡ x
-replicated zero i x y at = absurd (cc)
-replicated (suc n) zero x y at = cc
-replicated (suc n) (suc i) x y at = replicated n i x y at
 
 length_replicate : {A : Type 0} (n : ℕ) (x : A) → length (replicate n x) ≡ n
 length_replicate zero x = refl
 length_replicate (suc n) x = ap (λ (m : ℕ). suc m) (length_replicate n x)
-
-length_map : {A B : Type 0} (f : A → B) (xs : List A) → length (map f xs) ≡ length xs
-length_map f [] = refl
-length_map f (x ∷ xs) = ap (λ (m : ℕ). suc m) (length_map f xs)
-
-length_range : (from n : ℕ) → length (range_with_len from n) ≡ n
-length_range from zero = refl
-length_range from (suc n) = ap (λ (m : ℕ). suc m) (length_range (from + 1) n)
 
 mapped : {A B : Type 0} (f : A → B) (n i : ℕ) (x : A) (y : B) → slice_get (map f (replicate n x)) i ≡ Some y → y ≡ f x
 mapped f zero i x y at = absurd (cc)
@@ -172,12 +162,12 @@ start_sound has p accepted valid fits =
       targets = refl;
       words = refl;
       stacks = length_replicate count (entry_stack a) ∙ sym (length_replicate count Ready);
-      levels = length_map _ _ ∙ length_replicate count (record { list = []; room = a.depth }) ∙ sym (length_replicate count Ready);
-      privates = length_map (own_roots a p.setup (variables a)) (range_with_len 0 count) ∙ length_range 0 count ∙ sym (length_replicate count Ready);
+      levels = length-map _ _ ∙ length_replicate count (record { list = []; room = a.depth }) ∙ sym (length_replicate count Ready);
+      privates = length-map (range_with_len 0 count) (own_roots a p.setup (variables a)) ∙ length-range_with_len 0 count ∙ sym (length_replicate count Ready);
       shared = shared_begin a p.setup accepted valid fits;
       own = own_begins a p.setup accepted valid fits;
       each = λ i t k l status stack level.
-          subst (λ (x : Status). IsSoundStack a x k l) (sym (replicated count i Ready t status))
-          (subst (λ (x : Stacked). IsSoundStack a Ready x l) (sym (replicated count i (entry_stack a) k stack))
+          subst (λ (x : Status). IsSoundStack a x k l) (sym (get_replicate count i Ready t status))
+          (subst (λ (x : Stacked). IsSoundStack a Ready x l) (sym (get_replicate count i (entry_stack a) k stack))
           (subst (IsSoundStack a Ready (entry_stack a)) (sym (mapped _ count i (record { list = []; room = a.depth }) l level)) (sound_stack has a accepted valid)));
     }

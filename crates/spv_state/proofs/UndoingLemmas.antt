@@ -5,12 +5,12 @@ use Rattle.std.proofs.lemmas.Option.{slice_get-get_or}
 use Rattle.spv_base.specs.Entries.{change}
 use Rattle.spv_base.specs.Variables.{Roots}
 use Rattle.spv_base.specs.declared.values.PassedEvent.{PassedEvent}
-use Rattle.spv_base.proofs.EntryLemmas.{length_change}
+use Rattle.spv_base.proofs.Exports.{length_change, change_same, change_twice, set_same}
 use Rattle.spv_frame.specs.Frames.{Held as Frame}
 use Rattle.spv_frame.specs.Registers.{Planned}
 use Rattle.spv_frame.specs.Stacks.{Stacked, on_top, top}
 use Rattle.spv_mem.specs.Memory.{AreVariables, Held as Memory, Leaves, Levels, entered}
-use Rattle.spv_mem.proofs.MemoryLemmas.{change_set, set_same}
+use Rattle.spv_mem.proofs.Exports.{change_set}
 use Rattle.spv_statuses.specs.Group.{Held as Statuses}
 use Rattle.spv_state.specs.Rooms.{IsBounded}
 use Rattle.spv_state.specs.State.{State, append_event, drop_event, on_frames, push_frame, top_of, with_top}
@@ -61,20 +61,10 @@ put_top_back ps m after ks ts s i k new o l f es view inside here room frames le
 
 -- ---- events
 
-change_twice : {A : Type 0} (i : ℕ) (f g : A → A) (xs : List A) → change i f (change i g xs) ≡ change i (λ x. f (g x)) xs
-change_twice i f g [] = refl
-change_twice zero f g (x ∷ xs) = refl
-change_twice (suc i) f g (x ∷ xs) = ap (λ ys. x ∷ ys) (change_twice i f g xs)
-
-change_nothing : {A : Type 0} (i : ℕ) (f : A → A) (xs : List A) → ((x : A) → f x ≡ x) → change i f xs ≡ xs
-change_nothing i f [] same = refl
-change_nothing zero f (x ∷ xs) same = ap (λ y. y ∷ xs) (same x)
-change_nothing (suc i) f (x ∷ xs) same = ap (λ ys. x ∷ ys) (change_nothing i f xs same)
-
 -- two changes of the top frame, of which the second undoes the first
 top_back : (f g : Frame → Frame) (fs : List Frame) → ((x : Frame) → f (g x) ≡ x) → on_top f (on_top g fs) ≡ fs
 top_back f g fs same =
-    ap (λ (n : ℕ). change (n - 1) f (on_top g fs)) (length_change (length fs - 1) g fs) ∙ change_twice (length fs - 1) f g fs ∙ change_nothing (length fs - 1) (λ x. f (g x)) fs same
+    ap (λ (n : ℕ). change (n - 1) f (on_top g fs)) (length_change (length fs - 1) g fs) ∙ change_twice (length fs - 1) f g fs ∙ change_same (length fs - 1) (λ x. f (g x)) fs same
 
 pub event_dropped : (k new : Stacked) (e : PassedEvent) → k ≡ on_frames (append_event e) new → new ≡ on_frames drop_event k
 event_dropped k new e is =

@@ -9,7 +9,7 @@ use Rattle.spv_valid.specs.Validity.{IsValid}
 use Rattle.spv_initial.specs.Start.{variables}
 use Rattle.spv_initial.specs.Variables.{AreApart, AreDeclared, HaveTargets, Holds, targets_of}
 use Rattle.spv_initial.specs.declared.variables.Declared.{Declared}
-use Rattle.spv_initial.proofs.StartLemmas.{variables_are}
+use Rattle.spv_initial.proofs.Exports.{variables_are}
 
 -- ---- those that a test keeps
 

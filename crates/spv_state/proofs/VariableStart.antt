@@ -16,10 +16,11 @@ use Rattle.spv_base.specs.declared.values.Value.{Value}
 use Rattle.spv_index.specs.Definitions.{before_functions, decoration, holds}
 use Rattle.spv_index.specs.Operands.{literal_operand}
 use Rattle.spv_types.specs.declared.queries.Pointed.{Pointed}
+use Rattle.spv_types.specs.InterfaceBlocks.{is_block_class, is_block_variable}
 use Rattle.spv_types.specs.Queries.{pointee}
 use Rattle.spv_types.specs.Rules.{is_block, is_input, is_three_words, is_word}
 use Rattle.spv_types.specs.Types.{Types, form_of}
-use Rattle.spv_valid.specs.Acceptance.{Accepted, IsAccepted}
+use Rattle.spv_valid.specs.Acceptance.{Accepted, IsAccepted, invocations}
 use Rattle.spv_valid.specs.Validity.{IsValid}
 use Rattle.spv_setup.specs.declared.line.Content.{Content}
 use Rattle.spv_setup.specs.declared.line.Content.TheVariants.{Hex, Zero}
@@ -28,18 +29,17 @@ use Rattle.spv_setup.specs.declared.settings.Push.{Push}
 use Rattle.spv_setup.specs.declared.settings.Settings.{Settings}
 use Rattle.spv_setup.specs.Schedule.{check_moves, schedule_of}
 use Rattle.spv_fit.specs.Fit.{fitted}
-use Rattle.spv_fit.specs.Given.{buffer_given, check_bytes, given_at, given_by, given_to, is_block_class, is_block_variable, is_bound, lacks_bytes, lowest_short, push_given, short_due, some_lack}
+use Rattle.spv_fit.specs.Given.{buffer_given, check_bytes, given_at, given_by, given_to, is_bound, lacks_bytes, lowest_short, push_given, short_due, some_lack}
 use Rattle.spv_fit.specs.Numbers.{check_numbers}
 use Rattle.spv_mem.specs.Blanks.{blank_of}
 use Rattle.spv_start.specs.BuiltIns.{Three, built_in, global_id, local_id, value_of_three, word}
 use Rattle.spv_start.specs.declared.built_ins.Invocation.{Invocation}
-use Rattle.spv_initial.specs.Start.{invocations, own_roots, shared_roots, variables}
+use Rattle.spv_initial.specs.Start.{own_roots, shared_roots, variables}
 use Rattle.spv_initial.specs.Values.{bound, buffer_value, initialized, input_value, invocation_of, of_bytes, of_content, own_value, push_value, shared_value}
 use Rattle.spv_initial.specs.Variables.{declared_as, declared_by, declared_in, may_hold, variable_of}
 use Rattle.spv_initial.specs.declared.variables.Declared.{Declared}
 use Rattle.spv_operands.specs.Values.{is_own}
-use Rattle.spv_operands.proofs.ClassLemmas.{IsLocalVariable, IsModuleVariable, behind_variable, variable_at}
-use Rattle.spv_operands.proofs.VariableLemmas.{Stands, place_of}
+use Rattle.spv_operands.proofs.Exports.{IsLocalVariable, IsModuleVariable, behind_variable, variable_at, Stands, place_of}
 use Rattle.spv_state.specs.Program.{IsFitting}
 use Rattle.spv_state.specs.Roots.{ids_in, is_shared, own_ids, shared_ids}
 use Rattle.spv_state.proofs.RootLemmas.{contains_later, ids_kept}

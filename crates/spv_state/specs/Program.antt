@@ -4,8 +4,7 @@ use Rattle.std.specs.Option.{option_map_or}
 use Rattle.spv_base.specs.declared.instructions.Inst.{Inst}
 use Rattle.spv_setup.specs.declared.settings.Settings.{Settings}
 use Rattle.spv_fit.specs.Fit.{fitted}
-use Rattle.spv_valid.specs.Acceptance.{Accepted}
-use Rattle.spv_initial.specs.Start.{invocations}
+use Rattle.spv_valid.specs.Acceptance.{Accepted, invocations}
 
 -- what callers see of a module that runs
 pub record Program : Type 0 where

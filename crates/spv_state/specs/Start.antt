@@ -1,9 +1,9 @@
 -- The start of a run: the memory of the module's variables, and each invocation at the entry point (SPIR-V 1.6 section 2.4, Entry Point).
 use Rattle.std.specs.Prelude.{ℕ, [], ◌∷◌, ◌++◌, map, replicate}
 use Rattle.spv_base.specs.Variables.{Roots}
-use Rattle.spv_valid.specs.Acceptance.{Accepted}
+use Rattle.spv_valid.specs.Acceptance.{Accepted, invocations}
 use Rattle.spv_mem.specs.Memory.{Held as Memory, Levels}
-use Rattle.spv_initial.specs.Start.{invocations, local_roots, starting}
+use Rattle.spv_initial.specs.Start.{local_roots, starting}
 use Rattle.spv_frame.specs.Frames.{fresh}
 use Rattle.spv_plans.specs.Plans.{plan_of, plans_in}
 use Rattle.spv_statuses.specs.declared.invocations.Status.TheVariants.{Ready}

@@ -156,12 +156,6 @@ waits_same (Finished ∷ ss) word h = cc
 pub waits_again : (ss : List Status) (word : ℕ) → list_all (waits_at word) ss ≡ true → replicate (length (replicate (length ss) Passed)) (Arrived word) ≡ ss
 waits_again ss word h = ap (λ (n : ℕ). replicate n (Arrived word)) (length-replicate (length ss) Passed) ∙ waits_same ss word h
 
--- an element that is put back
-pub set_back : {X : Type 0} (xs : List X) (i : ℕ) (x y : X) → slice_get xs i ≡ Some x → slice_set (slice_set xs i y) i x ≡ xs
-set_back [] i x y h = refl
-set_back (z ∷ zs) zero x y h = cc
-set_back (z ∷ zs) (suc i) x y h = ap (λ ws. z ∷ ws) (set_back zs i x y h)
-
 -- ---- places of barriers
 
 pub same_word : (word : ℕ) → waits_at word (Arrived word) ≡ true

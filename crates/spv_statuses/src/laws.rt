@@ -7,7 +7,7 @@ use crate::group::Statuses;
 use crate::invocations::Status;
 
 /// An exchange that is undone by another one leaves the statuses as they were.
-#[tactic(auto, using(crate::proofs::CountLemmas::set_back))]
+#[tactic(auto, using(spv_base::proofs::Exports::set_back))]
 pub fn exchange_twice(statuses: &mut Statuses, inv: u32, status: Status)
     requires inside { inv < length statuses.old.list }
     requires within { IsWithin statuses.old.words status }

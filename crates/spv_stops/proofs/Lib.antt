@@ -1,2 +1,2 @@
-pub mod StopLemmas
-pub mod HitLemmas
+mod StopLemmas
+mod HitLemmas

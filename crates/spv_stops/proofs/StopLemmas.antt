@@ -4,6 +4,7 @@ use Rattle.std.specs.Prelude.{filter, remove}
 use Rattle.std.specs.List.{list_any, position, position_or_len}
 use Rattle.std.proofs.lemmas.List.{map-append, length-append}
 use Rattle.std.proofs.lemmas.Bool.Decides.{nat_tests}
+use Rattle.spv_base.proofs.Exports.{no_place}
 use Rattle.spv_stops.specs.Stops.{Stops, number_of, has_number, with_stop, without_stop, Ascend, AreStops}
 
 -- ---- one stop more
@@ -48,9 +49,6 @@ remove_at k low high (s ∷ ss) a l =
 
 some_place : (n m i : ℕ) → Some i ≡ cond (nat_lt n m) (Some n) None → (i ≡ n) × (n < m)
 some_place n m i h = (grind arith, grind arith)
-
-no_place : (n m : ℕ) → None ≡ cond (nat_lt n m) (Some n) None → m ≤ n
-no_place n m h = grind arith
 
 -- what is removed at the place of a number
 pub removed_is : {T : Type 0} (k limit i : ℕ) (stops : Stops T) → AreStops limit stops → Some i ≡ position (has_number k) stops.0 → remove stops.0 i ≡ filter (λ (t : ℕ × T). not (has_number k t)) stops.0

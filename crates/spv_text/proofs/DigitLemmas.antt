@@ -6,7 +6,7 @@ use Rattle.std.proofs.lemmas.Fmt.{decimal-digits_value, decimal_injective, first
 use Rattle.spv_text.specs.Lines.{LeadsWell, HasNoDigit, IsNumber, Lacks}
 use Rattle.spv_text.proofs.FrontLemmas.{one_front}
 use Rattle.spv_line.specs.Numbers.{is_digit, number_of, value_of}
-use Rattle.spv_line.proofs.NumberLemmas.{decimal_digits, decimal_some, fits, number_decimal, number_parts, own}
+use Rattle.spv_line.proofs.Exports.{decimal_digits, decimal_some, fits, number_decimal, number_parts, own}
 
 -- digits without leading zeros are the decimal text of what they spell
 pub decimal_value : (digits : List ℕ) → list_all is_digit digits ≡ true → 0 < length digits → (get_or digits 0 0 ≡ 48 → length digits ≡ 1) → value_of digits ≤ 4294967295 → decimal (value_of digits) ≡ digits

@@ -1,9 +1,8 @@
 -- The longest front of a text whose bytes pass a test.
 use Rattle.std.proofs.Common.{◌≡◌, ℕ, suc, ◌+◌, ◌≤◌, Bool, true, false, not, cond, List, [], ◌∷◌, ◌++◌, length, take, drop, get_or, Option, unwrap_or, refl, sym, ap, ◌∙◌, arith, subst}
-use Rattle.std.proofs.lemmas.Bool.{and_parts}
+use Rattle.std.proofs.lemmas.Bool.{and_parts, and_from}
 use Rattle.std.specs.List.{position, position_or_len, list_all}
-use Rattle.spv_line.proofs.NumberLemmas.{both_true}
-use Rattle.spv_line.proofs.WordsLemmas.{first_are, place_or_end, place_within}
+use Rattle.spv_line.proofs.Exports.{first_are, place_or_end, place_within}
 
 end_is : (p : ℕ → Bool) (xs : List ℕ) → unwrap_or (position p xs) (length xs) ≡ position_or_len p xs
 end_is p xs = place_or_end (position_or_len p xs) (length xs) (place_within p xs)
@@ -16,7 +15,7 @@ passes_by : (b : Bool) (p : ℕ → Bool) (x n : ℕ) (xs : List ℕ) → p x �
 passes_by false p x n xs h ih = refl
 passes_by true p x n xs h ih =
     let e : 1 + n ≡ suc n = omega arith in
-    ap (λ m. list_all p (take m (x ∷ xs))) e ∙ both_true _ _ h ih
+    ap (λ m. list_all p (take m (x ∷ xs))) e ∙ and_from _ _ h ih
 
 passes : (p : ℕ → Bool) (xs : List ℕ) → list_all p (take (position_or_len (λ b. not (p b)) xs) xs) ≡ true
 passes p [] = refl

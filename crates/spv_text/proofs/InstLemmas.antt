@@ -158,7 +158,7 @@ head_written head.Plain ty id parts a b k = k
 head_written head.Result ty id parts a b k = (b, k)
 head_written head.TypedResult ty id parts a b k = (a, (b, k))
 
-zero_fits : (n : ℕ) → n ≡ 0 → IsNumber n
+pub zero_fits : (n : ℕ) → n ≡ 0 → IsNumber n
 zero_fits n e = omega arith
 
 written_head : (h : Head) (ty id : ℕ) (parts : List Part) → HasHead h ty id → AllByRecursion IsPart (head_parts h ty id ++ parts) → IsNumber ty × IsNumber id × AllByRecursion IsPart parts

@@ -1,8 +1,9 @@
-pub mod FrontLemmas
-pub mod DigitLemmas
-pub mod StringLemmas
-pub mod PartLemmas
-pub mod LineLemmas
-pub mod NameLemmas
-pub mod InstLemmas
-pub mod ReadingLemmas
+mod FrontLemmas
+mod DigitLemmas
+mod StringLemmas
+mod PartLemmas
+mod LineLemmas
+mod NameLemmas
+mod InstLemmas
+mod ReadingLemmas
+pub mod Exports

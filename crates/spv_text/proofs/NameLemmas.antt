@@ -1,6 +1,6 @@
 -- The names of the opcodes are apart, and of letters and digits.
 use Rattle.std.proofs.Common.{Bor, ◌≡◌, ◌≢◌, ℕ, nat_eq, Bool, true, false, not, cond, ◌&&◌, List, [], ◌∷◌, ◌++◌, Option, Some, None, unwrap_or, codes, zero, suc, get_or, length, map, drop, ◌<◌, refl, sym, ap, ◌∙◌, subst, inl, inr, arith}
-use Rattle.std.proofs.lemmas.Bool.{and_parts}
+use Rattle.std.proofs.lemmas.Bool.{and_parts, and_from, not-true}
 use Rattle.std.specs.Prelude.{IsSome, MatchOption}
 use Rattle.spv_ops.specs.declared.grammar.Head.{Head}
 use Rattle.spv_ops.specs.declared.grammar.Part.{Part}
@@ -8,13 +8,13 @@ use Rattle.spv_ops.specs.declared.grammar.Rest.{Rest}
 use Rattle.std.specs.Option.{option_map}
 use Rattle.std.specs.List.{list_all, AllByRecursion}
 use Rattle.std.proofs.lemmas.Bool.Decides.{nat_tests}
+use Rattle.spv_base.proofs.Exports.{opposite}
 use Rattle.spv_ops.specs.Opcodes.{Row, table}
 use Rattle.spv_ops.specs.Grammar.{row_with, row_of}
 use Rattle.spv_text.specs.Lines.{is_name_byte, IsName}
 use Rattle.spv_text.specs.Listing.{name_of}
 use Rattle.spv_text.specs.Names.{IsAmong}
 use Rattle.spv_text.specs.Reading.{IsOpcode}
-use Rattle.spv_line.proofs.NumberLemmas.{both_true}
 
 -- ---- tests of tables
 
@@ -43,18 +43,10 @@ table_named = refl
 same_self : (xs : List ℕ) → same xs xs ≡ true
 unfolding same
 same_self [] = refl
-same_self (x ∷ xs) = both_true _ _ (grind (arith, nat_tests)) (same_self xs)
+same_self (x ∷ xs) = and_from _ _ (grind (arith, nat_tests)) (same_self xs)
 
 number_self : (n : ℕ) → nat_eq n n ≡ true
 number_self n = grind (arith, nat_tests)
-
-flips : (b : Bool) → not b ≡ true → b ≡ false
-flips true h = absurd (cc)
-flips false h = refl
-
-opposite : (b : Bool) → b ≡ true → b ≡ false → ⊥
-opposite true h k = absurd (cc)
-opposite false h k = absurd (cc)
 
 -- what holds of each line holds of a line among them
 each_is : (p : Row → Bool) (rows : List Row) (row : Row) → list_all p rows ≡ true → IsAmong row rows → p row ≡ true
@@ -63,7 +55,7 @@ each_is p (first ∷ rows) row h (inl e) = ap p e ∙ (and_parts (p first) (list
 each_is p (first ∷ rows) row h (inr i) = each_is p rows row (and_parts (p first) (list_all p rows) h).1 i
 
 tests_of : (first other : Row) → (not (nat_eq first.0 other.0) && not (same first.1 other.1)) ≡ true → (nat_eq first.0 other.0 ≡ false) × (same first.1 other.1 ≡ false)
-tests_of first other h = let both = and_parts _ _ h in (flips _ both.0, flips _ both.1)
+tests_of first other h = let both = and_parts _ _ h in (not-true _ both.0, not-true _ both.1)
 
 apart_first : (first : Row) (rows : List Row) → apart (first ∷ rows) ≡ true
     → ((other : Row) → IsAmong other rows → (nat_eq first.0 other.0 ≡ false) × (same first.1 other.1 ≡ false)) × (apart rows ≡ true)

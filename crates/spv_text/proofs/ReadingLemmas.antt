@@ -1,8 +1,7 @@
 -- A text is read in one way.
-use Rattle.std.proofs.Common.{◌≡◌, ◌≢◌, ℕ, ◌+◌, ◌<◌, ◌≤◌, List, [], ◌∷◌, ◌++◌, Bool, true, false, nat_eq, Result, Ok, Err, decimal, length, refl, sym, ap, append_assoc, ◌∙◌, subst, arith, ◌⊎◌, inl, inr, length-append}
+use Rattle.std.proofs.Common.{◌≡◌, ◌≢◌, ℕ, ◌+◌, ◌<◌, ◌≤◌, List, [], ◌∷◌, ◌++◌, Result, Ok, Err, decimal, length, refl, sym, ap, append_assoc, ◌∙◌, subst, arith, ◌⊎◌, inl, inr, length-append}
 use Rattle.std.specs.List.{flat_map}
-use Rattle.std.proofs.lemmas.List.{append-nil, nil_from_length}
-use Rattle.std.proofs.lemmas.Bool.Decides.{nat_tests}
+use Rattle.std.proofs.lemmas.List.{append-nil}
 use Rattle.std.proofs.lemmas.Grind.{flat_map-append}
 use Rattle.spv_base.specs.declared.causes.Refusal.{Refusal}
 use Rattle.spv_base.specs.declared.instructions.Inst.{Inst}
@@ -212,9 +211,3 @@ next_short rest more inst e = let l = line_long (line_of inst) more in omega (ar
 
 pub one_more : (insts : List Inst) (inst : Inst) → length (insts ++ inst ∷ []) ≡ length insts + 1
 one_more insts inst = length-append insts (inst ∷ [])
-
-pub some_when : (b : Bool) (rest : List ℕ) → b ≡ nat_eq (length rest) 0 → b ≡ false → 0 < length rest
-some_when b rest e h = grind (arith, nat_tests)
-
-pub empty_when : (b : Bool) (rest : List ℕ) → b ≡ nat_eq (length rest) 0 → b ≡ true → rest ≡ []
-empty_when b rest e h = nil_from_length rest (grind (arith, nat_tests))

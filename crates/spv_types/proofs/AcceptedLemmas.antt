@@ -12,14 +12,15 @@ use Rattle.spv_types.specs.Build.{type_breaches, types_of, unless_refused}
 use Rattle.spv_types.specs.Laws.{AreSound}
 use Rattle.spv_types.proofs.BuildLemmas.{types_push}
 use Rattle.spv_types.proofs.GrowthLemmas.{sound_push}
+use Rattle.spv_types.specs.InterfaceBlocks.{nothing}
 
 -- ---- no breach
 
-breach_none : (b : Bool) (r : Refusal) (rs : List Refusal) → (if b then [] else r ∷ []) ++ rs ≡ [] → (b ≡ true) × (rs ≡ [])
+pub breach_none : (b : Bool) (r : Refusal) (rs : List Refusal) → (if b then [] else r ∷ []) ++ rs ≡ [] → (b ≡ true) × (rs ≡ [])
 breach_none true r rs h = (refl, h)
 breach_none false r rs h = cc
 
-kept_first : (all before is : List Inst) (i : Inst) → type_breaches all before (i ∷ is) ≡ []
+pub kept_first : (all before is : List Inst) (i : Inst) → type_breaches all before (i ∷ is) ≡ []
     → (keeps_other all (types_in all before) i (defined_form all i) ≡ true) × (type_breaches all (before ++ i ∷ []) is ≡ [])
 unfolding type_breaches keeps_rules
 kept_first all before is i h = breach_none (keeps_other all (types_in all before) i (defined_form all i)) _ (type_breaches all (before ++ i ∷ []) is) h
@@ -49,7 +50,7 @@ accepted : (ts us : Types) (rs : List Refusal) → unless_refused ts rs ≡ Ok u
 accepted ts us [] h = let same : ts ≡ us = cc in (refl, same)
 accepted ts us (r ∷ rs) h = cc
 
-accepted_is : (insts : List Inst) (ts : Types) → types_of insts ≡ Ok ts → (type_breaches insts [] (before_functions insts) ≡ []) × (types_in insts (before_functions insts) ≡ ts)
+pub accepted_is : (insts : List Inst) (ts : Types) → types_of insts ≡ Ok ts → (type_breaches insts [] (before_functions insts) ≡ []) × (types_in insts (before_functions insts) ≡ ts)
 unfolding types_of
 accepted_is insts ts h = accepted (types_in insts (before_functions insts)) ts (type_breaches insts [] (before_functions insts)) h
 
@@ -61,3 +62,7 @@ pub accepted_sound : (insts : List Inst) (ts : Types) → types_of insts ≡ Ok 
 accepted_sound insts ts h =
     let parts = accepted_is insts ts h in
     rw (← parts.1) (types_sound insts [] (before_functions insts) (no_types insts) parts.0)
+
+pub none_refused : (rs : List Refusal) → unless_refused nothing rs ≡ Ok nothing → rs ≡ []
+none_refused [] e = refl
+none_refused (r ∷ rs) e = absurd (cc)

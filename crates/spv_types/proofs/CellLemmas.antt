@@ -6,8 +6,8 @@ use Rattle.spv_types.specs.declared.forms.Member.{Member}
 use Rattle.spv_types.specs.Types.{Types, found_among}
 use Rattle.spv_types.specs.Cells.{cells_among, cells_step, members_cells, added}
 use Rattle.std.specs.Prelude.{min}
-use Rattle.spv_types.specs.Saturation.{saturated, saturated_first}
-use Rattle.spv_types.proofs.SaturationLemmas.{saturated-add, saturated-mul}
+use Rattle.spv_base.specs.Saturation.{saturated, saturated_first}
+use Rattle.spv_base.proofs.Exports.{saturated-add, saturated-mul}
 use Rattle.spv_types.proofs.TypeLemmas.{in_first-is}
 
 pub cells_among_is : (ts : Types) (n id : ℕ) → cells_among ts n id ≡ option_map_or (λ (f : ℕ × Form). cells_step (cells_among ts f.0) f.1) (found_among ts n id) None

@@ -1,7 +1,7 @@
 -- Types that are counted: their leaves, and that these stay as types are added and arrays get their lengths.
-use Rattle.std.proofs.Common.{◌≡◌, ◌≢◌, ◌∙◌, ℕ, zero, suc, ◌+◌, ◌<◌, ◌≤◌, ◌==◌, Bool, true, false, List, [], ◌∷◌, ◌++◌, length, length-append, length-set, get_or, get_or-set_other, set, take, add-one, Option, Some, None, refl, sym, ap, subst, arith, slice_get}
+use Rattle.std.proofs.Common.{◌≡◌, ◌≢◌, ◌∙◌, ℕ, zero, suc, ◌+◌, ◌<◌, ◌≤◌, ◌==◌, Bool, true, false, List, [], ◌∷◌, ◌++◌, length, length-append, length-set, get_or, get_or-set_other, set, take, Option, Some, None, refl, sym, ap, subst, arith, slice_get}
 use Rattle.std.specs.Prelude.{if◌then◌else◌, nat_lt}
-use Rattle.std.specs.Option.{is_some, option_map, option_map_or, option_and_then, option_or}
+use Rattle.std.specs.Option.{option_map, option_map_or, option_and_then, option_or}
 use Rattle.std.proofs.Math.Path.{fun_ext}
 use Rattle.std.proofs.Math.Seq.{get_or-append_seam}
 use Rattle.std.proofs.lemmas.List.{get_or-take, get_or_append_left, length-take}
@@ -11,11 +11,11 @@ use Rattle.spv_types.specs.declared.forms.Form.TheVariants.{Void, Bool as Boolea
 use Rattle.spv_types.specs.declared.forms.Member.{Member}
 use Rattle.spv_types.specs.Types.{Types, form_at, form_of, found_among, in_first, is_number, number_of}
 use Rattle.spv_types.specs.Cells.{added, cells_among, cells_of, cells_step, members_cells}
-use Rattle.spv_types.specs.Saturation.{saturated}
-use Rattle.spv_types.specs.Counted.{AreBefore, AreCounted, HasFirsts, IsCounted, PartsAreBefore, less_one, members_of}
+use Rattle.spv_base.specs.Saturation.{saturated}
+use Rattle.spv_types.specs.Counted.{AreBefore, AreCounted, HasFirsts, IsCounted, PartsAreBefore, members_of}
 use Rattle.spv_types.specs.Laws.{IsAmong}
 use Rattle.spv_types.specs.Shapes.{part_type}
-use Rattle.spv_types.proofs.SaturationLemmas.{saturated-add}
+use Rattle.spv_base.proofs.Exports.{saturated-add}
 use Rattle.spv_types.proofs.CellLemmas.{members_cells_more}
 use Rattle.spv_types.proofs.TypeLemmas.{in_first-found, number_form, number_lt, number_push}
 use Rattle.spv_types.proofs.TableLemmas.{number_set}
@@ -245,22 +245,6 @@ counted_next ts counts c all l counted = record {
         let apart : k ≢ length counts = grind arith in
         let less : k < length counts = omega arith in
         rw (get_or_append_left counts (c ∷ []) d k less) (all.counts_are k d less)
-
--- ---- numbers by ids
-
-pub number_put : (ts : Types) (id : ℕ) (f : Form) (q : ℕ) (old : Option ℕ) → old ≡ number_of ts q → is_some (number_of ts id) ≡ false
-    → (if id == q then Some (length ts) else old) ≡ number_of (ts ++ (id, f) ∷ []) q
-number_put ts id f q old e absent = rw e (go (id == q) refl (number_of ts q) refl) ∙ sym (number_push ts (id, f) q)
-  where
-    go : (b : Bool) → (id == q) ≡ b → (o : Option ℕ) → number_of ts q ≡ o → (if b then Some (length ts) else o) ≡ option_or o (if b then Some (length ts) else None)
-    go true t None k = refl
-    go true t (Some n) k = let s : id ≡ q = grind arith in let m : is_some (number_of ts id) ≡ true = rw (s, k) refl in cc
-    go false t None k = refl
-    go false t (Some n) k = refl
-
-pub less_one_if : (b : Bool) (n m : ℕ) → less_one (if b then n + 1 else m) ≡ (if b then Some n else less_one m)
-less_one_if true n m = rw add-one refl
-less_one_if false n m = refl
 
 -- ---- a type found by its number
 

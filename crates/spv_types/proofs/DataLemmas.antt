@@ -46,3 +46,8 @@ member_data ts block last ty h = either (is_sized_data ts ty) refl h
 -- no integer is wider than 64 bits
 pub width_narrow : (width : ℕ) → is_width width ≡ true → width ≤ 64
 width_narrow width h = grind arith
+
+-- a type of data has a form
+pub data_form : (o : Option Form) → is_data o ≡ true → (f : Form) × (o ≡ Some f)
+data_form None h = absurd (cc)
+data_form (Some f) h = (f, refl)

@@ -1,6 +1,6 @@
 -- Types stay sound as a type that keeps the rule of its form is added at their end.
 use Rattle.std.proofs.Common.{◌≡◌, ◌∙◌, ◌⊎◌, inl, inr, ⊎_elim, ℕ, zero, suc, ◌==◌, Bool, true, false, List, [], ◌∷◌, ◌++◌, length, Option, Some, None, slice_get, refl, sym, ap}
-use Rattle.std.proofs.lemmas.Bool.{and_parts}
+use Rattle.std.proofs.lemmas.Bool.{and_parts, and_from}
 use Rattle.std.specs.Prelude.{not, ◌&&◌, ◌||◌, if◌then◌else◌}
 use Rattle.std.specs.Option.{option_map, option_map_or, option_or}
 use Rattle.spv_types.specs.declared.forms.Form.{Form}
@@ -12,7 +12,7 @@ use Rattle.spv_types.specs.Shapes.{part_type}
 use Rattle.spv_types.specs.Laws.{AreSound, ComesBefore}
 use Rattle.spv_types.proofs.TypeLemmas.{number_form, number_lt, number_push}
 use Rattle.spv_types.proofs.ShapeLemmas.{form_number}
-use Rattle.spv_types.proofs.SoundLemmas.{CountAlike, and_holds, form_carried}
+use Rattle.spv_types.proofs.SoundLemmas.{CountAlike, form_carried}
 
 pub form_append : (ts us : Types) (q : ℕ) → form_of (ts ++ us) q ≡ option_or (form_of ts q) (form_of us q)
 form_append [] us q = refl
@@ -132,7 +132,7 @@ module _ (ts : Types) (id : ℕ) (f : Form) where
       let same : form_of (ts ++ (id, f) ∷ []) q ≡ form_of ts q = stays q (sized_found ts q h) in
       let runtime : has_runtime (ts ++ (id, f) ∷ []) q ≡ has_runtime ts q
       = ap (λ (o : Option Form). form_has_runtime (ts ++ (id, f) ∷ []) o) same ∙ runtime_stays (form_of ts q) (λ g is. sound.kept q g is) in
-      and_holds _ _ (carried (λ o. is_data o) q refl parts.0) (ap (λ (b : Bool). not b) runtime ∙ parts.1)
+      and_from _ _ (carried (λ o. is_data o) q refl parts.0) (ap (λ (b : Bool). not b) runtime ∙ parts.1)
 
   grown : AreSound ts → CountAlike ts (ts ++ (id, f) ∷ [])
   grown sound = record {

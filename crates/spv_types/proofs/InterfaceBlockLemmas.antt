@@ -4,7 +4,7 @@ use Rattle.std.specs.Prelude.{◌||◌, if◌then◌else◌}
 use Rattle.std.specs.List.{list_any}
 use Rattle.std.specs.Ordering.{is_eq}
 use Rattle.spv_index.specs.Keys.{pair_cmp}
-use Rattle.spv_index.proofs.KeyLemmas.{same_pair}
+use Rattle.spv_index.proofs.Exports.{same_pair}
 use Rattle.std.proofs.lemmas.List.{take_more}
 use Rattle.spv_base.specs.declared.causes.Refusal.{Refusal}
 use Rattle.spv_base.specs.declared.instructions.Inst.{Inst}

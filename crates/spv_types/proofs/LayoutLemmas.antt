@@ -1,5 +1,5 @@
 -- Sizes, spans and what is laid out, one type or member after another.
-use Rattle.std.proofs.Common.{◌≡◌, ◌∙◌, ℕ, zero, suc, ◌+◌, ◌<◌, ◌≤◌, ◌-◌, Bool, true, false, List, [], ◌∷◌, ◌++◌, length, length-drop, append-nil, take-append-drop, map, get_or, take, drop, drop-cons, drop_of_length-le, add-one, Some, None, refl, sym, ap, arith}
+use Rattle.std.proofs.Common.{◌≡◌, ◌∙◌, ℕ, zero, suc, ◌+◌, ◌<◌, ◌≤◌, ◌-◌, Bool, true, false, List, [], ◌∷◌, ◌++◌, length, length-drop, map, get_or, take, drop, drop-cons, add-one, Some, None, refl, sym, arith}
 use Rattle.std.specs.Prelude.{◌&&◌, max, unwrap_or}
 use Rattle.std.specs.Option.{is_some}
 use Rattle.spv_types.specs.declared.forms.Form.{Form}
@@ -7,10 +7,11 @@ use Rattle.spv_types.specs.declared.forms.Form.TheVariants.{Void}
 use Rattle.spv_types.specs.declared.forms.Member.{Member}
 use Rattle.spv_types.specs.declared.spans.Span.{Span}
 use Rattle.spv_types.specs.Types.{Types, form_at, in_first, number_of}
-use Rattle.spv_types.specs.Saturation.{saturated}
+use Rattle.spv_base.specs.Saturation.{saturated}
 use Rattle.spv_types.specs.Layout.{greatest_end, laid_among, laid_step, are_members_laid, size_among, size_step}
 use Rattle.spv_types.specs.Measured.{AreLaid, AreSizes}
 use Rattle.spv_types.proofs.TypeLemmas.{in_first-found, in_first-missing, in_first-unknown, number_form}
+use Rattle.std.proofs.lemmas.List.{take_all}
 
 -- what the first types give for an id of one of them, by its number
 module _ {A : Type 0} (none : A) (step : (ℕ → A) → Form → A) where
@@ -61,11 +62,8 @@ pub members_laid_at : (laid : ℕ → Bool) (ms : List Member) (n : ℕ) (d : Me
 unfolding are_members_laid
 members_laid_at laid ms n d l = rw (drop-cons ms n d l, add-one) refl
 
-take_all : {A : Type 0} (xs : List A) (j : ℕ) → length xs ≤ j → take j xs ≡ xs
-take_all xs j l = sym (append-nil (take j xs)) ∙ ap (λ (ys : List _). take j xs ++ ys) (sym (drop_of_length-le xs l)) ∙ take-append-drop j xs
-
 pub tail_is : {A : Type 0} (ss : List A) (k : ℕ) → take (length ss - k) (drop k ss) ≡ drop k ss
-tail_is ss k = take_all (drop k ss) (length ss - k) (omega (arith, length-drop k ss))
+tail_is ss k = take_all (length ss - k) (drop k ss) (omega (arith, length-drop k ss))
 
 pub map_next : (f : Member → Span) (ms : List Member) (k : ℕ) (d : Member) → k < length ms → map f (take (k + 1) ms) ≡ map f (take k ms) ++ f (get_or ms k d) ∷ []
 map_next f [] k d l = absurd (omega arith)

@@ -5,8 +5,8 @@ use Rattle.std.specs.Option.{option_map, option_and_then}
 use Rattle.spv_types.specs.declared.forms.Form.{Form}
 use Rattle.spv_types.specs.Types.{Types, form_of}
 use Rattle.spv_types.specs.Cells.{cells_of}
-use Rattle.spv_types.proofs.SaturationLemmas.{saturated-add}
-use Rattle.spv_types.specs.Saturation.{saturated, saturated_first}
+use Rattle.spv_base.proofs.Exports.{saturated-add}
+use Rattle.spv_base.specs.Saturation.{saturated, saturated_first}
 use Rattle.spv_types.specs.Leaves.{leaf_of, part_of}
 use Rattle.spv_types.proofs.CellLemmas.{some_pair, pair}
 

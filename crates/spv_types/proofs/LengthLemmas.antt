@@ -12,14 +12,13 @@ use Rattle.spv_types.specs.Types.{Types, form_of, is_number, lengthened, number_
 use Rattle.spv_types.specs.Rules.{form_has_runtime, has_runtime, is_data, is_runtime, is_scalar, is_sized_data, keeps_form, last_type}
 use Rattle.spv_types.specs.Shapes.{HasShape, HasShapeAmong, part_type, reached_type, shape_step}
 use Rattle.spv_types.specs.Laws.{AreSound, ComesBefore, IsAmong}
-use Rattle.spv_types.proofs.TypeLemmas.{number_lt, number_same}
+use Rattle.spv_types.proofs.TypeLemmas.{number_lt}
 use Rattle.spv_types.proofs.ShapeLemmas.{LeadAlike, among_same, step_maps}
 use Rattle.spv_types.proofs.SoundLemmas.{CountAlike, form_carried}
+use Rattle.std.proofs.lemmas.Bool.{eqb-true}
+use Rattle.spv_base.proofs.Exports.{not_same}
 
 -- ---- a form written under an id
-
-pub not_same : (a b : ℕ) → a ≢ b → (a == b) ≡ false
-not_same a b h = grind arith
 
 pub number_written : (ts : Types) (id q : ℕ) (f : Form) → number_of (writes id f ts) q ≡ number_of ts q
 number_written [] id q f = refl
@@ -35,7 +34,7 @@ form_written (t ∷ ts) id q f h = step (t.0 == id) refl (form_written ts id q f
   where
     step : (b : Bool) → (t.0 == id) ≡ b → form_of (writes id f ts) q ≡ form_of ts q → form_of (if b then (t.0, f) ∷ ts else t ∷ writes id f ts) q ≡ form_of (t ∷ ts) q
     step true e g =
-        let s : t.0 ≡ id = number_same t.0 id e in
+        let s : t.0 ≡ id = eqb-true t.0 id e in
         let d : (t.0 == q) ≡ false = rw s (not_same id q h) in
         rw d refl
     step false e g = rw g refl
@@ -71,7 +70,7 @@ pub length_here : (ts : Types) (id n : ℕ) (f : Form) → form_of ts id ≡ Som
 unfolding with_length
 length_here ts id n f h = rw h (written_here ts id (lengthened n f) f h)
 
-length_none : (ts : Types) (id n : ℕ) → form_of ts id ≡ None → with_length ts id n ≡ ts
+pub length_none : (ts : Types) (id n : ℕ) → form_of ts id ≡ None → with_length ts id n ≡ ts
 unfolding with_length
 length_none ts id n h = rw h refl
 
@@ -87,7 +86,7 @@ length_may ts id n q = go (id == q) refl
     here (Some f) e = inr (f, e, length_here ts id n f e)
 
     go : (b : Bool) → (id == q) ≡ b → MayLengthen n (form_of ts q) (form_of (with_length ts id n) q)
-    go true e = let same : id ≡ q = number_same id q e in rw (← same) (here (form_of ts id) refl)
+    go true e = let same : id ≡ q = eqb-true id q e in rw (← same) (here (form_of ts id) refl)
     go false e = let apart : id ≢ q = grind arith in inl (length_others ts id n q apart)
 
 -- what does not ask for an array's length is the same with a length
@@ -242,7 +241,7 @@ module _ (ts : Types) (id n : ℕ) where
           numbered None e t = let s : is_number m (number_of ts q) ≡ false = rw e refl in cc
           numbered (Some j) e t =
               let s : (j == m) ≡ true = rw e at t in
-              let same : j ≡ m = number_same j m s in
+              let same : j ≡ m = eqb-true j m s in
               before_same k j q at (omega arith) e
 
   pub length_shapes : (roots : Root → Option ℕ) (k q : ℕ) (v : Value) → number_of ts id ≡ Some k → IsAmong ts k q → HasShape ts roots q v → HasShape (with_length ts id n) roots q v

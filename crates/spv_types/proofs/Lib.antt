@@ -1,28 +1,28 @@
-pub mod TypeLemmas
-pub mod CellLemmas
-pub mod SaturationLemmas
-pub mod LeafLemmas
-pub mod PlaceLemmas
-pub mod TableLemmas
-pub mod TypingLemmas
-pub mod RuleLemmas
-pub mod DataLemmas
-pub mod BuildLemmas
-pub mod LayoutLemmas
-pub mod InterfaceBlockLemmas
-pub mod LimitLemmas
-pub mod ShapeLemmas
-pub mod SoundLemmas
-pub mod LengthLemmas
-pub mod GrowthLemmas
-pub mod AcceptedLemmas
-pub mod RowLemmas
-pub mod RowCounts
-pub mod RowPlaces
-pub mod RowChanges
-pub mod RowShapes
-pub mod RowValues
-pub mod CountedLemmas
-pub mod SpanLemmas
-pub mod OffsetLemmas
-pub mod WholeLemmas
+mod TypeLemmas
+mod CellLemmas
+mod LeafLemmas
+mod PlaceLemmas
+mod TableLemmas
+mod TypingLemmas
+mod RuleLemmas
+mod DataLemmas
+mod BuildLemmas
+mod LayoutLemmas
+mod InterfaceBlockLemmas
+mod LimitLemmas
+mod ShapeLemmas
+mod SoundLemmas
+mod LengthLemmas
+mod GrowthLemmas
+mod AcceptedLemmas
+mod RowLemmas
+mod RowCounts
+mod RowPlaces
+mod RowChanges
+mod RowShapes
+mod RowValues
+mod CountedLemmas
+mod SpanLemmas
+mod OffsetLemmas
+mod WholeLemmas
+pub mod Exports

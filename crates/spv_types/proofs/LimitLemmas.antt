@@ -4,7 +4,7 @@ use Rattle.std.specs.Prelude.{max}
 use Rattle.spv_types.specs.declared.forms.Member.{Member}
 use Rattle.spv_types.specs.declared.limits.Limit.{Limit}
 use Rattle.spv_types.specs.Types.{Types, number_of}
-use Rattle.spv_types.specs.Saturation.{saturated}
+use Rattle.spv_base.specs.Saturation.{saturated}
 use Rattle.spv_types.specs.Limits.{AreLimits, limit_among, limit_step, members_limit, no_limit}
 use Rattle.spv_types.proofs.TypeLemmas.{in_first-missing, in_first-unknown}
 use Rattle.spv_types.proofs.LayoutLemmas.{value_at}

@@ -3,15 +3,16 @@ use Rattle.std.proofs.Common.{◌≡◌, ◌∙◌, ◌⊎◌, ℕ, ◌+◌, ◌
 use Rattle.std.specs.Option.{IsSomeAnd, option_map, option_map_or, option_and_then}
 use Rattle.std.specs.Prelude.{min, nat_lt}
 use Rattle.std.proofs.Math.Nat.{div-eq_of_lt, mod-eq_of_lt}
-use Rattle.std.proofs.lemmas.Bool.{cases_lt}
+use Rattle.std.proofs.lemmas.Bool.{cases_lt, lt-ltb}
 use Rattle.spv_types.specs.declared.forms.Member.{Member}
 use Rattle.spv_types.specs.declared.forms.Form.{Form}
 use Rattle.spv_types.specs.Types.{Types, found_among, in_first}
-use Rattle.spv_types.specs.Saturation.{saturated}
+use Rattle.spv_base.specs.Saturation.{saturated}
 use Rattle.spv_types.specs.Places.{BeginsBy, place_among, place_step, place_by, place_in_member, place_in_members, place_in_elements, place_in_row, row_number}
 use Rattle.spv_types.specs.Cells.{cells_of, members_cells}
 use Rattle.spv_types.proofs.CellLemmas.{added_is, members_cells_more}
 use Rattle.spv_types.proofs.TypeLemmas.{in_first-is}
+use Rattle.spv_base.proofs.Exports.{not_below}
 
 -- the place of a leaf in a type that is found, or none
 abbrev pub found_place : Types → Option (ℕ × Form) → ℕ → Option ℕ
@@ -25,12 +26,6 @@ place_among_is ts n id leaf = ap (λ (f : ℕ → Option ℕ). f leaf) (in_first
     found : (o : Option (ℕ × Form)) → option_map_or {U = ℕ → Option ℕ} (λ (f : ℕ × Form). place_step ts (in_first (λ leaf. None) (place_step ts) ts f.0) f.1) o (λ leaf. None) leaf ≡ found_place ts o leaf
     found None = refl
     found (Some f) = refl
-
-less : (m n : ℕ) → m < n → nat_lt m n ≡ true
-less m n l = grind arith
-
-not_less : (m n : ℕ) → n ≤ m → nat_lt m n ≡ false
-not_less m n l = grind arith
 
 pub none_through : (s : ℕ) (o : Option ℕ) → None ≡ option_map saturated o → None ≡ option_map saturated (option_map (λ n. s + n) o)
 none_through s None h = refl
@@ -54,7 +49,7 @@ rem_saturated leaf w l = elim (cases_lt w (2 ^ 64)) [
 
 here : (o : Option ℕ) (left k : ℕ) (x : Option ℕ) (f : ℕ → Option ℕ) → option_map saturated o ≡ Some k → left < k → place_by left x f o ≡ x
 here None left k x f h l = cc
-here (Some n) left k x f h l = let e : saturated n ≡ k = cc in let t : nat_lt left n ≡ true = less left n (omega arith) in rw t refl
+here (Some n) left k x f h l = let e : saturated n ≡ k = cc in let t : nat_lt left n ≡ true = lt-ltb left n (omega arith) in rw t refl
 
 any : (o : Option ℕ) (left : ℕ) (x : Option ℕ) (f : ℕ → Option ℕ) → option_map saturated o ≡ None → place_by left x f o ≡ x
 any None left x f h = refl
@@ -62,7 +57,7 @@ any (Some n) left x f h = cc
 
 later : (o : Option ℕ) (left k : ℕ) (x : Option ℕ) (f : ℕ → Option ℕ) → left < 67108864 → option_map saturated o ≡ Some k → k ≤ left → place_by left x f o ≡ f (left - k)
 later None left k x f b h l = cc
-later (Some n) left k x f b h l = let e : saturated n ≡ k = cc in let s : n ≡ k = omega arith in let t : nat_lt left n ≡ false = not_less left n (omega arith) in rw (t, s) refl
+later (Some n) left k x f b h l = let e : saturated n ≡ k = cc in let s : n ≡ k = omega arith in let t : nat_lt left n ≡ false = not_below left n (omega arith) in rw (t, s) refl
 
 module _ (cells : ℕ → Option ℕ) (place : ℕ → ℕ → Option ℕ) where
   pub in_members_end : (leaf : ℕ) → place_in_members cells place [] leaf ≡ None
@@ -105,7 +100,7 @@ elements_at ts place element count stride leaf k w l h e = row (cells_of ts elem
       where
         above_zero : (c : ℕ) → nat_lt 0 (saturated c) ≡ nat_lt 0 c
         above_zero zero = refl
-        above_zero (suc c) = less 0 (saturated (suc c)) (omega arith) ∙ sym (less 0 (suc c) (omega arith))
+        above_zero (suc c) = lt-ltb 0 (saturated (suc c)) (omega arith) ∙ sym (lt-ltb 0 (suc c) (omega arith))
 
 -- ---- the member in which a leaf lies
 
@@ -125,7 +120,7 @@ module _ (cells : ℕ → Option ℕ) (place : ℕ → ℕ → Option ℕ) where
   in_members_from [] (suc i) n leaf h l = refl
   in_members_from (m ∷ ms) (suc i) n leaf h l =
       let sum = added_is (cells m.ty) (members_cells cells (take i ms)) n h in
-      let past : nat_lt leaf sum.0 ≡ false = not_less leaf sum.0 (omega (arith, sum.4)) in
+      let past : nat_lt leaf sum.0 ≡ false = not_below leaf sum.0 (omega (arith, sum.4)) in
       let left : leaf - sum.0 - sum.1 ≡ leaf - n = omega (arith, sum.4) in
       rw (sum.2, past) (in_members_from ms i sum.1 (leaf - sum.0) sum.3 (omega (arith, sum.4)) ∙ ap (place_in_members cells place (drop i ms)) left)
 

@@ -3,7 +3,7 @@ use Rattle.std.specs.List.{flat_map}
 use Rattle.std.proofs.Common.{◌≡◌, ◌∙◌, ℕ, zero, suc, List, [], ◌∷◌, Some, length, refl, sym, ap, set-set, slice_get, slice_set, take, drop}
 use Rattle.spv_base.specs.Parts.{part_at, with_part}
 use Rattle.spv_base.specs.declared.values.Value.{Value, List as Many}
-use Rattle.spv_base.proofs.PartLemmas.{out_many, slice_get-set_same}
+use Rattle.spv_base.proofs.Exports.{out_many, slice_get-set_same}
 use Rattle.spv_types.specs.Rows.{HasRow, leaves, Lies}
 use Rattle.spv_types.proofs.RowLemmas.{leaves_many, many_by, row_changed, row_split}
 use Rattle.spv_types.proofs.RowPlaces.{changed, has_part}

@@ -1,5 +1,5 @@
 -- The row of a value, by its outermost level.
-use Rattle.std.proofs.Common.{◌≡◌, ℕ, zero, suc, List, [], ◌∷◌, ◌++◌, Some, append_assoc, refl, sym, rules, slice_get, slice_set, take, drop}
+use Rattle.std.proofs.Common.{◌≡◌, ℕ, zero, suc, List, [], ◌∷◌, ◌++◌, Some, append_assoc, refl, sym, rules, slice_get, slice_set, take, drop, map, append-nil}
 use Rattle.std.specs.List.{flat_map}
 use Rattle.std.proofs.lemmas.List.Folds.{flat_map-map}
 use Rattle.spv_base.specs.Cell.{Cell}
@@ -14,10 +14,10 @@ scalar_by v c e = search (rules, the_lemmas)
 pub many_by : (v : Value) (vs : List Value) → out-Value v ≡ Value-F.List vs → v ≡ Many vs
 many_by v vs e = search (rules, the_lemmas)
 
-pointer_by : (v : Value) (p : Pointer) → out-Value v ≡ Value-F.Ptr p → v ≡ Ptr p
+pub pointer_by : (v : Value) (p : Pointer) → out-Value v ≡ Value-F.Ptr p → v ≡ Ptr p
 pointer_by v p e = search (rules, the_lemmas)
 
-leaves_scalar : (c : Cell) → leaves (Scalar c) ≡ c ∷ []
+pub leaves_scalar : (c : Cell) → leaves (Scalar c) ≡ c ∷ []
 unfolding leaves
 leaves_scalar c = search (rules, the_lemmas)
 
@@ -51,3 +51,10 @@ pub row_changed : (vs : List Value) (i : ℕ) (u w : Value) → slice_get vs i �
 row_changed [] i u w h = cc
 row_changed (v ∷ vs) zero u w h = refl
 row_changed (v ∷ vs) (suc i) u w h = rw (row_changed vs i u w h) (sym (append_assoc (leaves v) (flat_map leaves (take i vs)) (leaves w ++ flat_map leaves (drop (suc i) vs))))
+
+pub leaves_scalars : (cs : List Cell) → flat_map leaves (map Scalar cs) ≡ cs
+leaves_scalars [] = refl
+leaves_scalars (c ∷ cs) = rw (leaves_scalar c, leaves_scalars cs) refl
+
+pub no_leaves : (xs : List Cell) → xs ≡ xs ++ leaves (Many [])
+no_leaves xs = rw (leaves_many []) (sym (append-nil xs))

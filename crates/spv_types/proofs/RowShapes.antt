@@ -7,7 +7,7 @@ use Rattle.spv_base.specs.Parts.{part_at, with_part}
 use Rattle.spv_base.specs.declared.values.Root.{Root}
 use Rattle.spv_base.specs.declared.values.Value.{Value, List as Many, out-Value}
 use Rattle.spv_base.specs.declared.values.Value.TheOpen.{Value-F}
-use Rattle.spv_base.proofs.PartLemmas.{out_many}
+use Rattle.spv_base.proofs.Exports.{out_many}
 use Rattle.spv_types.specs.declared.forms.Form.{Form}
 use Rattle.spv_types.specs.declared.forms.Form.TheVariants.{Void, Bool as Boolean, Int, Vector, Array, Runtime, Struct, Pointer, Function}
 use Rattle.spv_types.specs.declared.forms.Member.{Member}

@@ -1,7 +1,7 @@
 -- Shapes at a type: by its number, by its form, and by what its parts have.
 use Rattle.std.proofs.Common.{◌≡◌, ◌∙◌, ℕ, zero, suc, ◌<◌, ◌==◌, Bool, true, false, List, [], ◌∷◌, length, Option, Some, None, slice_get, refl, sym, ap, subst, arith}
 use Rattle.std.specs.Bool.{MatchBool}
-use Rattle.std.specs.Option.{IsSomeAnd, MatchOption, option_map}
+use Rattle.std.specs.Option.{MatchOption, option_map}
 use Rattle.std.specs.List.{AllZip}
 use Rattle.spv_base.specs.Parts.{parts_in}
 use Rattle.spv_base.specs.declared.values.Pointer.{Pointer as Reference}
@@ -10,16 +10,14 @@ use Rattle.spv_base.specs.declared.values.Value.{Value, out-Value}
 use Rattle.spv_types.specs.declared.forms.Form.{Form}
 use Rattle.spv_types.specs.declared.forms.Form.TheVariants.{Void, Bool as Boolean, Int, Vector, Array, Runtime, Struct, Pointer, Function}
 use Rattle.spv_types.specs.declared.forms.Member.{Member}
-use Rattle.spv_types.specs.Types.{Types, form_of, number_of}
+use Rattle.spv_types.specs.Types.{Types, form_of, number_of, is_number}
 use Rattle.spv_types.specs.Shapes.{HasShape, HasShapeAmong, LeadsTo, part_type, pointer_in, shape_step}
 use Rattle.spv_types.specs.Laws.{AreByForms, AreSound, ComesBefore}
-use Rattle.spv_types.proofs.TypeLemmas.{number_less, number_lt, number_none, number_same}
+use Rattle.spv_types.proofs.TypeLemmas.{number_less, number_lt, number_none}
+use Rattle.std.proofs.lemmas.Bool.{eqb-true}
+use Rattle.spv_base.proofs.Exports.{some_and}
 
 -- ---- a form's values, where its parts' values are carried along
-
-some_maps : {T : Type 0} (o : Option T) (P Q : T → Type 0) → ((x : T) → P x → Q x) → IsSomeAnd o P → IsSomeAnd o Q
-some_maps None P Q each h = h
-some_maps (Some x) P Q each h = each x h
 
 members_map : (one other : ℕ → Value → Type 0) (ms : List Member) (vs : List Value)
     → ((index part : ℕ) → option_map (λ (m : Member). m.ty) (slice_get ms index) ≡ Some part → (w : Value) → one part w → other part w)
@@ -43,15 +41,15 @@ step_maps ts us roots one other Void v leads each h = h
 step_maps ts us roots one other Boolean v leads each h = h
 step_maps ts us roots one other (Int width sign) v leads each h = h
 step_maps ts us roots one other (Vector component count) v leads each h =
-    some_maps (parts_in (out-Value v)) _ _ (λ vs has. (has.0, λ k d lt. each 0 component refl _ (has.1 k d lt))) h
+    some_and (parts_in (out-Value v)) _ _ (λ vs has. (has.0, λ k d lt. each 0 component refl _ (has.1 k d lt))) h
 step_maps ts us roots one other (Array element n stride) v leads each h =
-    some_maps (parts_in (out-Value v)) _ _ (λ vs has. (has.0, λ k d lt. each 0 element refl _ (has.1 k d lt))) h
+    some_and (parts_in (out-Value v)) _ _ (λ vs has. (has.0, λ k d lt. each 0 element refl _ (has.1 k d lt))) h
 step_maps ts us roots one other (Runtime element stride) v leads each h =
-    some_maps (parts_in (out-Value v)) _ _ (λ vs has. λ k d lt. each 0 element refl _ (has k d lt)) h
+    some_and (parts_in (out-Value v)) _ _ (λ vs has. λ k d lt. each 0 element refl _ (has k d lt)) h
 step_maps ts us roots one other (Struct members block) v leads each h =
-    some_maps (parts_in (out-Value v)) _ _ (λ vs has. members_map one other members vs each has) h
+    some_and (parts_in (out-Value v)) _ _ (λ vs has. members_map one other members vs each has) h
 step_maps ts us roots one other (Pointer class target) v leads each h =
-    some_maps (pointer_in (out-Value v)) _ _ (λ p has. leads p target has) h
+    some_and (pointer_in (out-Value v)) _ _ (λ p has. leads p target has) h
 step_maps ts us roots one other (Function returns parameters) v leads each h = h
 
 -- ---- the shape by number
@@ -66,7 +64,7 @@ among_is ts roots (suc n) m id v h l = rw h (go (λ k. among_is ts roots n m id 
     go : (m < n → HasShapeAmong ts roots n id v ≡ MatchOption (form_of ts id) ⊥ (λ f. shape_step ts roots (HasShapeAmong ts roots m) f v)) → (b : Bool) → (m == n) ≡ b
         → MatchBool b (MatchOption (form_of ts id) ⊥ (λ f. shape_step ts roots (HasShapeAmong ts roots n) f v)) (HasShapeAmong ts roots n id v)
         ≡ MatchOption (form_of ts id) ⊥ (λ f. shape_step ts roots (HasShapeAmong ts roots m) f v)
-    go ih true e = let same : m ≡ n = number_same m n e in rw same refl
+    go ih true e = let same : m ≡ n = eqb-true m n e in rw same refl
     go ih false e = ih (number_less m n l e)
 
 -- any two numbers of types above a type's own give it one shape
@@ -119,3 +117,23 @@ module _ (ts : Types) (roots : Root → Option ℕ) (sound : AreSound ts) where
         λ has. step_maps ts ts roots (HasShapeAmong ts roots m) (HasShape ts roots) f v (λ p target leads. leads) (whole id m f number.1 is) (subst P same has),
         λ has. subst P (sym same) (step_maps ts ts roots (HasShape ts roots) (HasShapeAmong ts roots m) f v (λ p target leads. leads) (among id m f number.1 is) has),
       )
+
+-- ---- a value of a shape has a type with a form
+
+pub no_form : (ts : Types) (roots : Root → Option ℕ) (n id : ℕ) (v : Value) → form_of ts id ≡ None → HasShapeAmong ts roots n id v → ⊥
+unfolding HasShapeAmong
+no_form ts roots zero id v none h = h
+no_form ts roots (suc n) id v none h = go (no_form ts roots n id v none) (is_number n (number_of ts id)) (form_of ts id) none h
+  where
+    go : (HasShapeAmong ts roots n id v → ⊥) → (b : Bool) (o : Option Form) → o ≡ None → MatchBool b (MatchOption o ⊥ (λ f. shape_step ts roots (HasShapeAmong ts roots n) f v)) (HasShapeAmong ts roots n id v) → ⊥
+    go below true None e has = has
+    go below true (Some f) e has = absurd cc
+    go below false o e has = below has
+
+pub shape_formed : (ts : Types) (roots : Root → Option ℕ) (id : ℕ) (v : Value) → HasShape ts roots id v → (f : Form) × (form_of ts id ≡ Some f)
+unfolding HasShape
+shape_formed ts roots id v h = go (form_of ts id) refl
+  where
+    go : (o : Option Form) → form_of ts id ≡ o → (f : Form) × (form_of ts id ≡ Some f)
+    go None e = absurd (no_form ts roots (length ts) id v e h)
+    go (Some f) e = (f, e)

@@ -1,6 +1,6 @@
 -- What keeps the rule of a form keeps it among other types that count as the same.
 use Rattle.std.proofs.Common.{◌≡◌, ℕ, ◌==◌, Bool, true, false, List, [], ◌∷◌, length, refl}
-use Rattle.std.proofs.lemmas.Bool.{and_parts}
+use Rattle.std.proofs.lemmas.Bool.{and_parts, and_from}
 use Rattle.std.specs.Prelude.{◌&&◌, ◌||◌}
 use Rattle.spv_types.specs.declared.forms.Form.{Form}
 use Rattle.spv_types.specs.declared.forms.Form.TheVariants.{Void, Bool as Boolean, Int, Vector, Array, Runtime, Struct, Pointer, Function}
@@ -13,9 +13,6 @@ use Rattle.spv_types.specs.Rules.{is_data, is_runtime, is_scalar, is_sized_data,
 pub impossible : {A : Type 0} → false ≡ true → A
 impossible h = absurd (cc)
 
-pub and_holds : (a b : Bool) → a ≡ true → b ≡ true → (a && b) ≡ true
-and_holds a b h g = rw (h, g) refl
-
 -- one of two tests that holds, carried along
 either_carried : (a b c d : Bool) → (a ≡ true → c ≡ true) → (b ≡ true → d ≡ true) → (a || b) ≡ true → (c || d) ≡ true
 either_carried true b c d f g h = rw (f refl) refl
@@ -23,7 +20,7 @@ either_carried false b true d f g h = refl
 either_carried false b false d f g h = g h
 
 both_carried : (a b c d : Bool) → (a ≡ true → c ≡ true) → (b ≡ true → d ≡ true) → (a && b) ≡ true → (c && d) ≡ true
-both_carried a b c d f g h = let parts = and_parts a b h in and_holds c d (f parts.0) (g parts.1)
+both_carried a b c d f g h = let parts = and_parts a b h in and_from c d (f parts.0) (g parts.1)
 
 -- ---- rules
 

@@ -1,6 +1,6 @@
 -- Spans in the order of their starts: no two have a byte in common where each ends before the next one.
 use Rattle.std.proofs.Common.{◌≡◌, ◌≢◌, ◌∙◌, ℕ, zero, suc, ◌+◌, ◌<◌, ◌≤◌, ◌==◌, Bool, true, false, List, [], ◌∷◌, length, get_or, get_or-set_other, get_or-set_same, length-set, set, refl, sym, ap, arith, ltb}
-use Rattle.std.proofs.lemmas.Bool.{and_parts}
+use Rattle.std.proofs.lemmas.Bool.{and_parts, and_from}
 use Rattle.std.specs.Prelude.{◌&&◌, ◌||◌, not, nat_le, if◌then◌else◌}
 use Rattle.std.specs.List.{All, AllPass, filter, list_all, swap}
 use Rattle.std.specs.List.Sorted.{IsNonDecreasingBy, IsPermutation}
@@ -10,7 +10,6 @@ use Rattle.std.proofs.lemmas.List.Sorted.{All-permutation, IsPermutation-keeps, 
 use Rattle.std.proofs.lemmas.List.Sums.{AllPass-from_list_all, list_all-from_AllPass}
 use Rattle.spv_types.specs.declared.spans.Span.{Span}
 use Rattle.spv_types.specs.Layout.{EachEndsBeforeNext, IsForward, are_apart, ends_before, is_empty, none_overlap}
-use Rattle.spv_types.proofs.SoundLemmas.{and_holds}
 
 -- ---- two spans
 
@@ -50,7 +49,7 @@ all_apart_filtered s (t ∷ ss) = go (is_empty t) refl (all_apart_filtered s ss)
 
 all_apart_empty : (s : Span) (ss : List Span) → is_empty s ≡ true → list_all (are_apart s) ss ≡ true
 all_apart_empty s [] e = refl
-all_apart_empty s (t ∷ ss) e = and_holds _ _ (rw e refl) (all_apart_empty s ss e)
+all_apart_empty s (t ∷ ss) e = and_from _ _ (rw e refl) (all_apart_empty s ss e)
 
 pub overlap_filtered : (ss : List Span) → none_overlap (filter (λ t. not (is_empty t)) ss) ≡ none_overlap ss
 unfolding none_overlap
@@ -99,7 +98,7 @@ pub apart_pairs : (ss : List Span) → Pairs ss → none_overlap ss ≡ true
 unfolding none_overlap
 apart_pairs [] h = refl
 apart_pairs (s ∷ ss) h =
-    and_holds _ _ (list_all-from_AllPass (are_apart s) ss (λ j d l. let ne : zero ≢ suc j = λ e. absurd (omega (arith, e)) in h zero (suc j) d (omega arith) (omega arith) ne))
+    and_from _ _ (list_all-from_AllPass (are_apart s) ss (λ j d l. let ne : zero ≢ suc j = λ e. absurd (omega (arith, e)) in h zero (suc j) d (omega arith) (omega arith) ne))
     (apart_pairs ss (λ i j d l m ne. h (suc i) (suc j) d (omega arith) (omega arith) (λ e. let f : i ≡ j = omega (arith, e) in ne f)))
 
 -- where an item of a list stands before two change places
@@ -167,7 +166,7 @@ ends_later : (s t u : Span) → ends_before s t ≡ true → t.start ≤ u.start
 ends_later s t u h l =
     let both = and_parts (not s.is_open) (nat_le s.end t.start) h in
     let e : s.end ≤ t.start = grind (arith, both.1) in
-    and_holds _ _ both.0 (grind arith)
+    and_from _ _ both.0 (grind arith)
 
 order_apart : (ss : List Span) → IsNonDecreasingBy (λ (s : Span). s.start) ss → EachEndsBeforeNext ss → (i j : ℕ) (d : Span) → i < j → j < length ss → ends_before (get_or ss i d) (get_or ss j d) ≡ true
 order_apart ss up each i j d l m = ends_later (get_or ss i d) (get_or ss (i + 1) d) (get_or ss j d) (each i d (omega arith)) (up (i + 1) j d (omega arith) m)
@@ -195,7 +194,7 @@ next_by s t p q l h = go (ends_before s t) refl (rw (p.some, q.some) at h)
         let end : t.end ≤ s.start = grind (arith, both.1) in
         let f = q.forward in
         let same : (t.end == t.start) ≡ true = grind arith in
-        sym q.some ∙ and_holds _ _ both.0 same
+        sym q.some ∙ and_from _ _ both.0 same
 
     go : (b : Bool) → ends_before s t ≡ b → (b || ends_before t s) ≡ true → b ≡ true
     go true e k = refl

@@ -1,26 +1,13 @@
 -- A type added at the end, and a form written under an id.
-use Rattle.std.proofs.Common.{◌≡◌, ◌∙◌, ℕ, zero, suc, ◌<◌, ◌==◌, Bool, true, false, eqb, nat_cmp, List, [], ◌∷◌, ◌++◌, length, length-append, get_or, set, take, take_at, ◌-◌, Option, Some, None, Result, Ok, Err, refl, sym, ap, subst, arith, rules, tests}
+use Rattle.std.proofs.Common.{◌≡◌, ◌∙◌, ℕ, zero, suc, ◌<◌, ◌==◌, Bool, true, false, List, [], ◌∷◌, ◌++◌, length, length-append, get_or, set, take, take_at, ◌-◌, Option, Some, None, Result, Ok, Err, refl, sym, ap, subst, arith}
 use Rattle.std.specs.Prelude.{if◌then◌else◌}
-use Rattle.std.specs.Ordering.{is_eq}
-use Rattle.std.specs.Option.{option_map, option_or, is_some}
+use Rattle.std.specs.Option.{option_map}
 use Rattle.std.specs.Result.{OnErr, OnOk, is_ok}
 use Rattle.spv_base.specs.Entries.{writes}
 use Rattle.spv_types.specs.declared.forms.Form.{Form}
 use Rattle.spv_types.specs.declared.forms.Form.TheVariants.{Void, Bool as Boolean, Int, Vector, Array, Runtime, Struct, Pointer, Function}
 use Rattle.spv_types.specs.Types.{Types, number_of, form_of, IsUnset, with_length}
-use Rattle.spv_types.proofs.TypeLemmas.{number_push, number_form, number_none}
-
-pub same_key : (a b : ℕ) → is_eq (nat_cmp a b) ≡ eqb a b
-same_key a b = search (tests, rules)
-
-pub push_known : (ts : Types) (id : ℕ) (f : Form) (q : ℕ) → is_some (number_of ts id) ≡ true → number_of (ts ++ (id, f) ∷ []) q ≡ number_of ts q
-push_known ts id f q h = number_push ts (id, f) q ∙ go (eqb id q) refl (number_of ts q) refl
-  where
-    go : (b : Bool) → eqb id q ≡ b → (o : Option ℕ) → number_of ts q ≡ o → option_or o (if b then Some (length ts) else None) ≡ o
-    go true e None k = let s : id ≡ q = grind arith in let m : is_some (number_of ts id) ≡ false = rw (s, k) refl in cc
-    go true e (Some n) k = refl
-    go false e None k = refl
-    go false e (Some n) k = refl
+use Rattle.spv_types.proofs.TypeLemmas.{number_form, number_none}
 
 pub number_set : (ts : Types) (n : ℕ) (x d : ℕ × Form) (q : ℕ) → n < length ts → x.0 ≡ (get_or ts n d).0 → number_of (set ts n x) q ≡ number_of ts q
 number_set [] n x d q l h = refl

@@ -1,18 +1,14 @@
 -- What is found under an id, and what the types before one give.
 use Rattle.std.proofs.Common.{◌≡◌, ◌≢◌, ℕ, zero, suc, ◌<◌, ◌≤◌, ◌==◌, Bool, true, false, ltb, ◌∙◌, [], ◌∷◌, ◌++◌, length, get_or, Option, Some, None, refl, sym, ap, arith}
+use Rattle.std.proofs.lemmas.Bool.{eqb-true}
 use Rattle.std.specs.Prelude.{if◌then◌else◌}
 use Rattle.std.specs.Option.{option_map, option_map_or, option_or}
+use Rattle.spv_index.proofs.Exports.{place_lt, place_none, place_push}
 use Rattle.spv_types.specs.declared.forms.Form.{Form}
 use Rattle.spv_types.specs.Types.{Types, number_of, form_of, in_first, found_among}
 
 pub number_lt : (ts : Types) (id n : ℕ) → number_of ts id ≡ Some n → n < length ts
-number_lt [] id n h = cc
-number_lt (t ∷ ts) id n h = step (t.0 == id) (number_of ts id) n (length ts) h (λ m. number_lt ts id m)
-  where
-    step : (b : Bool) (o : Option ℕ) (n k : ℕ) → (if b then Some 0 else option_map suc o) ≡ Some n → ((m : ℕ) → o ≡ Some m → m < k) → n < suc k
-    step true o n k h ih = let e : 0 ≡ n = cc in omega arith
-    step false None n k h ih = cc
-    step false (Some m) n k h ih = let e : suc m ≡ n = cc in let l = ih m refl in omega arith
+number_lt ts id n h = place_lt ts id n h
 
 pub number_form : (ts : Types) (id n : ℕ) (d : ℕ × Form) → number_of ts id ≡ Some n → form_of ts id ≡ Some (get_or ts n d).1
 number_form [] id n d h = cc
@@ -24,26 +20,10 @@ number_form (t ∷ ts) id n d h = step (t.0 == id) t (number_of ts id) n ts (for
     step false t (Some m) n ts f d h ih = let e : suc m ≡ n = cc in rw (← e) (ih m refl)
 
 pub number_none : (ts : Types) (id : ℕ) → number_of ts id ≡ None → form_of ts id ≡ None
-number_none [] id h = refl
-number_none (t ∷ ts) id h = step (t.0 == id) t (number_of ts id) (form_of ts id) h (number_none ts id)
-  where
-    step : (b : Bool) (t : ℕ × Form) (o : Option ℕ) (f : Option Form) → (if b then Some 0 else option_map suc o) ≡ None → (o ≡ None → f ≡ None) → (if b then Some t.1 else f) ≡ None
-    step true t o f h ih = cc
-    step false t None f h ih = ih refl
-    step false t (Some m) f h ih = cc
+number_none ts id h = place_none ts id h
 
 pub number_push : (ts : Types) (t : ℕ × Form) (id : ℕ) → number_of (ts ++ t ∷ []) id ≡ option_or (number_of ts id) (if t.0 == id then Some (length ts) else None)
-number_push [] t id = refl
-number_push (u ∷ ts) t id = step (u.0 == id) (t.0 == id) (length ts) (number_of ts id) _ (number_push ts t id)
-  where
-    step : (b c : Bool) (k : ℕ) (o p : Option ℕ) → p ≡ option_or o (if c then Some k else None) → (if b then Some 0 else option_map suc p) ≡ option_or (if b then Some 0 else option_map suc o) (if c then Some (suc k) else None)
-    step true c k o p h = refl
-    step false true k None p h = rw h refl
-    step false false k None p h = rw h refl
-    step false c k (Some m) p h = rw h refl
-
-pub number_same : (m n : ℕ) → (m == n) ≡ true → m ≡ n
-number_same m n e = grind arith
+number_push ts t id = place_push ts t id
 
 pub number_less : (m n : ℕ) → m < suc n → (m == n) ≡ false → m < n
 number_less m n l e = let apart : m ≢ n = grind arith in omega arith
@@ -63,7 +43,7 @@ module _ {A : Type 0} (none : A) (step : (ℕ → A) → Form → A) where
     where
       go : (ts : Types) (n m id : ℕ) → m < suc n → (m < n → in_first none step ts n id ≡ option_map_or (step (in_first none step ts m)) (form_of ts id) none) → (b : Bool) → (m == n) ≡ b
           → (if b then option_map_or (step (in_first none step ts n)) (form_of ts id) none else in_first none step ts n id) ≡ option_map_or (step (in_first none step ts m)) (form_of ts id) none
-      go ts n m id l ih true e = let same : m ≡ n = number_same m n e in rw same refl
+      go ts n m id l ih true e = let same : m ≡ n = eqb-true m n e in rw same refl
       go ts n m id l ih false e = ih (number_less m n l e)
 
   -- and any other has none
@@ -73,7 +53,7 @@ module _ {A : Type 0} (none : A) (step : (ℕ → A) → Form → A) where
   in_first-missing ts (suc n) m id h l = rw h (go ts n m id l (in_first-missing ts n m id h (omega arith)) (m == n) refl)
     where
       go : (ts : Types) (n m id : ℕ) → suc n ≤ m → in_first none step ts n id ≡ none → (b : Bool) → (m == n) ≡ b → (if b then option_map_or (step (in_first none step ts n)) (form_of ts id) none else in_first none step ts n id) ≡ none
-      go ts n m id l ih true e = let same : m ≡ n = number_same m n e in absurd (omega arith)
+      go ts n m id l ih true e = let same : m ≡ n = eqb-true m n e in absurd (omega arith)
       go ts n m id l ih false e = ih
 
   pub in_first-unknown : (ts : Types) (n id : ℕ) → number_of ts id ≡ None → in_first none step ts n id ≡ none

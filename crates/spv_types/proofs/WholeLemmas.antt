@@ -9,7 +9,7 @@ use Rattle.spv_types.specs.declared.forms.Member.{Member}
 use Rattle.spv_types.specs.declared.limits.Limit.{Limit}
 use Rattle.spv_types.specs.Types.{Types, form_of, in_first, is_number, number_of}
 use Rattle.spv_types.specs.Cells.{cells_among, cells_of, cells_step, members_cells}
-use Rattle.spv_types.specs.Saturation.{saturated}
+use Rattle.spv_base.specs.Saturation.{saturated}
 use Rattle.spv_types.specs.Limits.{limit_among, limit_of, limit_step, members_limit, no_limit}
 use Rattle.spv_types.proofs.CellLemmas.{added_is}
 use Rattle.spv_types.proofs.RowCounts.{times_is}

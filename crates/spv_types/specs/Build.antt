@@ -4,7 +4,7 @@ use Rattle.spv_base.specs.declared.instructions.Inst.{Inst}
 use Rattle.spv_base.specs.declared.causes.Refusal.{Refusal}
 use Rattle.spv_types.specs.Types.{Types}
 use Rattle.spv_index.specs.Definitions.{before_functions}
-use Rattle.spv_types.specs.Typing.{types_in}
+use Rattle.spv_types.specs.Typing.{types_in, types_read}
 use Rattle.spv_types.specs.Rules.{keeps_rules}
 
 -- the code of the rules of types
@@ -24,4 +24,4 @@ unless_refused x (r ∷ rs) = Err r
 
 -- the types of a module, or the first breach of their rules
 unfoldable pub types_of : List Inst → Result Types Refusal
-types_of insts = unless_refused (types_in insts (before_functions insts)) (type_breaches insts [] (before_functions insts))
+types_of insts = unless_refused (types_read insts) (type_breaches insts [] (before_functions insts))

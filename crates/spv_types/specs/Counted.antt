@@ -1,5 +1,5 @@
--- What a table keeps of its types: by ids their numbers, and of the first types their leaves.
-use Rattle.std.specs.Prelude.{◌≡◌, ℕ, zero, suc, ◌<◌, ◌≤◌, List, [], length, take, slice_index, slice_index_or, slice_get, Option, Some, None}
+-- What a table keeps of its first types: their leaves.
+use Rattle.std.specs.Prelude.{◌≡◌, ℕ, ◌<◌, ◌≤◌, List, [], length, take, slice_index_or, slice_get, Option, Some, None}
 use Rattle.std.specs.Option.{option_map}
 use Rattle.spv_types.specs.declared.counting.Count.{Count}
 use Rattle.spv_types.specs.declared.forms.Form.{Form}
@@ -7,18 +7,9 @@ use Rattle.spv_types.specs.declared.forms.Form.TheVariants.{Struct}
 use Rattle.spv_types.specs.declared.forms.Member.{Member}
 use Rattle.spv_types.specs.Types.{Types, form_at}
 use Rattle.spv_types.specs.Cells.{cells_among, cells_step, members_cells}
-use Rattle.spv_types.specs.Saturation.{saturated}
+use Rattle.spv_base.specs.Saturation.{saturated}
 use Rattle.spv_types.specs.Laws.{IsAmong}
 use Rattle.spv_types.specs.Shapes.{part_type}
-
--- a number kept as one more than it, where 0 is none
-abbrev pub less_one : ℕ → Option ℕ
-less_one zero = None
-less_one (suc n) = Some n
-
--- the number that a list holds for an id
-abbrev pub number_in : List ℕ → ℕ → Option ℕ
-number_in numbers id = less_one (slice_index numbers id)
 
 -- the members of a struct
 abbrev pub members_of : Form → List Member

@@ -8,7 +8,7 @@ use Rattle.spv_types.specs.declared.forms.Form.TheVariants.{Void, Bool as Boolea
 use Rattle.spv_types.specs.declared.forms.Member.{Member}
 use Rattle.spv_types.specs.declared.spans.Span.{Span}
 use Rattle.spv_types.specs.Types.{Types, form_of, in_first}
-use Rattle.spv_types.specs.Saturation.{saturated}
+use Rattle.spv_base.specs.Saturation.{saturated}
 use Rattle.spv_types.specs.Rules.{is_runtime}
 
 -- the greatest end of some members

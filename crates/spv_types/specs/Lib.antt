@@ -1,6 +1,5 @@
 pub mod Types
 pub mod Cells
-pub mod Saturation
 pub mod Leaves
 pub mod Places
 pub mod Constants

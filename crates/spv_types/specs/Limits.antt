@@ -7,7 +7,7 @@ use Rattle.spv_types.specs.declared.forms.Form.TheVariants.{Void, Bool as Boolea
 use Rattle.spv_types.specs.declared.forms.Member.{Member}
 use Rattle.spv_types.specs.declared.limits.Limit.{Limit}
 use Rattle.spv_types.specs.Types.{Types, form_at, in_first}
-use Rattle.spv_types.specs.Saturation.{saturated}
+use Rattle.spv_base.specs.Saturation.{saturated}
 
 abbrev pub no_limit : Limit
 no_limit = record { nesting = 0; cells = 0 }

@@ -13,6 +13,11 @@ abbrev pub scalar_bytes : Option Form → ℕ
 scalar_bytes (Some (Int width sign)) = width / 8
 scalar_bytes _ = 0
 
+-- as many elements of a runtime array as fit so many bytes, of which it begins at a place
+abbrev pub elements_in : ℕ → ℕ → Option ℕ → ℕ
+elements_in size at None = 0
+elements_in size at (Some stride) = (size - at) / stride
+
 -- a scalar has one leaf, at its first byte
 abbrev pub place_in_scalar : ℕ → Option ℕ
 place_in_scalar leaf = if leaf == 0 then Some 0 else None

@@ -1,9 +1,10 @@
 -- The types of a module: each id with its form, in the order of the module (SPIR-V 1.6 section 3.42.6).
 --
 -- A type is defined after its parts, so what it gives is made of its form and of what the types before it give.
-use Rattle.std.specs.Prelude.{ℕ, zero, suc, ◌==◌, if◌then◌else◌, Bool, false, List, [], ◌∷◌, length, nat_lt, slice_index_or, Option, Some, None}
+use Rattle.std.specs.Prelude.{ℕ, zero, suc, ◌==◌, if◌then◌else◌, Bool, false, List, length, nat_lt, slice_index_or, Option, Some, None}
 use Rattle.std.specs.Option.{option_map, option_map_or, option_and_then}
 use Rattle.spv_base.specs.Entries.{reads, writes}
+use Rattle.spv_index.specs.Firsts.{place_of}
 use Rattle.spv_types.specs.declared.forms.Form.{Form}
 use Rattle.spv_types.specs.declared.forms.Form.TheVariants.{Void, Array}
 
@@ -16,8 +17,7 @@ form_of ts id = reads id ts
 
 -- the number of the type with an id, counted from 0
 abbrev pub number_of : Types → ℕ → Option ℕ
-number_of [] id = None
-number_of (t ∷ ts) id = if t.0 == id then Some 0 else option_map suc (number_of ts id)
+number_of ts id = place_of ts id
 
 -- the form of the type with a number
 abbrev pub form_at : Types → ℕ → Form

@@ -7,7 +7,7 @@ use Rattle.spv_types.specs.declared.forms.Form.{Form}
 use Rattle.spv_types.specs.declared.forms.Form.TheVariants.{Void, Bool as Boolean, Int, Vector, Array, Runtime, Struct, Pointer, Function}
 use Rattle.spv_types.specs.declared.forms.Member.{Member}
 use Rattle.spv_types.specs.Types.{Types}
-use Rattle.spv_index.specs.Definitions.{decorating, decoration, member_decoration}
+use Rattle.spv_index.specs.Definitions.{before_functions, decorating, decoration, member_decoration}
 use Rattle.spv_index.specs.Operands.{id_in, id_operand, literal_operand}
 
 -- something made of two parts, where both are there
@@ -75,3 +75,7 @@ with_form ts id (Some f) = ts ++ (id, f) ∷ []
 unfoldable pub types_in : List Inst → List Inst → Types
 types_in all [] = []
 types_in all (i ∷ is) = with_form [] i.id (defined_form all i) ++ types_in all is
+
+-- the types that a module declares
+abbrev pub types_read : List Inst → Types
+types_read insts = types_in insts (before_functions insts)

@@ -2,7 +2,7 @@
 ghost use Rattle.std.specs.Prelude.{◌≡◌, ◌<◌, ◌↔◌, IfOk, IsTrue, Some, length};
 ghost use Rattle.std.specs.Option.{option_map};
 ghost use Rattle.spv_types.specs.Cells.{added, cells_among};
-ghost use Rattle.spv_types.specs.Saturation.{saturated};
+ghost use Rattle.spv_base.specs.Saturation.{saturated};
 ghost use Rattle.spv_types.specs.Laws.{IsAmong};
 ghost use Rattle.spv_types.specs.Types.{IsUnset, form_at};
 ghost use Rattle.spv_types.specs.Counted.{AreBefore, HasFirsts, IsCounted, PartsAreBefore, members_of};

@@ -2,7 +2,7 @@
 ghost use Rattle.std.specs.Prelude.{◌≡◌, ◌*◌, ◌<◌, length, option_map, take};
 ghost use Rattle.spv_types.specs.Cells.{cells_of, cells_among, cells_step, members_cells};
 ghost use Rattle.spv_types.specs.Counted.{members_of};
-ghost use Rattle.spv_types.specs.Saturation.{saturated};
+ghost use Rattle.spv_base.specs.Saturation.{saturated};
 ghost use Rattle.spv_types.specs.Types.{form_at};
 
 use crate::forms::{Form, Member};

@@ -62,7 +62,7 @@ fn has_block_class(class: Option<u32>) -> bool
 }
 
 /// Whether an instruction is a variable of a class whose variables point to blocks.
-fn is_block_variable(inst: &Inst) -> bool
+pub fn is_block_variable(inst: &Inst) -> bool
     ensures { result ≡ is_block_variable inst.now }
 {
     inst.op == op::VARIABLE && has_block_class(literal_operand(inst, 0))

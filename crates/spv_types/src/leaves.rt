@@ -4,7 +4,7 @@ ghost use Rattle.spv_types.specs.Cells.{cells_of};
 ghost use Rattle.spv_types.specs.Counted.{members_of};
 ghost use Rattle.spv_types.specs.Types.{form_at};
 ghost use Rattle.spv_types.specs.Leaves.{element_part, member_part, part_of};
-ghost use Rattle.spv_types.specs.Saturation.{saturated_first};
+ghost use Rattle.spv_base.specs.Saturation.{saturated_first};
 
 use crate::counts::first_leaf;
 use crate::forms::{Form, Member};

@@ -11,7 +11,6 @@ pub mod laws;
 pub mod layout;
 pub mod leaves;
 pub mod limits;
-mod numbers;
 pub mod places;
 pub mod queries;
 pub mod rows;
@@ -21,6 +20,6 @@ pub mod table;
 mod typing;
 
 pub use forms::{Form, Member};
-pub use interface_blocks::check_layout;
+pub use interface_blocks::{check_layout, is_block_variable};
 pub use limits::Limit;
 pub use table::TypeTable;

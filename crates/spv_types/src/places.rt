@@ -3,12 +3,25 @@ ghost use Rattle.std.specs.Prelude.{◌≡◌, ◌<◌, ◌+◌, ◌↔◌, IsTr
 ghost use Rattle.spv_types.specs.Cells.{cells_of};
 ghost use Rattle.spv_types.specs.Counted.{members_of};
 ghost use Rattle.spv_types.specs.Types.{form_at, form_of};
-ghost use Rattle.spv_types.specs.Places.{BeginsBy, place_among, place_in_elements, place_in_member, place_in_members, place_step, row_number, scalar_bytes};
-ghost use Rattle.spv_types.specs.Saturation.{saturated};
+ghost use Rattle.spv_types.specs.Places.{BeginsBy, elements_in, place_among, place_in_elements, place_in_member, place_in_members, place_step, row_number, scalar_bytes};
+ghost use Rattle.spv_base.specs.Saturation.{saturated};
 
 use crate::counts::first_leaf;
 use crate::forms::{Form, Member};
 use crate::table::TypeTable;
+
+/// How many elements of a runtime array fit so many bytes, of which it begins at a place.
+pub fn elements_in(size: u64, at: u128, stride: Option<u32>) -> u64
+    ensures { result ≡ elements_in size at stride }
+{
+    match stride {
+        Some(stride) if stride > 0 => match u64::try_from(at) {
+            Ok(at) => size.saturating_sub(at) / u64::from(stride),
+            Err(_) => 0,
+        },
+        _ => 0,
+    }
+}
 
 /// The place of a leaf of a type among the first types.
 #[cycle(place)]

@@ -5,7 +5,7 @@ ghost use Rattle.spv_base.specs.Answers.{Answers};
 ghost use Rattle.spv_types.specs.Build.{types_of};
 ghost use Rattle.spv_types.specs.Cells.{cells_of};
 ghost use Rattle.spv_types.specs.Counted.{IsCounted};
-ghost use Rattle.spv_types.specs.Saturation.{saturated};
+ghost use Rattle.spv_base.specs.Saturation.{saturated};
 ghost use Rattle.spv_types.specs.Leaves.{leaf_of};
 ghost use Rattle.spv_types.specs.Places.{place_of};
 ghost use Rattle.spv_types.specs.Rules.{has_runtime, is_block, is_data, is_runtime, is_scalar, is_sized_data, is_three_words, is_word, last_type};
@@ -16,12 +16,11 @@ use crate::counting::{Count, count_at, is_unset, parts_before};
 use crate::counts::cells_among;
 use crate::forms::{Form, Member};
 use crate::leaves::part_at;
-use crate::numbers::{number_in, put_number};
 use crate::places::place_among;
 use crate::rules::{keeps_rules, last_type};
 use crate::typing::defined_form;
 use spv_base::{Fail, NoMemory, Refusal};
-use spv_index::Index;
+use spv_index::{Firsts, Index};
 use std::alloc::Global;
 use std::marker::Model;
 
@@ -32,8 +31,8 @@ const TYPE_CODE: u8 = 12;
 #[derive(Drop)]
 pub struct TypeTable {
     entries: Vec<(u32, Form)>,
-    /// By ids, as `number_in` reads them.
-    numbers: Vec<u32>,
+    /// By id, the number of its first type.
+    numbers: Firsts<usize>,
     /// Of the types before the first that was not counted.
     counts: Vec<Count>,
 }
@@ -41,14 +40,15 @@ pub struct TypeTable {
 impl Model for TypeTable {
     ghost use Rattle.std.specs.Prelude.{◌≡◌, ℕ};
     ghost use Rattle.spv_types.specs.Types.{Types, number_of};
-    ghost use Rattle.spv_types.specs.Counted.{AreCounted, number_in};
+    ghost use Rattle.spv_index.specs.Firsts.{slot};
+    ghost use Rattle.spv_types.specs.Counted.{AreCounted};
 
     ghost Value = { Types };
 
     ghost view = { λ t. t.entries.items };
 
     ghost invariant = { λ t. record {
-      numbers : (id : ℕ) → number_in t.numbers.items id ≡ number_of t.entries.items id;
+      numbers : (id : ℕ) → slot t.numbers id ≡ number_of t.entries.items id;
       counts : AreCounted t.entries.items t.counts.items;
     } };
 }
@@ -60,7 +60,7 @@ impl TypeTable {
     {
         TypeTable {
             entries: Vec::new(alloc),
-            numbers: Vec::new(alloc),
+            numbers: Firsts::new(alloc),
             counts: Vec::new(alloc),
         }
     }
@@ -72,9 +72,7 @@ impl TypeTable {
     {
         let number = self.entries.len();
         self.entries.push((id, form))?;
-        if number_in(self.numbers.as_slice(), id).is_none()
-            && put_number(&mut self.numbers, id, number).is_err()
-        {
+        if self.numbers.put(id, number).is_err() {
             self.entries.pop();
             return Err(NoMemory);
         }
@@ -135,7 +133,7 @@ impl TypeTable {
     pub fn number(&self, id: u32) -> Option<usize>
         ensures { result ≡ number_of self.now id }
     {
-        number_in(self.numbers.as_slice(), id)
+        self.numbers.get(id)
     }
 
     /// The number and the form of the type with an id, where it is among the first `limit` types.

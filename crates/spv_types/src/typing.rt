@@ -1,10 +1,10 @@
 //! The form that a type instruction defines.
-ghost use Rattle.std.specs.Prelude.{◌≡◌, IfOk, drop};
+ghost use Rattle.std.specs.Prelude.{◌≡◌, IfOk};
 ghost use Rattle.spv_types.specs.Typing as spec;
 
 use crate::forms::{Form, Member};
 use spv_base::{Inst, Items, NoMemory, Operand};
-use spv_index::{Index, id_in, id_operand, literal_operand};
+use spv_index::{Index, id_in, id_operand, literal_operand, operands_from};
 use spv_ops::{decoration, op};
 use std::alloc::Global;
 
@@ -86,7 +86,7 @@ fn function_form(alloc: Global, inst: &Inst) -> Result<Option<Form>, NoMemory>
     let Some(returns) = id_operand(inst, 0) else {
         return Ok(None);
     };
-    let Some(parameters) = ids(alloc, behind_first(inst.operands.as_slice()))? else {
+    let Some(parameters) = ids(alloc, operands_from(inst, 1))? else {
         return Ok(None);
     };
     Ok(Some(Form::Function {
@@ -116,16 +116,6 @@ fn members(
         members.push(Member { ty, offset })?;
     }
     Ok(Some(members))
-}
-
-/// The operands behind the first.
-fn behind_first(operands: &[Operand]) -> &[Operand]
-    ensures { result.now ≡ drop 1 operands.now }
-{
-    if operands.is_empty() {
-        return operands;
-    }
-    &operands[1..]
 }
 
 /// The ids that some operands are, where each is one.

@@ -1,1 +1,2 @@
-pub mod LawLemmas
+mod LawLemmas
+pub mod Exports

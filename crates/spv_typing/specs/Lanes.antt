@@ -100,6 +100,11 @@ abbrev pub bits_of : Element → ℕ
 bits_of Boolean = 0
 bits_of (Int width) = width
 
+-- the width of one lane; a Boolean's is 1
+abbrev pub width_of : Element → ℕ
+width_of Boolean = 1
+width_of (Int width) = width
+
 -- the bits of all lanes together
 abbrev pub size_of : Lanes → ℕ
 size_of lanes = lanes.count * bits_of lanes.element

@@ -16,16 +16,13 @@ use Rattle.spv_consts.specs.Table.{Constants}
 use Rattle.spv_consts.specs.Build.{constant_breaches, constants_of}
 use Rattle.spv_valid.specs.declared.entry.Entry.{Entry}
 use Rattle.spv_valid.specs.Acceptance.{Accepted, Passes, acceptance, decoded_in}
-use Rattle.spv_valid.specs.Breaches.{breaches, breaches_by, first_with, known_read, layout_breaches, types_read}
+use Rattle.spv_valid.specs.Breaches.{breaches, breaches_by, first_with, known_read, layout_breaches}
 use Rattle.spv_valid.specs.Entry.{Size, entry_in, entry_of, entry_point, entry_with, if_compute, is_compute, is_entry_point, is_named, is_plain_function, is_size, required, size_of}
 use Rattle.spv_valid.specs.Validity.{HasEntry}
 use Rattle.spv_valid.proofs.LeastLemmas.{accepted_none}
 use Rattle.spv_valid.proofs.PassLemmas.{known_is, tells_all, types_are}
-
-both : (b c : Bool) → (b && c) ≡ true → (b ≡ true) × (c ≡ true)
-both true true h = (refl, refl)
-both true false h = absurd (cc)
-both false c h = absurd (cc)
+use Rattle.std.proofs.lemmas.Bool.{and_parts}
+use Rattle.spv_types.specs.Typing.{types_read}
 
 found_passes : (p : Inst → Bool) (insts : List Inst) (i : Inst) → find p insts ≡ Some i → p i ≡ true
 found_passes p [] i h = absurd (cc)
@@ -44,7 +41,7 @@ if_computes (Some j) i h = go (is_compute j) refl h where
 computes : (insts : List Inst) (name : Option (List ℕ)) (i : Inst) → entry_point insts name ≡ Some i → is_compute i ≡ true
 computes insts None i h = if_computes (find is_entry_point insts) i h
 computes insts (Some name) i h =
-    (both (is_compute i) _ (both (is_entry_point i) _ (found_passes (is_named name) insts i h)).1).0
+    (and_parts (is_compute i) _ (and_parts (is_entry_point i) _ (found_passes (is_named name) insts i h)).1).0
 
 -- ---- the entry
 
@@ -62,7 +59,7 @@ record Kept (ts : Types) (insts : List Inst) (f depth : ℕ) (size : Size) (e : 
 kept : (ts : Types) (constants : Constants) (insts : List Inst) (f depth : ℕ) (size : Size) (e : Entry) → entry_with ts constants insts f depth size ≡ Some e → Kept ts insts f depth size e
 kept ts constants insts f depth size e is = go _ refl is where
   go : (b : Bool) → (is_plain_function ts insts f && is_size size) ≡ b → (if b then Some (record { function = f; size = size; depth = depth }) else None) ≡ Some e → Kept ts insts f depth size e
-  go true h same = let parts = both (is_plain_function ts insts f) (is_size size) h in record { plain = parts.0; allowed = parts.1; function = cc; sizes = cc; depths = cc }
+  go true h same = let parts = and_parts (is_plain_function ts insts f) (is_size size) h in record { plain = parts.0; allowed = parts.1; function = cc; sizes = cc; depths = cc }
   go false h same = absurd (cc)
 
 pub has_entry : (a : Accepted) (name : Option (List ℕ)) → entry_of a.types a.constants a.flow a.insts name ≡ Ok (record { function = a.entry; size = a.size; depth = a.depth }) → HasEntry a

@@ -9,7 +9,7 @@ use Rattle.std.specs.Option.{option_map}
 use Rattle.std.specs.Result.{IsOk}
 use Rattle.spv_base.specs.declared.causes.Refusal.{Refusal}
 use Rattle.spv_types.specs.Build.{unless_refused}
-use Rattle.spv_cfg.specs.Lowest.{lowest, sooner}
+use Rattle.spv_base.specs.Lowest.{lower, lowest}
 use Rattle.spv_base.specs.Answers.{after}
 use Rattle.spv_valid.specs.Breaches.{IsBefore, IsLeast, at_words, first_with, refused_in}
 use Rattle.spv_valid.proofs.OrderLemmas.{Behind, Led}
@@ -96,15 +96,15 @@ with_code code word = record { code = code; word = word }
 
 lower_word : (code w v : ℕ) → with_code code (min w v) ≡ earlier_of (with_code code w) (with_code code v)
 lower_word code w v = ⊎_elim
-    (λ (yes : nat_lt v w ≡ true). let lt : v < w = ltb-true v w yes in let lower : min w v ≡ v = omega arith in rw (yes, lower) refl)
-    (λ (no : nat_lt v w ≡ false). let le : w ≤ v = ltb-false v w no in let lower : min w v ≡ w = omega arith in rw (no, lower) refl)
+    (λ (yes : nat_lt v w ≡ true). let lt : v < w = ltb-true v w yes in let same : min w v ≡ v = omega arith in rw (yes, same) refl)
+    (λ (no : nat_lt v w ≡ false). let le : w ≤ v = ltb-false v w no in let same : min w v ≡ w = omega arith in rw (no, same) refl)
     (cases_Bool (nat_lt v w))
 
 pub lowest_least : (code : ℕ) (words : List ℕ) → IsLeastOf (option_map (with_code code) (lowest words)) (at_words code words)
 lowest_least code [] = refl
 lowest_least code (w ∷ ws) = by_rest (lowest ws) (at_words code ws) (lowest_least code ws)
   where
-    by_rest : (o : Option ℕ) (rest : List Refusal) → IsLeastOf (option_map (with_code code) o) rest → IsLeastOf (option_map (with_code code) (sooner (Some w) o)) (with_code code w ∷ rest)
+    by_rest : (o : Option ℕ) (rest : List Refusal) → IsLeastOf (option_map (with_code code) o) rest → IsLeastOf (option_map (with_code code) (lower (Some w) o)) (with_code code w ∷ rest)
     by_rest None rest least = rw least (first_least (with_code code w) [] tt)
     by_rest (Some v) rest least =
         let codes : code ≤ code = omega arith in

@@ -1,7 +1,8 @@
-pub mod StackLemmas
-pub mod AcceptedLemmas
-pub mod OrderLemmas
-pub mod LeastLemmas
-pub mod PassLemmas
+mod StackLemmas
+mod AcceptedLemmas
+mod OrderLemmas
+mod LeastLemmas
+mod PassLemmas
 mod EntryLemmas
 mod MeaningLemmas
+pub mod Exports

@@ -13,9 +13,9 @@ use Rattle.spv_types.specs.Build.{type_breaches, types_of, unless_refused}
 use Rattle.spv_types.specs.InterfaceBlocks.{layout_of, nothing}
 use Rattle.spv_index.specs.Classes.{sets_of}
 use Rattle.spv_index.specs.Positions.{outside}
-use Rattle.spv_cfg.specs.Lowest.{lowest, sooner}
+use Rattle.spv_base.specs.Lowest.{lowest}
 use Rattle.spv_cfg.specs.Flow.{Flow, block_breaches, call_breaches, flow_in, flow_of, refusal, unless_refused as flow_unless}
-use Rattle.spv_cfg.proofs.LowestLemmas.{lowest-append}
+use Rattle.spv_base.proofs.Exports.{lowest-append}
 use Rattle.spv_sections.specs.Sections.{order_breaches, sections_of}
 use Rattle.spv_sections.specs.Ids.{id_breaches, ids_of}
 use Rattle.spv_sections.specs.Capabilities.{capabilities_of, capability_breaches}
@@ -23,7 +23,7 @@ use Rattle.spv_consts.specs.Table.{Constants}
 use Rattle.spv_consts.specs.Context.{Context}
 use Rattle.spv_consts.specs.State.{State}
 use Rattle.spv_consts.specs.Rules.{keeps_rules}
-use Rattle.spv_consts.specs.SpecIds.{lower, lowest_wrong, wrong_spec_id}
+use Rattle.spv_consts.specs.SpecIds.{lowest_wrong, wrong_spec_id}
 use Rattle.spv_consts.specs.Steps.{breaches_at, breaches_from, breaks_limit, after_one}
 use Rattle.spv_consts.specs.Build.{constant_breaches, constants_of, context_of, front_breaches, known_of as known_in, start_of, state_of, unless_earlier}
 use Rattle.spv_bodies.specs.Context.{known_of}
@@ -33,7 +33,8 @@ use Rattle.spv_base.specs.Answers.{after}
 use Rattle.spv_valid.specs.Acceptance.{Accepted, acceptance, accepted}
 use Rattle.spv_base.specs.Order.{Ascend}
 use Rattle.spv_ops.specs.Module.{Decoded}
-use Rattle.spv_valid.specs.Breaches.{IsLeast, at_words, bodies_breaches, breaches, first_with, flow_breaches, known_read, layout_breaches, refused_in, types_read}
+use Rattle.spv_types.specs.Typing.{types_read}
+use Rattle.spv_valid.specs.Breaches.{IsLeast, at_words, bodies_breaches, breaches, first_with, flow_breaches, known_read, layout_breaches, refused_in}
 use Rattle.spv_valid.proofs.OrderLemmas.{Led, bodies_in_order, constants_in_order, capabilities_in_order, ids_in_order, layout_in_order, order_in_order, types_in_order}
 use Rattle.spv_valid.proofs.LeastLemmas.{IsLeastOf, Tells, earlier, joined_least, lowest_least, tells_after, tells_led, tells_refused}
 
@@ -84,17 +85,16 @@ tells_flow insts = by_words (lowest (block_breaches insts)) (lowest (call_breach
 
 -- ---- constants
 
-lower-sooner : (o p : Option ℕ) → lower o p ≡ sooner (lowest (option_to_list o)) p
-lower-sooner None p = refl
-lower-sooner (Some a) None = refl
-lower-sooner (Some a) (Some b) = refl
+lowest_one : (o : Option ℕ) → lowest (option_to_list o) ≡ o
+lowest_one None = refl
+lowest_one (Some w) = refl
 
 lowest_wrong_is : (all insts : List Inst) → lowest_wrong all insts ≡ lowest (flat_map (λ i. option_to_list (wrong_spec_id all i)) insts)
 unfolding lowest_wrong
 lowest_wrong_is all [] = refl
 lowest_wrong_is all (i ∷ is) =
     let words : List ℕ = flat_map (λ (x : Inst). option_to_list (wrong_spec_id all x)) is in
-    rw (lowest_wrong_is all is, lower-sooner (wrong_spec_id all i) (lowest words), lowest-append (option_to_list (wrong_spec_id all i)) words) refl
+    rw (lowest_wrong_is all is, lowest-append (option_to_list (wrong_spec_id all i)) words, lowest_one (wrong_spec_id all i)) refl
 
 -- the codes of constants
 abbrev AreCoded : List Refusal → Type 0

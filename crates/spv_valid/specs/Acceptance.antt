@@ -1,6 +1,6 @@
 -- Which modules are accepted, and what an accepted module is: the rules of each pass over all instructions (SPIR-V 1.6
 -- section 2.16, and this project's profile), where a pass is read only where the passes before it have no breach.
-use Rattle.std.specs.Prelude.{◌≡◌, ℕ, ℤ, List, Option, Result, Ok}
+use Rattle.std.specs.Prelude.{◌≡◌, ℕ, ℤ, ◌*◌, List, Option, Result, Ok}
 use Rattle.spv_base.specs.Answers.{after}
 use Rattle.spv_base.specs.declared.causes.Refusal.{Refusal}
 use Rattle.spv_base.specs.declared.instructions.Inst.{Inst}
@@ -32,6 +32,10 @@ pub record Accepted : Type 0 where
   pub size : Size  -- of the workgroup
   pub depth : ℕ  -- how many functions the longest chain of calls from the entry point has
   pub stack_cells : ℕ  -- the most cells that the frames of an invocation have together
+
+-- how many invocations a workgroup has
+abbrev pub invocations : Accepted → ℕ
+invocations a = a.size.0 * a.size.1 * a.size.2
 
 -- what is read off a module in which no pass has a breach
 abbrev pub accepted : Decoded → Types × Constants → Flow → Entry → Accepted

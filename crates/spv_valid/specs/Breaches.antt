@@ -7,7 +7,7 @@ use Rattle.spv_base.specs.declared.instructions.Inst.{Inst}
 use Rattle.spv_ops.specs.Module.{Decoded}
 use Rattle.spv_types.specs.Types.{Types}
 use Rattle.spv_index.specs.Definitions.{before_functions}
-use Rattle.spv_types.specs.Typing.{types_in}
+use Rattle.spv_types.specs.Typing.{types_read}
 use Rattle.spv_types.specs.Build.{type_breaches}
 use Rattle.spv_types.specs.InterfaceBlocks.{module_breaches}
 use Rattle.spv_cfg.specs.Flow.{block_breaches, call_breaches, flow_in}
@@ -60,9 +60,6 @@ breaches_by m name over types known =
     ∷ bodies_breaches known m.insts
     ∷ refused_in (entry_of known.0 known.1 (flow_in m.insts) m.insts name)
     ∷ []
-
-abbrev pub types_read : List Inst → Types
-types_read insts = types_in insts (before_functions insts)
 
 abbrev pub known_read : List Inst → List (ℕ × ℤ) → Types × Constants
 known_read insts over = result_unwrap_or (constants_of (types_read insts) insts over) ([], [])

@@ -4,7 +4,7 @@ use Rattle.std.specs.Prelude.{ℕ, ◌*◌, ◌==◌, ◌&&◌, nat_le, if◌the
 use Rattle.std.specs.Option.{option_map_or}
 use Rattle.std.specs.Str.{bytes_eq}
 use Rattle.spv_base.specs.Entries.{reads}
-use Rattle.spv_base.specs.Cell.{Cell}
+use Rattle.spv_base.specs.Cell.{Cell, defined_number}
 use Rattle.spv_base.specs.declared.causes.Refusal.{Refusal}
 use Rattle.spv_base.specs.declared.instructions.Inst.{Inst}
 use Rattle.spv_index.specs.Operands.{id_operand, literal_operand, text_operand}
@@ -76,10 +76,6 @@ is_plain_function ts insts id = option_map_or (begins_plain ts) (defining insts 
 
 -- ---- the size of its workgroup
 
--- the number of a defined scalar
-abbrev pub number_of_lane : Cell → Option ℕ
-number_of_lane c = if c.defined then Some c.bits else None
-
 -- three numbers, where all are there
 abbrev pub all_three : Option ℕ → Option ℕ → Option ℕ → Option Size
 all_three x y z = option_and_then (λ a. option_and_then (λ b. option_and_then (λ c. Some (a, b, c)) z) y) x
@@ -89,7 +85,7 @@ abbrev pub numbers_in : List Cell → Option Size
 numbers_in [] = None
 numbers_in (x ∷ []) = None
 numbers_in (x ∷ y ∷ []) = None
-numbers_in (x ∷ y ∷ z ∷ []) = all_three (number_of_lane x) (number_of_lane y) (number_of_lane z)
+numbers_in (x ∷ y ∷ z ∷ []) = all_three (defined_number x) (defined_number y) (defined_number z)
 numbers_in (x ∷ y ∷ z ∷ w ∷ more) = None
 
 -- a constant whose decoration BuiltIn (11) is WorkgroupSize (25)
@@ -106,7 +102,7 @@ constant_size ts constants i = option_and_then (size_in ts) (reads i.id constant
 -- the number of the one cell
 abbrev pub number_in : List Cell → Option ℕ
 number_in [] = None
-number_in (x ∷ []) = number_of_lane x
+number_in (x ∷ []) = defined_number x
 number_in (x ∷ y ∷ more) = None
 
 -- the number of a constant of such a row, which has to be a 32-bit integer

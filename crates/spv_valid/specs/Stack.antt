@@ -1,35 +1,22 @@
 -- How many cells the frames of an invocation have at most: those of the registers and variables of each function in a chain
 -- of calls (this project's profile). A pointer is one cell. Numbers stop at the greatest of 64 bits.
-use Rattle.std.specs.Prelude.{◌≡◌, ◌≤◌, ℕ, zero, suc, ◌+◌, ◌==◌, if◌then◌else◌, List, [], ◌∷◌, Option, Some, None}
+use Rattle.std.specs.Prelude.{ℕ, ◌+◌, ◌==◌, if◌then◌else◌, List, [], ◌∷◌, Option, Some, None}
 use Rattle.std.specs.Option.{option_and_then, option_map, option_map_or}
 use Rattle.std.specs.List.{flat_map}
 use Rattle.spv_base.specs.Entries.{reads}
 use Rattle.spv_base.specs.declared.instructions.Inst.{Inst}
 use Rattle.spv_types.specs.Types.{Types, form_of}
 use Rattle.spv_types.specs.Cells.{cells_of}
-use Rattle.spv_types.specs.Saturation.{saturated}
-use Rattle.spv_types.specs.declared.forms.Form.{Form}
-use Rattle.spv_types.specs.declared.forms.Form.TheVariants.{Void, Bool as Boolean, Int, Vector, Array, Runtime, Struct, Pointer, Function}
+use Rattle.spv_base.specs.Saturation.{saturated}
+use Rattle.spv_types.specs.Queries.{pointee}
 use Rattle.spv_index.specs.Definitions.{type_in}
 use Rattle.spv_index.specs.Positions.{Stand, in_function, stands_of}
-use Rattle.spv_cfg.specs.Calls.{Calls, IsChain, calls_in, calls_of, functions_of, limit, most, numbered}
-
--- the type that a pointer type points to
-abbrev pub target_in : Option Form → Option ℕ
-target_in None = None
-target_in (Some Void) = None
-target_in (Some Boolean) = None
-target_in (Some (Int width sign)) = None
-target_in (Some (Vector component count)) = None
-target_in (Some (Array element n stride)) = None
-target_in (Some (Runtime element stride)) = None
-target_in (Some (Struct members block)) = None
-target_in (Some (Pointer class target)) = Some target
-target_in (Some (Function returns parameters)) = None
+use Rattle.spv_cfg.specs.Calls.{Calls, calls_in, calls_of, functions_of, numbered}
+use Rattle.spv_cfg.specs.Chains.{heaviest, limit}
 
 -- what a variable (OpVariable, 59) keeps has the target of its pointer type; any other result has its own type, where it has one
 abbrev pub kept_type : Types → Inst → Option ℕ
-kept_type ts i = if i.op == 59 then target_in (form_of ts i.ty) else type_in i
+kept_type ts i = if i.op == 59 then option_map (λ p. p.target) (pointee (form_of ts i.ty)) else type_in i
 
 -- the cells of an instruction's register or variable, where it keeps one of a type that has a number of cells
 abbrev pub kept_cells : Types → Inst → Option ℕ
@@ -53,30 +40,11 @@ unfoldable pub weight : List (ℕ × ℕ) → ℕ → ℕ
 weight [] f = 0
 weight (e ∷ es) f = (if e.0 == f then e.1 else 0) + weight es f
 
--- the most cells of a chain of calls from a function, of the chains of at most k functions
-unfoldable pub heaviest : ℕ → (ℕ → ℕ) → List (ℕ × ℕ) → ℕ → ℕ
-heaviest zero weigh calls f = 0
-heaviest (suc k) weigh calls f = weigh f + most (λ g. heaviest k weigh calls g) f calls
-
 -- the cells of each function of a module
 abbrev pub weights_of : Types → List Inst → ℕ → ℕ
 weights_of ts insts = weight (cells_by_function ts (calls_in insts) (stands_of insts))
 
--- the most cells of a chain of calls from the function with an id; where a module is accepted no chain is longer than that
+-- the cells of the heaviest chain of calls from the function with an id; where a module is accepted no chain is longer than the limit
 unfoldable pub stack_cells : Types → List Inst → ℕ → ℕ
 stack_cells ts insts function =
     saturated (option_map_or (heaviest limit (weights_of ts insts) (calls_of insts)) (reads function (numbered 0 (functions_of insts))) 0)
-
--- ---- what heaviest means
-
--- the cells of a chain of calls: of a function, and of those that come after it
-abbrev pub chain_cells : (ℕ → ℕ) → ℕ → List ℕ → ℕ
-chain_cells weigh f [] = weigh f
-chain_cells weigh f (g ∷ more) = weigh f + chain_cells weigh g more
-
--- a chain from a function has n cells, and no chain from it has more
-pub record IsHeaviest (weigh : ℕ → ℕ) (calls : List (ℕ × ℕ)) (f n : ℕ) : Type 0 where
-  pub chain : List ℕ
-  pub is_chain : IsChain calls f chain
-  pub cells : chain_cells weigh f chain ≡ n
-  pub most_cells : (other : List ℕ) → IsChain calls f other → chain_cells weigh f other ≤ n

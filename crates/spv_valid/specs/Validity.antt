@@ -14,9 +14,10 @@ use Rattle.spv_bodies.specs.Context.{known_of}
 use Rattle.spv_index.specs.Definitions.{before_functions}
 use Rattle.spv_index.specs.Operands.{id_operand}
 use Rattle.spv_types.specs.Build.{type_breaches}
+use Rattle.spv_types.specs.Typing.{types_read}
 use Rattle.spv_consts.specs.Build.{constant_breaches}
 use Rattle.spv_valid.specs.Acceptance.{Accepted, decoded_in}
-use Rattle.spv_valid.specs.Breaches.{layout_breaches, types_read}
+use Rattle.spv_valid.specs.Breaches.{layout_breaches}
 use Rattle.spv_valid.specs.Entry.{entry_point, is_compute, is_plain_function, is_size}
 
 -- The entry point: a GLCompute one, of a name or the first, whose function is the entry. This function has no parameters and returns

@@ -122,13 +122,6 @@ fn is_plain_function(types: &TypeTable, index: &Index, id: u32) -> bool
     }
 }
 
-/// The number of a defined scalar.
-fn number_of(cell: Cell) -> Option<u64>
-    ensures { result ≡ spec.number_of_lane cell }
-{
-    if cell.defined { Some(cell.bits) } else { None }
-}
-
 /// Three numbers, where all are there.
 fn all_three(x: Option<u64>, y: Option<u64>, z: Option<u64>) -> Option<(u64, u64, u64)>
     ensures { result ≡ spec.all_three x y z }
@@ -141,7 +134,7 @@ fn numbers_in(cells: &[Cell]) -> Option<(u64, u64, u64)>
     ensures { result ≡ spec.numbers_in cells.now }
 {
     match cells {
-        [x, y, z] => all_three(number_of(*x), number_of(*y), number_of(*z)),
+        [x, y, z] => all_three(x.number(), y.number(), z.number()),
         _ => None,
     }
 }
@@ -151,7 +144,7 @@ fn number_in(cells: &[Cell]) -> Option<u64>
     ensures { result ≡ spec.number_in cells.now }
 {
     match cells {
-        [x] => number_of(*x),
+        [x] => x.number(),
         _ => None,
     }
 }

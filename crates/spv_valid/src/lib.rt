@@ -13,5 +13,4 @@ pub use acceptance::{accept, accepted_modules_pass};
 pub use breaches::refusals_are_least_breaches;
 pub use meanings::Meaning;
 pub use modules::Module;
-pub use stack::counted_chains_are_heaviest;
 pub use validity::accepted_modules_are_valid;

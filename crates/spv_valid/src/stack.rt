@@ -1,46 +1,30 @@
 //! How many cells the frames of an invocation have at most.
-ghost use Rattle.std.specs.Prelude.{◌≡◌, ◌<◌, ◌≤◌, ◌+◌, ℕ, List, IfOk, length, option_copied, slice_index};
+ghost use Rattle.std.specs.Prelude.{◌≡◌, ◌<◌, ℕ, IfOk, length, slice_index};
 ghost use Rattle.std.specs.List.{All};
 ghost use Rattle.std.specs.Option.{option_and_then, option_map};
 ghost use Rattle.spv_types.specs.Cells.{cells_of};
-ghost use Rattle.spv_types.specs.Saturation.{saturated};
-ghost use Rattle.spv_index.specs.Definitions.{type_in};
-ghost use Rattle.spv_cfg.specs.Calls.{calls_in, limit, longest, most};
+ghost use Rattle.spv_base.specs.Saturation.{saturated};
+ghost use Rattle.spv_cfg.specs.Calls.{calls_in};
+ghost use Rattle.spv_cfg.specs.Chains as chains;
 ghost use Rattle.spv_valid.specs.Stack as spec;
 
 use spv_base::{Inst, NoMemory};
 use spv_cfg::Calls;
-use spv_index::Index;
 use spv_index::stands::Stands;
+use spv_index::{Index, type_in};
 use spv_ops::op;
-use spv_types::{Form, TypeTable};
+use spv_types::TypeTable;
+use spv_types::queries::pointee;
 use std::alloc::Global;
-
-/// The type that a pointer type points to.
-fn target_of(form: Option<&Form>) -> Option<u32>
-    ensures { result ≡ spec.target_in (option_copied form.entry) }
-{
-    match form {
-        Some(Form::Pointer { target, .. }) => Some(*target),
-        _ => None,
-    }
-}
-
-/// The type of an instruction's result, where it has one.
-fn result_type(inst: &Inst) -> Option<u32>
-    ensures { result ≡ type_in inst.now }
-{
-    if inst.ty == 0 { None } else { Some(inst.ty) }
-}
 
 /// The type of what an instruction's register or variable keeps.
 fn kept_type(types: &TypeTable, inst: &Inst) -> Option<u32>
     ensures { result ≡ spec.kept_type types.now inst.now }
 {
     if inst.op == op::VARIABLE {
-        target_of(types.form(inst.ty))
+        Some(pointee(types.form(inst.ty))?.target)
     } else {
-        result_type(inst)
+        type_in(inst)
     }
 }
 
@@ -98,62 +82,6 @@ fn weights_of(alloc: Global, kept: &[(usize, u64)], count: usize) -> Result<Vec<
     Ok(weights)
 }
 
-/// By the number of a function, the most that a function has which it calls.
-fn most_called(
-    alloc: Global,
-    calls: &[(usize, usize)],
-    heaviest: &[u64],
-) -> Result<Vec<u64>, NoMemory>
-    requires { All (λ call. (call.0 < length heaviest.now) × (call.1 < length heaviest.now)) calls.now }
-    ensures len { IfOk result (λ called. length called.items ≡ length heaviest.now) }
-    ensures called { IfOk result (λ called. (f : ℕ) → f < length heaviest.now → slice_index called.items f ≡ most (λ g. slice_index heaviest.now g) f calls.now) }
-{
-    let mut called: Vec<u64> = vec![in alloc; 0; heaviest.len()]?;
-    let mut i = calls.len();
-    'back: while i > 0 {
-        i -= 1;
-        let caller = calls[i].0;
-        let cells = called[caller].max(heaviest[calls[i].1]);
-        called[caller] = cells;
-    }
-    Ok(called)
-}
-
-/// Sums, which stop at the greatest u64.
-fn sums(alloc: Global, xs: &[u64], ys: &[u64]) -> Result<Vec<u64>, NoMemory>
-    requires { length xs.now ≡ length ys.now }
-    ensures len { IfOk result (λ sums. length sums.items ≡ length xs.now) }
-    ensures sums { IfOk result (λ sums. (f : ℕ) → f < length xs.now → slice_index sums.items f ≡ saturated (slice_index xs.now f + slice_index ys.now f)) }
-{
-    let mut sums = Vec::new(alloc);
-    for k in 0..xs.len() {
-        sums.push(xs[k].saturating_add(ys[k]))?;
-    }
-    Ok(sums)
-}
-
-/// By the number of a function, the most cells of a chain of calls from it, of the chains of at most 65 functions.
-pub fn heaviest_chains(
-    alloc: Global,
-    calls: &[(usize, usize)],
-    weights: &[u64],
-) -> Result<Vec<u64>, NoMemory>
-    requires { All (λ call. (call.0 < length weights.now) × (call.1 < length weights.now)) calls.now }
-    ensures len { IfOk result (λ heaviest. length heaviest.items ≡ length weights.now) }
-    ensures heaviest { (weigh : ℕ → ℕ) → ((f : ℕ) → f < length weights.now → slice_index weights.now f ≡ saturated (weigh f))
-        → IfOk result (λ heaviest. (f : ℕ) → f < length weights.now → slice_index heaviest.items f ≡ saturated (spec.heaviest limit weigh calls.now f)) }
-{
-    let mut heaviest: Vec<u64> = vec![in alloc; 0; weights.len()]?;
-    let mut most: u32 = 0;
-    'heavier: while most < 65 {
-        let called = most_called(alloc, calls, heaviest.as_slice())?;
-        let heavier = sums(alloc, weights, called.as_slice())?;
-        heaviest = heavier;
-        most += 1;
-    }
-    Ok(heaviest)
-}
-
 /// By the number of a function, the most cells of a chain of calls from it.
 fn chains_of(
     alloc: Global,
@@ -163,11 +91,11 @@ fn chains_of(
 ) -> Result<Vec<u64>, NoMemory>
     ensures len { IfOk result (λ heaviest. length heaviest.items ≡ length calls.now.functions) }
     ensures heaviest { IfOk result (λ heaviest. (f : ℕ) → f < length calls.now.functions
-        → slice_index heaviest.items f ≡ saturated (spec.heaviest limit (spec.weight (spec.cells_by_function types.now calls.now stands.now)) calls.now.list f)) }
+        → slice_index heaviest.items f ≡ saturated (chains.heaviest chains.limit (spec.weight (spec.cells_by_function types.now calls.now stands.now)) calls.now.list f)) }
 {
     let kept = cells_by_function(alloc, types, calls, stands)?;
     let weights = weights_of(alloc, kept.as_slice(), calls.count())?;
-    heaviest_chains(alloc, calls.list(), weights.as_slice())
+    calls.heaviest(alloc, weights.as_slice())
 }
 
 /// The most cells that the frames of an invocation have together, where its first frame is of the function with this id, and
@@ -189,9 +117,3 @@ pub fn stack_cells(
         None => Ok(0),
     }
 }
-
-/// A law, with nothing to run: where no chain of calls from a function has more than 64 functions, the cells counted for it
-/// are those of a chain, and no chain from it has more.
-pub fn counted_chains_are_heaviest()
-    ensures { (weigh : ℕ → ℕ) (calls : List (ℕ × ℕ)) (f : ℕ) → longest limit calls f ≤ 64 → spec.IsHeaviest weigh calls f (spec.heaviest limit weigh calls f) }
-{}

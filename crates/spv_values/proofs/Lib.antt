@@ -1,2 +1,3 @@
-pub mod RowLemmas
-pub mod SingleLemmas
+mod RowLemmas
+mod SingleLemmas
+pub mod Exports

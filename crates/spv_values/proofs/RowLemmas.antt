@@ -1,17 +1,16 @@
 -- Where the row of a part lies, for a slice of a row.
-use Rattle.std.proofs.Common.{◌≡◌, ◌∙◌, ℕ, ◌+◌, ◌<◌, ◌≤◌, List, [], ◌∷◌, ◌++◌, Some, length, slice_set, arith, rules, refl, sym, ap, subst, take, drop}
+use Rattle.std.proofs.Common.{◌≡◌, ◌∙◌, ℕ, ◌+◌, ◌<◌, ◌≤◌, List, [], ◌∷◌, ◌++◌, Some, length, slice_set, arith, refl, sym, ap, subst, take, drop}
 use Rattle.std.specs.Prelude.{IsSome}
 use Rattle.std.proofs.Math.Logic.{∥∥₁_elim}
 use Rattle.std.proofs.Props.{props}
 use Rattle.std.specs.Coded.{codes}
 use Rattle.spv_base.specs.Cell.{Cell}
 use Rattle.spv_base.specs.Parts.{part_at, with_part}
-use Rattle.spv_base.specs.declared.values.Value.{Value, Scalar, List as Many, out-Value, the_lemmas}
+use Rattle.spv_base.specs.declared.values.Value.{Value, Scalar, List as Many, out-Value}
 use Rattle.spv_base.specs.declared.values.Value.TheOpen.{Value-F}
 use Rattle.spv_types.specs.Rows.{HasRow, leaves}
 use Rattle.spv_types.specs.Shapes.{scalar_in}
-use Rattle.spv_types.proofs.RowLemmas.{leaves_many, scalar_row}
-use Rattle.spv_types.proofs.RowPlaces.{lies_at, lies_within, lies_written}
+use Rattle.spv_types.proofs.Exports.{leaves_many, scalar_row, leaves_scalar, lies_at, lies_within, lies_written}
 use Rattle.spv_values.specs.Places.{IsRowAt}
 
 pub row_within : (v : Value) (path : List ℕ) (n k : ℕ) → IsRowAt v path n k → n + k ≤ length (leaves v)
@@ -59,19 +58,15 @@ one_leaf v h = level (out-Value v) refl h
     level (Value-F.List vs) e h = absurd cc
     level (Value-F.Ptr p) e h = absurd cc
 
-pub scalar_leaf : (c : Cell) → leaves (Scalar c) ≡ c ∷ []
-unfolding leaves
-scalar_leaf c = search (rules, the_lemmas)
-
 pub one_set : (ls : List Cell) (c : Cell) → length ls ≡ 1 → leaves (Scalar c) ≡ slice_set ls 0 c
 one_set [] c h = absurd cc
-one_set (d ∷ []) c h = scalar_leaf c
+one_set (d ∷ []) c h = leaves_scalar c
 one_set (d ∷ e ∷ ls) c h = absurd cc
 
 pub one_row : (v : Value) (c : Cell) → IsSome (scalar_in (out-Value v)) → leaves (Scalar c) ≡ slice_set (leaves v) 0 c
 one_row v c h = level (out-Value v) refl h
   where
     level : (l : Value-F Value) → out-Value v ≡ l → IsSome (scalar_in l) → leaves (Scalar c) ≡ slice_set (leaves v) 0 c
-    level (Value-F.Scalar d) e h = scalar_leaf c ∙ ap (λ (ls : List Cell). slice_set ls 0 c) (sym (scalar_row v d e))
+    level (Value-F.Scalar d) e h = leaves_scalar c ∙ ap (λ (ls : List Cell). slice_set ls 0 c) (sym (scalar_row v d e))
     level (Value-F.List vs) e h = absurd cc
     level (Value-F.Ptr p) e h = absurd cc

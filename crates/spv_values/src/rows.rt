@@ -58,7 +58,7 @@ impl Row {
     }
 
     /// A scalar.
-    #[tactic(auto, using(crate::proofs::RowLemmas::scalar_leaf))]
+    #[tactic(auto, using(spv_types::proofs::Exports::leaves_scalar))]
     pub fn of_cell(alloc: Global, cell: Cell) -> Result<Row, NoMemory>
         ensures { IfOk result (λ row. row ≡ Scalar cell) }
     {
@@ -121,7 +121,7 @@ impl Row {
     }
 
     /// Puts a scalar in the place of a value of one cell. It takes no memory.
-    #[tactic(auto, using(crate::proofs::RowLemmas::scalar_leaf, crate::proofs::RowLemmas::one_set))]
+    #[tactic(auto, using(spv_types::proofs::Exports::leaves_scalar, crate::proofs::RowLemmas::one_set))]
     pub fn put_lane(&mut self, cell: Cell)
         requires { length (leaves self.old) ≡ 1 }
         ensures { self.new ≡ Scalar cell }

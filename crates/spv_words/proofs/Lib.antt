@@ -1,4 +1,5 @@
-pub mod CutLemmas
-pub mod HeaderLemmas
-pub mod WordLemmas
-pub mod CutLaws
+mod CutLemmas
+mod HeaderLemmas
+mod WordLemmas
+mod CutLaws
+pub mod Exports

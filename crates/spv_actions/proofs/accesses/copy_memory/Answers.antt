@@ -5,7 +5,7 @@ use Rattle.spv_mem.specs.Memory.{Held as Memory, IsMemory}
 use Rattle.spv_valid.specs.Acceptance.{Accepted}
 use Rattle.spv_valid.specs.Validity.{IsValid}
 use Rattle.spv_operands.specs.Operands.{shown}
-use Rattle.spv_results.proofs.SoundTypes.{sound_types}
+use Rattle.spv_results.proofs.Exports.{sound_types}
 use Rattle.spv_actions.specs.Fits.{StoreFits}
 use Rattle.spv_actions.specs.Sites.{part_of, values}
 use Rattle.spv_actions.proofs.AccessLemmas.{no_value_due, outside_due, stores}

@@ -6,7 +6,7 @@ use Rattle.spv_valid.specs.Acceptance.{Accepted}
 use Rattle.spv_valid.specs.Validity.{IsValid}
 use Rattle.spv_operands.specs.Operands.{shown}
 use Rattle.spv_results.specs.Operands.{IsResult}
-use Rattle.spv_results.proofs.SoundTypes.{sound_types}
+use Rattle.spv_results.proofs.Exports.{sound_types}
 use Rattle.spv_actions.specs.Effects.{gives}
 use Rattle.spv_actions.specs.Sites.{part_of, values}
 use Rattle.spv_actions.proofs.AccessLemmas.{load_gives, load_missing, load_outside, load_shape, no_value_due, outside_due}

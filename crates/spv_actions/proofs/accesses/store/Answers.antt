@@ -5,7 +5,7 @@ use Rattle.spv_valid.specs.Acceptance.{Accepted}
 use Rattle.spv_valid.specs.Validity.{IsValid}
 use Rattle.spv_operands.specs.Operands.{shown}
 use Rattle.spv_results.specs.Operands.{IsOperand}
-use Rattle.spv_results.proofs.SoundTypes.{sound_types}
+use Rattle.spv_results.proofs.Exports.{sound_types}
 use Rattle.spv_actions.specs.Sites.{part_of, values}
 use Rattle.spv_actions.proofs.AccessLemmas.{no_value_due, outside_due, store_fits, store_gives, store_missing, store_outside, store_without, stores}
 use Rattle.spv_actions.proofs.EffectLemmas.{storing}

@@ -4,9 +4,9 @@ use Rattle.spv_base.specs.declared.values.Root.{Root}
 use Rattle.spv_operands.specs.Operands.{shown}
 use Rattle.spv_operands.specs.Values.{pointer_to}
 use Rattle.spv_operands.specs.declared.operands.Operand.{Operand}
-use Rattle.spv_operands.proofs.ShapeLemmas.{out_pointer}
 use Rattle.spv_actions.specs.Effects.{pointer}
 use Rattle.spv_actions.proofs.accesses.target.Goals as goal
+use Rattle.spv_base.proofs.Exports.{out_pointer}
 
 -- the pointer that a whole variable is
 whole_pointer : (r : Root) → pointer (pointer_to r) ≡ Ok (record { root = r; path = [] })

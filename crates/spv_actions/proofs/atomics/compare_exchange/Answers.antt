@@ -3,7 +3,7 @@ use Rattle.spv_base.specs.Cell.{Cell}
 use Rattle.spv_types.specs.Laws.{AreSound}
 use Rattle.spv_valid.specs.Acceptance.{Accepted}
 use Rattle.spv_operands.specs.Operands.{shown}
-use Rattle.spv_results.proofs.SoundTypes.{sound_types}
+use Rattle.spv_results.proofs.Exports.{sound_types}
 use Rattle.spv_actions.specs.AtomicSites.{first_of_three, scalar, target}
 use Rattle.spv_actions.specs.Atomics.{exchanges}
 use Rattle.spv_actions.specs.Effects.{Effect}

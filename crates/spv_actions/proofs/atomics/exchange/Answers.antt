@@ -4,7 +4,7 @@ use Rattle.spv_base.specs.declared.values.Value.{Scalar}
 use Rattle.spv_types.specs.Laws.{AreSound}
 use Rattle.spv_mem.specs.Memory.{Held as Memory, IsMemory}
 use Rattle.spv_valid.specs.Acceptance.{Accepted}
-use Rattle.spv_results.proofs.SoundTypes.{sound_types}
+use Rattle.spv_results.proofs.Exports.{sound_types}
 use Rattle.spv_actions.specs.Fits.{StoreFits}
 use Rattle.spv_actions.proofs.AtomicLemmas.{exchange_fits}
 use Rattle.spv_actions.proofs.EffectLemmas.{result_fits}

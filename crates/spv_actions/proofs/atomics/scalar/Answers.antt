@@ -1,7 +1,7 @@
 use Rattle.std.proofs.Common.{subst, Ok}
 use Rattle.spv_types.specs.Laws.{AreSound}
 use Rattle.spv_valid.specs.Acceptance.{Accepted}
-use Rattle.spv_results.proofs.SoundTypes.{sound_types}
+use Rattle.spv_results.proofs.Exports.{sound_types}
 use Rattle.spv_actions.proofs.AtomicLemmas.{lane_scalar, scalar_operand}
 use Rattle.spv_actions.proofs.AtomicSteps.{found_is, scalar_ok}
 use Rattle.spv_actions.proofs.atomics.scalar.Goals as goal

@@ -4,7 +4,7 @@ use Rattle.spv_types.specs.Laws.{AreSound}
 use Rattle.spv_mem.specs.Memory.{Held as Memory, IsMemory, IsScalarAt, load_of}
 use Rattle.spv_valid.specs.Acceptance.{Accepted}
 use Rattle.spv_operands.specs.Operands.{shown}
-use Rattle.spv_results.proofs.SoundTypes.{sound_types}
+use Rattle.spv_results.proofs.Exports.{sound_types}
 use Rattle.spv_actions.proofs.AtomicLemmas.{is_target, lane_scalar, scalar_there}
 use Rattle.spv_actions.proofs.AtomicSteps.{target_ok}
 use Rattle.spv_actions.proofs.atomics.target.Goals as goal

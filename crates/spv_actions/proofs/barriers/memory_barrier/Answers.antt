@@ -1,6 +1,7 @@
 use Rattle.std.proofs.Common.{◌≡◌, ◌∙◌, Err, Ok, rules}
 use Rattle.spv_base.specs.declared.values.Value.{Value}
-use Rattle.spv_actions.specs.Effects.{passes, ◌>>=◌}
+use Rattle.spv_ops.specs.Steps.{◌>>=◌}
+use Rattle.spv_actions.specs.Effects.{passes}
 use Rattle.spv_actions.proofs.AccessLemmas.{outside_due}
 use Rattle.spv_actions.proofs.AtomicSteps.{err_then, memory_is, ok_then, operand}
 use Rattle.spv_actions.proofs.BarrierLemmas.{asked, missing}

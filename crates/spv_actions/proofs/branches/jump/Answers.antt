@@ -1,7 +1,7 @@
 use Rattle.std.proofs.Common.{map, subst}
 use Rattle.spv_valid.specs.Acceptance.{Accepted, IsAccepted}
 use Rattle.spv_valid.specs.Validity.{IsValid}
-use Rattle.spv_state.proofs.AcceptedLemmas.{known}
+use Rattle.spv_state.proofs.Exports.{known}
 use Rattle.spv_actions.specs.Phis.{block_at}
 use Rattle.spv_actions.specs.Planned.{phi_value}
 use Rattle.spv_actions.proofs.PhiLemmas.{block_fits}

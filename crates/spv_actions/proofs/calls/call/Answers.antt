@@ -1,7 +1,7 @@
 use Rattle.std.proofs.Common.{◌≡◌, ◌∙◌, ℕ, Err, Ok, ap, rules, subst, sym}
 use Rattle.std.specs.List.{Contains}
 use Rattle.spv_plans.specs.Plans.{functions_in}
-use Rattle.spv_state.proofs.EventLemmas.{readable}
+use Rattle.spv_state.proofs.Exports.{readable}
 use Rattle.spv_state.specs.declared.actions.Action.TheVariants.{Call}
 use Rattle.spv_actions.specs.Effects.{Enter, goes}
 use Rattle.spv_actions.specs.Fits.{Fits}

@@ -6,7 +6,7 @@ use Rattle.spv_frame.specs.Registers.{Planned}
 use Rattle.spv_operands.specs.Operands.{shown}
 use Rattle.spv_plans.specs.Plans.{plan_of}
 use Rattle.spv_valid.specs.Acceptance.{Accepted, IsAccepted}
-use Rattle.spv_state.proofs.StartSound.{function_frame}
+use Rattle.spv_state.proofs.Exports.{function_frame}
 use Rattle.spv_actions.specs.Passing.{IsParameter, Suits, frame_due}
 use Rattle.spv_actions.specs.Sites.{values}
 use Rattle.spv_actions.proofs.PassingLemmas.{Begins, argument_missing, begins_all, begins_fault, begins_fresh, begins_next, parameter_there, passed_at}

@@ -7,7 +7,7 @@ use Rattle.spv_valid.specs.Acceptance.{Accepted}
 use Rattle.spv_valid.specs.Validity.{IsValid}
 use Rattle.spv_state.specs.Program.{Program}
 use Rattle.spv_state.specs.Variables.{variables_of}
-use Rattle.spv_state.proofs.BegunLemmas.{function_are}
+use Rattle.spv_state.proofs.Exports.{function_are}
 use Rattle.spv_actions.proofs.PassingLemmas.{locals_are}
 use Rattle.spv_actions.proofs.calls.locals_of.Goals as goal
 

@@ -3,7 +3,7 @@ use Rattle.spv_base.specs.declared.values.Value.{Value}
 use Rattle.spv_types.specs.Laws.{AreSound}
 use Rattle.spv_valid.specs.Acceptance.{Accepted}
 use Rattle.spv_results.specs.Operands.{IsOperand}
-use Rattle.spv_results.proofs.SoundTypes.{sound_types}
+use Rattle.spv_results.proofs.Exports.{sound_types}
 use Rattle.spv_state.specs.declared.actions.Action.TheVariants.{ReturnValue}
 use Rattle.spv_actions.specs.Effects.{Leave, goes}
 use Rattle.spv_actions.specs.Sites.{values}

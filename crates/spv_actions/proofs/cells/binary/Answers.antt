@@ -3,7 +3,7 @@ use Rattle.spv_types.specs.Laws.{AreSound}
 use Rattle.spv_valid.specs.Acceptance.{Accepted}
 use Rattle.spv_results.specs.Operands.{known}
 use Rattle.spv_results.specs.declared.computations.Computation.TheVariants as computation
-use Rattle.spv_results.proofs.SoundTypes.{sound_types}
+use Rattle.spv_results.proofs.Exports.{sound_types}
 use Rattle.spv_actions.specs.declared.effects.Gain.TheVariants.{Row}
 use Rattle.spv_actions.proofs.CellLemmas.{gives_cell}
 use Rattle.spv_actions.proofs.DataLemmas.{binary_has, lane_operands}

@@ -6,7 +6,7 @@ use Rattle.spv_valid.specs.Acceptance.{Accepted}
 use Rattle.spv_valid.specs.Validity.{IsValid}
 use Rattle.spv_operands.specs.Values.{pointer_to}
 use Rattle.spv_results.specs.Operands.{IsResult}
-use Rattle.spv_results.proofs.SoundTypes.{sound_types}
+use Rattle.spv_results.proofs.Exports.{sound_types}
 use Rattle.spv_state.specs.State.{frames_of}
 use Rattle.spv_actions.specs.Effects.{gives}
 use Rattle.spv_actions.specs.Sites.{accepted, part_of}

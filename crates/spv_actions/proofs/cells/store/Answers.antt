@@ -6,7 +6,7 @@ use Rattle.spv_valid.specs.Acceptance.{Accepted}
 use Rattle.spv_valid.specs.Validity.{IsValid}
 use Rattle.spv_operands.specs.Values.{pointer_to}
 use Rattle.spv_results.specs.Operands.{IsOperand}
-use Rattle.spv_results.proofs.SoundTypes.{sound_types}
+use Rattle.spv_results.proofs.Exports.{sound_types}
 use Rattle.spv_actions.specs.Cells.{whole}
 use Rattle.spv_actions.specs.Effects.{pointer}
 use Rattle.spv_actions.specs.Sites.{accepted, part_of}

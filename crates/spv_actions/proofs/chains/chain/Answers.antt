@@ -5,7 +5,7 @@ use Rattle.spv_types.specs.Laws.{AreSound}
 use Rattle.spv_valid.specs.Acceptance.{Accepted}
 use Rattle.spv_valid.specs.Validity.{IsValid}
 use Rattle.spv_operands.specs.Operands.{shown}
-use Rattle.spv_results.proofs.SoundTypes.{sound_types}
+use Rattle.spv_results.proofs.Exports.{sound_types}
 use Rattle.spv_actions.specs.Chains.{chained_pointer, indexes}
 use Rattle.spv_actions.specs.Effects.{gives}
 use Rattle.spv_actions.specs.Fits.{Fits}

@@ -1,7 +1,7 @@
 use Rattle.std.proofs.Common.{◌≡◌, Err, rules, subst}
 use Rattle.spv_types.specs.Laws.{AreSound}
 use Rattle.spv_valid.specs.Acceptance.{Accepted}
-use Rattle.spv_results.proofs.SoundTypes.{sound_types}
+use Rattle.spv_results.proofs.Exports.{sound_types}
 use Rattle.spv_actions.proofs.EffectLemmas.{computed_due, computed_fault, gain_fits, gain_taken}
 use Rattle.spv_actions.proofs.RootedLemmas.{gain_rooted}
 use Rattle.spv_actions.proofs.computing.compute.Goals as goal

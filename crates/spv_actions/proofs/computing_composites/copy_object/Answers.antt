@@ -3,7 +3,7 @@ use Rattle.std.specs.Option.{option_map}
 use Rattle.spv_types.specs.Laws.{AreSound}
 use Rattle.spv_valid.specs.Acceptance.{Accepted}
 use Rattle.spv_operands.specs.Operands.{pointer_of, referred, shown}
-use Rattle.spv_results.proofs.SoundTypes.{sound_types}
+use Rattle.spv_results.proofs.Exports.{sound_types}
 use Rattle.spv_actions.proofs.PointerLemmas.{lent_shape, pointer_is, pointer_shape}
 use Rattle.spv_actions.proofs.RootedLemmas.{site_root}
 use Rattle.spv_actions.proofs.computing_composites.copy_object.Goals as goal

@@ -3,7 +3,7 @@ use Rattle.spv_actions.proofs.CompositeLemmas.{insert_dynamic_data}
 use Rattle.std.proofs.Common.{subst}
 use Rattle.spv_types.specs.Laws.{AreSound}
 use Rattle.spv_valid.specs.Acceptance.{Accepted}
-use Rattle.spv_results.proofs.SoundTypes.{sound_types}
+use Rattle.spv_results.proofs.Exports.{sound_types}
 use Rattle.spv_actions.proofs.computing_composites.insert_dynamic.Goals as goal
 
 pub value-requires : goal.value-requires

@@ -1,8 +1,8 @@
 use Rattle.std.proofs.Common.{◌≡◌, drop}
 use Rattle.std.specs.List.{flat_map}
-use Rattle.spv_cfg.specs.Lowest.{lowest, sooner}
+use Rattle.spv_base.specs.Lowest.{lower, lowest}
 use Rattle.spv_cfg.specs.Branches.{branch_breach}
 use Rattle.spv_cfg.proofs.branches.branch_breach.Given as goal
 
 abbrev pub invariant-loop-n : goal.invariant-loop-n
-invariant-loop-n l = sooner l.least (lowest (flat_map (branch_breach l.index.insts) (drop l.n l.stands))) ≡ lowest (flat_map (branch_breach l.index.insts) l.stands)
+invariant-loop-n l = lower l.least (lowest (flat_map (branch_breach l.index.insts) (drop l.n l.stands))) ≡ lowest (flat_map (branch_breach l.index.insts) l.stands)

@@ -1,4 +1,4 @@
-use Rattle.spv_cfg.proofs.Chains.{depths_more, depths_all}
+use Rattle.spv_cfg.proofs.ChainLemmas.{depths_more, depths_all}
 use Rattle.spv_cfg.proofs.calls.depths_of.Goals as goal
 
 pub loop-k-preserved : goal.loop-k-preserved

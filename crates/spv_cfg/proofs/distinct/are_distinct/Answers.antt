@@ -1,7 +1,7 @@
 use Rattle.std.proofs.Common.{◌≡◌, ◌-◌, not, eqb, get_or, drop, refl, ap, ◌∙◌, arith}
 use Rattle.std.proofs.lemmas.Grind.{common_steps}
 use Rattle.std.specs.List.{list_any}
-use Rattle.spv_index.proofs.ListLemmas.{drop_back}
+use Rattle.spv_index.proofs.Exports.{drop_back}
 use Rattle.spv_cfg.proofs.distinct.are_distinct.Goals as goal
 
 pub back-preserved-then-is_new : goal.back-preserved-then-is_new

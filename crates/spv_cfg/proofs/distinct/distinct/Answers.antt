@@ -3,7 +3,7 @@ use Rattle.std.proofs.lemmas.Bool.{not-true, not-false}
 use Rattle.std.proofs.lemmas.Grind.{common_steps}
 use Rattle.std.proofs.lemmas.List.{append-nil}
 use Rattle.std.specs.List.{list_any}
-use Rattle.spv_index.proofs.ListLemmas.{drop_back}
+use Rattle.spv_index.proofs.Exports.{drop_back}
 use Rattle.spv_cfg.proofs.distinct.distinct.Goals as goal
 
 pub back-preserved-in-Continue-branch-2 : goal.back-preserved-in-Continue-branch-2

@@ -2,7 +2,7 @@ use Rattle.std.proofs.Common.{◌≡◌, ◌-◌, ℕ, eqb, get_or, drop, arith}
 use Rattle.std.proofs.lemmas.Grind.{common_steps}
 use Rattle.std.specs.List.{count_by}
 use Rattle.spv_cfg.proofs.Orders.{count_step}
-use Rattle.spv_index.proofs.ListLemmas.{drop_back}
+use Rattle.spv_index.proofs.Exports.{drop_back}
 use Rattle.spv_cfg.proofs.edges.counts_of.Goals as goal
 
 pub back-preserved : goal.back-preserved

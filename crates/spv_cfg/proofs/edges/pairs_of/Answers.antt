@@ -1,6 +1,6 @@
 use Rattle.std.proofs.Common.{arith}
 use Rattle.spv_cfg.proofs.Orders.{pair_step}
-use Rattle.spv_index.proofs.ListLemmas.{drop_back}
+use Rattle.spv_index.proofs.Exports.{drop_back}
 use Rattle.spv_cfg.proofs.edges.pairs_of.Goals as goal
 
 pub back-preserved : goal.back-preserved

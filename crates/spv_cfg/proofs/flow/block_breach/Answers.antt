@@ -4,7 +4,7 @@ use Rattle.spv_index.specs.Positions.{outside}
 use Rattle.spv_cfg.specs.Branches.{branch_breaches}
 use Rattle.spv_cfg.specs.Phis.{phi_breaches}
 use Rattle.spv_cfg.specs.Layout.{layout_breaches}
-use Rattle.spv_cfg.proofs.LowestLemmas.{lowest-append}
+use Rattle.spv_base.proofs.Exports.{lowest-append}
 use Rattle.spv_cfg.proofs.Walks.{behind_stands}
 use Rattle.spv_cfg.proofs.flow.block_breach.Goals as goal
 
@@ -12,8 +12,8 @@ pub returns : goal.returns
 returns c =
     let insts = c.args.index.now.insts in
     rw (
-      c.sooner-2.ensures,
-      c.sooner.ensures,
+      c.lower-2.ensures,
+      c.lower.ensures,
       c.layout_breach-layout.ensures,
       c.in_ok-branches.ensures,
       c.in_ok-phis.ensures,

@@ -2,10 +2,10 @@ use Rattle.std.proofs.Common.{◌≡◌, ◌<◌, [], ◌∷◌, ◌++◌, List,
 use Rattle.std.proofs.lemmas.List.{append-nil}
 use Rattle.spv_cmd.specs.declared.command.PathPart.{PathPart}
 use Rattle.spv_cmd.specs.Paths.{IsPart, AreParts}
-use Rattle.spv_cmd.proofs.BoolLemmas.{some_when, empty_when}
 use Rattle.spv_cmd.proofs.ReadsLemmas.{reads_through}
 use Rattle.spv_cmd.proofs.PartLemmas.{no_first, part_sound, part_complete}
 use Rattle.spv_cmd.proofs.paths.parts.Goals as goal
+use Rattle.spv_base.proofs.Exports.{some_when, empty_when}
 
 pub returns-in_err-part : goal.returns-in_err-part
 returns-in_err-part c =

@@ -1,8 +1,8 @@
 use Rattle.std.proofs.Common.{refl, ◌≡◌, ◌<◌, [], length, sym, subst, Some}
 use Rattle.spv_cmd.specs.Places.{IsPlace}
-use Rattle.spv_cmd.proofs.BoolLemmas.{some_when, empty_when}
 use Rattle.spv_cmd.proofs.PlaceLemmas.{no_line, no_file, file_is}
 use Rattle.spv_cmd.proofs.places.place.Goals as goal
+use Rattle.spv_base.proofs.Exports.{some_when, empty_when}
 
 pub returns-in-None : goal.returns-in-None
 returns-in-None c = (refl, no_line c.args.text.now c.split_at.result.0.now c.split_at.result.1.now c.behind_colon.result c.split_at.ensures.front c.split_at.ensures.back c.behind_colon.ensures.colon c.behind_colon.ensures.last (cc))

@@ -1,5 +1,5 @@
 use Rattle.std.proofs.Common.{◌≡◌, ◌+◌, ◌^◌, ◌<◌, drop, length}
-use Rattle.spv_types.specs.Saturation.{saturated}
+use Rattle.spv_base.specs.Saturation.{saturated}
 use Rattle.spv_dbg.specs.Sources.{continuation}
 use Rattle.spv_dbg.proofs.sources.continuation_len.Given as goal
 

@@ -1,6 +1,6 @@
 use Rattle.std.proofs.Common.{◌∙◌, sym, ap}
 use Rattle.spv_types.specs.Rows.{leaves}
-use Rattle.spv_types.proofs.RowLemmas.{leaves_many}
+use Rattle.spv_types.proofs.Exports.{leaves_many}
 use Rattle.spv_effects.proofs.composites.list_row.Goals as goal
 
 pub with_tree-requires : goal.with_tree-requires

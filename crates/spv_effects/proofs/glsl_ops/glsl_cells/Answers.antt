@@ -2,7 +2,7 @@ use Rattle.std.proofs.Common.{◌∙◌, ◌<◌, List, [], ◌∷◌, ◌++◌,
 use Rattle.std.proofs.Math.Seq.{take-suc-set}
 use Rattle.spv_alu.specs.Glsl.{glsl_lane}
 use Rattle.spv_base.specs.Cell.{Cell}
-use Rattle.spv_effects.specs.Lanes.{zip3}
+use Rattle.spv_alu.specs.Lanes.{zip3}
 use Rattle.spv_effects.proofs.ListLemmas.{zip3-more}
 use Rattle.spv_effects.proofs.glsl_ops.glsl_cells.Goals as goal
 

@@ -1,6 +1,6 @@
 use Rattle.std.proofs.Common.{◌≡◌, take}
 use Rattle.spv_alu.specs.Glsl.{glsl_lane}
-use Rattle.spv_effects.specs.Lanes.{zip3}
+use Rattle.spv_alu.specs.Lanes.{zip3}
 use Rattle.spv_effects.proofs.glsl_ops.glsl_cells.Given as goal
 
 abbrev pub invariant-loop-i : goal.invariant-loop-i

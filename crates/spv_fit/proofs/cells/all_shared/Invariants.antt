@@ -1,5 +1,5 @@
 use Rattle.std.proofs.Common.{◌≡◌, ◌<◌, ◌^◌, ◌+◌, drop}
-use Rattle.spv_types.specs.Saturation.{saturated}
+use Rattle.spv_base.specs.Saturation.{saturated}
 use Rattle.spv_fit.specs.Cells.{all_shared}
 use Rattle.spv_fit.proofs.cells.all_shared.Given as goal
 

@@ -1,5 +1,5 @@
 use Rattle.std.proofs.Common.{sym}
-use Rattle.spv_types.proofs.RuleLemmas.{last_type_is}
+use Rattle.spv_types.proofs.Exports.{last_type_is}
 use Rattle.spv_initial.proofs.elements.last_type.Goals as goal
 
 pub returns-in-Some : goal.returns-in-Some

@@ -16,7 +16,7 @@ use Rattle.spv_machine.proofs.LeaveLemmas.{leave_locals, reached_some}
 use Rattle.spv_machine.proofs.ReturnLemmas.{CalledBy, LeftAt, given_rooted, left_finished, left_to}
 use Rattle.spv_machine.proofs.ReachedLemmas.{Facts, facts, levels_inside}
 use Rattle.spv_machine.proofs.Recording.{records_more, records_on}
-use Rattle.spv_base.proofs.EntryLemmas.{length_change}
+use Rattle.spv_base.proofs.Exports.{length_change}
 use Rattle.spv_machine.proofs.applying.leave.Goals as goal
 
 pub leave-requires-clause-stacks : goal.leave-requires-clause-stacks

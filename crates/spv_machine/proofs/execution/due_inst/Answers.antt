@@ -2,7 +2,7 @@ use Rattle.std.proofs.Common.{◌≡◌, Some, None, ap, sym, ◌∙◌}
 use Rattle.spv_index.specs.Definitions.{at}
 use Rattle.spv_statuses.specs.declared.invocations.Status.TheVariants.{Ready}
 use Rattle.spv_valid.specs.Acceptance.{Accepted}
-use Rattle.spv_state.proofs.AcceptedLemmas.{IsKnown, known_as}
+use Rattle.spv_state.proofs.Exports.{IsKnown, known_as}
 use Rattle.spv_machine.proofs.StatusSteps.{HasTop, has_top, ready_at}
 use Rattle.spv_machine.proofs.execution.due_inst.Goals as goal
 

@@ -9,7 +9,7 @@ use Rattle.spv_journal.specs.Held.{Records}
 use Rattle.spv_state.specs.Events.{pass}
 use Rattle.spv_state.specs.Sound.{IsSoundFrame}
 use Rattle.spv_state.specs.State.{State, set_status}
-use Rattle.spv_state.proofs.AcceptedLemmas.{IsKnown, known_as}
+use Rattle.spv_state.proofs.Exports.{IsKnown, known_as}
 use Rattle.spv_machine.specs.Step.{go_on, next_of}
 use Rattle.spv_machine.specs.Weights.{events_before}
 use Rattle.spv_machine.proofs.StatusSteps.{HasTop, barrier_next, has_top, moved_is}

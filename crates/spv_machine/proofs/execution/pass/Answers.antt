@@ -4,7 +4,7 @@ use Rattle.spv_frame.specs.Frames.{Held as Frame}
 use Rattle.spv_statuses.specs.declared.invocations.Status.TheVariants.{Passed, Ready}
 use Rattle.spv_state.specs.Sound.{IsSound}
 use Rattle.spv_state.specs.State.{State, set_status, top_of}
-use Rattle.spv_state.proofs.AcceptedLemmas.{IsKnown, known_as}
+use Rattle.spv_state.proofs.Exports.{IsKnown, known_as}
 use Rattle.spv_machine.specs.Does.{Does}
 use Rattle.spv_machine.specs.Step.{Moves, go_on, plain, step_of}
 use Rattle.spv_machine.specs.Weights.{events_before}

@@ -4,9 +4,9 @@ use Rattle.spv_base.specs.declared.values.PassedEvent.{PassedEvent}
 use Rattle.spv_journal.specs.Held.{Records}
 use Rattle.spv_state.specs.Events.{IsReadableAt, captures_before, due_at, pass}
 use Rattle.spv_state.specs.State.{State, on_frame, top_of, with_pc}
-use Rattle.spv_state.proofs.EventLemmas.{passed_is}
+use Rattle.spv_state.proofs.Exports.{passed_is, stacks_stay}
 use Rattle.spv_machine.specs.Weights.{events_before}
-use Rattle.spv_machine.proofs.PassedLemmas.{come_readable, due_counted, frame_stays, none_due, none_passed, none_there, sound_some, stacks_stay, with_events}
+use Rattle.spv_machine.proofs.PassedLemmas.{come_readable, due_counted, frame_stays, none_due, none_passed, none_there, sound_some, with_events}
 use Rattle.spv_machine.proofs.Recording.{records_more, records_on}
 use Rattle.spv_machine.proofs.passing.come_to.Goals as goal
 

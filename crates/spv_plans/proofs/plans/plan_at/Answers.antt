@@ -5,12 +5,12 @@ use Rattle.spv_base.specs.declared.instructions.Inst.{Inst}
 use Rattle.spv_index.specs.Positions.{Stand, stands_of}
 use Rattle.spv_types.specs.Types.{Types}
 use Rattle.spv_frame.specs.Registers.{Planned}
-use Rattle.spv_frame.proofs.StackLemmas.{if_ok}
 use Rattle.spv_plans.specs.Members.{first_stop, is_stop}
 use Rattle.spv_plans.specs.Plans.{IsPlan}
 use Rattle.spv_plans.specs.Registers.{AreCounted}
 use Rattle.spv_plans.proofs.PlanLemmas.{counted_there, function_here, lists_here, plan_is, pointers_apart, read_here, stops_there, values_apart}
 use Rattle.spv_plans.proofs.plans.plan_at.Goals as goal
+use Rattle.std.proofs.lemmas.Result.{IfOk-weaker}
 
 pub first_stop-first-requires : goal.first_stop-first-requires
 first_stop-first-requires c =
@@ -50,7 +50,7 @@ returns-clause-function c =
     let a = c.args.accepted.now in
     let at = function_here _ c.requires in
     let is = read_here a.insts c.insts.result.now c.args.n at.0 c.index-insts-n.result c.insts.ensures.insts at.1 in
-    if_ok c.finish.result _ _
+    IfOk-weaker c.finish.result _ _
     (λ (plan : Planned) (e : plan ≡ c.in_ok-draft.draft).
     ap (option_map (λ (i : Inst). i.id)) at.1 ∙ ap (λ (i : Inst). Some i.id) (sym is) ∙ ap Some (sym c.in_ok-draft.ensures.function) ∙ ap (λ (p : Planned). Some p.function) (sym e))
     c.finish.ensures
@@ -65,4 +65,4 @@ returns-clause-plan c =
     let first : first_stop (drop (c.args.n + 1) (stands_of a.insts)) ≡ Some c.in_ok-draft.draft.first
     = sym (ap (λ (ss : List Stand). first_stop (drop (c.args.n + 1) ss)) same) ∙ c.first_stop-first.ensures ∙ ap Some (sym c.in_ok-draft.ensures.first) in
     let is_plan : IsPlan a c.in_ok-draft.draft = plan_is a c.args.n at.0 c.insts.ensures.accepted c.insts.ensures.valid at.1 at.2 c.in_ok-draft.draft (c.in_ok-draft.ensures.function ∙ ap (λ (i : Inst). i.id) is) first lists in
-    if_ok c.finish.result _ _ (λ (plan : Planned) (e : plan ≡ c.in_ok-draft.draft). subst (IsPlan a) (sym e) is_plan) c.finish.ensures
+    IfOk-weaker c.finish.result _ _ (λ (plan : Planned) (e : plan ≡ c.in_ok-draft.draft). subst (IsPlan a) (sym e) is_plan) c.finish.ensures

@@ -6,12 +6,12 @@ use Rattle.spv_base.specs.declared.instructions.Inst.{Inst}
 use Rattle.spv_cfg.specs.Calls.{functions_of}
 use Rattle.spv_frame.specs.Registers.{Planned}
 use Rattle.spv_frame.specs.declared.plans.Plan.{Plan}
-use Rattle.spv_frame.proofs.StackLemmas.{if_ok}
 use Rattle.spv_plans.specs.Plans.{IsPlan, functions_in}
 use Rattle.spv_plans.proofs.PlanOfLemmas.{plans_are}
 use Rattle.spv_plans.proofs.ReadLemmas.{Reading, all_read, grown, id_is, none_there, one_read}
 use Rattle.spv_plans.proofs.plans.plans_of.Goals as goal
 use Rattle.spv_plans.proofs.plans.plans_of.Goals.{then-inst-eq-FUNCTION+in_ok-plan+in_ok-new+in_ok-push, else-inst-eq-FUNCTION}
+use Rattle.std.proofs.lemmas.Result.{IfOk-weaker}
 
 pub loop-n-preserved : goal.loop-n-preserved
 loop-n-preserved c =
@@ -40,4 +40,4 @@ returns-clause-are c =
     let functions : map (λ (p : Planned). p.function) ps ≡ functions_in a
     = all_read a insts ps c.loop-n.n c.loop-n.invariant past ∙ ap (λ (is : List Inst). map (λ (f : ℕ × ℕ). f.0) (functions_of is)) c.insts-insts.ensures.insts in
     let only = λ (p : Planned) (is : IsPlan a p). c.functions_have_their_plans.ensures.only a p c.insts-insts.ensures.accepted is in
-    if_ok c.new-2.result _ _ (λ (plans : List Planned) (e : plans ≡ ps). e ∙ plans_are a ps (functions_of a.insts) only c.loop-n.invariant.plans functions) c.new-2.ensures
+    IfOk-weaker c.new-2.result _ _ (λ (plans : List Planned) (e : plans ≡ ps). e ∙ plans_are a ps (functions_of a.insts) only c.loop-n.invariant.plans functions) c.new-2.ensures

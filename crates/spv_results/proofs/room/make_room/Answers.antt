@@ -2,7 +2,7 @@ use Rattle.std.proofs.Common.{◌≡◌, ◌∙◌, OnOk, ℕ, ap, length, subst
 use Rattle.std.specs.Prelude.{unwrap_or}
 use Rattle.std.specs.Option.{option_map}
 use Rattle.spv_types.specs.Cells.{cells_of}
-use Rattle.spv_types.specs.Saturation.{saturated}
+use Rattle.spv_base.specs.Saturation.{saturated}
 use Rattle.spv_types.specs.Rows.{leaves}
 use Rattle.spv_types.specs.Types.{Types}
 use Rattle.spv_results.proofs.ResultRooms.{room_whole}

@@ -4,7 +4,7 @@ use Rattle.spv_frame.specs.Functions.{registers_of}
 use Rattle.spv_frame.specs.Registers.{Planned}
 use Rattle.spv_plans.specs.Plans.{plan_of}
 use Rattle.spv_plans.specs.Registered.{IsAt, IsOfFunction}
-use Rattle.spv_operands.proofs.ReadingLemmas.{StandsIn, found_below, found_plan, plan_apart}
+use Rattle.spv_operands.proofs.Exports.{StandsIn, found_below, found_plan, plan_apart}
 use Rattle.spv_state.proofs.registers.pointer_slot_of.Goals as goal
 
 pub plan_at-plan-requires : goal.plan_at-plan-requires

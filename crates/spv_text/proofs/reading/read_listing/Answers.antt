@@ -3,8 +3,9 @@ use Rattle.std.proofs.lemmas.List.{append-nil}
 use Rattle.spv_text.specs.Listing.{listing}
 use Rattle.spv_text.specs.Reading.{code_of, AreInsts, IsWrong, StandsAt, word_behind}
 use Rattle.spv_text.proofs.InstLemmas.{line_range}
-use Rattle.spv_text.proofs.ReadingLemmas.{behind_more, empty_when, some_when, init_stand, init_whole, next_short, next_whole, one_more, one_reading, stand_more}
+use Rattle.spv_text.proofs.ReadingLemmas.{behind_more, init_stand, init_whole, next_short, next_whole, one_more, one_reading, stand_more}
 use Rattle.spv_text.proofs.reading.read_listing.Goals as goal
+use Rattle.spv_base.proofs.Exports.{some_when, empty_when}
 
 pub loop-rest-init : goal.loop-rest-init
 loop-rest-init c =

@@ -1,7 +1,7 @@
 use Rattle.std.proofs.Common.{ap, arith, sym, refl}
 use Rattle.std.specs.Option.{option_map}
 use Rattle.spv_types.specs.Cells.{cells_among}
-use Rattle.spv_types.specs.Saturation.{saturated}
+use Rattle.spv_base.specs.Saturation.{saturated}
 use Rattle.spv_types.proofs.CellLemmas.{members_cells_nil}
 use Rattle.spv_types.proofs.CountedLemmas.{first_next, firsts_next}
 use Rattle.spv_types.proofs.counting.firsts.Goals as goal

@@ -1,6 +1,6 @@
 use Rattle.std.proofs.Common.{ap, sym, ◌∙◌, Some}
 use Rattle.std.specs.Option.{option_map}
-use Rattle.spv_types.specs.Saturation.{saturated}
+use Rattle.spv_base.specs.Saturation.{saturated}
 use Rattle.spv_types.specs.Cells.{cells_among}
 use Rattle.spv_types.proofs.CellLemmas.{members_cells_nil, members_cells_next, repeated_saturated}
 use Rattle.spv_types.proofs.CountedLemmas.{counted_cells}

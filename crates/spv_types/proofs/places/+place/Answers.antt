@@ -2,7 +2,7 @@ use Rattle.std.proofs.Common.{◌∙◌, ap, arith, inl, inr, rules, sym}
 use Rattle.std.specs.Option.{option_map}
 use Rattle.spv_types.specs.Cells.{cells_of}
 use Rattle.spv_types.specs.Places.{place_among}
-use Rattle.spv_types.specs.Saturation.{saturated}
+use Rattle.spv_base.specs.Saturation.{saturated}
 use Rattle.spv_types.proofs.CountedLemmas.{found_at}
 use Rattle.spv_types.proofs.PlaceLemmas.{elements_at, in_empty, in_member, in_no_member, none_through, plus_saturated}
 use Rattle.spv_types.proofs.places.+place.Goals as goal

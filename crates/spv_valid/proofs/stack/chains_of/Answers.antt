@@ -6,6 +6,5 @@ pub weights_of-requires : goal.weights_of-requires
 weights_of-requires c =
     rw (c.as_slice.ensures.value, c.in_ok-kept.ensures) (kept_within c.args.types.now (numbered 0 c.args.calls.now.functions) c.count.result c.count.ensures.numbers c.args.stands.now)
 
-pub heaviest_chains-requires : goal.heaviest_chains-requires
-heaviest_chains-requires c =
-    rw (c.as_slice-2.ensures.value, c.in_ok-weights.ensures.len, c.count.ensures.count) c.list.ensures.within
+pub heaviest-requires : goal.heaviest-requires
+heaviest-requires c = rw (c.as_slice-2.ensures.value, c.in_ok-weights.ensures.len) c.count.ensures.count

@@ -2,7 +2,7 @@ use Rattle.std.proofs.Common.{subst}
 use Rattle.spv_types.specs.Laws.{AreSound}
 use Rattle.spv_valid.specs.Acceptance.{Accepted}
 use Rattle.spv_operands.specs.Operands.{shown}
-use Rattle.spv_results.proofs.SoundTypes.{sound_types}
+use Rattle.spv_results.proofs.Exports.{sound_types}
 use Rattle.spv_actions.proofs.OperandLemmas.{datum_plain, datum_shape}
 use Rattle.spv_actions.proofs.sites.Site.value.Goals as goal
 

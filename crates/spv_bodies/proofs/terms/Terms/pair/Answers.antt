@@ -2,7 +2,7 @@ use Rattle.std.proofs.Common.{◌≡◌, Some, None, length, nat_cmp, sym, arith
 use Rattle.std.specs.BTreeMap.{get}
 use Rattle.std.specs.Ordering.{is_eq}
 use Rattle.spv_index.specs.Keys.{pair_cmp}
-use Rattle.spv_types.proofs.TableLemmas.{on_ok}
+use Rattle.spv_types.proofs.Exports.{on_ok}
 use Rattle.spv_bodies.specs.declared.terms.Node.TheVariants.{Number as Single, Pair as Double}
 use Rattle.spv_bodies.proofs.TermLemmas.{none_double, doubles, push_before, push_here, push_other, push_same}
 use Rattle.spv_bodies.proofs.terms.Terms.pair.Goals as goal

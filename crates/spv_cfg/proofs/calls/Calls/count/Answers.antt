@@ -1,5 +1,5 @@
 use Rattle.std.proofs.Common.{◌≡◌, length, arith}
-use Rattle.spv_cfg.proofs.Chains.{numbered-small}
+use Rattle.spv_cfg.proofs.ChainLemmas.{numbered-small}
 use Rattle.spv_cfg.proofs.calls.Calls.count.Goals as goal
 
 pub returns-clause-numbers : goal.returns-clause-numbers

@@ -1,7 +1,7 @@
 use Rattle.std.proofs.Common.{◌<◌, ℕ, length, IfSome, arith, rules}
 use Rattle.spv_base.specs.Entries.{reads}
 use Rattle.spv_index.specs.Positions.{stands_of}
-use Rattle.spv_cfg.proofs.Chains.{calls_within, numbered-small}
+use Rattle.spv_cfg.proofs.ChainLemmas.{calls_within, numbered-small}
 use Rattle.spv_cfg.proofs.calls.Calls.of.Goals as goal
 
 pub invariant_of-result : goal.invariant_of-result

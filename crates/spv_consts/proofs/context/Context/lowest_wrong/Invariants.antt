@@ -1,5 +1,6 @@
 use Rattle.std.proofs.Common.{◌≡◌, drop}
-use Rattle.spv_consts.specs.SpecIds.{lower, lowest_wrong}
+use Rattle.spv_base.specs.Lowest.{lower}
+use Rattle.spv_consts.specs.SpecIds.{lowest_wrong}
 use Rattle.spv_consts.proofs.context.Context.lowest_wrong.Given as goal
 
 -- the lowest so far, and the lowest of the rest

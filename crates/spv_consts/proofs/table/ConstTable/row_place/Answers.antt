@@ -1,6 +1,8 @@
 use Rattle.std.proofs.Common.{◌≡◌, ◌∙◌, Some, length, option_map, arith, ap, sym, refl}
-use Rattle.spv_consts.specs.Table.{Constants, place_from, place_of, row_at, rows_of}
-use Rattle.spv_consts.proofs.TableLemmas.{entry_place, no_place, place_lt, place_none, row_is, rows_long}
+use Rattle.spv_index.specs.Firsts.{place_of}
+use Rattle.spv_index.proofs.Exports.{place_lt, place_none}
+use Rattle.spv_consts.specs.Table.{Constants, place_from, row_at, rows_of}
+use Rattle.spv_consts.proofs.TableLemmas.{entry_place, no_place, row_is, rows_long}
 use Rattle.spv_consts.proofs.table.ConstTable.row_place.Goals as goal
 
 pub index-entry-requires : goal.index-entry-requires
@@ -18,7 +20,7 @@ pub returns-clause-place : goal.returns-clause-place
 returns-clause-place c =
     let found : place_of (rows_of c.self.inside.cells.items c.self.inside.entries.items) c.args.id ≡ Some c.in_ok-number.number =
     ap (λ (cs : Constants). place_of cs c.args.id) c.self.view_is ∙ sym c.in_ok-number.ensures in
-    sym (entry_place c.self.inside.cells.items c.self.inside.entries.items c.self.inside.places.items c.args.id c.in_ok-number.number c.index-entry.result.now c.self.invariant found c.index-entry.ensures)
+    sym (entry_place c.self.inside.cells.items c.self.inside.entries.items c.self.inside.places c.args.id c.in_ok-number.number c.index-entry.result.now c.self.invariant found c.index-entry.ensures)
     ∙ ap (λ (cs : Constants). place_from 0 cs c.args.id) c.self.view_is
 
 pub returns-clause-row : goal.returns-clause-row
@@ -26,6 +28,6 @@ returns-clause-row c =
     let found : place_of (rows_of c.self.inside.cells.items c.self.inside.entries.items) c.args.id ≡ Some c.in_ok-number.number =
     ap (λ (cs : Constants). place_of cs c.args.id) c.self.view_is ∙ sym c.in_ok-number.ensures in
     ap (option_map (row_at c.args.self.now))
-    (sym (entry_place c.self.inside.cells.items c.self.inside.entries.items c.self.inside.places.items c.args.id c.in_ok-number.number c.index-entry.result.now c.self.invariant found c.index-entry.ensures)
+    (sym (entry_place c.self.inside.cells.items c.self.inside.entries.items c.self.inside.places c.args.id c.in_ok-number.number c.index-entry.result.now c.self.invariant found c.index-entry.ensures)
     ∙ ap (λ (cs : Constants). place_from 0 cs c.args.id) c.self.view_is)
     ∙ row_is c.args.self.now c.args.id

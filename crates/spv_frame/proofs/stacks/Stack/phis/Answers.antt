@@ -3,8 +3,9 @@ use Rattle.std.specs.List.{AllZip}
 use Rattle.spv_frame.specs.Contents.{AllSuit, content, held, puts}
 use Rattle.spv_frame.specs.Phis.{IsPhi, given}
 use Rattle.spv_frame.specs.Stacks.{Stacked}
-use Rattle.spv_frame.proofs.StackLemmas.{after_is, handed_is, if_ok, kept_is, on_err, on_ok, some_frame}
+use Rattle.spv_frame.proofs.StackLemmas.{after_is, handed_is, kept_is, some_frame}
 use Rattle.spv_frame.proofs.stacks.Stack.phis.Goals as goal
+use Rattle.std.proofs.lemmas.Result.{on_ok_weaker, on_err_weaker, IfOk-weaker}
 
 pub returns-clause-ok : goal.returns-clause-ok
 returns-clause-ok c =
@@ -13,7 +14,7 @@ returns-clause-ok c =
     let count = c.len-top.ensures in
     let last : c.len-top.result - 1 ≡ length c.self.inside.frames.items - 1 = omega arith in
     let within : c.len-top.result - 1 < length c.self.inside.frames.items = omega arith in
-    on_ok c.phis.result (c.phis.new.self ≡ record c.index_mut.result.now { values = puts c.args.slots.now (map (given c.index_mut.result.now) c.args.sources.now) c.index_mut.result.now.values }) _
+    on_ok_weaker {P = (c.phis.new.self ≡ record c.index_mut.result.now { values = puts c.args.slots.now (map (given c.index_mut.result.now) c.args.sources.now) c.index_mut.result.now.values })} c.phis.result
     (λ made. after_is c.args.self.now c.self.inside.frames.items c.self.inside.room (c.len-top.result - 1) (λ f. record f { values = puts c.args.slots.now (map (given f) c.args.sources.now) f.values }) c.index_mut.result.now c.phis.new.self c.self.view_is last within c.index_mut.ensures.value made) c.phis.ensures.ok
 
 pub returns-clause-handed : goal.returns-clause-handed
@@ -23,7 +24,7 @@ returns-clause-handed c =
     let count = c.len-top.ensures in
     let last : c.len-top.result - 1 ≡ length c.self.inside.frames.items - 1 = omega arith in
     let within : c.len-top.result - 1 < length c.self.inside.frames.items = omega arith in
-    if_ok c.phis.result (λ olds. map content olds.items ≡ map (held c.index_mut.result.now) c.args.slots.now) _
+    IfOk-weaker c.phis.result (λ olds. map content olds.items ≡ map (held c.index_mut.result.now) c.args.slots.now) _
     (λ olds was. handed_is c.args.self.now c.self.inside.frames.items c.self.inside.room (c.len-top.result - 1) c.index_mut.result.now (λ f. map content olds.items ≡ map (held f) c.args.slots.now) c.self.view_is last within c.index_mut.ensures.value was) c.phis.ensures.handed
 
 pub returns-clause-suit : goal.returns-clause-suit
@@ -33,7 +34,7 @@ returns-clause-suit c =
     let count = c.len-top.ensures in
     let last : c.len-top.result - 1 ≡ length c.self.inside.frames.items - 1 = omega arith in
     let within : c.len-top.result - 1 < length c.self.inside.frames.items = omega arith in
-    if_ok c.phis.result (λ olds. AllSuit c.index_mut.result.now.plan.values c.args.slots.now olds.items) _
+    IfOk-weaker c.phis.result (λ olds. AllSuit c.index_mut.result.now.plan.values c.args.slots.now olds.items) _
     (λ olds suit. handed_is c.args.self.now c.self.inside.frames.items c.self.inside.room (c.len-top.result - 1) c.index_mut.result.now (λ f. AllSuit f.plan.values c.args.slots.now olds.items) c.self.view_is last within c.index_mut.ensures.value suit) c.phis.ensures.suit
 
 pub returns-clause-err : goal.returns-clause-err
@@ -43,5 +44,5 @@ returns-clause-err c =
     let count = c.len-top.ensures in
     let last : c.len-top.result - 1 ≡ length c.self.inside.frames.items - 1 = omega arith in
     let within : c.len-top.result - 1 < length c.self.inside.frames.items = omega arith in
-    on_err c.phis.result (c.phis.new.self ≡ c.index_mut.result.now) _
+    on_err_weaker {P = (c.phis.new.self ≡ c.index_mut.result.now)} c.phis.result
     (λ made. kept_is c.args.self.now c.self.inside.frames.items c.self.inside.room (c.len-top.result - 1) c.index_mut.result.now c.phis.new.self c.self.view_is within c.index_mut.ensures.value made) c.phis.ensures.err

@@ -1,8 +1,7 @@
 use Rattle.std.proofs.Common.{ℕ, ◌<◌, subst, sym}
 use Rattle.std.proofs.Math.Logic.{∥∥₁_elim}
 use Rattle.std.proofs.Props.{props}
-use Rattle.spv_initial.specs.Start.{invocations}
-use Rattle.spv_valid.specs.Acceptance.{Accepted}
+use Rattle.spv_valid.specs.Acceptance.{Accepted, invocations}
 use Rattle.spv_valid.specs.Validity.{IsValid}
 use Rattle.spv_group.proofs.group.Group.invocations.Goals as goal
 

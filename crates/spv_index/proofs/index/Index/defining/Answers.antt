@@ -1,6 +1,5 @@
-use Rattle.std.proofs.Common.{◌∙◌, sym, ap}
+use Rattle.std.proofs.Common.{◌∙◌, sym}
 use Rattle.spv_index.specs.Definitions.{has_result}
-use Rattle.spv_index.specs.Firsts.{slot}
 use Rattle.spv_index.proofs.IndexLemmas.{found_by, no_definition, small_id, some_definition}
 use Rattle.spv_index.proofs.index.Index.defining.Goals as goal
 
@@ -10,5 +9,5 @@ returns-then-not-is_id c = no_definition _ c.args.id (sym c.if-not-is_id.ensures
 pub returns : goal.returns
 returns c =
     found_by _ _ c.self.view_is (has_result c.args.id) _ _ _ c.insts.ensures.insts c.inst_with.ensures
-    (c.number_under.ensures ∙ ap (λ numbers. slot numbers c.args.id) c.deref.ensures.value ∙ c.self.invariant.definitions_are c.args.id (small_id c.args.id (sym c.if-not-is_id.ensures)))
+    (c.get.ensures ∙ c.self.invariant.definitions_are c.args.id (small_id c.args.id (sym c.if-not-is_id.ensures)))
     ∙ some_definition _ c.args.id (sym c.if-not-is_id.ensures)

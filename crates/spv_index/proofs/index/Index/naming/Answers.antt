@@ -1,10 +1,9 @@
-use Rattle.std.proofs.Common.{◌∙◌, ap}
+use Rattle.std.proofs.Common.{◌∙◌}
 use Rattle.spv_index.specs.Definitions.{names_it}
-use Rattle.spv_index.specs.Firsts.{slot}
 use Rattle.spv_index.proofs.IndexLemmas.{found_by, small_id, some_id}
 use Rattle.spv_index.proofs.index.Index.naming.Goals as goal
 
 pub returns : goal.returns
 returns c =
     found_by _ _ c.self.view_is (names_it c.args.id) _ _ _ c.insts.ensures.insts c.inst_with.ensures
-    (c.number_under.ensures ∙ ap (λ numbers. slot numbers c.args.id) c.deref.ensures.value ∙ c.self.invariant.names_are c.args.id (some_id c.args.id c.requires) (small_id c.args.id c.requires))
+    (c.get.ensures ∙ c.self.invariant.names_are c.args.id (some_id c.args.id c.requires) (small_id c.args.id c.requires))

@@ -1,9 +1,9 @@
 use Rattle.std.proofs.Common.{◌≡◌, min, replicate, sym}
 use Rattle.spv_base.specs.Cell.{undefined_cell}
 use Rattle.spv_types.specs.declared.forms.Member.{Member}
-use Rattle.spv_types.proofs.RowLemmas.{leaves_many}
+use Rattle.spv_types.proofs.Exports.{leaves_many, leaves_scalar, no_leaves}
 use Rattle.spv_mem.specs.Blanks.{blank_among}
-use Rattle.spv_mem.proofs.BlankLemmas.{equal_more, member_leaves, no_leaves, none_blank, scalar_leaves}
+use Rattle.spv_mem.proofs.BlankLemmas.{equal_more, member_leaves, none_blank}
 use Rattle.spv_mem.proofs.blanks.Blank.+blanks.Goals as goal
 
 pub among-returns-in-None : goal.among-returns-in-None
@@ -12,11 +12,11 @@ among-returns-in-None t c = none_blank c.args.self.now.types.now c.args.self.now
 pub of_form-returns-in_ok-push-in-Bool : goal.of_form-returns-in_ok-push-in-Bool
 of_form-returns-in_ok-push-in-Bool t c =
     let one : c.undefined.result ≡ undefined_cell 1 = c.undefined.ensures in
-    rw (c.in-Bool.is, scalar_leaves (undefined_cell 1), ← one) c.in_ok-push-in-Bool.ensures.items
+    rw (c.in-Bool.is, leaves_scalar (undefined_cell 1), ← one) c.in_ok-push-in-Bool.ensures.items
 
 pub of_form-returns-in_ok-push-in-Int : goal.of_form-returns-in_ok-push-in-Int
 of_form-returns-in_ok-push-in-Int t c =
-    rw (c.in-Int.is, scalar_leaves (undefined_cell (min c.in-Int.width 64)), ← c.undefined-in-Int.ensures) c.in_ok-push-in-Int.ensures.items
+    rw (c.in-Int.is, leaves_scalar (undefined_cell (min c.in-Int.width 64)), ← c.undefined-in-Int.ensures) c.in_ok-push-in-Int.ensures.items
 
 pub of_form-returns-in-Vector : goal.of_form-returns-in-Vector
 of_form-returns-in-Vector t c =

@@ -1,8 +1,8 @@
 use Rattle.std.proofs.Common.{◌≡◌, ◌∙◌, ℕ, List, Some, ap, drop, length, subst, sym, take_at}
 use Rattle.spv_base.specs.Entries.{reads}
-use Rattle.spv_base.specs.Variables.{Roots}
+use Rattle.spv_base.specs.Variables.{Roots, root_id}
 use Rattle.spv_types.specs.Types.{Types}
-use Rattle.spv_mem.specs.Memory.{IsMemory, Levels, Stores, id_in}
+use Rattle.spv_mem.specs.Memory.{IsMemory, Levels, Stores}
 use Rattle.spv_mem.specs.Levels.{ExchangesAt, ExchangesLevel, FitAt, FitLevel, MayBePutAt, MayBePutLevel}
 use Rattle.spv_mem.specs.Roots.{AreFit, MayBePutIn}
 use Rattle.spv_mem.proofs.MemoryLemmas.{kept_at, local_fit, local_may, local_stores, none_stores, private_fit, private_may, private_stores, shared_fit, shared_may, shared_stores, stores_at}
@@ -11,16 +11,16 @@ use Rattle.spv_mem.proofs.storage.Memory.store.Goals as goal
 
 pub returns-in_default : goal.returns-in_default
 returns-in_default c =
-    none_stores _ c.args.self.now c.args.inv c.args.p.now c.args.row.now c.self.view_is c.self.invariant (sym (c.in_default.ensures ∙ ap (λ (k : ℕ). reads k c.self.inside.targets) c.id_in.ensures))
+    none_stores _ c.args.self.now c.args.inv c.args.p.now c.args.row.now c.self.view_is c.self.invariant (sym (c.in_default.ensures ∙ ap (λ (k : ℕ). reads k c.self.inside.targets) c.id.ensures))
 
 pub exchange-requires-clause-fit : goal.exchange-requires-clause-fit
 exchange-requires-clause-fit c =
-    let named : reads c.in-Shared.id c.self.inside.targets ≡ Some c.in-Some.target.ty = sym (c.in-Some.ensures ∙ ap (λ (k : ℕ). reads k c.self.inside.targets) (c.id_in.ensures ∙ ap id_in c.in-Shared.is)) in
+    let named : reads c.in-Shared.id c.self.inside.targets ≡ Some c.in-Some.target.ty = sym (c.in-Some.ensures ∙ ap (λ (k : ℕ). reads k c.self.inside.targets) (c.id.ensures ∙ ap root_id c.in-Shared.is)) in
     subst (λ (ts : Types). ∥ AreFit ts c.in-Some.target.ty c.in-Shared.id c.self.inside.shared ∥₁) (sym c.as_ref-types.ensures) (shared_fit _ c.in-Shared.id c.in-Some.target.ty c.self.invariant named)
 
 pub exchange-requires-clause-may : goal.exchange-requires-clause-may
 exchange-requires-clause-may c =
-    let named : reads c.in-Shared.id c.self.inside.targets ≡ Some c.in-Some.target.ty = sym (c.in-Some.ensures ∙ ap (λ (k : ℕ). reads k c.self.inside.targets) (c.id_in.ensures ∙ ap id_in c.in-Shared.is)) in
+    let named : reads c.in-Shared.id c.self.inside.targets ≡ Some c.in-Some.target.ty = sym (c.in-Some.ensures ∙ ap (λ (k : ℕ). reads k c.self.inside.targets) (c.id.ensures ∙ ap root_id c.in-Shared.is)) in
     subst (λ (ts : Types). ∥ MayBePutIn ts c.in-Some.target.ty c.in-Shared.id c.self.inside.shared c.args.p.now.path c.args.row.now ∥₁) (sym c.as_ref-types.ensures)
     (shared_may _ c.args.self.now c.args.inv c.args.p.now c.in-Shared.id c.in-Some.target.ty c.args.row.now c.self.view_is c.in-Shared.is c.requires named)
 
@@ -32,13 +32,13 @@ invariant_of-self c =
 
 pub exchange_at-requires-clause-fit : goal.exchange_at-requires-clause-fit
 exchange_at-requires-clause-fit c =
-    let named : reads c.in-Private.id c.self.inside.targets ≡ Some c.in-Some.target.ty = sym (c.in-Some.ensures ∙ ap (λ (k : ℕ). reads k c.self.inside.targets) (c.id_in.ensures ∙ ap id_in c.in-Private.is)) in
+    let named : reads c.in-Private.id c.self.inside.targets ≡ Some c.in-Some.target.ty = sym (c.in-Some.ensures ∙ ap (λ (k : ℕ). reads k c.self.inside.targets) (c.id.ensures ∙ ap root_id c.in-Private.is)) in
     subst (λ (ts : Types). ∥ FitAt ts c.in-Some.target.ty c.in-Private.id c.deref_mut.result.now c.args.inv ∥₁) (sym c.as_ref-types.ensures)
     (subst (λ (ls : List Roots). ∥ FitAt c.self.inside.types.value c.in-Some.target.ty c.in-Private.id ls c.args.inv ∥₁) (sym c.deref_mut.ensures.value) (private_fit _ c.args.inv c.in-Private.id c.in-Some.target.ty c.self.invariant named))
 
 pub exchange_at-requires-clause-may : goal.exchange_at-requires-clause-may
 exchange_at-requires-clause-may c =
-    let named : reads c.in-Private.id c.self.inside.targets ≡ Some c.in-Some.target.ty = sym (c.in-Some.ensures ∙ ap (λ (k : ℕ). reads k c.self.inside.targets) (c.id_in.ensures ∙ ap id_in c.in-Private.is)) in
+    let named : reads c.in-Private.id c.self.inside.targets ≡ Some c.in-Some.target.ty = sym (c.in-Some.ensures ∙ ap (λ (k : ℕ). reads k c.self.inside.targets) (c.id.ensures ∙ ap root_id c.in-Private.is)) in
     subst (λ (ts : Types). ∥ MayBePutAt ts c.in-Some.target.ty c.in-Private.id c.deref_mut.result.now c.args.inv c.args.p.now.path c.args.row.now ∥₁) (sym c.as_ref-types.ensures)
     (subst (λ (ls : List Roots). ∥ MayBePutAt c.self.inside.types.value c.in-Some.target.ty c.in-Private.id ls c.args.inv c.args.p.now.path c.args.row.now ∥₁) (sym c.deref_mut.ensures.value)
     (private_may _ c.args.self.now c.args.inv c.args.p.now c.in-Private.id c.in-Some.target.ty c.args.row.now c.self.view_is c.in-Private.is c.requires named))
@@ -54,13 +54,13 @@ invariant_of-self-in-Private c =
 
 pub exchange_level-requires-clause-fit : goal.exchange_level-requires-clause-fit
 exchange_level-requires-clause-fit c =
-    let named : reads c.in-Local.id c.self.inside.targets ≡ Some c.in-Some.target.ty = sym (c.in-Some.ensures ∙ ap (λ (k : ℕ). reads k c.self.inside.targets) (c.id_in.ensures ∙ ap id_in c.in-Local.is)) in
+    let named : reads c.in-Local.id c.self.inside.targets ≡ Some c.in-Some.target.ty = sym (c.in-Some.ensures ∙ ap (λ (k : ℕ). reads k c.self.inside.targets) (c.id.ensures ∙ ap root_id c.in-Local.is)) in
     subst (λ (ts : Types). ∥ FitLevel ts c.in-Some.target.ty c.in-Local.id c.deref_mut-in-Local.result.now c.args.inv c.in-Local.depth ∥₁) (sym c.as_ref-types.ensures)
     (subst (λ (ls : List Levels). ∥ FitLevel c.self.inside.types.value c.in-Some.target.ty c.in-Local.id ls c.args.inv c.in-Local.depth ∥₁) (sym c.deref_mut-in-Local.ensures.value) (local_fit _ c.args.inv c.in-Local.depth c.in-Local.id c.in-Some.target.ty c.self.invariant named))
 
 pub exchange_level-requires-clause-may : goal.exchange_level-requires-clause-may
 exchange_level-requires-clause-may c =
-    let named : reads c.in-Local.id c.self.inside.targets ≡ Some c.in-Some.target.ty = sym (c.in-Some.ensures ∙ ap (λ (k : ℕ). reads k c.self.inside.targets) (c.id_in.ensures ∙ ap id_in c.in-Local.is)) in
+    let named : reads c.in-Local.id c.self.inside.targets ≡ Some c.in-Some.target.ty = sym (c.in-Some.ensures ∙ ap (λ (k : ℕ). reads k c.self.inside.targets) (c.id.ensures ∙ ap root_id c.in-Local.is)) in
     subst (λ (ts : Types). ∥ MayBePutLevel ts c.in-Some.target.ty c.in-Local.id c.deref_mut-in-Local.result.now c.args.inv c.in-Local.depth c.args.p.now.path c.args.row.now ∥₁) (sym c.as_ref-types.ensures)
     (subst (λ (ls : List Levels). ∥ MayBePutLevel c.self.inside.types.value c.in-Some.target.ty c.in-Local.id ls c.args.inv c.in-Local.depth c.args.p.now.path c.args.row.now ∥₁) (sym c.deref_mut-in-Local.ensures.value)
     (local_may _ c.args.self.now c.args.inv c.args.p.now c.in-Local.depth c.in-Local.id c.in-Some.target.ty c.args.row.now c.self.view_is c.in-Local.is c.requires named))

@@ -1,10 +1,10 @@
 use Rattle.std.proofs.Common.{◌≡◌, ◌-◌, ◌<◌, ◌≤◌, ◌^◌, ℕ, length, sym, subst}
 use Rattle.std.specs.Option.{option_map_or}
 use Rattle.spv_types.specs.Cells.{cells_of}
-use Rattle.spv_types.specs.Saturation.{saturated}
+use Rattle.spv_base.specs.Saturation.{saturated}
 use Rattle.spv_types.specs.Rows.{leaves}
 use Rattle.spv_values.specs.Places.{IsRowAt}
-use Rattle.spv_values.proofs.RowLemmas.{row_at}
+use Rattle.spv_values.proofs.Exports.{row_at}
 use Rattle.spv_mem.proofs.PlaceLemmas.{leaf_none, past_none, row_there, start_within, type_none}
 use Rattle.spv_mem.proofs.variables.Variable.part_place.Goals as goal
 

@@ -2,18 +2,19 @@ use Rattle.std.proofs.Common.{◌≡◌, ◌+◌, ◌-◌, ◌*◌, ◌<◌, ref
 use Rattle.spv_base.specs.Cell.{undefined_cell}
 use Rattle.spv_start.specs.Blocks.{read_among, read_members}
 use Rattle.spv_start.specs.Numbers.{scalar_at}
-use Rattle.spv_start.proofs.BlockLemmas.{less_one, many_leaves, no_leaves, none_read, row_more, row_of, scalar_leaves}
+use Rattle.spv_start.proofs.BlockLemmas.{less_one, none_read, row_more, row_of}
 use Rattle.spv_start.proofs.blocks.Reader.+reads.Goals as goal
+use Rattle.spv_types.proofs.Exports.{leaves_scalar, no_leaves, leaves_many}
 
 pub among-returns-in-None : goal.among-returns-in-None
 among-returns-in-None t c = none_read c.args.self.now.types.now c.args.self.now.bytes.now c.args.self.now.size c.args.limit c.args.ty c.args.at c.args.cells.now.items (sym c.in-None.ensures)
 
 pub of_form-returns-in_ok-push-in-Bool : goal.of_form-returns-in_ok-push-in-Bool
-of_form-returns-in_ok-push-in-Bool t c = rw (c.in-Bool.is, scalar_leaves (undefined_cell 1)) c.in_ok-push-in-Bool.ensures.items
+of_form-returns-in_ok-push-in-Bool t c = rw (c.in-Bool.is, leaves_scalar (undefined_cell 1)) c.in_ok-push-in-Bool.ensures.items
 
 pub of_form-returns-in_ok-push-in-Int : goal.of_form-returns-in_ok-push-in-Int
 of_form-returns-in_ok-push-in-Int t c =
-    rw (c.in-Int.is, scalar_leaves (scalar_at c.args.self.now.bytes.now c.args.at c.in-Int.width), ← c.scalar_at.ensures) c.in_ok-push-in-Int.ensures.items
+    rw (c.in-Int.is, leaves_scalar (scalar_at c.args.self.now.bytes.now c.args.at c.in-Int.width), ← c.scalar_at.ensures) c.in_ok-push-in-Int.ensures.items
 
 pub of_form-returns-in-Vector : goal.of_form-returns-in-Vector
 of_form-returns-in-Vector t c =
@@ -30,7 +31,7 @@ of_form-returns-in-Runtime t c =
 
 pub of_form-returns-in-Struct : goal.of_form-returns-in-Struct
 of_form-returns-in-Struct t c =
-    rw (c.in-Struct.is, many_leaves (read_members (read_among c.args.self.now.types.now c.args.self.now.bytes.now c.args.self.now.size c.args.limit) c.args.at c.in-Struct.members), ← c.as_slice.ensures) c.of_members.ensures
+    rw (c.in-Struct.is, leaves_many (read_members (read_among c.args.self.now.types.now c.args.self.now.bytes.now c.args.self.now.size c.args.limit) c.args.at c.in-Struct.members), ← c.as_slice.ensures) c.of_members.ensures
 
 pub of_form-returns-in-Void : goal.of_form-returns-in-Void
 of_form-returns-in-Void t c = rw c.in-Void.is (no_leaves c.args.cells.now.items)
