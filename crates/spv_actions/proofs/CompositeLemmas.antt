@@ -7,6 +7,7 @@ use Rattle.std.proofs.lemmas.Bool.{and_parts, eqb-true}
 use Rattle.std.proofs.lemmas.List.Elements.{All-head, All-tail}
 use Rattle.spv_base.specs.declared.instructions.Inst.{Inst}
 use Rattle.spv_base.specs.declared.instructions.Operand.{Operand}
+use Rattle.spv_base.specs.Options.{holds}
 use Rattle.spv_index.specs.Operands.{id_in, literal_in}
 use Rattle.spv_types.specs.declared.forms.Form.{Form}
 use Rattle.spv_types.specs.declared.forms.Form.TheVariants.{Void, Bool as Boolean, Int, Vector, Array, Runtime, Struct, Pointer, Function}
@@ -15,7 +16,7 @@ use Rattle.spv_types.specs.declared.queries.Components.{Components}
 use Rattle.spv_types.specs.Laws.{AreSound}
 use Rattle.spv_types.specs.Queries.{components_in, is_pointer}
 use Rattle.spv_types.specs.Rules.{is_data as is_data_form, is_runtime, is_scalar, is_sized_data, keep_members, keeps_form, keeps_member}
-use Rattle.spv_types.specs.Types.{Types, form_of, in_first, is_number, number_of}
+use Rattle.spv_types.specs.Types.{Types, form_of, in_first, number_of}
 use Rattle.spv_typing.specs.Fitting.{is_selectable}
 use Rattle.spv_bodies.specs.Composites.{AreParts, IsPart, KeepsConstruct, KeepsExtract, KeepsExtractDynamic, KeepsInsert, KeepsInsertDynamic, KeepsShuffle, given, named_type, part}
 use Rattle.spv_bodies.specs.Context.{HasType, IsInteger, IsVectorOf, Known, form_at, type_at, type_in, type_of}
@@ -216,7 +217,7 @@ construct_data k i sound h n lt =
 no_term : (ts : Types) (n id class target : ℕ) → form_of ts id ≡ Some (Pointer class target) → term_among ts n id ≡ None
 unfolding term_among in_first
 no_term ts zero id class target is = refl
-no_term ts (suc n) id class target is = by_number (is_number n (number_of ts id)) (no_term ts n id class target is)
+no_term ts (suc n) id class target is = by_number (holds n (number_of ts id)) (no_term ts n id class target is)
   where
     by_number : (b : Bool) → in_first None form_term ts n id ≡ None → cond b (option_map_or (form_term (in_first None form_term ts n)) (form_of ts id) None) (in_first None form_term ts n id) ≡ None
     by_number true rest = ap (λ (o : Option Form). option_map_or (form_term (in_first None form_term ts n)) o None) is

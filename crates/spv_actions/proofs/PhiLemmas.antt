@@ -20,7 +20,7 @@ use Rattle.spv_index.specs.declared.positions.Position.{Position}
 use Rattle.spv_index.specs.declared.positions.Stage.TheVariants.{Phis}
 use Rattle.spv_index.specs.declared.positions.Standing.{Standing}
 use Rattle.spv_index.specs.Classes.{class_of, is_label, sets_of}
-use Rattle.spv_index.specs.Definitions.{holds, number_at, number_of, result_type, stands_at}
+use Rattle.spv_index.specs.Definitions.{number_at, number_of, result_type, stands_at}
 use Rattle.spv_index.specs.Operands.{id_in}
 use Rattle.spv_index.specs.Positions.{Stand, in_block, in_function, is_head, outside, position_after, standing, stands, stands_of}
 use Rattle.spv_index.proofs.Exports.{standing_led, standing_of}
@@ -52,6 +52,7 @@ use Rattle.spv_actions.proofs.RunLemmas.{IsKept, kept_each}
 use Rattle.spv_actions.proofs.SiteLemmas.{frame_sound}
 use Rattle.spv_actions.proofs.StandLemmas.{InBlock, each_in_block}
 use Rattle.spv_base.proofs.Exports.{each_at}
+use Rattle.spv_base.specs.Options.{holds}
 
 -- ---- where the first instructions of a block stand
 

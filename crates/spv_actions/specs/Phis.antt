@@ -4,10 +4,11 @@ use Rattle.std.specs.Option.{option_and_then, option_map, option_map_or}
 use Rattle.spv_base.specs.declared.instructions.Inst.{Inst}
 use Rattle.spv_base.specs.declared.instructions.Operand.{Operand}
 use Rattle.spv_base.specs.declared.values.Value.{Value}
+use Rattle.spv_base.specs.Options.{holds}
 use Rattle.spv_index.specs.declared.classes.Class.{Class}
 use Rattle.spv_index.specs.declared.classes.Class.TheVariants.{Function, Parameter, End, Label, Line, Phi, Variable, Terminator, Passed, Executable}
 use Rattle.spv_index.specs.Classes.{class_of, sets_of}
-use Rattle.spv_index.specs.Definitions.{holds, number_of, stands_at}
+use Rattle.spv_index.specs.Definitions.{number_of, stands_at}
 use Rattle.spv_index.specs.Operands.{id_in}
 use Rattle.spv_index.specs.Positions.{Stand, stands_of}
 use Rattle.spv_plans.specs.Members.{leading}

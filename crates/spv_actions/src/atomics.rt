@@ -1,11 +1,11 @@
 //! Atomics (SPIR-V 1.6 section 3.42.18): each reads, computes and writes in one event, and all but OpAtomicStore give the old value.
-ghost use Rattle.std.specs.Prelude.{◌≡◌, IfOk, IsSome, OnOk};
+ghost use Rattle.std.specs.Prelude.{◌≡◌, IfOk, OnOk};
 ghost use Rattle.std.specs.Result.{result_map_both};
 ghost use Rattle.spv_alu.specs.Integers.{IsWidth};
 ghost use Rattle.spv_base.specs.Answers.{Answers};
 ghost use Rattle.spv_bodies.specs.Atomics.{KeepsAtomicCompare, KeepsAtomicRead, KeepsAtomicStore, KeepsAtomicUpdate};
 ghost use Rattle.spv_base.specs.Cell.{IsCell};
-ghost use Rattle.spv_base.specs.declared.values.Value.{Scalar, out-Value};
+ghost use Rattle.spv_base.specs.declared.values.Value.{Scalar};
 ghost use Rattle.spv_state.specs.Actions.{action_of};
 ghost use Rattle.spv_actions.specs.AtomicSites as at_site;
 ghost use Rattle.spv_actions.specs.AtomicSites.{IsCount, IsIntegerAt, IsTarget, IsUpdate, LeadsToInteger};
@@ -17,18 +17,18 @@ ghost use Rattle.spv_actions.specs.Sites as sites;
 ghost use Rattle.spv_actions.specs.Sites.{IsShaped};
 ghost use Rattle.spv_operands.specs.Operands.{IsPlain, shown};
 ghost use Rattle.spv_results.specs.Operands.{IsOperand, IsResult, known};
-ghost use Rattle.spv_types.specs.Shapes.{scalar_in};
 
 use crate::accesses::{copied, place, variables_are_shaped};
 use crate::causes::Cause;
 use crate::effects::{Control, Effect, Gain};
 use crate::kept::atomic_is_kept;
-use crate::sites::{Datum, Site};
+use crate::sites::Site;
 use crate::targets::Target;
 use spv_alu::arithmetic::{difference, sum};
 use spv_alu::results::defined_if;
 use spv_alu::{BinaryOp, GlslOp};
 use spv_base::{Cell, Fail, NoMemory, Pointer};
+use spv_mem::cell_of;
 use spv_operands::Operand;
 use spv_state::{Action, AtomicOp};
 use spv_values::{Part, Row};
@@ -98,17 +98,6 @@ pub(crate) fn first_of_three<'a>(site: &Site<'a>) -> Result<Operand<'a>, Fail<Ca
     Ok(first)
 }
 
-/// The scalar that a value is.
-#[tactic(auto, using(spv_values::proofs::Exports::one_leaf, spv_mem::proofs::Exports::is_scalar))]
-fn cell_of(datum: &Datum) -> Cell
-    requires { IsSome (scalar_in (out-Value datum.now)) }
-    ensures { datum.now ≡ Scalar result }
-{
-    let part = datum.part();
-    let cells = part.cells();
-    cells[0]
-}
-
 /// The scalar that the operand with a number is. F4 where it has no value.
 fn scalar(site: &Site, n: usize) -> Result<Cell, Fail<Cause>>
     requires { IsIntegerAt site.now.program.accepted site.now.inst n }
@@ -117,7 +106,7 @@ fn scalar(site: &Site, n: usize) -> Result<Cell, Fail<Cause>>
 {
     let _insts = site.accepted().insts();
     let datum = site.value(n)?;
-    Ok(cell_of(&datum))
+    Ok(cell_of(&datum.part()))
 }
 
 /// Where an atomic's pointer leads, with the integer there. F3 where there is none.

@@ -1,7 +1,7 @@
 //! Branches and switches (SPIR-V 1.6 section 3.42.17, OpBranch, OpBranchConditional and OpSwitch).
 ghost use Rattle.std.specs.Prelude.{◌≡◌, ℕ, IfOk, IsSome, Some};
 ghost use Rattle.spv_base.specs.Answers.{Answers};
-ghost use Rattle.spv_base.specs.declared.values.Value.{Value, Scalar, out-Value};
+ghost use Rattle.spv_base.specs.declared.values.Value.{Value, out-Value};
 ghost use Rattle.spv_cfg.specs.Laws.{IsEntered};
 ghost use Rattle.spv_state.specs.Actions.{action_of};
 ghost use Rattle.spv_state.specs.Sound.{StandsIn};
@@ -16,8 +16,9 @@ use crate::kept_control::{branch_is_kept, condition_is_kept, phis_are_kept, swit
 use crate::phis::phi_values;
 use crate::sites::Site;
 use crate::switches::switch_label;
-use spv_base::{Cell, Fail, Inst};
+use spv_base::{Fail, Inst};
 use spv_index::id_operand;
+use spv_mem::cell_of;
 use spv_operands::laws::operands_have_shapes;
 use spv_state::Action;
 use spv_values::Part;
@@ -43,16 +44,6 @@ fn jump(site: &Site, label: Option<u32>) -> Result<Effect, Fail<Cause>>
         gain: Gain::Nothing,
         control: Control::Jump { block, phis },
     })
-}
-
-/// The cell of a scalar.
-#[tactic(auto, using(spv_values::proofs::Exports::one_leaf, spv_mem::proofs::Exports::is_scalar))]
-fn cell_of(part: &Part) -> Cell
-    requires { IsSome (scalar_in (out-Value part.now)) }
-    ensures { part.now ≡ Scalar result }
-{
-    let cells = part.cells();
-    cells[0]
 }
 
 /// The number of a scalar. F1 where it is undefined.

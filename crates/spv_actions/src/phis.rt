@@ -2,9 +2,9 @@
 ghost use Rattle.std.specs.Prelude.{◌≡◌, ℕ, Some, filter, map, slice_get, true};
 ghost use Rattle.std.specs.Result.{result_map_both};
 ghost use Rattle.spv_base.specs.declared.instructions.Inst.{Inst};
+ghost use Rattle.spv_base.specs.Options.{holds};
 ghost use Rattle.spv_bodies.specs.Control.{KeepsPhi};
 ghost use Rattle.spv_index.specs.Classes.{sets_of};
-ghost use Rattle.spv_index.specs.Definitions.{holds};
 ghost use Rattle.spv_index.specs.Operands as operands;
 ghost use Rattle.spv_results.specs.Operands.{known};
 ghost use Rattle.spv_state.specs.State.{depth_of};

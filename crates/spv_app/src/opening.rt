@@ -79,16 +79,6 @@ fn read_module(alloc: Global, bytes: &[u8], setup: &Setup) -> Result<Module, Fai
     }
 }
 
-/// How many invocations a workgroup has, from 1 to 1,024.
-fn invocations(accepted: &Module) -> u32
-    requires { IsValid accepted.now }
-    ensures count { result ≡ invocations accepted.now }
-    ensures some { 0 < result }
-{
-    let (x, y, z) = accepted.size();
-    x * y * z
-}
-
 /// The schedule of a setup that fits the module; or the first rule of the fit that is broken.
 fn schedule_for(
     alloc: Global,
@@ -99,7 +89,7 @@ fn schedule_for(
     ensures due { Answers (schedule_for accepted.now setup.now) result }
     ensures count { IfOk result (λ schedule. schedule.invocations ≡ invocations accepted.now) }
 {
-    let invocations = invocations(accepted);
+    let invocations = accepted.invocations();
     let frames = accepted.stack_cells();
     fit(
         alloc,

@@ -36,7 +36,7 @@ use Rattle.spv_bodies.specs.Bodies.{KeepsAtomic, KeepsBody, KeepsComposite, Keep
 use Rattle.spv_bodies.specs.Calls.{are_of, called_form, function_form, parameter_type, parameters_ahead}
 use Rattle.spv_bodies.specs.Chains.{reached_type}
 use Rattle.spv_bodies.specs.Composites.{AreParts, Fill, IsChoice, IsPart, IsShuffle, are_elements, are_members, are_parts, fill, given, is_choice, is_part, is_shuffle, named_type}
-use Rattle.spv_bodies.specs.Context.{IsConstantAt, Known, constant_at, form_at, has, is_constant_at, is_integer_at, known_of, type_at, type_in}
+use Rattle.spv_bodies.specs.Context.{IsConstantAt, Known, constant_at, form_at, is_constant_at, is_integer_at, known_of, type_at, type_in}
 use Rattle.spv_bodies.specs.Control.{are_values, firsts}
 use Rattle.spv_bodies.specs.Lanes.{count_of, types_after}
 use Rattle.spv_bodies.specs.Laws.{KeepRules}
@@ -48,6 +48,7 @@ use Rattle.spv_bodies.specs.Rules.{rule_of}
 use Rattle.spv_bodies.proofs.TermLemmas.{both_written}
 use Rattle.spv_bodies.proofs.TestLemmas.{all_are, boolean, composed, declaring, equal, has_is, integer, leading, less, one_more, opposite, present, runtime, some, void, word}
 use Rattle.spv_base.proofs.Exports.{itself, at_most}
+use Rattle.spv_base.specs.Options.{holds}
 
 -- ---- memory
 
@@ -58,21 +59,21 @@ storing : (k : Known) (p : Pointed) → Decides (may_be_stored k p) (MayBeStored
 storing k p = Decides-and (is_writable p.class) (is_sized_data k.types p.target) (writable p.class) (itself _)
 
 starting : (k : Known) (i : Inst) (target : ℕ) → Decides (starts k i target) (Starts k i target)
-starting k i target = Decides-or (nat_le (length i.operands) 1) (has target (constant_at k i 1)) (at_most (length i.operands) 1) (has_is target (constant_at k i 1))
+starting k i target = Decides-or (nat_le (length i.operands) 1) (holds target (constant_at k i 1)) (at_most (length i.operands) 1) (has_is target (constant_at k i 1))
 
 memory : (k : Known) (i : Inst) (rule : MemoryRule) → Decides (keeps_memory k i rule) (KeepsMemory k i rule)
 memory k i Undef = itself _
 memory k i Variable = leading _ _ (form_of k.types i.ty) (λ p.
-    Decides-and _ _ (Decides-and (p.class == 7) (has 7 (literal_operand i 0)) (equal p.class 7) (has_is 7 (literal_operand i 0)))
+    Decides-and _ _ (Decides-and (p.class == 7) (holds 7 (literal_operand i 0)) (equal p.class 7) (has_is 7 (literal_operand i 0)))
     (Decides-and (not (has_runtime k.types p.target)) (starts k i p.target) (opposite (has_runtime k.types p.target)) (starting k i p.target)))
 memory k i Load = leading _ _ (form_at k i 0) (λ p. Decides-and (p.target == i.ty) (is_sized_data k.types i.ty) (equal p.target i.ty) (itself _))
-memory k i Store = leading _ _ (form_at k i 0) (λ p. Decides-and (has p.target (type_at k i 1)) (may_be_stored k p) (has_is p.target (type_at k i 1)) (storing k p))
+memory k i Store = leading _ _ (form_at k i 0) (λ p. Decides-and (holds p.target (type_at k i 1)) (may_be_stored k p) (has_is p.target (type_at k i 1)) (storing k p))
 memory k i CopyMemory = leading _ _ (form_at k i 0) (λ p. leading _ _ (form_at k i 1) (λ q. Decides-and (q.target == p.target) (may_be_stored k p) (equal q.target p.target) (storing k p)))
 memory k i ArrayLength =
     Decides-and (is_word (form_of k.types i.ty)) _ (word (form_of k.types i.ty))
     (leading _ _ (form_at k i 0) (λ p. some _ _ (member_at k i 1 p.target) (λ ty. runtime (form_of k.types ty))))
 memory k i Chain = leading _ _ (form_at k i 0) (λ p. leading _ _ (form_of k.types i.ty) (λ q.
-    Decides-and (q.class == p.class) (has q.target (reached_type k p.target (drop 1 i.operands))) (equal q.class p.class) (has_is q.target (reached_type k p.target (drop 1 i.operands)))))
+    Decides-and (q.class == p.class) (holds q.target (reached_type k p.target (drop 1 i.operands))) (equal q.class p.class) (has_is q.target (reached_type k p.target (drop 1 i.operands)))))
 
 -- ---- atomics
 
@@ -93,16 +94,16 @@ sharing k i T t d = leading (λ p. IsShared k p × T p) (λ p. is_shared k p && 
 
 atomic : (k : Known) (i : Inst) (rule : AtomicRule) → Decides (keeps_atomic k i rule) (KeepsAtomic k i rule)
 atomic k i Read = sharing k i _ _ (λ p. Decides-and (p.target == i.ty) (is_ordered k i) (equal p.target i.ty) (ordered k i))
-atomic k i AtomicStore = sharing k i _ _ (λ p. Decides-and (has p.target (type_at k i 3)) (is_ordered k i) (has_is p.target (type_at k i 3)) (ordered k i))
+atomic k i AtomicStore = sharing k i _ _ (λ p. Decides-and (holds p.target (type_at k i 3)) (is_ordered k i) (has_is p.target (type_at k i 3)) (ordered k i))
 atomic k i Update = sharing k i _ _ (λ p.
-    Decides-and (p.target == i.ty) _ (equal p.target i.ty) (Decides-and (has p.target (type_at k i 3)) (is_ordered k i) (has_is p.target (type_at k i 3)) (ordered k i)))
+    Decides-and (p.target == i.ty) _ (equal p.target i.ty) (Decides-and (holds p.target (type_at k i 3)) (is_ordered k i) (has_is p.target (type_at k i 3)) (ordered k i)))
 atomic k i Compare = sharing k i _ _ (λ p.
     Decides-and (p.target == i.ty) _ (equal p.target i.ty)
-    (Decides-and _ _ (Decides-and (has p.target (type_at k i 4)) (has p.target (type_at k i 5)) (has_is p.target (type_at k i 4)) (has_is p.target (type_at k i 5)))
+    (Decides-and _ _ (Decides-and (holds p.target (type_at k i 4)) (holds p.target (type_at k i 5)) (has_is p.target (type_at k i 4)) (has_is p.target (type_at k i 5)))
     (Decides-and (is_ordered k i) (is_constant_at k i 3) (ordered k i) (constant k i 3))))
 atomic k i ControlBarrier =
-    Decides-and (is_integer_at k i 0 && has 2 (number_at k i 0)) (is_ordered k i)
-    (Decides-and (is_integer_at k i 0) (has 2 (number_at k i 0)) (integer (form_at k i 0)) (has_is 2 (number_at k i 0))) (ordered k i)
+    Decides-and (is_integer_at k i 0 && holds 2 (number_at k i 0)) (is_ordered k i)
+    (Decides-and (is_integer_at k i 0) (holds 2 (number_at k i 0)) (integer (form_at k i 0)) (has_is 2 (number_at k i 0))) (ordered k i)
 atomic k i MemoryBarrier = Decides-and (is_constant_at k i 0) (is_constant_at k i 1) (constant k i 0) (constant k i 1)
 
 -- ---- composites
@@ -125,11 +126,11 @@ members : (k : Known) (ms : List Member) (os : List Operand) → Decides (are_me
 members k [] [] = (λ h. tt, λ h. refl)
 members k [] (o ∷ os) = (λ h. impossible h, λ h. absurd h)
 members k (m ∷ ms) [] = (λ h. impossible h, λ h. absurd h)
-members k (m ∷ ms) (o ∷ os) = Decides-and (has m.ty (type_in k o)) (are_members k ms os) (has_is m.ty (type_in k o)) (members k ms os)
+members k (m ∷ ms) (o ∷ os) = Decides-and (holds m.ty (type_in k o)) (are_members k ms os) (has_is m.ty (type_in k o)) (members k ms os)
 
 elements : (k : Known) (element : ℕ) (count : Option ℕ) (os : List Operand) → Decides (are_elements k element count os) ((count ≡ Some (length os)) × All (λ o. type_in k o ≡ Some element) os)
 elements k element count os =
-    Decides-and (has (length os) count) (list_all (λ o. has element (type_in k o)) os) (has_is (length os) count) (all_are _ _ (λ o. has_is element (type_in k o)) os)
+    Decides-and (holds (length os) count) (list_all (λ o. holds element (type_in k o)) os) (has_is (length os) count) (all_are _ _ (λ o. has_is element (type_in k o)) os)
 
 no_parts : Decides false ⊥
 no_parts = (λ h. impossible h, λ h. absurd h)
@@ -141,7 +142,7 @@ parts k os (Some (Struct ms block)) = members k ms os
 parts k os _ = no_parts
 
 part_of : (k : Known) (whole : ℕ) (os : List Operand) (ty : ℕ) → Decides (is_part k whole os ty) (IsPart k whole os ty)
-part_of k whole os ty = Decides-and (is_selectable (form_of k.types ty)) (has ty (named_type k whole os)) (itself _) (has_is ty (named_type k whole os))
+part_of k whole os ty = Decides-and (is_selectable (form_of k.types ty)) (holds ty (named_type k whole os)) (itself _) (has_is ty (named_type k whole os))
 
 matching : (ts : Types) (a b : ℕ) → Decides (do_match ts a b) (Match ts a b)
 matching ts a b = Decides-or (a == b) (same_terms (term_of ts a) (term_of ts b)) (equal a b) (both_written (term_of ts a) (term_of ts b))
@@ -149,14 +150,14 @@ matching ts a b = Decides-or (a == b) (same_terms (term_of ts a) (term_of ts b))
 composite : (k : Known) (i : Inst) (rule : CompositeRule) → Decides (keeps_composite k i rule) (KeepsComposite k i rule)
 composite k i ExtractDynamic = Decides-and (is_integer_at k i 1) _ (integer (form_at k i 1)) (composed _ _ (form_at k i 0) (λ v. equal v.ty i.ty))
 composite k i InsertDynamic =
-    Decides-and (has i.ty (type_at k i 0) && is_integer_at k i 2) _
-    (Decides-and (has i.ty (type_at k i 0)) (is_integer_at k i 2) (has_is i.ty (type_at k i 0)) (integer (form_at k i 2)))
+    Decides-and (holds i.ty (type_at k i 0) && is_integer_at k i 2) _
+    (Decides-and (holds i.ty (type_at k i 0)) (is_integer_at k i 2) (has_is i.ty (type_at k i 0)) (integer (form_at k i 2)))
     (composed _ _ (form_of k.types i.ty) (λ v. has_is v.ty (type_at k i 1)))
 composite k i Shuffle = composed _ _ (form_at k i 0) (λ a. composed _ _ (form_at k i 1) (λ b. composed _ _ (form_of k.types i.ty) (λ r. shuffling (drop 2 i.operands) a b r)))
 composite k i Construct = parts k i.operands (form_of k.types i.ty)
 composite k i Extract = some _ _ (type_at k i 0) (λ whole. part_of k whole (drop 1 i.operands) i.ty)
 composite k i Insert =
-    Decides-and (has i.ty (type_at k i 1)) _ (has_is i.ty (type_at k i 1)) (some _ _ (type_at k i 0) (λ ty. part_of k i.ty (drop 2 i.operands) ty))
+    Decides-and (holds i.ty (type_at k i 1)) _ (has_is i.ty (type_at k i 1)) (some _ _ (type_at k i 0) (λ ty. part_of k i.ty (drop 2 i.operands) ty))
 composite k i CopyObject = has_is i.ty (type_at k i 0)
 composite k i CopyLogical =
     Decides-and (is_selectable (form_of k.types i.ty)) _ (itself _) (some _ _ (type_at k i 0) (λ ty. matching k.types ty i.ty))
@@ -165,14 +166,14 @@ composite k i CopyLogical =
 
 values : (k : Known) (ty : ℕ) (os : List Operand) → Decides (are_values k ty true os) (All (λ o. type_in k o ≡ Some ty) (firsts os))
 values k ty [] = (λ h. All-nil _, λ h. refl)
-values k ty (o ∷ []) = one_more (λ o. type_in k o ≡ Some ty) (has ty (type_in k o)) true o [] (has_is ty (type_in k o)) (λ h. All-nil _, λ h. refl)
-values k ty (o ∷ p ∷ os) = one_more (λ o. type_in k o ≡ Some ty) (has ty (type_in k o)) (are_values k ty true os) o (firsts os) (has_is ty (type_in k o)) (values k ty os)
+values k ty (o ∷ []) = one_more (λ o. type_in k o ≡ Some ty) (holds ty (type_in k o)) true o [] (has_is ty (type_in k o)) (λ h. All-nil _, λ h. refl)
+values k ty (o ∷ p ∷ os) = one_more (λ o. type_in k o ≡ Some ty) (holds ty (type_in k o)) (are_values k ty true os) o (firsts os) (has_is ty (type_in k o)) (values k ty os)
 
 arguments : (k : Known) (tys : List ℕ) (os : List Operand) → Decides (are_of k tys os) (AllZip (λ ty o. type_in k o ≡ Some ty) tys os)
 arguments k [] [] = (λ h. tt, λ h. refl)
 arguments k [] (o ∷ os) = (λ h. impossible h, λ h. absurd h)
 arguments k (ty ∷ tys) [] = (λ h. impossible h, λ h. absurd h)
-arguments k (ty ∷ tys) (o ∷ os) = Decides-and (has ty (type_in k o)) (are_of k tys os) (has_is ty (type_in k o)) (arguments k tys os)
+arguments k (ty ∷ tys) (o ∷ os) = Decides-and (holds ty (type_in k o)) (are_of k tys os) (has_is ty (type_in k o)) (arguments k tys os)
 
 control : (k : Known) (p : Placed) (rule : ControlRule) → Decides (keeps_control k p rule) (KeepsControl k p rule)
 control k p Phi = Decides-and (not (is_pointer (form_of k.types p.inst.ty))) (are_values k p.inst.ty true p.inst.operands) (opposite _) (values k p.inst.ty p.inst.operands)
@@ -180,7 +181,7 @@ control k p Branch = boolean (form_at k p.inst 0)
 control k p Switch = integer (form_at k p.inst 0)
 control k p Return = some _ _ p.within.returns (λ ty. void (form_of k.types ty))
 control k p ReturnValue = some _ _ p.within.returns (λ ty.
-    Decides-and (has ty (type_at k p.inst 0)) (not (is_pointer (form_of k.types ty))) (has_is ty (type_at k p.inst 0)) (opposite _))
+    Decides-and (holds ty (type_at k p.inst 0)) (not (is_pointer (form_of k.types ty))) (has_is ty (type_at k p.inst 0)) (opposite _))
 control k p Function = declaring _ _ (function_form k p.inst) p.inst.ty (λ ps. at_most (length ps) (parameters_ahead p.rest))
 control k p Parameter = has_is p.inst.ty (parameter_type k p.within.parameters p.within.ty)
 control k p Call = declaring _ _ (called_form k p.inst) p.inst.ty (λ ps.

@@ -6,6 +6,7 @@ use Rattle.std.specs.Bool.{Decides}
 use Rattle.std.specs.List.{All, list_all}
 use Rattle.std.specs.Option.{is_some, option_map_or}
 use Rattle.std.specs.Prelude.{◌&&◌, not, nat_lt}
+use Rattle.spv_base.specs.Options.{holds}
 use Rattle.spv_types.specs.declared.forms.Form.{Form}
 use Rattle.spv_types.specs.declared.forms.Form.TheVariants.{Void, Bool as Boolean, Int, Vector, Runtime, Pointer, Function}
 use Rattle.spv_types.specs.declared.queries.Components.{Components}
@@ -13,7 +14,7 @@ use Rattle.spv_types.specs.declared.queries.Pointed.{Pointed}
 use Rattle.spv_types.specs.Rules.{is_runtime, is_word}
 use Rattle.spv_types.specs.Queries.{components_in, is_boolean, is_integer, is_void, parameters_in, pointee, return_type}
 use Rattle.spv_types.proofs.Exports.{impossible}
-use Rattle.spv_bodies.specs.Context.{IsInteger, IsPointerTo, IsVectorOf, has}
+use Rattle.spv_bodies.specs.Context.{IsInteger, IsPointerTo, IsVectorOf}
 
 -- ---- numbers and options
 
@@ -37,7 +38,7 @@ some {A = A} T t (Some y) d = (λ h. (y, refl, (d y).0 h), λ r. there r)
     there : (x : A) × (Some y ≡ Some x) × T x → t y ≡ true
     there r = let e : y ≡ r.0 = (let s = r.1 in cc) in rw e ((d r.0).1 r.2)
 
-pub has_is : (n : ℕ) (o : Option ℕ) → Decides (has n o) (o ≡ Some n)
+pub has_is : (n : ℕ) (o : Option ℕ) → Decides (holds n o) (o ≡ Some n)
 has_is n None = (λ h. impossible h, λ h. cc)
 has_is n (Some m) = (λ h. ap Some ((equal m n).0 h), λ h. let e : m ≡ n = cc in (equal m n).1 e)
 
@@ -128,15 +129,15 @@ void f = (there f, λ e. rw e refl)
 
 -- a function type that returns a type, with a test of its parameters
 pub declaring : (T : List ℕ → Type 0) (t : List ℕ → Bool) (f : Option Form) (ty : ℕ) → ((ps : List ℕ) → Decides (t ps) (T ps))
-    → Decides (has ty (return_type f) && t (parameters_in f)) ((ps : List ℕ) × (f ≡ Some (Function ty ps)) × T ps)
+    → Decides (holds ty (return_type f) && t (parameters_in f)) ((ps : List ℕ) × (f ≡ Some (Function ty ps)) × T ps)
 declaring T t f ty d = (there f, back)
   where
-    there : (f : Option Form) → (has ty (return_type f) && t (parameters_in f)) ≡ true → (ps : List ℕ) × (f ≡ Some (Function ty ps)) × T ps
+    there : (f : Option Form) → (holds ty (return_type f) && t (parameters_in f)) ≡ true → (ps : List ℕ) × (f ≡ Some (Function ty ps)) × T ps
     there (Some (Function returns parameters)) h =
         let r = (Decides-and (returns == ty) (t parameters) (equal returns ty) (d parameters)).0 h in
         let e : returns ≡ ty = r.0 in
         (parameters, rw e refl, r.1)
     there _ h = impossible h
 
-    back : (ps : List ℕ) × (f ≡ Some (Function ty ps)) × T ps → (has ty (return_type f) && t (parameters_in f)) ≡ true
+    back : (ps : List ℕ) × (f ≡ Some (Function ty ps)) × T ps → (holds ty (return_type f) && t (parameters_in f)) ≡ true
     back r = rw r.1 ((Decides-and (ty == ty) (t r.0) (equal ty ty) (d r.0)).1 (refl, r.2))

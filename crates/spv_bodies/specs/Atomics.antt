@@ -4,12 +4,13 @@ use Rattle.std.specs.Prelude.{◌≡◌, ◌⊎◌, ℕ, ◌==◌, ◌&&◌, ◌
 use Rattle.std.specs.Option.{option_and_then, option_map_or}
 use Rattle.spv_base.specs.Cell.{defined_number}
 use Rattle.spv_base.specs.declared.instructions.Inst.{Inst}
+use Rattle.spv_base.specs.Options.{holds}
 use Rattle.spv_types.specs.Types.{form_of}
 use Rattle.spv_types.specs.declared.queries.Pointed.{Pointed}
 use Rattle.spv_types.specs.Queries.{is_integer}
 use Rattle.spv_consts.specs.Table.{scalar_of}
 use Rattle.spv_index.specs.Operands.{id_operand}
-use Rattle.spv_bodies.specs.Context.{HasType, IsConstantAt, IsInteger, Known, PointsTo, form_at, has, is_constant_at, is_integer_at, pointee_at, type_at}
+use Rattle.spv_bodies.specs.Context.{HasType, IsConstantAt, IsInteger, Known, PointsTo, form_at, is_constant_at, is_integer_at, pointee_at, type_at}
 
 -- a scalar integer in StorageBuffer 12 or Workgroup 4
 abbrev pub IsShared : Known → Pointed → Type 0
@@ -69,17 +70,17 @@ abbrev pub keeps_atomic_read : Known → Inst → Bool
 keeps_atomic_read k i = on_shared k i (λ p. p.target == i.ty && is_ordered k i)
 
 abbrev pub keeps_atomic_store : Known → Inst → Bool
-keeps_atomic_store k i = on_shared k i (λ p. has p.target (type_at k i 3) && is_ordered k i)
+keeps_atomic_store k i = on_shared k i (λ p. holds p.target (type_at k i 3) && is_ordered k i)
 
 abbrev pub keeps_atomic_update : Known → Inst → Bool
-keeps_atomic_update k i = on_shared k i (λ p. p.target == i.ty && (has p.target (type_at k i 3) && is_ordered k i))
+keeps_atomic_update k i = on_shared k i (λ p. p.target == i.ty && (holds p.target (type_at k i 3) && is_ordered k i))
 
 abbrev pub keeps_atomic_compare : Known → Inst → Bool
 keeps_atomic_compare k i =
-    on_shared k i (λ p. p.target == i.ty && ((has p.target (type_at k i 4) && has p.target (type_at k i 5)) && (is_ordered k i && is_constant_at k i 3)))
+    on_shared k i (λ p. p.target == i.ty && ((holds p.target (type_at k i 4) && holds p.target (type_at k i 5)) && (is_ordered k i && is_constant_at k i 3)))
 
 abbrev pub keeps_control_barrier : Known → Inst → Bool
-keeps_control_barrier k i = (is_integer_at k i 0 && has 2 (number_at k i 0)) && is_ordered k i
+keeps_control_barrier k i = (is_integer_at k i 0 && holds 2 (number_at k i 0)) && is_ordered k i
 
 abbrev pub keeps_memory_barrier : Known → Inst → Bool
 keeps_memory_barrier k i = is_constant_at k i 0 && is_constant_at k i 1

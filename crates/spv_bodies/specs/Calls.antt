@@ -5,13 +5,14 @@ use Rattle.std.specs.List.{AllZip}
 use Rattle.std.specs.Option.{option_and_then}
 use Rattle.spv_base.specs.declared.instructions.Inst.{Inst}
 use Rattle.spv_base.specs.declared.instructions.Operand.{Operand}
+use Rattle.spv_base.specs.Options.{holds}
 use Rattle.spv_types.specs.declared.forms.Form.{Form}
 use Rattle.spv_types.specs.declared.forms.Form.TheVariants.{Function}
 use Rattle.spv_types.specs.Types.{form_of}
 use Rattle.spv_types.specs.Queries.{is_pointer, parameters_in, return_type}
 use Rattle.spv_index.specs.Definitions.{defining}
 use Rattle.spv_index.specs.Operands.{id_operand}
-use Rattle.spv_bodies.specs.Context.{Known, has, type_in}
+use Rattle.spv_bodies.specs.Context.{Known, type_in}
 
 -- a Function 54 begins, or the first block of one, at a Label 248
 abbrev pub ends_parameters : Inst → Bool
@@ -60,20 +61,20 @@ KeepsCall k i =
 -- ---- the same as tests
 
 abbrev pub returns_type : Option Form → ℕ → Bool
-returns_type f ty = has ty (return_type f)
+returns_type f ty = holds ty (return_type f)
 
 abbrev pub keeps_function : Known → Inst → List Inst → Bool
 keeps_function k i rest = returns_type (function_form k i) i.ty && nat_le (length (parameters_in (function_form k i))) (parameters_ahead rest)
 
 abbrev pub keeps_parameter : Known → Option ℕ → ℕ → Inst → Bool
-keeps_parameter k ty n i = has i.ty (parameter_type k n ty)
+keeps_parameter k ty n i = holds i.ty (parameter_type k n ty)
 
 -- one operand for each type, and of this type
 abbrev pub are_of : Known → List ℕ → List Operand → Bool
 are_of k [] [] = true
 are_of k [] (o ∷ os) = false
 are_of k (ty ∷ tys) [] = false
-are_of k (ty ∷ tys) (o ∷ os) = has ty (type_in k o) && are_of k tys os
+are_of k (ty ∷ tys) (o ∷ os) = holds ty (type_in k o) && are_of k tys os
 
 abbrev pub keeps_call_of : Known → Inst → Option Form → Bool
 keeps_call_of k i f = returns_type f i.ty && (not (is_pointer (form_of k.types i.ty)) && are_of k (parameters_in f) (drop 1 i.operands))

@@ -4,6 +4,7 @@ use Rattle.std.specs.Option.{option_map_or, option_and_then}
 use Rattle.spv_base.specs.Cell.{Cell}
 use Rattle.spv_base.specs.declared.instructions.Inst.{Inst}
 use Rattle.spv_base.specs.declared.instructions.Operand.{Operand}
+use Rattle.spv_base.specs.Options.{holds}
 use Rattle.spv_types.specs.declared.forms.Form.{Form}
 use Rattle.spv_types.specs.declared.forms.Form.TheVariants.{Vector, Array, Runtime, Struct}
 use Rattle.spv_types.specs.Types.{form_of}
@@ -12,7 +13,7 @@ use Rattle.spv_types.specs.declared.queries.Pointed.{Pointed}
 use Rattle.spv_types.specs.Queries.{is_integer, member_type, pointee}
 use Rattle.spv_consts.specs.Table.{scalar_of}
 use Rattle.spv_index.specs.Operands.{id_in}
-use Rattle.spv_bodies.specs.Context.{IsPointerTo, Known, PointsTo, has, pointee_at, type_of}
+use Rattle.spv_bodies.specs.Context.{IsPointerTo, Known, PointsTo, pointee_at, type_of}
 
 -- a scalar's number, where it is defined and not below 0 when it is read as signed
 abbrev pub index_in : Cell → Option ℕ
@@ -56,7 +57,7 @@ KeepsChain k i =
 -- ---- the same as a test
 
 abbrev pub keeps_chain_from : Known → Inst → Pointed → Pointed → Bool
-keeps_chain_from k i p q = q.class == p.class && has q.target (reached_type k p.target (drop 1 i.operands))
+keeps_chain_from k i p q = q.class == p.class && holds q.target (reached_type k p.target (drop 1 i.operands))
 
 abbrev pub keeps_chain : Known → Inst → Bool
 keeps_chain k i = option_map_or (λ p. option_map_or (keeps_chain_from k i p) (pointee (form_of k.types i.ty)) false) (pointee_at k i 0) false

@@ -4,6 +4,7 @@ use Rattle.std.specs.Option.{option_map_or, option_and_then}
 use Rattle.std.specs.List.{All, AllZip, list_all, sum_by}
 use Rattle.spv_base.specs.declared.instructions.Inst.{Inst}
 use Rattle.spv_base.specs.declared.instructions.Operand.{Operand}
+use Rattle.spv_base.specs.Options.{holds}
 use Rattle.spv_types.specs.declared.forms.Form.{Form}
 use Rattle.spv_types.specs.declared.forms.Form.TheVariants.{Vector, Array, Struct}
 use Rattle.spv_types.specs.declared.forms.Member.{Member}
@@ -12,7 +13,7 @@ use Rattle.spv_types.specs.declared.queries.Components.{Components}
 use Rattle.spv_types.specs.Queries.{components_in, member_type}
 use Rattle.spv_typing.specs.Fitting.{is_selectable}
 use Rattle.spv_index.specs.Operands.{literal_in}
-use Rattle.spv_bodies.specs.Context.{HasType, IsInteger, IsVectorOf, Known, form_at, has, is_integer_at, type_at, type_in}
+use Rattle.spv_bodies.specs.Context.{HasType, IsInteger, IsVectorOf, Known, form_at, is_integer_at, type_at, type_in}
 
 -- ---- vectors
 
@@ -102,8 +103,8 @@ keeps_extract_dynamic k i = is_integer_at k i 1 && option_map_or (λ (v : Compon
 
 abbrev pub keeps_insert_dynamic : Known → Inst → Bool
 keeps_insert_dynamic k i =
-    (has i.ty (type_at k i 0) && is_integer_at k i 2)
-    && option_map_or (λ (v : Components). has v.ty (type_at k i 1)) (components_in (form_of k.types i.ty)) false
+    (holds i.ty (type_at k i 0) && is_integer_at k i 2)
+    && option_map_or (λ (v : Components). holds v.ty (type_at k i 1)) (components_in (form_of k.types i.ty)) false
 
 abbrev pub is_choice : ℕ → Operand → Bool
 is_choice count o = option_map_or (λ choice. nat_lt choice count || choice == 4294967295) (literal_in o) false
@@ -124,10 +125,10 @@ abbrev pub are_members : Known → List Member → List Operand → Bool
 are_members k [] [] = true
 are_members k [] (o ∷ os) = false
 are_members k (m ∷ ms) [] = false
-are_members k (m ∷ ms) (o ∷ os) = has m.ty (type_in k o) && are_members k ms os
+are_members k (m ∷ ms) (o ∷ os) = holds m.ty (type_in k o) && are_members k ms os
 
 abbrev pub are_elements : Known → ℕ → Option ℕ → List Operand → Bool
-are_elements k element count os = has (length os) count && list_all (λ o. has element (type_in k o)) os
+are_elements k element count os = holds (length os) count && list_all (λ o. holds element (type_in k o)) os
 
 abbrev pub are_parts : Known → List Operand → Option Form → Bool
 are_parts k os (Some (Vector component count)) = fill k component count os
@@ -139,13 +140,13 @@ abbrev pub keeps_construct : Known → Inst → Bool
 keeps_construct k i = are_parts k i.operands (form_of k.types i.ty)
 
 abbrev pub is_part : Known → ℕ → List Operand → ℕ → Bool
-is_part k whole os ty = is_selectable (form_of k.types ty) && has ty (named_type k whole os)
+is_part k whole os ty = is_selectable (form_of k.types ty) && holds ty (named_type k whole os)
 
 abbrev pub keeps_extract : Known → Inst → Bool
 keeps_extract k i = option_map_or (λ whole. is_part k whole (drop 1 i.operands) i.ty) (type_at k i 0) false
 
 abbrev pub keeps_insert : Known → Inst → Bool
-keeps_insert k i = has i.ty (type_at k i 1) && option_map_or (λ ty. is_part k i.ty (drop 2 i.operands) ty) (type_at k i 0) false
+keeps_insert k i = holds i.ty (type_at k i 1) && option_map_or (λ ty. is_part k i.ty (drop 2 i.operands) ty) (type_at k i 0) false
 
 abbrev pub keeps_copy_object : Known → Inst → Bool
-keeps_copy_object k i = has i.ty (type_at k i 0)
+keeps_copy_object k i = holds i.ty (type_at k i 0)

@@ -1,9 +1,10 @@
 -- What the rules of function bodies ask about: the types of a module, the values of its constants, its instructions, and
 -- its imported sets. The type of an id is the type that the id's instruction has (SPIR-V 1.6 section 2.2.1).
-use Rattle.std.specs.Prelude.{◌≡◌, ℕ, ◌==◌, Bool, false, if◌then◌else◌, List, Option, Some, None}
-use Rattle.std.specs.Option.{is_some, option_and_then, option_map_or}
+use Rattle.std.specs.Prelude.{◌≡◌, ℕ, Bool, if◌then◌else◌, List, Option, Some, None}
+use Rattle.std.specs.Option.{is_some, option_and_then}
 use Rattle.spv_base.specs.declared.instructions.Inst.{Inst}
 use Rattle.spv_base.specs.declared.instructions.Operand.{Operand}
+use Rattle.spv_base.specs.Options.{holds}
 use Rattle.spv_consts.specs.Table.{Constants}
 use Rattle.spv_types.specs.declared.forms.Form.{Form}
 use Rattle.spv_types.specs.declared.forms.Form.TheVariants.{Int, Pointer, Vector}
@@ -76,10 +77,6 @@ abbrev pub IsConstantAt : Known → Inst → ℕ → Type 0
 IsConstantAt k i n = (ty : ℕ) × (constant_at k i n ≡ Some ty)
 
 -- ---- the same as tests
-
--- an option has a number
-abbrev pub has : ℕ → Option ℕ → Bool
-has n o = option_map_or (λ m. m == n) o false
 
 -- a scalar integer
 abbrev pub is_integer_at : Known → Inst → ℕ → Bool

@@ -5,10 +5,11 @@ use Rattle.std.specs.List.{All}
 use Rattle.std.specs.Option.{option_map_or}
 use Rattle.spv_base.specs.declared.instructions.Inst.{Inst}
 use Rattle.spv_base.specs.declared.instructions.Operand.{Operand}
+use Rattle.spv_base.specs.Options.{holds}
 use Rattle.spv_types.specs.declared.forms.Form.TheVariants.{Void, Bool as Boolean}
 use Rattle.spv_types.specs.Types.{form_of}
 use Rattle.spv_types.specs.Queries.{is_boolean, is_pointer, is_void}
-use Rattle.spv_bodies.specs.Context.{HasType, IsInteger, Known, form_at, has, is_integer_at, type_at, type_in}
+use Rattle.spv_bodies.specs.Context.{HasType, IsInteger, Known, form_at, is_integer_at, type_at, type_in}
 
 -- the first of each pair
 abbrev pub firsts : List Operand → List Operand
@@ -41,7 +42,7 @@ KeepsReturnValue k returns i = (ty : ℕ) × (returns ≡ Some ty) × (HasType k
 -- operands of which every second one is a value, of one type
 abbrev pub are_values : Known → ℕ → Bool → List Operand → Bool
 are_values k ty value [] = true
-are_values k ty value (o ∷ os) = (not value || has ty (type_in k o)) && are_values k ty (not value) os
+are_values k ty value (o ∷ os) = (not value || holds ty (type_in k o)) && are_values k ty (not value) os
 
 abbrev pub keeps_phi : Known → Inst → Bool
 keeps_phi k i = not (is_pointer (form_of k.types i.ty)) && are_values k i.ty true i.operands
@@ -56,4 +57,4 @@ abbrev pub keeps_return : Known → Option ℕ → Bool
 keeps_return k returns = option_map_or (λ ty. is_void (form_of k.types ty)) returns false
 
 abbrev pub keeps_return_value : Known → Option ℕ → Inst → Bool
-keeps_return_value k returns i = option_map_or (λ ty. has ty (type_at k i 0) && not (is_pointer (form_of k.types ty))) returns false
+keeps_return_value k returns i = option_map_or (λ ty. holds ty (type_at k i 0) && not (is_pointer (form_of k.types ty))) returns false

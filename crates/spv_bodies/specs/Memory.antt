@@ -3,13 +3,14 @@
 use Rattle.std.specs.Prelude.{◌≡◌, ◌≤◌, ◌⊎◌, ℕ, ◌==◌, ◌&&◌, ◌||◌, not, nat_le, Bool, true, false, length, Option, Some}
 use Rattle.std.specs.Option.{option_and_then, option_map_or}
 use Rattle.spv_base.specs.declared.instructions.Inst.{Inst}
+use Rattle.spv_base.specs.Options.{holds}
 use Rattle.spv_types.specs.Rules.{has_runtime, is_runtime, is_sized_data, is_word}
 use Rattle.spv_types.specs.Types.{form_of}
 use Rattle.spv_types.specs.declared.forms.Form.TheVariants.{Int, Runtime}
 use Rattle.spv_types.specs.declared.queries.Pointed.{Pointed}
 use Rattle.spv_types.specs.Queries.{member_of, pointee}
 use Rattle.spv_index.specs.Operands.{literal_operand}
-use Rattle.spv_bodies.specs.Context.{HasType, IsPointerTo, Known, PointsTo, constant_at, has, pointee_at, type_at}
+use Rattle.spv_bodies.specs.Context.{HasType, IsPointerTo, Known, PointsTo, constant_at, pointee_at, type_at}
 
 -- data without a runtime array
 abbrev pub IsSized : Known → ℕ → Type 0
@@ -64,10 +65,10 @@ abbrev pub keeps_undef : Known → Inst → Bool
 keeps_undef k i = is_sized_data k.types i.ty
 
 abbrev pub starts : Known → Inst → ℕ → Bool
-starts k i target = nat_le (length i.operands) 1 || has target (constant_at k i 1)
+starts k i target = nat_le (length i.operands) 1 || holds target (constant_at k i 1)
 
 abbrev pub keeps_local : Known → Inst → Pointed → Bool
-keeps_local k i p = (p.class == 7 && has 7 (literal_operand i 0)) && (not (has_runtime k.types p.target) && starts k i p.target)
+keeps_local k i p = (p.class == 7 && holds 7 (literal_operand i 0)) && (not (has_runtime k.types p.target) && starts k i p.target)
 
 abbrev pub keeps_variable : Known → Inst → Bool
 keeps_variable k i = option_map_or (keeps_local k i) (pointee (form_of k.types i.ty)) false
@@ -82,7 +83,7 @@ abbrev pub may_be_stored : Known → Pointed → Bool
 may_be_stored k p = is_writable p.class && is_sized_data k.types p.target
 
 abbrev pub keeps_store : Known → Inst → Bool
-keeps_store k i = option_map_or (λ (p : Pointed). has p.target (type_at k i 1) && may_be_stored k p) (pointee_at k i 0) false
+keeps_store k i = option_map_or (λ (p : Pointed). holds p.target (type_at k i 1) && may_be_stored k p) (pointee_at k i 0) false
 
 abbrev pub keeps_copy_memory : Known → Inst → Bool
 keeps_copy_memory k i =

@@ -1,8 +1,9 @@
 //! The rules of composite operations and copies.
 ghost use Rattle.std.specs.Prelude.{◌≡◌, option_copied};
 ghost use Rattle.std.specs.List.{list_all};
+ghost use Rattle.spv_base.specs.Options.{holds};
 ghost use Rattle.spv_bodies.specs.Composites as spec;
-ghost use Rattle.spv_bodies.specs.Context.{has, type_in};
+ghost use Rattle.spv_bodies.specs.Context.{type_in};
 
 use crate::context::Context;
 use spv_base::{Inst, Operand};
@@ -28,12 +29,7 @@ fn is_choice(count: u64, operand: &Operand) -> bool
 fn are_choices(count: u64, operands: &[Operand]) -> bool
     ensures { result ≡ list_all (spec.is_choice count) operands.now }
 {
-    for operand in operands {
-        if !is_choice(count, operand) {
-            return false;
-        }
-    }
-    true
+    operands.iter().all(|operand| is_choice(count, operand))
 }
 
 /// Whether some literals shuffle `a` and `b` to `r`.
@@ -165,14 +161,11 @@ fn are_members(context: &Context, members: &[Member], operands: &[Operand]) -> b
 
 /// Whether operands are of one type.
 fn are_all(context: &Context, ty: u32, operands: &[Operand]) -> bool
-    ensures { result ≡ list_all (λ o. has ty (type_in context.now o)) operands.now }
+    ensures { result ≡ list_all (λ o. holds ty (type_in context.now o)) operands.now }
 {
-    for operand in operands {
-        if context.type_in(operand) != Some(ty) {
-            return false;
-        }
-    }
-    true
+    operands
+        .iter()
+        .all(|operand| context.type_in(operand) == Some(ty))
 }
 
 /// Whether there are so many operands, of one type.

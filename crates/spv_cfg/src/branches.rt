@@ -59,12 +59,9 @@ fn has_targets(inst: &Inst) -> bool
 fn are_targets(index: &Index, function: u32, targets: &[u32]) -> bool
     ensures { result ≡ list_all (spec.is_target index.now.insts function) targets.now }
 {
-    for target in targets {
-        if !is_target(index, function, *target) {
-            return false;
-        }
-    }
-    true
+    targets
+        .iter()
+        .all(|target| is_target(index, function, *target))
 }
 
 /// Whether the literals of a terminator are right, which only OpSwitch has.

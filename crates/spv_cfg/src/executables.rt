@@ -15,7 +15,7 @@ pub fn executables_of(alloc: Global, stands: &Stands) -> Result<Vec<(u32, u32)>,
     let mut executables = Vec::new(alloc);
     for n in 0..stands.len() {
         let stand = stands.at(n);
-        if stand.class.is_executable() && stand.position.stage.in_block() {
+        if stand.is_stop() {
             executables.push((stand.position.label, stand.inst.word))?;
         }
     }

@@ -12,24 +12,14 @@ use std::alloc::Global;
 pub fn are_ids(operands: &[Operand]) -> bool
     ensures { result ≡ list_all spec.is_name operands.now }
 {
-    for operand in operands {
-        if id_in(operand).is_none() {
-            return false;
-        }
-    }
-    true
+    operands.iter().all(|operand| id_in(operand).is_some())
 }
 
 /// Whether all are literal words.
 pub fn are_literals(operands: &[Operand]) -> bool
     ensures { result ≡ list_all spec.is_literal operands.now }
 {
-    for operand in operands {
-        if literal_in(operand).is_none() {
-            return false;
-        }
-    }
-    true
+    operands.iter().all(|operand| literal_in(operand).is_some())
 }
 
 /// The ids among them.

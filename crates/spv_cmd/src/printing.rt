@@ -10,6 +10,7 @@ use crate::command::{BreakPlace, Command, Count, PathPart, PathParts, PathText, 
 use crate::keywords::{Keyword, spelling};
 use crate::parsing::parse;
 use spv_base::{CmdRefusal, Fail, NoMemory, Text};
+use spv_line::push_number;
 use std::alloc::Global;
 
 /// The canonical line of a command: its words with one space between them, numbers without leading zeros, and a number
@@ -39,7 +40,7 @@ fn push_command(alloc: Global, text: &mut Vec<u8>, command: &Command) -> Result<
 {
     match command {
         Command::Empty => Ok(()),
-        Command::Goto(n) => push_number(alloc, text, Keyword::Goto, *n),
+        Command::Goto(n) => push_keyword_number(alloc, text, Keyword::Goto, *n),
         Command::Fwd(n) => push_count(alloc, text, Keyword::Fwd, *n),
         Command::Back(n) => push_count(alloc, text, Keyword::Back, *n),
         Command::Stepi(n) => push_count(alloc, text, Keyword::Stepi, *n),
@@ -54,18 +55,18 @@ fn push_command(alloc: Global, text: &mut Vec<u8>, command: &Command) -> Result<
         Command::Rcontinue => push_word(text, Keyword::Rcontinue),
         Command::Place => push_word(text, Keyword::Where),
         Command::Group => push_word(text, Keyword::Group),
-        Command::Focus(n) => push_number(alloc, text, Keyword::Focus, *n),
+        Command::Focus(n) => push_keyword_number(alloc, text, Keyword::Focus, *n),
         Command::Bt => push_word(text, Keyword::Bt),
-        Command::Frame(n) => push_number(alloc, text, Keyword::Frame, *n),
+        Command::Frame(n) => push_keyword_number(alloc, text, Keyword::Frame, *n),
         Command::Locals => push_word(text, Keyword::Locals),
         Command::Globals => push_word(text, Keyword::Globals),
         Command::Print(path) => push_path(alloc, text, Keyword::Print, path),
         Command::Regs => push_word(text, Keyword::Regs),
         Command::List => push_word(text, Keyword::List),
         Command::Break(place) => push_place(alloc, text, Keyword::Break, place),
-        Command::Delete(n) => push_number(alloc, text, Keyword::Delete, *n),
+        Command::Delete(n) => push_keyword_number(alloc, text, Keyword::Delete, *n),
         Command::Watch(path) => push_path(alloc, text, Keyword::Watch, path),
-        Command::Unwatch(n) => push_number(alloc, text, Keyword::Unwatch, *n),
+        Command::Unwatch(n) => push_keyword_number(alloc, text, Keyword::Unwatch, *n),
         Command::Info => push_word(text, Keyword::Info),
         Command::Quit => push_word(text, Keyword::Quit),
     }
@@ -79,16 +80,8 @@ fn push_word(text: &mut Vec<u8>, keyword: Keyword) -> Result<(), NoMemory>
     Ok(())
 }
 
-/// Appends a number in decimal.
-fn push_decimal(alloc: Global, text: &mut Vec<u8>, number: u32) -> Result<(), NoMemory>
-    ensures { OnOk result (text.new.items ≡ text.old.items ++ decimal number) }
-{
-    text.extend_from_slice(number.to_string(alloc)?.as_bytes())?;
-    Ok(())
-}
-
 /// Appends a keyword and a number.
-fn push_number(
+fn push_keyword_number(
     alloc: Global,
     text: &mut Vec<u8>,
     keyword: Keyword,
@@ -99,7 +92,7 @@ fn push_number(
 {
     text.extend_from_slice(spelling(keyword))?;
     text.extend_from_slice(b" ")?;
-    push_decimal(alloc, text, number)
+    push_number(alloc, text, u64::from(number))
 }
 
 /// Appends a keyword and a number of at least 1.
@@ -113,7 +106,7 @@ fn push_count(
     ensures least { 1 ≤ count }
     ensures range { count ≤ 4294967295 }
 {
-    push_number(alloc, text, keyword, count.get())
+    push_keyword_number(alloc, text, keyword, count.get())
 }
 
 /// Appends a part of a path.
@@ -128,7 +121,7 @@ fn push_part(alloc: Global, text: &mut Vec<u8>, part: &PathPart) -> Result<(), N
         }
         PathPart::Index(n) => {
             text.extend_from_slice(b"[")?;
-            push_decimal(alloc, text, *n)?;
+            push_number(alloc, text, u64::from(*n))?;
             text.extend_from_slice(b"]")?;
             Ok(())
         }
@@ -156,7 +149,7 @@ fn push_path_text(alloc: Global, text: &mut Vec<u8>, path: &PathText) -> Result<
         }
         PathText::Id(id) => {
             text.extend_from_slice(b"%")?;
-            push_decimal(alloc, text, *id)
+            push_number(alloc, text, u64::from(*id))
         }
     }
 }
@@ -186,7 +179,7 @@ fn push_place_text(alloc: Global, text: &mut Vec<u8>, place: &BreakPlace) -> Res
         text.extend_from_slice(file.as_slice())?;
         text.extend_from_slice(b":")?;
     }
-    push_decimal(alloc, text, place.line())
+    push_number(alloc, text, u64::from(place.line()))
 }
 
 /// Appends a keyword and a line of a source file.

@@ -4,6 +4,7 @@ use Rattle.std.specs.List.{flat_map}
 use Rattle.spv_base.specs.Cell.{Cell}
 use Rattle.spv_base.specs.declared.instructions.Inst.{Inst}
 use Rattle.spv_base.specs.declared.instructions.Operand.{Operand}
+use Rattle.spv_base.specs.Options.{holds}
 use Rattle.spv_types.specs.declared.forms.Form.{Form}
 use Rattle.spv_types.specs.declared.forms.Form.TheVariants.{Void, Bool as Boolean, Int, Vector, Array, Runtime, Struct, Pointer, Function}
 use Rattle.spv_types.specs.declared.forms.Member.{Member}
@@ -13,7 +14,6 @@ use Rattle.spv_index.specs.Definitions.{result_type}
 use Rattle.spv_index.specs.Operands.{id_in}
 use Rattle.spv_consts.specs.Context.{Context}
 use Rattle.spv_consts.specs.State.{State, given_cells, is_operand, operand_cells}
-use Rattle.spv_consts.specs.Overrides.{is_same}
 use Rattle.spv_consts.specs.Rules.{has_type, keeps_composite, keeps_part, keeps_parts, part_count, part_type_of}
 use Rattle.spv_consts.specs.Laws.{FillType, OperandsFillTypes}
 use Rattle.spv_consts.specs.Values.{leaf_widths, widths_step}
@@ -21,7 +21,7 @@ use Rattle.spv_consts.proofs.FillLemmas.{Fill, fill_append}
 use Rattle.std.proofs.lemmas.Bool.{eqb-true, and_parts}
 use Rattle.std.proofs.lemmas.Option.{same_Some}
 
-same_number : (n : ℕ) (o : Option ℕ) → is_same n o ≡ true → Some n ≡ o
+same_number : (n : ℕ) (o : Option ℕ) → holds n o ≡ true → Some n ≡ o
 same_number n None h = impossible h
 same_number n (Some k) h = ap Some (sym (eqb-true k n h))
 
@@ -58,7 +58,7 @@ module _ (m : Context) (s : State) (word : ℕ) (operands : OperandsFillTypes m 
       p : (is_operand m s word id ≡ true) × (has_type m part id ≡ true)
       p = and_parts (is_operand m s word id) (has_type m part id) h
 
-      by_type : (t : Option ℕ) → result_type m.all id ≡ t → option_map_or (λ q. is_same q part) t false ≡ true → FillType s.types ty (operand_cells m s id)
+      by_type : (t : Option ℕ) → result_type m.all id ≡ t → option_map_or (λ q. holds q part) t false ≡ true → FillType s.types ty (operand_cells m s id)
       by_type None e h = impossible h
       by_type (Some t) e h =
           let at : t ≡ ty = same_Some t ty (same_number t part h ∙ same) in
@@ -80,7 +80,7 @@ module _ (m : Context) (s : State) (word : ℕ) (operands : OperandsFillTypes m 
       next : Lists form (suc k) types
       next index part got = let moved : suc index + k ≡ index + suc k = omega arith in subst (λ (n : ℕ). part_type_of form n ≡ Some part) moved (each (suc index) part got)
 
-  pub form_fills : (f : Form) (os : List Operand) → is_same (length os) (part_count (Some f)) ≡ true → keeps_parts m s word (Some f) 0 os ≡ true
+  pub form_fills : (f : Form) (os : List Operand) → holds (length os) (part_count (Some f)) ≡ true → keeps_parts m s word (Some f) 0 os ≡ true
       → Fill (widths_step (leaf_widths s.types) f) (flat_map cells_in os)
   form_fills Void os h g = impossible h
   form_fills Boolean os h g = impossible h
@@ -101,5 +101,5 @@ module _ (m : Context) (s : State) (word : ℕ) (operands : OperandsFillTypes m 
 
   pub composite_fills : (f : Form) (i : Inst) → word ≡ i.word → keeps_composite m s i (Some f) ≡ true → Fill (widths_step (leaf_widths s.types) f) (flat_map cells_in i.operands)
   composite_fills f i same h =
-      let p = and_parts (is_same (length i.operands) (part_count (Some f))) (keeps_parts m s i.word (Some f) 0 i.operands) h in
+      let p = and_parts (holds (length i.operands) (part_count (Some f))) (keeps_parts m s i.word (Some f) 0 i.operands) h in
       form_fills f i.operands p.0 (subst (λ (w : ℕ). keeps_parts m s w (Some f) 0 i.operands ≡ true) (sym same) p.1)

@@ -9,6 +9,7 @@ use Rattle.spv_base.specs.Entries.{reads}
 use Rattle.spv_base.specs.Cell.{Cell}
 use Rattle.spv_base.specs.declared.instructions.Inst.{Inst}
 use Rattle.spv_base.specs.declared.instructions.Operand.{Operand}
+use Rattle.spv_base.specs.Options.{holds}
 use Rattle.spv_types.specs.declared.forms.Form.{Form}
 use Rattle.spv_types.specs.declared.forms.Form.TheVariants.{Void, Bool as Boolean, Int, Vector, Array, Runtime, Struct, Pointer, Function}
 use Rattle.spv_types.specs.Constants.{is_constant}
@@ -24,7 +25,6 @@ use Rattle.spv_consts.specs.State.{State, given_cells, is_operand, operand_cells
 use Rattle.spv_consts.specs.Values.{blank_cell, leaf_widths, null_of, undefined_of}
 use Rattle.spv_consts.specs.Literals.{integer_width, keeps_literal, literal_number, word_count}
 use Rattle.spv_consts.specs.Operations.{lane_width, scalar_width}
-use Rattle.spv_consts.specs.Overrides.{is_same}
 use Rattle.spv_consts.specs.Rules.{has_type, keeps_composite, keeps_kind, keeps_opcode, keeps_operation, keeps_part, keeps_parts, keeps_rules, opcode_of, part_count, part_type_of}
 use Rattle.spv_consts.specs.Evaluation.{cells_of, computed_cells, value_of}
 use Rattle.spv_consts.specs.Constants.{Has, IsConstant, Known, constituents, leaves_if, leaves_of, literal, result_of, specialized}
@@ -178,7 +178,7 @@ module _ (m : Context) (front : List Inst) (i : Inst) (s t : State) (follows : F
 
     composite : keeps_composite m s i (form_of s.types i.ty) ≡ true → flat_map (λ (o : Operand). given_cells m s (id_in o)) i.operands ≡ constituents m k i
     composite h =
-        let p = and_parts (is_same (length i.operands) (part_count (form_of s.types i.ty))) (keeps_parts m s i.word (form_of s.types i.ty) 0 i.operands) h in
+        let p = and_parts (holds (length i.operands) (part_count (form_of s.types i.ty))) (keeps_parts m s i.word (form_of s.types i.ty) 0 i.operands) h in
         parts_same (form_of s.types i.ty) 0 i.operands p.1
 
     -- the lane of a literal, by what is made of it

@@ -1,9 +1,9 @@
 -- Leaves that go with widths: one for each, of that width.
 use Rattle.std.proofs.Common.{◌≡◌, ℕ, zero, suc, ◌≤◌, min, Bool, List, [], ◌∷◌, ◌++◌, map, replicate, refl, ap, arith}
 use Rattle.std.specs.List.{AllByRecursion, AllZip}
+use Rattle.std.specs.Simd.Lanes.{zip2}
 use Rattle.spv_base.specs.Cell.{Cell, HasWidth}
 use Rattle.spv_alu.specs.Lanes.{zip3}
-use Rattle.spv_consts.specs.Operations.{by_two}
 use Rattle.spv_consts.specs.Values.{blank_cell}
 use Rattle.spv_consts.proofs.ScalarShapes.{blank_is_lane}
 
@@ -40,7 +40,7 @@ fill_one f v u (suc n) keeps [] h = absurd h
 fill_one f v u (suc n) keeps (c ∷ cs) h = (keeps c h.0, fill_one f v u n keeps cs h.1)
 
 pub fill_two : (f : Cell → Cell → Cell) (v w u n : ℕ) → ((c d : Cell) → HasWidth v c → HasWidth w d → HasWidth u (f c d))
-    → (cs ds : List Cell) → Fill (replicate n v) cs → Fill (replicate n w) ds → Fill (replicate n u) (by_two f cs ds)
+    → (cs ds : List Cell) → Fill (replicate n v) cs → Fill (replicate n w) ds → Fill (replicate n u) (zip2 f cs ds)
 fill_two f v w u zero keeps [] ds h g = tt
 fill_two f v w u zero keeps (c ∷ cs) ds h g = absurd h
 fill_two f v w u (suc n) keeps [] ds h g = absurd h
@@ -49,7 +49,7 @@ fill_two f v w u (suc n) keeps (c ∷ cs) (d ∷ ds) h g = (keeps c d h.0 g.0, f
 
 -- two rows of one type
 pub fill_pair : (f : Cell → Cell → Cell) → ((w : ℕ) (c d : Cell) → HasWidth w c → HasWidth w d → HasWidth w (f c d))
-    → (ws : List ℕ) (cs ds : List Cell) → Fill ws cs → Fill ws ds → Fill ws (by_two f cs ds)
+    → (ws : List ℕ) (cs ds : List Cell) → Fill ws cs → Fill ws ds → Fill ws (zip2 f cs ds)
 fill_pair f keeps [] [] ds h g = tt
 fill_pair f keeps [] (c ∷ cs) ds h g = absurd h
 fill_pair f keeps (w ∷ ws) [] ds h g = absurd h

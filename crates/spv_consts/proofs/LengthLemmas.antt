@@ -5,9 +5,10 @@ use Rattle.std.specs.Prelude.{int_le, nat_le, nat_lt, ◌&&◌, if◌then◌else
 use Rattle.std.specs.Option.{option_map, option_map_or}
 use Rattle.spv_base.specs.Cell.{Cell}
 use Rattle.spv_base.specs.Entries.{writes}
+use Rattle.spv_base.specs.Options.{holds}
 use Rattle.spv_types.specs.declared.forms.Form.{Form}
 use Rattle.spv_types.specs.declared.limits.Limit.{Limit}
-use Rattle.spv_types.specs.Types.{Types, form_at, form_of, in_first, is_number, lengthened, number_of, with_length}
+use Rattle.spv_types.specs.Types.{Types, form_at, form_of, in_first, lengthened, number_of, with_length}
 use Rattle.spv_types.specs.Laws.{IsAmong}
 use Rattle.spv_types.proofs.Exports.{in_first-found, number_lt, number_written, form_written}
 use Rattle.spv_types.specs.Limits.{AreLimits, limit_among, limit_step, no_limit}
@@ -38,13 +39,13 @@ module _ {A : Type 0} (none : A) (step : (ℕ → A) → Form → A) where
   first_written : (ts : Types) (id n m q : ℕ) (f : Form) → number_of ts id ≡ Some n → m ≤ n → in_first none step (writes id f ts) m q ≡ in_first none step ts m q
   unfolding in_first
   first_written ts id n zero q f h l = refl
-  first_written ts id n (suc m) q f h l = rw (number_written ts id q f) (go (λ p. first_written ts id n m p f h (omega arith)) (is_number m (number_of ts q)) refl)
+  first_written ts id n (suc m) q f h l = rw (number_written ts id q f) (go (λ p. first_written ts id n m p f h (omega arith)) (holds m (number_of ts q)) refl)
     where
-      other : (o : Option ℕ) → number_of ts q ≡ o → is_number m o ≡ true → id ≢ q
+      other : (o : Option ℕ) → number_of ts q ≡ o → holds m o ≡ true → id ≢ q
       other None e g s = cc
       other (Some k) e g s = let a : k ≡ m = eqb-true k m g in let b : number_of ts id ≡ Some k = rw s e in let c : k ≡ n = cc in omega arith
 
-      go : ((p : ℕ) → in_first none step (writes id f ts) m p ≡ in_first none step ts m p) → (b : Bool) → is_number m (number_of ts q) ≡ b
+      go : ((p : ℕ) → in_first none step (writes id f ts) m p ≡ in_first none step ts m p) → (b : Bool) → holds m (number_of ts q) ≡ b
           → (if b then option_map_or (step (in_first none step (writes id f ts) m)) (form_of (writes id f ts) q) none else in_first none step (writes id f ts) m q)
           ≡ (if b then option_map_or (step (in_first none step ts m)) (form_of ts q) none else in_first none step ts m q)
       go below true e =
@@ -85,7 +86,7 @@ limits_kept ts limits id n a h = by_form (form_of ts id)
     by_form None = a
     by_form (Some f) = kept (lengthened n f)
 
-pub next_is : (n : ℕ) (o : Option ℕ) → true ≡ is_number n o → o ≡ Some n
+pub next_is : (n : ℕ) (o : Option ℕ) → true ≡ holds n o → o ≡ Some n
 next_is n None h = cc
 next_is n (Some m) h = let e : m ≡ n = eqb-true m n (sym h) in ap Some e
 

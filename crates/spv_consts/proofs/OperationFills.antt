@@ -5,6 +5,7 @@ use Rattle.std.specs.Option.{option_and_then, option_map, option_map_or}
 use Rattle.spv_base.specs.declared.instructions.Inst.{Inst}
 use Rattle.spv_base.specs.declared.instructions.Operand.{Operand}
 use Rattle.spv_base.specs.Cell.{Cell, HasWidth}
+use Rattle.spv_base.specs.Options.{holds}
 use Rattle.spv_types.specs.Types.{form_of}
 use Rattle.spv_types.specs.Laws.{AreSound}
 use Rattle.spv_types.proofs.Exports.{impossible}
@@ -26,7 +27,6 @@ use Rattle.spv_consts.specs.Lanes.{binary_lane, is_lane_width, select_lane, take
 use Rattle.spv_consts.specs.Laws.{FillType, OperandsFillTypes}
 use Rattle.spv_consts.specs.Operations.{lane_width, selected}
 use Rattle.spv_consts.specs.Values.{leaf_widths}
-use Rattle.spv_consts.specs.Overrides.{is_same}
 use Rattle.spv_consts.specs.Rules.{are_operands, keeps_count, keeps_opcode, operand_type}
 use Rattle.spv_consts.specs.State.{State, given_cells, is_given}
 use Rattle.spv_consts.proofs.FillLemmas.{Fill, fill_one, fill_pair, fill_three, fill_two}
@@ -37,7 +37,7 @@ use Rattle.std.proofs.lemmas.Bool.{eqb-true, and_parts}
 
 -- ---- operands
 
-same_count : (n : ℕ) (o : Option ℕ) (k : ℕ) → o ≡ Some k → is_same n o ≡ true → n ≡ k
+same_count : (n : ℕ) (o : Option ℕ) (k : ℕ) → o ≡ Some k → holds n o ≡ true → n ≡ k
 same_count n None k e h = cc
 same_count n (Some j) k e h =
     let a : j ≡ k = cc in

@@ -1,8 +1,8 @@
 -- An operation on the lanes of rows, one after another.
 use Rattle.std.proofs.Common.{◌≡◌, ◌∙◌, ℕ, zero, suc, ◌+◌, ◌<◌, ◌≤◌, List, [], ◌∷◌, ◌++◌, length, get_or, drop, drop-cons, drop_of_length-le, add-one, append_assoc, append-nil, slice_get, Some, None, refl, sym, ap}
+use Rattle.std.specs.Simd.Lanes.{zip2}
 use Rattle.spv_base.specs.Cell.{Cell}
 use Rattle.spv_alu.specs.Lanes.{zip3}
-use Rattle.spv_consts.specs.Operations.{by_two}
 
 none_left : {A : Type 0} (xs : List A) (n : ℕ) → None ≡ slice_get xs n → drop n xs ≡ []
 none_left [] zero h = refl
@@ -29,27 +29,27 @@ one_left xs n x h = rw add-one (left xs n x h)
 
 -- ---- pairs
 
-no_second : (f : Cell → Cell → Cell) (xs : List Cell) → by_two f xs [] ≡ []
+no_second : (f : Cell → Cell → Cell) (xs : List Cell) → zip2 f xs [] ≡ []
 no_second f [] = refl
 no_second f (x ∷ xs) = refl
 
 pub pairs_skipped : (f : Cell → Cell → Cell) (xs ys done whole : List Cell) (n : ℕ) → None ≡ slice_get ys n
-    → done ++ by_two f (drop n xs) (drop n ys) ≡ whole → done ++ by_two f (drop (n + 1) xs) (drop (n + 1) ys) ≡ whole
+    → done ++ zip2 f (drop n xs) (drop n ys) ≡ whole → done ++ zip2 f (drop (n + 1) xs) (drop (n + 1) ys) ≡ whole
 pairs_skipped f xs ys done whole n h g =
-    let e : by_two f (drop n xs) (drop n ys) ≡ [] = rw (none_left ys n h) (no_second f (drop n xs)) in
-    let e' : by_two f (drop (n + 1) xs) (drop (n + 1) ys) ≡ [] = rw (none_later ys n h) (no_second f (drop (n + 1) xs)) in
+    let e : zip2 f (drop n xs) (drop n ys) ≡ [] = rw (none_left ys n h) (no_second f (drop n xs)) in
+    let e' : zip2 f (drop (n + 1) xs) (drop (n + 1) ys) ≡ [] = rw (none_later ys n h) (no_second f (drop (n + 1) xs)) in
     ap (λ (zs : List Cell). done ++ zs) (e' ∙ sym e) ∙ g
 
 pub pairs_more : (f : Cell → Cell → Cell) (xs ys done now whole : List Cell) (n : ℕ) (x y v : Cell) → n < length xs → x ≡ get_or xs n x → Some y ≡ slice_get ys n → v ≡ f x y → now ≡ done ++ v ∷ []
-    → done ++ by_two f (drop n xs) (drop n ys) ≡ whole → now ++ by_two f (drop (n + 1) xs) (drop (n + 1) ys) ≡ whole
+    → done ++ zip2 f (drop n xs) (drop n ys) ≡ whole → now ++ zip2 f (drop (n + 1) xs) (drop (n + 1) ys) ≡ whole
 pairs_more f xs ys done now whole n x y v l e h k m g =
     let left : drop n xs ≡ x ∷ drop (n + 1) xs = rw (drop-cons xs n x l, ← e, add-one) refl in
-    let whole_left : by_two f (drop n xs) (drop n ys) ≡ f x y ∷ by_two f (drop (n + 1) xs) (drop (n + 1) ys) = rw (left, one_left ys n y h) refl in
+    let whole_left : zip2 f (drop n xs) (drop n ys) ≡ f x y ∷ zip2 f (drop (n + 1) xs) (drop (n + 1) ys) = rw (left, one_left ys n y h) refl in
     rw (m, append_assoc, k) (ap (λ (zs : List Cell). done ++ zs) (sym whole_left) ∙ g)
 
-pub pairs_end : (f : Cell → Cell → Cell) (xs ys done whole : List Cell) (n : ℕ) → length xs ≤ n → done ++ by_two f (drop n xs) (drop n ys) ≡ whole → done ≡ whole
+pub pairs_end : (f : Cell → Cell → Cell) (xs ys done whole : List Cell) (n : ℕ) → length xs ≤ n → done ++ zip2 f (drop n xs) (drop n ys) ≡ whole → done ≡ whole
 pairs_end f xs ys done whole n l g =
-    let none : by_two f (drop n xs) (drop n ys) ≡ [] = rw (drop_of_length-le xs l) refl in
+    let none : zip2 f (drop n xs) (drop n ys) ≡ [] = rw (drop_of_length-le xs l) refl in
     sym (append-nil done) ∙ ap (λ (zs : List Cell). done ++ zs) (sym none) ∙ g
 
 -- ---- triples

@@ -7,6 +7,7 @@ use Rattle.spv_index.specs.Operands.{id_operand}
 use Rattle.std.proofs.Common.{Bool, List, None, Option, Some, [], ap, arith, false, length, map, refl, replicate, suc, sym, true, zero, ℕ, ◌+◌, ◌<◌, ◌==◌, ◌∙◌, ◌∷◌, ◌≡◌}
 use Rattle.std.specs.Prelude.{◌&&◌, if◌then◌else◌, not, unwrap_or}
 use Rattle.std.specs.Option.{is_some, option_and_then, option_map, option_map_or}
+use Rattle.std.specs.Simd.Lanes.{zip2}
 use Rattle.spv_base.specs.Cell.{Cell, undefined_cell, HasWidth}
 use Rattle.spv_base.specs.declared.instructions.Inst.{Inst}
 use Rattle.spv_types.specs.Types.{form_of}
@@ -31,7 +32,7 @@ use Rattle.spv_consts.specs.Context.{Context}
 use Rattle.spv_consts.specs.Evaluation.{binary_cells, computed_cells, operand_at, select_cells, unary_cells}
 use Rattle.spv_consts.specs.Lanes.{binary_lane, is_lane_width, pair_takes, row_takes, select_lane, takes_one, unary_lane}
 use Rattle.spv_consts.specs.Laws.{FillType}
-use Rattle.spv_consts.specs.Operations.{by_two, lane_width, selected}
+use Rattle.spv_consts.specs.Operations.{lane_width, selected}
 use Rattle.spv_consts.specs.Rules.{keeps_opcode, operand_type}
 use Rattle.spv_consts.specs.State.{State, given_cells, is_given, is_operand, operand_cells}
 use Rattle.spv_consts.proofs.FillLemmas.{Fill}
@@ -75,7 +76,7 @@ each_agrees f g v zero agrees (c ∷ cs) h = absurd h
 each_agrees f g v (suc n) agrees (c ∷ cs) h = rw (agrees c h.0, each_agrees f g v n agrees cs h.1) refl
 
 pairs_agree : (f g : Cell → Cell → Cell) (v w n : ℕ) → ((c d : Cell) → HasWidth v c → HasWidth w d → f c d ≡ g c d) → (cs ds : List Cell) → Fill (replicate n v) cs → Fill (replicate n w) ds
-    → by_two f cs ds ≡ by_two g cs ds
+    → zip2 f cs ds ≡ zip2 g cs ds
 pairs_agree f g v w n agree [] ds h k = refl
 pairs_agree f g v w n agree (c ∷ cs) [] h k = refl
 pairs_agree f g v w zero agree (c ∷ cs) (d ∷ ds) h k = absurd h
@@ -89,7 +90,7 @@ selects c a b w h g = let same : (b.width == a.width) ≡ true = rw (h.0, g.0) (
 both_same : (a b : Cell) (xs ys : List Cell) → a ≡ b → xs ≡ ys → a ∷ xs ≡ b ∷ ys
 both_same a b xs ys e f = rw (e, f) refl
 
-pairs_selected : (c : Cell) (ws : List ℕ) (xs ys : List Cell) → Fill ws xs → Fill ws ys → zip3 select_of (replicate (length xs) c) xs ys ≡ by_two (select_lane c) xs ys
+pairs_selected : (c : Cell) (ws : List ℕ) (xs ys : List Cell) → Fill ws xs → Fill ws ys → zip3 select_of (replicate (length xs) c) xs ys ≡ zip2 (select_lane c) xs ys
 pairs_selected c ws [] ys h g = refl
 pairs_selected c ws (x ∷ xs) [] h g = refl
 pairs_selected c [] (x ∷ xs) (y ∷ ys) h g = absurd h
@@ -129,7 +130,7 @@ module _ (m : Context) (s : State) (i : Inst) (op : ℕ) (sound : AreSound s.typ
     one_result : (u : UnaryOp) (cells : List Cell) → (op == 169) ≡ false → unary_op op ≡ Some u → map (λ a. unary.unary_lane u a (lane_width k.0 (form_of k.0 i.ty))) (operand m k i 1) ≡ cells → result_of m k i op ≡ Some cells
     one_result u cells other e h = rw (other, e) (ap Some h)
 
-    two_result : (u : BinaryOp) (cells : List Cell) → (op == 169) ≡ false → unary_op op ≡ None → binary_op op ≡ Some u → by_two (binary.binary_lane u) (operand m k i 1) (operand m k i 2) ≡ cells → result_of m k i op ≡ Some cells
+    two_result : (u : BinaryOp) (cells : List Cell) → (op == 169) ≡ false → unary_op op ≡ None → binary_op op ≡ Some u → zip2 (binary.binary_lane u) (operand m k i 1) (operand m k i 2) ≡ cells → result_of m k i op ≡ Some cells
     two_result u cells other none e h = rw (other, none, e) (ap Some h)
 
     select_result : (cells : List Cell) → (op == 169) ≡ true → chosen (operand m k i 1) (operand m k i 2) (operand m k i 3) ≡ cells → result_of m k i op ≡ Some cells
@@ -186,10 +187,10 @@ module _ (m : Context) (s : State) (i : Inst) (op : ℕ) (sound : AreSound s.typ
         agree : (u : BinaryOp) → binary_op op ≡ Some u → (c d : Cell) → HasWidth (width_of f) c → HasWidth (width_of g) d → binary_lane op c d ≡ binary.binary_lane u c d
         agree u is c d h j = two_agree op (width_of e) u c d is (rw (h.0, j.0) (take first.wide second.wide))
 
-        same : (u : BinaryOp) → binary_op op ≡ Some u → by_two (binary.binary_lane u) (operand m k i 1) (operand m k i 2) ≡ binary_cells m s i op
+        same : (u : BinaryOp) → binary_op op ≡ Some u → zip2 (binary.binary_lane u) (operand m k i 1) (operand m k i 2) ≡ binary_cells m s i op
         same u is =
-            ap (λ (cs : List Cell). by_two (binary.binary_lane u) cs (operand m k i 2)) (sym good.1)
-            ∙ ap (λ (cs : List Cell). by_two (binary.binary_lane u) (operand_at m s i 1) cs) (sym next.1)
+            ap (λ (cs : List Cell). zip2 (binary.binary_lane u) cs (operand m k i 2)) (sym good.1)
+            ∙ ap (λ (cs : List Cell). zip2 (binary.binary_lane u) (operand_at m s i 1) cs) (sym next.1)
             ∙ sym (pairs_agree (binary_lane op) (binary.binary_lane u) (width_of f) (width_of g) n (agree u is) (operand_at m s i 1) (operand_at m s i 2)
             (lanes_fill m s i op sound at.0 n f at.2 (operand_at m s i 1) (good.0 at.0 at.1)) (lanes_fill m s i op sound behind.0 n g behind.2 (operand_at m s i 2) (next.0 behind.0 behind.1)))
 

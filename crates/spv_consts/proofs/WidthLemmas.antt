@@ -7,12 +7,13 @@ use Rattle.std.specs.List.{AllByRecursion, flat_map}
 use Rattle.spv_types.specs.declared.forms.Form.{Form}
 use Rattle.spv_types.specs.declared.forms.Form.TheVariants.{Void, Bool as Boolean, Int, Vector, Array, Runtime, Struct, Pointer, Function}
 use Rattle.spv_types.specs.declared.forms.Member.{Member}
-use Rattle.spv_types.specs.Types.{Types, form_of, in_first, is_number, number_of}
+use Rattle.spv_types.specs.Types.{Types, form_of, in_first, number_of}
 use Rattle.spv_types.specs.Rules.{is_width, keeps_form}
 use Rattle.spv_types.specs.Shapes.{part_type}
 use Rattle.spv_types.specs.Laws.{AreSound, ComesBefore}
 use Rattle.spv_types.proofs.Exports.{in_first-found, number_lt, form_number, width_narrow}
 use Rattle.std.proofs.lemmas.Bool.{and_parts}
+use Rattle.spv_base.specs.Options.{holds}
 use Rattle.spv_consts.specs.Values.{leaf_widths, own_width, part_types, widths_among, widths_step}
 
 -- ---- the parts of a form, listed
@@ -103,7 +104,7 @@ narrow_own ts (Function returns parameters) h = tt
 narrow_among : (ts : Types) → AreSound ts → (n id : ℕ) → Narrow (widths_among ts n id)
 unfolding widths_among in_first
 narrow_among ts sound zero id = tt
-narrow_among ts sound (suc n) id = here (narrow_among ts sound n) (is_number n (number_of ts id)) (form_of ts id) refl
+narrow_among ts sound (suc n) id = here (narrow_among ts sound n) (holds n (number_of ts id)) (form_of ts id) refl
   where
     here : ((t : ℕ) → Narrow (widths_among ts n t)) → (b : Bool) (o : Option Form) → form_of ts id ≡ o → Narrow (if b then option_map_or (widths_step (widths_among ts n)) o [] else widths_among ts n id)
     here below true None is = tt

@@ -4,6 +4,7 @@
 use Rattle.std.specs.Prelude.{◌≡◌, ℕ, ◌==◌, if◌then◌else◌, true, false, pos, List, [], ◌∷◌, map, Option, Some}
 use Rattle.std.specs.List.{AllByRecursion, flat_map}
 use Rattle.std.specs.Option.{IsSomeAnd, option_and_then, option_map, option_map_or, option_or}
+use Rattle.std.specs.Simd.Lanes.{zip2}
 use Rattle.spv_base.specs.Entries.{reads}
 use Rattle.spv_base.specs.Cell.{Cell}
 use Rattle.spv_base.specs.declared.instructions.Inst.{Inst}
@@ -18,7 +19,7 @@ use Rattle.spv_alu.specs.Binary.{binary_lane, binary_op}
 use Rattle.spv_alu.specs.Select.{selected}
 use Rattle.spv_consts.specs.Context.{Context}
 use Rattle.spv_consts.specs.Literals.{integer_width, literal_number}
-use Rattle.spv_consts.specs.Operations.{by_two, lane_width}
+use Rattle.spv_consts.specs.Operations.{lane_width}
 use Rattle.spv_consts.specs.Overrides.{overridden, override_of}
 use Rattle.spv_consts.specs.Rules.{opcode_of}
 use Rattle.spv_consts.specs.Table.{Constants, Row}
@@ -59,7 +60,7 @@ result_of m k i op =
     if op == 169 then Some (selected (operand m k i 1) (operand m k i 2) (operand m k i 3))
     else option_or
     (option_map (λ o. map (λ a. unary_lane o a (lane_width k.0 (form_of k.0 i.ty))) (operand m k i 1)) (unary_op op))
-    (option_map (λ o. by_two (binary_lane o) (operand m k i 1) (operand m k i 2)) (binary_op op))
+    (option_map (λ o. zip2 (binary_lane o) (operand m k i 1) (operand m k i 2)) (binary_op op))
 
 -- the row under an instruction's id is of its type, and has these leaves
 abbrev pub Has : Known → Inst → List Cell → Type 0

@@ -2,6 +2,7 @@
 use Rattle.std.specs.Prelude.{ℕ, ◌==◌, ◌||◌, if◌then◌else◌, true, false, List, [], ◌∷◌, map}
 use Rattle.std.specs.List.{flat_map}
 use Rattle.std.specs.Option.{is_some, option_map_or}
+use Rattle.std.specs.Simd.Lanes.{zip2}
 use Rattle.spv_base.specs.Cell.{Cell}
 use Rattle.spv_base.specs.declared.instructions.Inst.{Inst}
 use Rattle.spv_base.specs.declared.instructions.Operand.{Operand}
@@ -14,7 +15,7 @@ use Rattle.spv_consts.specs.Values.{null_of}
 use Rattle.spv_consts.specs.Literals.{integer_width, literal_lane}
 use Rattle.spv_consts.specs.Overrides.{overridden, override_of}
 use Rattle.spv_consts.specs.Lanes.{binary_lane, unary_lane}
-use Rattle.spv_consts.specs.Operations.{by_two, lane_width, selected}
+use Rattle.spv_consts.specs.Operations.{lane_width, selected}
 use Rattle.spv_consts.specs.Context.{Context}
 use Rattle.spv_consts.specs.State.{State, given_cells}
 use Rattle.spv_consts.specs.Rules.{is_composite, opcode_of}
@@ -38,7 +39,7 @@ abbrev pub unary_cells : Context → State → Inst → ℕ → List Cell
 unary_cells m s i op = map (unary_lane op (lane_width s.types (form_of s.types i.ty))) (operand_at m s i 1)
 
 abbrev pub binary_cells : Context → State → Inst → ℕ → List Cell
-binary_cells m s i op = by_two (binary_lane op) (operand_at m s i 1) (operand_at m s i 2)
+binary_cells m s i op = zip2 (binary_lane op) (operand_at m s i 1) (operand_at m s i 2)
 
 -- the leaves of the value of an OpSpecConstantOp, by its opcode: OpSelect 169, a unary or a binary operation
 abbrev pub computed_cells : Context → State → Inst → ℕ → List Cell

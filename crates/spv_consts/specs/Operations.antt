@@ -1,6 +1,7 @@
 -- The leaves that an operation of OpSpecConstantOp gives: lane by lane, where a scalar condition of Select chooses for each leaf
 -- of any value (SPIR-V 1.6 sections 3.42.7, OpSpecConstantOp, and 3.42.15, OpSelect).
 use Rattle.std.specs.Prelude.{ℕ, min, List, [], ◌∷◌, Option, Some, None}
+use Rattle.std.specs.Simd.Lanes.{zip2}
 use Rattle.spv_base.specs.Cell.{Cell}
 use Rattle.spv_alu.specs.Lanes.{zip3}
 use Rattle.spv_types.specs.declared.forms.Form.{Form}
@@ -15,16 +16,10 @@ abbrev pub lane_of : PairOp → Cell → Cell → Cell
 lane_of (Binary op) a b = binary_lane op a b
 lane_of (Select condition) a b = select_lane condition a b
 
--- a function of two lanes on rows, as far as both of them go
-abbrev pub by_two : (Cell → Cell → Cell) → List Cell → List Cell → List Cell
-by_two f [] ys = []
-by_two f (x ∷ xs) [] = []
-by_two f (x ∷ xs) (y ∷ ys) = f x y ∷ by_two f xs ys
-
 -- Select: one condition for all leaves, or one for each
 abbrev pub selected : List Cell → List Cell → List Cell → List Cell
 selected [] xs ys = []
-selected (c ∷ []) xs ys = by_two (select_lane c) xs ys
+selected (c ∷ []) xs ys = zip2 (select_lane c) xs ys
 selected (c ∷ d ∷ cs) xs ys = zip3 select_lane (c ∷ d ∷ cs) xs ys
 
 -- the width of a scalar; no lane is wider than 64 bits

@@ -6,6 +6,7 @@ use Rattle.std.specs.Option.{option_map_or, option_and_then}
 use Rattle.spv_base.specs.Cell.{Cell}
 use Rattle.spv_base.specs.Entries.{reads}
 use Rattle.spv_base.specs.declared.instructions.Inst.{Inst}
+use Rattle.spv_base.specs.Options.{holds}
 use Rattle.spv_types.specs.declared.forms.Form.{Form}
 use Rattle.spv_types.specs.declared.forms.Form.TheVariants.{Void, Bool as Boolean, Int, Vector, Array, Runtime, Struct, Pointer, Function}
 use Rattle.spv_types.specs.Types.{Types, form_of}
@@ -41,13 +42,9 @@ fits_form (Some (Struct members block)) n = false
 fits_form (Some (Pointer class target)) n = false
 fits_form (Some (Function returns parameters)) n = false
 
-abbrev pub is_same : ℕ → Option ℕ → Bool
-is_same n None = false
-is_same n (Some m) = m == n
-
 -- a constant with a SpecId whose type the number for that SpecId does not fit
 abbrev pub is_misfit : List Inst → Types → Numbers → ℕ → Inst → Bool
-is_misfit all ts over spec i = is_same spec (spec_id_of all i) && option_map_or (λ n. not (fits_form (form_of ts i.ty) n)) (reads spec over) false
+is_misfit all ts over spec i = holds spec (spec_id_of all i) && option_map_or (λ n. not (fits_form (form_of ts i.ty) n)) (reads spec over) false
 
 -- there is one
 unfoldable pub has_misfit : List Inst → Types → Numbers → List Inst → ℕ → Bool
@@ -55,7 +52,7 @@ has_misfit all ts over insts spec = list_any (is_misfit all ts over spec) insts
 
 -- a constant has this SpecId
 abbrev pub has_spec_id : List Inst → ℕ → Inst → Bool
-has_spec_id all id i = is_same id (spec_id_of all i)
+has_spec_id all id i = holds id (spec_id_of all i)
 
 -- one of some instructions is a constant with this SpecId
 unfoldable pub is_known : List Inst → List Inst → ℕ → Bool

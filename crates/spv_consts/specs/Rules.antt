@@ -4,6 +4,7 @@ use Rattle.std.specs.Prelude.{ℕ, suc, ◌+◌, ◌==◌, ◌&&◌, ◌||◌, n
 use Rattle.std.specs.Option.{is_some, option_and_then, option_map, option_map_or}
 use Rattle.spv_base.specs.declared.instructions.Inst.{Inst}
 use Rattle.spv_base.specs.declared.instructions.Operand.{Operand}
+use Rattle.spv_base.specs.Options.{holds}
 use Rattle.spv_types.specs.declared.forms.Form.{Form}
 use Rattle.spv_types.specs.declared.forms.Form.TheVariants.{Void, Bool as Boolean, Int, Vector, Array, Runtime, Struct, Pointer, Function}
 use Rattle.spv_types.specs.Types.{form_of}
@@ -16,7 +17,6 @@ use Rattle.spv_index.specs.Operands.{id_in, id_operand, literal_operand}
 use Rattle.spv_typing.specs.Rules.{is_constant_operation, operand_count}
 use Rattle.spv_typing.specs.Fitting.{fits}
 use Rattle.spv_consts.specs.Literals.{integer_width, keeps_literal}
-use Rattle.spv_consts.specs.Overrides.{is_same}
 use Rattle.spv_consts.specs.Context.{Context}
 use Rattle.spv_consts.specs.State.{State, is_given, is_operand}
 use Rattle.spv_consts.specs.Lengths.{length_at}
@@ -41,7 +41,7 @@ part_type_of (Some f) k = part_type f k
 
 -- the result with an id has the type of a part
 abbrev pub has_type : Context → Option ℕ → ℕ → Bool
-has_type m part id = option_map_or (λ ty. is_same ty part) (result_type m.all id) false
+has_type m part id = option_map_or (λ ty. holds ty part) (result_type m.all id) false
 
 -- a constituent is a constant or an OpUndef before the composite, of the part's type
 abbrev pub is_part : Context → State → ℕ → Option ℕ → ℕ → Bool
@@ -57,7 +57,7 @@ keeps_parts m s word form k (o ∷ os) = keeps_part m s word (part_type_of form 
 
 -- a composite has one constituent for each part
 abbrev pub keeps_composite : Context → State → Inst → Option Form → Bool
-keeps_composite m s i form = is_same (length i.operands) (part_count form) && keeps_parts m s i.word form 0 i.operands
+keeps_composite m s i form = holds (length i.operands) (part_count form) && keeps_parts m s i.word form 0 i.operands
 
 -- the opcode of an OpSpecConstantOp; an opcode has 16 bits
 abbrev pub opcode_of : Inst → Option ℕ
@@ -70,7 +70,7 @@ are_operands m s word (o ∷ os) = is_given m s word (id_in o) && are_operands m
 
 -- the operation's opcode and as many operands as it has
 abbrev pub keeps_count : Inst → ℕ → Bool
-keeps_count i op = is_same (length i.operands) (option_map (λ n. n + 1) (operand_count op))
+keeps_count i op = holds (length i.operands) (option_map (λ n. n + 1) (operand_count op))
 
 -- the type of the operand at a place, where it has one
 abbrev pub operand_type : Context → Inst → ℕ → Option ℕ

@@ -5,13 +5,14 @@ use Rattle.std.specs.Prelude.{ℕ, ◌==◌, ◌&&◌, ◌||◌, max, if◌then�
 use Rattle.std.specs.Option.{option_and_then}
 use Rattle.spv_base.specs.declared.instructions.Inst.{Inst}
 use Rattle.spv_base.specs.Lowest.{lower}
+use Rattle.spv_base.specs.Options.{holds}
 use Rattle.spv_index.specs.Definitions.{defining}
 use Rattle.spv_index.specs.Operands.{id_operand, literal_operand}
-use Rattle.spv_consts.specs.Overrides.{is_same, is_specializable}
+use Rattle.spv_consts.specs.Overrides.{is_specializable}
 
 -- a decoration SpecId, 1, of an id by OpDecorate 71 or of a member by OpMemberDecorate 72
 abbrev pub is_spec_id : Inst → Bool
-is_spec_id d = (d.op == 71 && is_same 1 (literal_operand d 1)) || (d.op == 72 && is_same 1 (literal_operand d 2))
+is_spec_id d = (d.op == 71 && holds 1 (literal_operand d 1)) || (d.op == 72 && holds 1 (literal_operand d 2))
 
 -- it stands on an instruction that takes one
 abbrev pub takes_spec_id : Inst → Inst → Bool

@@ -4,7 +4,8 @@ use Rattle.std.specs.Prelude.{ℕ, ◌||◌, Bool, false, List, [], Option}
 use Rattle.std.specs.Option.{is_some, option_map_or}
 use Rattle.spv_base.specs.Entries.{reads}
 use Rattle.spv_base.specs.Cell.{Cell}
-use Rattle.spv_types.specs.Types.{Types, is_number, number_of}
+use Rattle.spv_base.specs.Options.{holds}
+use Rattle.spv_types.specs.Types.{Types, number_of}
 use Rattle.spv_index.specs.Definitions.{result_type}
 use Rattle.spv_consts.specs.Table.{Constants, Row}
 use Rattle.spv_consts.specs.Values.{undefined_of}
@@ -18,7 +19,7 @@ pub record State : Type 0 where
 
 -- an id is that of the first type that was not passed
 abbrev pub is_next : State → ℕ → Bool
-is_next s id = is_number s.known (number_of s.types id)
+is_next s id = holds s.known (number_of s.types id)
 
 -- an operand: a constant, or an OpUndef, before a word
 abbrev pub is_operand : Context → State → ℕ → ℕ → Bool

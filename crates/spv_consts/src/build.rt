@@ -1,11 +1,11 @@
-//! The constants of a module, and its types with the lengths of arrays.
+//! What the constants of a module, and its types with the lengths of arrays, are built of.
 ghost use Rattle.std.specs.Prelude.{◌≡◌, IfOk, Result};
 ghost use Rattle.spv_base.specs.declared.causes.Refusal.{Refusal as Breach};
 ghost use Rattle.spv_types.specs.Build.{unless_refused};
 ghost use Rattle.spv_types.specs.Types.{Types};
 ghost use Rattle.spv_base.specs.Answers.{Answers};
 ghost use Rattle.spv_consts.specs.Table.{Constants};
-ghost use Rattle.spv_consts.specs.Build.{constants_of, context_of, known_of, unless_earlier};
+ghost use Rattle.spv_consts.specs.Build.{context_of, known_of, unless_earlier};
 ghost use Rattle.spv_consts.specs.Steps.{breaches_from, after_all};
 
 use crate::context::Context;
@@ -20,7 +20,7 @@ use spv_types::TypeTable;
 use std::alloc::Global;
 
 /// What the constants of a module are read by.
-fn context_of<'a>(
+pub(crate) fn context_of<'a>(
     alloc: Global,
     types: &TypeTable,
     index: &'a Index,
@@ -33,7 +33,7 @@ fn context_of<'a>(
 }
 
 /// A result, or a breach of the rules of SpecId at a word, where that is not after a refusal.
-fn unless_earlier(
+pub(crate) fn unless_earlier(
     word: Option<u32>,
     outcome: Result<(TypeTable, ConstTable), Fail<Refusal>>,
 ) -> Result<(TypeTable, ConstTable), Fail<Refusal>>
@@ -59,32 +59,8 @@ fn unless_earlier(
     }
 }
 
-impl ConstTable {
-    /// The constants of a module by the instructions before its functions, with overrides by SpecId, and the types of
-    /// the module with the lengths of their arrays set.
-    ///
-    /// An override that does not fit each constant of its SpecId is left out of account. Refuses the lowest breach: M14
-    /// where an instruction breaks a rule of constants or array lengths, or takes no SpecId that it has, and M18 at a type
-    /// that is nested over 32 deep or has more than 4,194,304 cells, and at the constant with which all have more.
-    pub fn build(
-        alloc: Global,
-        types: TypeTable,
-        index: &Index,
-        over: &Overrides,
-    ) -> Result<(TypeTable, ConstTable), Fail<Refusal>>
-        ensures { Answers (constants_of types index.now.insts over.now) result }
-    {
-        let insts = index.insts();
-        let context = context_of(alloc, &types, index, over)?;
-        let word = context.lowest_wrong(insts);
-        let front = &insts[..index.functions_start()];
-        let outcome = known_after(alloc, Walk::new(alloc, types), &context, front);
-        unless_earlier(word, outcome)
-    }
-}
-
 /// The types and the constants after some instructions.
-fn known_after(
+pub(crate) fn known_after(
     alloc: Global,
     walk: Walk,
     context: &Context,

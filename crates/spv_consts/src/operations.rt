@@ -1,5 +1,6 @@
 //! The leaves that an operation of OpSpecConstantOp gives.
 ghost use Rattle.std.specs.Prelude.{◌≡◌, IfOk, map, slice_get};
+ghost use Rattle.std.specs.Simd.Lanes.{zip2};
 ghost use Rattle.spv_alu.specs.Lanes.{zip3};
 ghost use Rattle.spv_types.specs.Types.{form_of};
 ghost use Rattle.spv_consts.specs.Lanes.{select_lane, unary_lane};
@@ -52,7 +53,7 @@ pub(crate) fn by_two(
     first: &[Cell],
     second: &[Cell],
 ) -> Result<Vec<Cell>, NoMemory>
-    ensures { IfOk result (λ cells. cells.items ≡ spec.by_two (spec.lane_of op.now) first.now second.now) }
+    ensures { IfOk result (λ cells. cells.items ≡ zip2 (spec.lane_of op.now) first.now second.now) }
 {
     let mut cells = Vec::new(alloc);
     for (n, a) in first.iter().enumerate() {

@@ -3,6 +3,7 @@ ghost use Rattle.std.specs.Prelude.{◌≡◌, ◌||◌, ℕ, IfOk, OnOk};
 ghost use Rattle.std.specs.BTreeMap.{get};
 ghost use Rattle.std.specs.Ordering.{nat_cmp};
 ghost use Rattle.std.specs.Option.{is_some};
+ghost use Rattle.spv_base.specs.Options.{holds};
 ghost use Rattle.spv_types.specs.Types.{form_of};
 ghost use Rattle.spv_consts.specs.Overrides as spec;
 
@@ -60,7 +61,7 @@ fn fits(types: &TypeTable, ty: u32, n: i128) -> bool
 
 /// The SpecId of a constant whose type the number for it does not fit.
 fn misfit(index: &Index, types: &TypeTable, over: &Table<i128>, inst: &Inst) -> Option<u32>
-    ensures { (id : ℕ) → spec.is_same id result ≡ spec.is_misfit index.now.insts types.now over.now id inst.now }
+    ensures { (id : ℕ) → holds id result ≡ spec.is_misfit index.now.insts types.now over.now id inst.now }
 {
     let id = spec_id_of(index, inst)?;
     let number = over.get(id)?;
@@ -73,7 +74,7 @@ fn misfit(index: &Index, types: &TypeTable, over: &Table<i128>, inst: &Inst) -> 
 
 /// Adds a number to a set.
 fn note(set: &mut BTreeMap<u32, ()>, number: Option<u32>) -> Result<(), NoMemory>
-    ensures { OnOk result ((id : ℕ) → is_some (get nat_cmp set.new id) ≡ (is_some (get nat_cmp set.old id) || spec.is_same id number)) }
+    ensures { OnOk result ((id : ℕ) → is_some (get nat_cmp set.new id) ≡ (is_some (get nat_cmp set.old id) || holds id number)) }
 {
     if let Some(number) = number {
         set.insert(number, ())?;

@@ -30,27 +30,25 @@ fn wrong_on(mark: &Inst, inst: &Inst) -> Option<u32>
     }
 }
 
-impl<'a> Context<'a> {
-    /// The word where a decoration is a SpecId on what takes none.
-    fn wrong_spec_id(&self, mark: &Inst) -> Option<u32>
-        ensures { result ≡ spec.wrong_spec_id self.now.all mark.now }
-    {
-        if !is_spec_id(mark) {
-            return None;
-        }
-        let target = id_operand(mark, 0)?;
-        let inst = self.index.defining(target)?;
-        wrong_on(mark, inst)
+/// The word where a decoration is a SpecId on what takes none.
+fn wrong_spec_id(context: &Context, mark: &Inst) -> Option<u32>
+    ensures { result ≡ spec.wrong_spec_id context.now.all mark.now }
+{
+    if !is_spec_id(mark) {
+        return None;
     }
+    let target = id_operand(mark, 0)?;
+    let inst = context.index.defining(target)?;
+    wrong_on(mark, inst)
+}
 
-    /// The lowest word where a decoration is a SpecId on what takes none.
-    pub(crate) fn lowest_wrong(&self, insts: &[Inst]) -> Option<u32>
-        ensures { result ≡ spec.lowest_wrong self.now.all insts.now }
-    {
-        let mut lowest = None;
-        for inst in insts {
-            lowest = lower(lowest, self.wrong_spec_id(inst));
-        }
-        lowest
+/// The lowest word where a decoration is a SpecId on what takes none.
+pub(crate) fn lowest_wrong(context: &Context, insts: &[Inst]) -> Option<u32>
+    ensures { result ≡ spec.lowest_wrong context.now.all insts.now }
+{
+    let mut lowest = None;
+    for inst in insts {
+        lowest = lower(lowest, wrong_spec_id(context, inst));
     }
+    lowest
 }

@@ -1,13 +1,18 @@
 //! The table of the constants of a module.
 ghost use Rattle.std.specs.Prelude.{◌≡◌, ◌≤◌, [], ◌∷◌, ◌++◌, length, take, drop, IfOk, option_map};
+ghost use Rattle.spv_base.specs.Answers.{Answers};
 ghost use Rattle.spv_base.specs.Entries.{reads};
 ghost use Rattle.spv_index.specs.Firsts.{place_of};
+ghost use Rattle.spv_consts.specs.Build.{constants_of};
 ghost use Rattle.spv_consts.specs.Table.{AreRows, only, place_from, row_at, rows_of, scalar_of};
 ghost use Rattle.spv_consts.specs.Values.{null_of};
 
+use crate::build::{context_of, known_after, unless_earlier};
+use crate::spec_ids::lowest_wrong;
 use crate::values::append_blank;
-use spv_base::{Cell, NoMemory};
-use spv_index::Firsts;
+use crate::walk::Walk;
+use spv_base::{Cell, Fail, NoMemory, Overrides, Refusal};
+use spv_index::{Firsts, Index};
 use spv_types::TypeTable;
 use std::alloc::Global;
 use std::marker::Model;
@@ -105,6 +110,28 @@ fn with_entry(
 }
 
 impl ConstTable {
+    /// The constants of a module by the instructions before its functions, with overrides by SpecId, and the types of
+    /// the module with the lengths of their arrays set.
+    ///
+    /// An override that does not fit each constant of its SpecId is left out of account. Refuses the lowest breach: M14
+    /// where an instruction breaks a rule of constants or array lengths, or takes no SpecId that it has, and M18 at a type
+    /// that is nested over 32 deep or has more than 4,194,304 cells, and at the constant with which all have more.
+    pub fn build(
+        alloc: Global,
+        types: TypeTable,
+        index: &Index,
+        over: &Overrides,
+    ) -> Result<(TypeTable, ConstTable), Fail<Refusal>>
+        ensures { Answers (constants_of types index.now.insts over.now) result }
+    {
+        let insts = index.insts();
+        let context = context_of(alloc, &types, index, over)?;
+        let word = lowest_wrong(&context, insts);
+        let front = &insts[..index.functions_start()];
+        let outcome = known_after(alloc, Walk::new(alloc, types), &context, front);
+        unless_earlier(word, outcome)
+    }
+
     /// No constants.
     pub(crate) fn new(alloc: Global) -> ConstTable
         ensures { result ≡ [] }

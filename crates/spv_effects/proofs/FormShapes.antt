@@ -10,10 +10,11 @@ use Rattle.spv_base.specs.Parts.{parts_in}
 use Rattle.spv_base.specs.declared.values.Value.{Value, List as Many, fold-roll-Value, out-Value, roll-Value, roll-out-Value}
 use Rattle.spv_base.specs.declared.values.Value.TheOpen.{Value-F}
 use Rattle.spv_base.proofs.Exports.{out_many}
+use Rattle.spv_base.specs.Options.{holds}
 use Rattle.spv_types.specs.declared.forms.Form.{Form}
 use Rattle.spv_types.specs.declared.forms.Form.TheVariants.{Void, Bool as Boolean, Int, Vector, Array, Runtime, Struct, Pointer, Function}
 use Rattle.spv_types.specs.declared.forms.Member.{Member}
-use Rattle.spv_types.specs.Types.{Types, form_of, is_number, number_of}
+use Rattle.spv_types.specs.Types.{Types, form_of, number_of}
 use Rattle.spv_types.specs.Rows.{leaves, no_roots}
 use Rattle.spv_types.specs.Shapes.{HasShape, HasShapeAmong, IsScalar, scalar_in, shape_step}
 use Rattle.spv_types.proofs.Exports.{many_is, many_row, scalar_row, no_pointer}
@@ -159,7 +160,7 @@ formed_keeps ts shape (Some f) keeps v cs rest p h = step_keeps ts shape f keeps
 among_keeps : (ts : Types) (n id : ℕ) → Keeps (HasShapeAmong ts no_roots n id)
 unfolding HasShapeAmong
 among_keeps ts zero id v cs rest p h = absurd p
-among_keeps ts (suc n) id v cs rest p h = go (among_keeps ts n) (is_number n (number_of ts id)) p
+among_keeps ts (suc n) id v cs rest p h = go (among_keeps ts n) (holds n (number_of ts id)) p
   where
     go : ((k : ℕ) → Keeps (HasShapeAmong ts no_roots n k)) → (b : Bool) → MatchBool b (MatchOption (form_of ts id) ⊥ (λ f. shape_step ts no_roots (HasShapeAmong ts no_roots n) f v)) (HasShapeAmong ts no_roots n id v)
         → MatchBool b (MatchOption (form_of ts id) ⊥ (λ f. shape_step ts no_roots (HasShapeAmong ts no_roots n) f (filled v (cs ++ rest)).0)) (HasShapeAmong ts no_roots n id (filled v (cs ++ rest)).0)

@@ -34,7 +34,7 @@ pub(crate) fn put_lane(into: &mut Row, lane: Cell)
     ensures value { into.new ≡ Scalar lane }
     ensures room { length (leaves into.new) ≡ 1 }
 {
-    into.put_lane(lane);
+    into.put_cell(lane);
 }
 
 /// A scalar of its own.

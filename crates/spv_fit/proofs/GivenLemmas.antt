@@ -1,5 +1,5 @@
 -- One more buffer, before those in the map.
-use Rattle.std.proofs.Common.{◌≡◌, ◌∙◌, ℕ, ◌+◌, ◌-◌, ◌<◌, ◌≤◌, Bool, true, false, cond, List, ◌∷◌, length, get_or, drop, drop-cons, drop_of_length-le, add-one, ◌||◌, Option, Some, None, refl, sym, ap, arith}
+use Rattle.std.proofs.Common.{◌≡◌, ◌∙◌, ℕ, ◌-◌, ◌<◌, ◌≤◌, Bool, true, false, cond, List, ◌∷◌, length, get_or, drop, drop_of_length-le, Option, Some, None, refl, sym, ap, arith}
 use Rattle.std.specs.List.{find}
 use Rattle.std.specs.Option.{option_map}
 use Rattle.std.specs.Ordering.{is_eq}
@@ -11,7 +11,7 @@ use Rattle.spv_types.specs.Types.{Types}
 use Rattle.spv_setup.specs.declared.settings.Settings.{Settings}
 use Rattle.spv_setup.specs.declared.settings.Buffer.{Buffer}
 use Rattle.spv_fit.specs.declared.given.Given.{Given}
-use Rattle.spv_fit.specs.Given.{is_bound, buffer_given, given_at, lacks_bytes, some_lack, short_for, lowest_short}
+use Rattle.spv_fit.specs.Given.{is_bound, buffer_given, given_at, short_for, lowest_short}
 
 given_first : (bs : List Buffer) (b : Buffer) (set binding : ℕ) → given_at (b ∷ bs) set binding ≡ cond (is_bound set binding b) (Some (buffer_given b)) (given_at bs set binding)
 unfolding given_at
@@ -33,15 +33,6 @@ none_given bs set binding = rw (drop_of_length-le bs {i = length bs} (omega arit
 
 -- ---- variables, one after another
 
-pub lack_at : (all : List Inst) (s : Settings) (insts : List Inst) (k : ℕ) (i : Inst) → k < length insts → i ≡ get_or insts k i
-    → some_lack all s (drop k insts) ≡ (lacks_bytes all s i || some_lack all s (drop (k + 1) insts))
-unfolding some_lack
-lack_at all s insts k i l e = rw (drop-cons insts k i l, ← e, add-one) refl
-
-pub lack_none : (all : List Inst) (s : Settings) (insts : List Inst) (k : ℕ) → length insts ≤ k → some_lack all s (drop k insts) ≡ false
-unfolding some_lack
-lack_none all s insts k l = rw (drop_of_length-le insts l) refl
-
 pub short_back : (all : List Inst) (ts : Types) (s : Settings) (insts : List Inst) (n : ℕ) (i : Inst) → 0 < n → n ≤ length insts → i ≡ get_or insts (n - 1) i
     → lowest_short all ts s (drop (n - 1) insts) ≡ lower (short_for all ts s i) (lowest_short all ts s (drop n insts))
 unfolding lowest_short
@@ -50,18 +41,6 @@ short_back all ts s insts n i some le e = rw (drop_back insts n i some le, ← e
 pub short_none : (all : List Inst) (ts : Types) (s : Settings) (insts : List Inst) → lowest_short all ts s (drop (length insts) insts) ≡ None
 unfolding lowest_short
 short_none all ts s insts = rw (drop_of_length-le insts {i = length insts} (omega arith)) refl
-
-pub lack_here : (all : List Inst) (s : Settings) (insts : List Inst) (k : ℕ) (i : Inst) (b : Bool) → k < length insts → i ≡ get_or insts k i → b ≡ lacks_bytes all s i → b ≡ true
-    → some_lack all s (drop k insts) ≡ some_lack all s insts → true ≡ some_lack all s insts
-lack_here all s insts k i b l at is hit before =
-    let e : some_lack all s (drop k insts) ≡ true = lack_at all s insts k i l at ∙ ap (λ (t : Bool). t || some_lack all s (drop (k + 1) insts)) (sym is ∙ hit) in
-    sym e ∙ before
-
-pub lack_next : (all : List Inst) (s : Settings) (insts : List Inst) (k : ℕ) (i : Inst) (b : Bool) → k < length insts → i ≡ get_or insts k i → b ≡ lacks_bytes all s i → b ≡ false
-    → some_lack all s (drop k insts) ≡ some_lack all s insts → some_lack all s (drop (k + 1) insts) ≡ some_lack all s insts
-lack_next all s insts k i b l at is miss before =
-    let e : some_lack all s (drop k insts) ≡ some_lack all s (drop (k + 1) insts) = lack_at all s insts k i l at ∙ ap (λ (t : Bool). t || some_lack all s (drop (k + 1) insts)) (sym is ∙ miss) in
-    sym e ∙ before
 
 pub short_more : (all : List Inst) (ts : Types) (s : Settings) (insts : List Inst) (n : ℕ) (i : Inst) (now short old : Option ℕ) → 0 < n → n ≤ length insts → i ≡ get_or insts (n - 1) i
     → now ≡ lower short old → short ≡ short_for all ts s i → old ≡ lowest_short all ts s (drop n insts) → now ≡ lowest_short all ts s (drop (n - 1) insts)

@@ -4,7 +4,7 @@ use Rattle.std.specs.Prelude.{ℕ, ◌+◌, ◌-◌, ◌*◌, ◌==◌, ◌&&◌
 use Rattle.std.specs.Option.{option_map_or}
 use Rattle.spv_base.specs.declared.causes.SetupRefusal.{SetupRefusal}
 use Rattle.spv_base.specs.declared.instructions.Inst.{Inst}
-use Rattle.spv_index.specs.Definitions.{holds}
+use Rattle.spv_base.specs.Options.{holds}
 use Rattle.spv_index.specs.Operands.{literal_operand}
 use Rattle.spv_types.specs.Cells.{cells_of}
 use Rattle.spv_types.specs.InterfaceBlocks.{is_block_variable}

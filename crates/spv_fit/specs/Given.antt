@@ -6,7 +6,8 @@ use Rattle.std.specs.Option.{is_some, option_map}
 use Rattle.spv_base.specs.declared.causes.SetupRefusal.{SetupRefusal}
 use Rattle.spv_base.specs.declared.instructions.Inst.{Inst}
 use Rattle.spv_base.specs.Lowest.{lower}
-use Rattle.spv_index.specs.Definitions.{decoration, holds}
+use Rattle.spv_base.specs.Options.{holds}
+use Rattle.spv_index.specs.Definitions.{decoration}
 use Rattle.spv_index.specs.Operands.{literal_operand}
 use Rattle.spv_types.specs.declared.forms.Form.{Form}
 use Rattle.spv_types.specs.declared.forms.Form.TheVariants.{Pointer}

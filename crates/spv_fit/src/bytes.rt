@@ -2,9 +2,9 @@
 ghost use Rattle.std.specs.Prelude.{◌≡◌, ℕ, false, length};
 ghost use Rattle.std.specs.BTreeMap.{get};
 ghost use Rattle.spv_base.specs.Answers.{Answers};
+ghost use Rattle.spv_base.specs.Options.{holds};
 ghost use Rattle.spv_index.specs.Keys.{pair_cmp};
 ghost use Rattle.spv_types.specs.Types.{form_of};
-ghost use Rattle.spv_index.specs.Definitions.{holds};
 ghost use Rattle.spv_index.specs.Operands.{literal_operand};
 ghost use Rattle.spv_types.specs.Measured.{AreSizes};
 ghost use Rattle.spv_fit.specs.Given as due;
@@ -76,6 +76,7 @@ fn lacks_bytes(
 }
 
 /// Whether one of some instructions is a variable of a block that has no bytes.
+#[tactic(auto, unfolding(crate::specs::Given::some_lack))]
 fn some_lack(
     index: &Index,
     setup: &Setup,
@@ -85,12 +86,9 @@ fn some_lack(
     requires { (set binding : ℕ) → get pair_cmp pairs.now (set, binding) ≡ due.given_at setup.now.buffers set binding }
     ensures { result ≡ due.some_lack index.now.insts setup.now insts.now }
 {
-    for inst in insts {
-        if lacks_bytes(index, setup, pairs, inst) {
-            return true;
-        }
-    }
-    false
+    insts
+        .iter()
+        .any(|inst| lacks_bytes(index, setup, pairs, inst))
 }
 
 /// The line of bytes that are fewer than a size.

@@ -3,10 +3,10 @@ ghost use Rattle.std.specs.Prelude.{◌≡◌, ℕ, ◌∷◌, ◌-◌, ◌==◌
 ghost use Rattle.std.specs.BTreeMap.{get};
 ghost use Rattle.std.specs.Option.{option_map_or};
 ghost use Rattle.spv_base.specs.Answers.{Answers};
-ghost use Rattle.spv_index.specs.Definitions.{holds};
 ghost use Rattle.spv_index.specs.Keys.{pair_cmp};
 ghost use Rattle.spv_index.specs.Operands.{literal_operand};
 ghost use Rattle.spv_base.specs.Saturation.{saturated};
+ghost use Rattle.spv_base.specs.Options.{holds};
 ghost use Rattle.spv_types.specs.Leaves.{leaf_of};
 ghost use Rattle.spv_types.specs.Types.{form_of};
 ghost use Rattle.spv_fit.specs.Given as bytes;

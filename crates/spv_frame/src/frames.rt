@@ -1,16 +1,22 @@
 //! Frames: the registers of a call in one row, each with a mark whether it has a value.
-ghost use Rattle.std.specs.Prelude.{◌≡◌, ◌≢◌, ◌++◌, [], ◌∷◌, IfOk, OnOk, OnErr, None, Some, false, length, option_copied, replicate};
+ghost use Rattle.std.specs.Prelude.{◌≡◌, ◌≢◌, ◌++◌, [], ◌∷◌, IfOk, OnOk, OnErr, None, Some, false, length, option_copied, replicate, ◌<◌, slice_get, map};
 ghost use Rattle.spv_base.specs.Entries.{reads, writes};
 ghost use Rattle.spv_frame.specs.Frames.{Held, fresh};
-ghost use Rattle.spv_frame.specs.Registers.{IsPointerSlotOf, IsSlotOf, marked};
+ghost use Rattle.spv_frame.specs.Registers.{IsPointerSlotOf, IsSlotOf, marked, ids, number_of};
 ghost use Rattle.spv_types.specs.Rows.{leaves};
+ghost use Rattle.spv_frame.specs.Calls.{AreArguments, IsArgument, entered, with_argument};
+ghost use Rattle.spv_frame.specs.Numbers.{HasCells, HasPointer, HoldsPointer, HoldsValue, with_pointer, with_value};
+ghost use Rattle.std.specs.List.{AllByRecursion, AllZip};
+ghost use Rattle.spv_frame.specs.Contents.{AllSuit, Differ, Suits, cells, content, held, puts};
+ghost use Rattle.spv_frame.specs.Phis.{IsPhi, IsSource, cells_from, given};
 
-use crate::contents::Content;
+use crate::contents::{Argument, Content, Source};
 use crate::events::DebugEvent;
+use crate::numbers::{found, pointer_slot};
 use crate::plans::Plan;
-use crate::slots::{PointerSlot, Slot, lent, path_to};
+use crate::slots::{Place, PointerSlot, Slot, lent, path_to};
 use spv_base::{NoMemory, Pointer};
-use spv_values::{Part, Row};
+use spv_values::{Part, Row, Single};
 use std::alloc::Global;
 use std::marker::Model;
 use std::mem;
@@ -182,6 +188,209 @@ impl Frame {
             Some(event) => event,
             None => unreachable!(),
         }
+    }
+
+    /// A frame as a call begins it: at the function's first executable, with the arguments in the registers of the parameters, in
+    /// order, no value in any other register, and no event passed.
+    pub fn entered(
+        alloc: Global,
+        plan: &Rc<Plan>,
+        arguments: &[Argument],
+    ) -> Result<Frame, NoMemory>
+        requires { AreArguments plan.now.value arguments.now }
+        ensures { IfOk result (λ frame. frame ≡ entered plan.now.value arguments.now) }
+    {
+        let mut frame = Frame::new(alloc, plan)?;
+        let parameters = plan.parameters();
+        for (number, argument) in arguments.iter().enumerate() {
+            frame.put_argument(alloc, plan, parameters[number], argument)?;
+        }
+        Ok(frame)
+    }
+
+    /// Puts an argument in the register at a place.
+    fn put_argument(
+        &mut self,
+        alloc: Global,
+        plan: &Plan,
+        place: Place,
+        argument: &Argument,
+    ) -> Result<(), NoMemory>
+        requires plan { self.old.plan ≡ plan.now }
+        requires argument { IsArgument plan.now place argument.now }
+        ensures { OnOk result (self.new ≡ with_argument self.old place argument.now) }
+    {
+        match (place, argument) {
+            (Place::Value(number), Argument::Value(part)) => {
+                let mut row = Row::of_part(alloc, part)?;
+                let mut has = true;
+                self.exchange(plan.slot(number), &mut row, &mut has);
+            },
+            (Place::Pointer(number), Argument::Pointer(pointer)) => {
+                let mut pointer = Some(pointer.copy(alloc)?);
+                self.exchange_pointer(plan.pointer_slot(number), &mut pointer);
+            },
+            _ => unreachable!(),
+        }
+        Ok(())
+    }
+
+    /// How many registers of values there are.
+    pub fn value_count(&self) -> usize
+        ensures { result ≡ length self.now.values }
+    {
+        self.plan.value_count()
+    }
+
+    /// The id of the register of a value with a number, and its value, if it has one.
+    pub fn value_at(&self, number: usize) -> (u32, Option<Part<'_>>)
+        requires { number < length self.now.values }
+        ensures at { slice_get self.now.values number ≡ Some result }
+        ensures id { number_of result.0 (ids self.now.plan.values) ≡ Some number }
+        ensures read { reads result.0 self.now.values ≡ Some result.1 }
+    {
+        let slot = self.plan.slot(number);
+        (slot.id, self.value(slot))
+    }
+
+    /// How many registers of pointers there are.
+    pub fn pointer_count(&self) -> usize
+        ensures { result ≡ length self.now.pointers }
+    {
+        self.plan.pointer_count()
+    }
+
+    /// The id of the register of a pointer with a number, and its pointer, if it has one.
+    pub fn pointer_at(&self, number: usize) -> (u32, Option<&Pointer>)
+        requires { number < length self.now.pointers }
+        ensures at { slice_get self.now.pointers number ≡ Some (result.0, option_copied result.1) }
+        ensures id { number_of result.0 self.now.plan.pointers ≡ Some number }
+        ensures read { reads result.0 self.now.pointers ≡ Some (option_copied result.1) }
+    {
+        let slot = self.plan.pointer_slot(number);
+        (slot.id, self.pointer(slot))
+    }
+
+    /// Exchanges the value of the register with a number, which has one cell, and its mark.
+    pub fn exchange_single(&mut self, number: usize, value: &mut Single, has: &mut bool)
+        requires { HasCells number 1 self.old }
+        ensures after { self.new ≡ with_value number (marked value.old has.old) self.old }
+        ensures handed { HoldsValue number (marked value.new has.new) self.old }
+    {
+        let place = found(&self.plan, number);
+        let _cell = value.cell();
+        self.row.exchange_single(&place.path, place.start, value);
+        mem::swap(&mut self.has[number], has);
+    }
+
+    /// Exchanges the value of the register with a number and its mark.
+    pub fn exchange_numbered(&mut self, number: usize, value: &mut Row, has: &mut bool)
+        requires { HasCells number (length (leaves value.old)) self.old }
+        ensures after { self.new ≡ with_value number (marked value.old has.old) self.old }
+        ensures handed { HoldsValue number (marked value.new has.new) self.old }
+    {
+        let place = found(&self.plan, number);
+        self.row.exchange_by(&place.path, place.start, value);
+        mem::swap(&mut self.has[number], has);
+    }
+
+    /// Takes the value of the register with a number away.
+    pub fn clear_numbered(&mut self, number: usize)
+        requires { number < length self.old.plan.values }
+        ensures { self.new ≡ with_value number None self.old }
+    {
+        let _place = found(&self.plan, number);
+        self.has[number] = false;
+    }
+
+    /// Exchanges the pointer of the register with a number.
+    pub fn exchange_numbered_pointer(&mut self, number: usize, pointer: &mut Option<Pointer>)
+        requires { HasPointer number self.old }
+        ensures after { self.new ≡ with_pointer number pointer.old self.old }
+        ensures handed { HoldsPointer number pointer.new self.old }
+    {
+        let slot = pointer_slot(&self.plan, number);
+        self.exchange_pointer(slot, pointer);
+    }
+
+    /// Exchanges what a register holds. It takes no memory, and the same call undoes it.
+    fn exchange_content(&mut self, slot: &Slot, other: &mut Content)
+        requires { Suits self.old.plan.values slot.now other.old }
+        ensures after { self.new ≡ record self.old { values = writes slot.now.id (content other.old) self.old.values } }
+        ensures handed { content other.new ≡ held self.old slot.now }
+        ensures suits { Suits self.old.plan.values slot.now other.new }
+    {
+        self.exchange(slot, &mut other.row, &mut other.has);
+    }
+
+    /// Exchanges what registers hold, one for each. It takes no memory, and the same call undoes it.
+    pub fn exchange_all(&mut self, slots: &[Slot], others: &mut [Content])
+        requires differ { Differ slots.now }
+        requires suit { AllSuit self.old.plan.values slots.now others.old }
+        ensures after { self.new ≡ record self.old { values = puts slots.now (map content others.old) self.old.values } }
+        ensures handed { map content others.new ≡ map (held self.old) slots.now }
+        ensures suit { AllSuit self.old.plan.values slots.now others.new }
+    {
+        for (number, slot) in slots.iter().enumerate() {
+            self.exchange_content(slot, &mut others[number]);
+        }
+    }
+
+    /// What a source gives, copied.
+    fn taken(&self, alloc: Global, source: &Source) -> Result<Content, NoMemory>
+        requires { IsSource self.now.plan.values source.now }
+        ensures content { IfOk result (λ c. content c ≡ given self.now source.now) }
+        ensures cells { IfOk result (λ c. cells c ≡ cells_from source.now) }
+    {
+        match source {
+            Source::Register(slot) => self.content(alloc, slot),
+            Source::Value(part) => Ok(Content {
+                row: Row::of_part(alloc, part)?,
+                has: true,
+            }),
+        }
+    }
+
+    /// What sources give, copied.
+    fn all_taken(&self, alloc: Global, sources: &[Source]) -> Result<Vec<Content>, NoMemory>
+        requires { AllByRecursion (IsSource self.now.plan.values) sources.now }
+        ensures contents { IfOk result (λ cs. map content cs.items ≡ map (given self.now) sources.now) }
+        ensures cells { IfOk result (λ cs. map cells cs.items ≡ map cells_from sources.now) }
+    {
+        let mut contents = Vec::with_capacity(alloc, sources.len())?;
+        for source in sources {
+            contents.push(self.taken(alloc, source)?)?;
+        }
+        Ok(contents)
+    }
+
+    /// Sets the registers of phis all at once: each takes what its source gave before, and what they held is handed back.
+    /// `put_back_phis` undoes it. Where memory runs out nothing changes.
+    pub fn phis(
+        &mut self,
+        alloc: Global,
+        slots: &[Slot],
+        sources: &[Source],
+    ) -> Result<Vec<Content>, NoMemory>
+        requires differ { Differ slots.now }
+        requires phis { AllZip (IsPhi self.old.plan.values) slots.now sources.now }
+        ensures ok { OnOk result (self.new ≡ record self.old { values = puts slots.now (map (given self.old) sources.now) self.old.values }) }
+        ensures handed { IfOk result (λ olds. map content olds.items ≡ map (held self.old) slots.now) }
+        ensures suit { IfOk result (λ olds. AllSuit self.old.plan.values slots.now olds.items) }
+        ensures err { OnErr result (self.new ≡ self.old) }
+    {
+        let mut contents = self.all_taken(alloc, sources)?;
+        self.exchange_all(slots, contents.as_mut_slice());
+        Ok(contents)
+    }
+
+    /// Puts back what the registers of phis held. It takes no memory.
+    pub fn put_back_phis(&mut self, slots: &[Slot], mut olds: Vec<Content>)
+        requires differ { Differ slots.now }
+        requires suit { AllSuit self.old.plan.values slots.now olds.items }
+        ensures { self.new ≡ record self.old { values = puts slots.now (map content olds.items) self.old.values } }
+    {
+        self.exchange_all(slots, olds.as_mut_slice());
     }
 }
 

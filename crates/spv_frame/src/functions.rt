@@ -1,5 +1,5 @@
 //! The plans of the functions of a module, found by the ids of functions, and registers found by the ids of results.
-ghost use Rattle.std.specs.Prelude.{◌≡◌, ◌++◌, IfOk, OnOk, map};
+ghost use Rattle.std.specs.Prelude.{◌≡◌, ◌<◌, ◌++◌, IfOk, OnOk, Some, length, map, slice_get};
 ghost use Rattle.spv_base.specs.Entries.{reads};
 ghost use Rattle.spv_frame.specs.Functions as spec;
 ghost use Rattle.spv_frame.specs.Plans.{rooms};
@@ -65,6 +65,14 @@ impl Plans {
         ensures { map (λ plan. plan.value) result.now ≡ self.now }
     {
         self.list.as_slice()
+    }
+
+    /// The plan with a number, counted from 0.
+    pub fn at(&self, number: usize) -> &Plan
+        requires { number < length self.now }
+        ensures { slice_get self.now number ≡ Some result.now }
+    {
+        self.list[number].as_ref()
     }
 
     /// The number of the plan of the function with an id, if there is one. In constant time.

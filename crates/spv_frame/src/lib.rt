@@ -1,15 +1,12 @@
 //! Frames: the registers of a call, where it stands, the debug events that it passed, and the stack of an invocation's calls.
 #![tactic(auto)]
 
-pub mod calls;
 pub mod contents;
 pub mod events;
 pub mod frames;
 pub mod functions;
 pub mod laws;
-pub mod listing;
 pub mod numbers;
-pub mod phis;
 pub mod plans;
 pub mod slots;
 pub mod stacks;

@@ -1,5 +1,5 @@
 //! Stacks: the calls of an invocation, by depth.
-ghost use Rattle.std.specs.Prelude.{◌≡◌, ◌≢◌, ◌<◌, ◌++◌, [], ◌∷◌, IfOk, OnOk, OnErr, Some, length, map, slice_get, option_copied, option_map, MatchOption};
+ghost use Rattle.std.specs.Prelude.{◌≡◌, ◌≢◌, ◌<◌, ◌++◌, [], ◌∷◌, IfOk, OnOk, OnErr, Some, length, map, slice_get, option_copied, option_map, MatchOption, None};
 ghost use Rattle.std.specs.List.{AllZip};
 ghost use Rattle.std.specs.Option.{IsSomeAnd};
 ghost use Rattle.spv_base.specs.Entries.{reads, writes};
@@ -9,6 +9,7 @@ ghost use Rattle.spv_frame.specs.Phis.{IsPhi, given};
 ghost use Rattle.spv_frame.specs.Registers.{IsPointerSlotOf, IsSlotOf, marked};
 ghost use Rattle.spv_frame.specs.Stacks.{Stacked, on_top, top};
 ghost use Rattle.spv_types.specs.Rows.{leaves};
+ghost use Rattle.spv_frame.specs.Numbers.{HasCells, HasPointer, HoldsPointer, HoldsValue, with_pointer, with_value};
 
 use crate::contents::{Argument, Content, Source};
 use crate::events::DebugEvent;
@@ -16,7 +17,7 @@ use crate::frames::Frame;
 use crate::plans::Plan;
 use crate::slots::{PointerSlot, Slot};
 use spv_base::{NoMemory, Pointer};
-use spv_values::Row;
+use spv_values::{Row, Single};
 use std::alloc::Global;
 use std::marker::Model;
 use std::rc::Rc;
@@ -205,6 +206,45 @@ impl Stack {
     {
         let top = self.frames.len() - 1;
         self.frames[top].drop_event()
+    }
+
+    /// Exchanges the value of the register with a number of the top frame, which has one cell, and its mark.
+    pub fn exchange_single(&mut self, number: usize, value: &mut Single, has: &mut bool)
+        requires { IsSomeAnd (top self.old.frames) (HasCells number 1) }
+        ensures after { self.new ≡ record self.old { frames = on_top (with_value number (marked value.old has.old)) self.old.frames } }
+        ensures handed { IsSomeAnd (top self.old.frames) (HoldsValue number (marked value.new has.new)) }
+    {
+        let top = self.frames.len() - 1;
+        self.frames[top].exchange_single(number, value, has);
+    }
+
+    /// Exchanges the value of the register with a number of the top frame and its mark.
+    pub fn exchange_numbered(&mut self, number: usize, value: &mut Row, has: &mut bool)
+        requires { IsSomeAnd (top self.old.frames) (HasCells number (length (leaves value.old))) }
+        ensures after { self.new ≡ record self.old { frames = on_top (with_value number (marked value.old has.old)) self.old.frames } }
+        ensures handed { IsSomeAnd (top self.old.frames) (HoldsValue number (marked value.new has.new)) }
+    {
+        let top = self.frames.len() - 1;
+        self.frames[top].exchange_numbered(number, value, has);
+    }
+
+    /// Takes the value of the register with a number of the top frame away.
+    pub fn clear_numbered(&mut self, number: usize)
+        requires { IsSomeAnd (top self.old.frames) (λ f. number < length f.plan.values) }
+        ensures { self.new ≡ record self.old { frames = on_top (with_value number None) self.old.frames } }
+    {
+        let top = self.frames.len() - 1;
+        self.frames[top].clear_numbered(number);
+    }
+
+    /// Exchanges the pointer of the register with a number of the top frame.
+    pub fn exchange_numbered_pointer(&mut self, number: usize, pointer: &mut Option<Pointer>)
+        requires { IsSomeAnd (top self.old.frames) (HasPointer number) }
+        ensures after { self.new ≡ record self.old { frames = on_top (with_pointer number pointer.old) self.old.frames } }
+        ensures handed { IsSomeAnd (top self.old.frames) (HoldsPointer number pointer.new) }
+    {
+        let top = self.frames.len() - 1;
+        self.frames[top].exchange_numbered_pointer(number, pointer);
     }
 }
 

@@ -13,7 +13,6 @@ use crate::ends::cause_here;
 use crate::motion::{Back, Forth};
 use crate::run::Run;
 use spv_base::{EndCause, Happening, NoMemory, Status4, Steps};
-use spv_initial::memory::invocations;
 use spv_machine::{Runnable, World};
 use spv_setup::Schedule;
 use spv_state::laws::runs_start_with_all;
@@ -139,10 +138,7 @@ impl Group {
         ensures count { result ≡ invocations_in self.now.group }
         ensures some { 0 < result }
     {
-        runs_start_with_all();
-        let accepted = self.module.accepted();
-        let _insts = accepted.insts();
-        invocations(accepted)
+        self.module.accepted().invocations()
     }
 
     /// The state at the position. Its journal keeps the events from the least position that is kept on, and not more than the limit.

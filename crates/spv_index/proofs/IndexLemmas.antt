@@ -8,10 +8,11 @@ use Rattle.std.proofs.lemmas.List.{get_or_past}
 use Rattle.std.proofs.lemmas.Grind.{common_steps}
 use Rattle.spv_base.specs.Order.{Ascend}
 use Rattle.spv_base.specs.declared.instructions.Inst.{Inst}
+use Rattle.spv_base.specs.Options.{holds}
 use Rattle.spv_ops.specs.Module.{Decoded, IsDecoded}
 use Rattle.spv_index.specs.Operands.{id_operand}
 use Rattle.spv_index.specs.Contents.{name_target}
-use Rattle.spv_index.specs.Definitions.{defining, has_result, holds, is_id, names_it, number_from, number_of, stands_at}
+use Rattle.spv_index.specs.Definitions.{defining, has_result, is_id, names_it, number_from, number_of, stands_at}
 use Rattle.spv_index.specs.Firsts.{AreFirsts, slot}
 use Rattle.spv_index.proofs.FirstLemmas.{first_from-map, led, number_from_same}
 

@@ -1,7 +1,8 @@
 -- What the instructions of a module say of ids and words. Where several do, the first counts.
-use Rattle.std.specs.Prelude.{ℕ, suc, ◌==◌, ◌&&◌, nat_lt, if◌then◌else◌, Bool, false, List, [], ◌∷◌, Option, Some, None, find}
+use Rattle.std.specs.Prelude.{ℕ, suc, ◌==◌, ◌&&◌, nat_lt, if◌then◌else◌, Bool, List, [], ◌∷◌, Option, Some, None, find}
 use Rattle.std.specs.Option.{option_and_then}
 use Rattle.spv_base.specs.declared.instructions.Inst.{Inst}
+use Rattle.spv_base.specs.Options.{holds}
 use Rattle.spv_index.specs.Operands.{id_operand, literal_operand, text_operand}
 
 -- an id is at least 1, and below the greatest Bound
@@ -57,11 +58,6 @@ before_functions [] = []
 before_functions (i ∷ is) = if i.op == 54 then [] else i ∷ before_functions is
 
 -- ---- names and decorations (SPIR-V 1.6 sections 3.42.2 and 3.42.3)
-
--- a number is there, and is this one
-abbrev pub holds : ℕ → Option ℕ → Bool
-holds x None = false
-holds x (Some y) = y == x
 
 -- OpName (5) with this target
 abbrev pub names_it : ℕ → Inst → Bool

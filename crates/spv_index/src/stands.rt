@@ -1,5 +1,6 @@
 //! The instructions of a module, each with where it stands and what it is there.
-ghost use Rattle.std.specs.Prelude.{◌≡◌, ◌<◌, ◌+◌, ◌∷◌, drop, length, map, slice_index_or};
+ghost use Rattle.std.specs.Prelude.{◌≡◌, ◌<◌, ◌+◌, ◌∷◌, ◌&&◌, drop, length, map, slice_index_or};
+ghost use Rattle.spv_index.specs.Classes.{is_executable};
 ghost use Rattle.spv_index.specs.Positions as spec;
 
 use crate::classes::Class;
@@ -13,6 +14,15 @@ pub struct Stand<'a> {
     pub position: Position,
     pub class: Class,
     pub inst: &'a Inst,
+}
+
+impl<'a> Stand<'a> {
+    /// Whether a run stops at it: an executable in a block.
+    pub fn is_stop(&self) -> bool
+        ensures { result ≡ (is_executable self.now.class && spec.in_block self.now.position.stage) }
+    {
+        self.class.is_executable() && self.position.stage.in_block()
+    }
 }
 
 /// The instructions of a module, each with where it stands.

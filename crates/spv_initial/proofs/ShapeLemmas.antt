@@ -11,6 +11,7 @@ use Rattle.std.proofs.lemmas.Option.{unwrap_or-slice_get}
 use Rattle.spv_base.specs.Cell.{Cell, defined_cell, undefined_cell}
 use Rattle.spv_base.specs.declared.values.Value.{Value, Scalar}
 use Rattle.spv_base.proofs.Exports.{is_many}
+use Rattle.spv_base.specs.Options.{holds}
 use Rattle.spv_types.specs.declared.forms.Form.{Form}
 use Rattle.spv_types.specs.declared.forms.Form.TheVariants.{Void, Bool as Boolean, Int, Vector, Array, Runtime, Struct, Pointer, Function}
 use Rattle.spv_types.specs.declared.forms.Member.{Member}
@@ -20,7 +21,7 @@ use Rattle.spv_types.specs.Places.{scalar_bytes, elements_in}
 use Rattle.spv_types.specs.Rows.{no_roots}
 use Rattle.spv_types.specs.Rules.{is_data, is_scalar, is_width, keep_members, keeps_form, keeps_member}
 use Rattle.spv_types.specs.Shapes.{HasShape, HasShapeAmong, IsScalar, part_type, shape_step}
-use Rattle.spv_types.specs.Types.{Types, form_of, in_first, is_number, number_of}
+use Rattle.spv_types.specs.Types.{Types, form_of, in_first, number_of}
 use Rattle.spv_types.proofs.Exports.{cells_whole, among_is, form_number, in_first-found, number_lt, scalar_data, member_data, sized_data, width_narrow, impossible}
 use Rattle.spv_consts.proofs.Exports.{is_scalar as scalar_is, undefined_is_lane}
 use Rattle.spv_start.specs.Blocks.{Reader, read_among, read_members, read_none, read_row, read_step, value_in}
@@ -121,7 +122,7 @@ module _ (ts : Types) (bytes : List ℕ) (size : ℕ) (small : AreBytes bytes) (
   counted_shape : (n id : ℕ) → is_data (form_of ts id) ≡ true → is_some (cells_among ts n id) ≡ true → (at : ℕ) → HasShapeAmong ts no_roots n id (read_among ts bytes size n id at)
   unfolding HasShapeAmong cells_among read_among in_first
   counted_shape zero id d c at = impossible c
-  counted_shape (suc n) id d c at = here (λ part g h place. counted_shape n part g h place) (is_number n (number_of ts id)) c
+  counted_shape (suc n) id d c at = here (λ part g h place. counted_shape n part g h place) (holds n (number_of ts id)) c
     where
       formed : ((part : ℕ) → is_data (form_of ts part) ≡ true → is_some (cells_among ts n part) ≡ true → (place : ℕ) → HasShapeAmong ts no_roots n part (read_among ts bytes size n part place))
           → (o : Option Form) → form_of ts id ≡ o → is_some (option_map_or (cells_step (cells_among ts n)) o None) ≡ true

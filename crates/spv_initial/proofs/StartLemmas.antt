@@ -1,7 +1,5 @@
 -- The memory that a run starts with, a variable after another.
-use Rattle.std.proofs.Common.{◌≡◌, ◌∙◌, ℕ, zero, suc, ◌+◌, ◌-◌, ◌*◌, ◌<◌, ◌≤◌, ◌&&◌, true, List, [], ◌∷◌, ◌++◌, length, map, replicate, take, get_or, slice_get, append-nil, Option, Some, None, refl, sym, ap, subst, arith}
-use Rattle.std.proofs.lemmas.Bool.{and_parts, leb-true}
-use Rattle.std.specs.Prelude.{nat_le}
+use Rattle.std.proofs.Common.{◌≡◌, ◌∙◌, ℕ, zero, suc, ◌+◌, ◌-◌, ◌<◌, ◌≤◌, List, [], ◌∷◌, ◌++◌, length, map, replicate, take, get_or, slice_get, append-nil, Option, Some, None, refl, sym, ap, subst, arith}
 use Rattle.std.specs.List.{cons_option, filter_map, range_with_len}
 use Rattle.std.specs.Option.{option_map}
 use Rattle.std.specs.Coded.{codes}
@@ -19,7 +17,6 @@ use Rattle.spv_types.specs.Rows.{no_roots}
 use Rattle.spv_types.specs.Shapes.{HasShape}
 use Rattle.spv_types.specs.Types.{Types}
 use Rattle.spv_valid.specs.Acceptance.{Accepted, invocations}
-use Rattle.spv_valid.specs.Entry.{Size, is_size}
 use Rattle.spv_valid.specs.Validity.{IsValid}
 use Rattle.spv_setup.specs.declared.settings.Settings.{Settings}
 use Rattle.spv_mem.specs.Memory.{AreTargets, Held, IsVariable, empty}
@@ -42,31 +39,6 @@ pub are_targets : (a : Accepted) (ds : List Declared) (targets : List (ℕ × �
 are_targets a ds targets ts valid are is same =
     subst (λ (types : Types). ∥ AreTargets types targets ∥₁) (sym same) (subst (λ (list : List (ℕ × ℕ)). ∥ AreTargets a.types list ∥₁) (sym is)
     (∥∥₁_elim valid (hlevel props) (λ (v : IsValid a). ∥∥₁_map are (λ (k : AreDeclared a.types ds). (v.types, λ id ty named. targets_hold a.types ds id ty k.hold named)))))
-
--- the size of a workgroup: at least one invocation in each direction, and at most 1,024 in all
-pub size_holds : (a : Accepted) → ∥ IsValid a ∥₁ → is_size a.size ≡ true
-size_holds a valid = ∥∥₁_elim valid (hlevel props) (λ (v : IsValid a). v.entry.size)
-
-pub record IsFit (s : Size) : Type 0 where
-  pub x : 1 ≤ s.0
-  pub y : 1 ≤ s.1
-  pub z : 1 ≤ s.2
-  pub all : s.0 * s.1 * s.2 ≤ 1024
-  pub two : s.0 * s.1 ≤ 1024
-
-fewer : (n z : ℕ) → 1 ≤ z → n ≤ n * z
-fewer n (suc k) h = omega arith
-fewer n zero h = absurd (omega (arith, h))
-
-pub size_fits : (s : Size) → is_size s ≡ true → IsFit s
-size_fits s h =
-    let both = and_parts (nat_le 1 s.0 && (nat_le 1 s.1 && nat_le 1 s.2)) (nat_le (s.0 * s.1 * s.2) 1024) h in
-    let x = and_parts (nat_le 1 s.0) (nat_le 1 s.1 && nat_le 1 s.2) both.0 in
-    let y = and_parts (nat_le 1 s.1) (nat_le 1 s.2) x.1 in
-    let all : s.0 * s.1 * s.2 ≤ 1024 = leb-true (s.0 * s.1 * s.2) 1024 both.1 in
-    let z : 1 ≤ s.2 = leb-true 1 s.2 y.1 in
-    let less : s.0 * s.1 ≤ s.0 * s.1 * s.2 = fewer (s.0 * s.1) s.2 z in
-    record { x = leb-true 1 s.0 x.0; y = leb-true 1 s.1 y.0; z = z; all = all; two = omega (arith, all, less) }
 
 -- ---- one variable
 

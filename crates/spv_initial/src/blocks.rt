@@ -6,13 +6,14 @@ ghost use Rattle.spv_types.specs.Rules.{is_block};
 ghost use Rattle.spv_types.specs.Types.{form_of};
 ghost use Rattle.spv_initial.specs.Values.{Suits, of_bytes, of_content};
 
-use crate::elements::{last_count, members_of};
+use crate::elements::last_count;
 use crate::variables::Declared;
 use spv_base::{Ghost, NoMemory, Value};
 use spv_mem::Variable;
 use spv_setup::Content;
 use spv_start::blocks::read;
 use spv_types::TypeTable;
+use spv_types::counting::members_of;
 use spv_values::Row;
 use std::alloc::Global;
 

@@ -6,11 +6,11 @@ ghost use Rattle.spv_mem.specs.Targets.{elements_in};
 ghost use Rattle.spv_types.specs.Rows.{leaves};
 ghost use Rattle.spv_initial.specs.Values.{Suits, initialized, initializer_of, local_value};
 
-use crate::elements::{last_part, part_count};
 use crate::variables::Declared;
 use spv_base::{Cell, Ghost, NoMemory, Value};
 use spv_consts::Row as Constant;
 use spv_mem::Variable;
+use spv_mem::parts::{last_part, part_count};
 use spv_ops::storage_class;
 use spv_types::TypeTable;
 use spv_valid::Module;
@@ -48,7 +48,7 @@ impl<'a> Leaves<'a> {
         let Some((limit, form)) = self.types.found(self.types.len(), self.ty) else {
             return Ok(0);
         };
-        let Some(part) = last_part(form) else {
+        let Some(part) = last_part(form, 0) else {
             return Ok(0);
         };
         match self.types.found(limit, part) {

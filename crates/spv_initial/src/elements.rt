@@ -1,11 +1,9 @@
 //! How many parts values have: a variable keeps beside its row those of its last part.
 ghost use Rattle.std.specs.Prelude.{◌≡◌, IfOk};
-ghost use Rattle.spv_mem.specs.Blanks.{if_any, last_part, part_count};
-ghost use Rattle.spv_types.specs.Counted.{members_of};
-ghost use Rattle.spv_types.specs.Rules.{last_type};
 ghost use Rattle.spv_initial.specs.Elements.{array_elements, last_count, member_count};
 
 use spv_base::NoMemory;
+use spv_mem::parts::part_count;
 use spv_types::places::elements_in;
 use spv_types::{Form, Member, TypeTable};
 
@@ -16,19 +14,6 @@ fn number(count: u64) -> Result<u32, NoMemory>
     match u32::try_from(count) {
         Ok(count) => Ok(count),
         Err(_) => Err(NoMemory),
-    }
-}
-
-/// How many parts a value of a form has, where a runtime array has so many elements.
-pub fn part_count(form: &Form, elements: u32) -> Result<u32, NoMemory>
-    ensures { IfOk result (λ n. n ≡ part_count elements form.now) }
-{
-    match form {
-        Form::Vector { count, .. } => Ok(*count),
-        Form::Array { length, .. } => Ok(length.unwrap_or(0)),
-        Form::Runtime { .. } => Ok(elements),
-        Form::Struct { members, .. } => number(members.len() as u64),
-        _ => Ok(0),
     }
 }
 
@@ -72,48 +57,5 @@ pub fn last_count(
     match members.last() {
         Some(last) => member_count(types, size, limit, last),
         None => Ok(0),
-    }
-}
-
-/// The members of a struct, and none of any other type.
-pub fn members_of(form: &Form) -> &[Member]
-    ensures { result.now ≡ members_of form.now }
-{
-    match form {
-        Form::Struct { members, .. } => members.as_slice(),
-        _ => &[],
-    }
-}
-
-/// The type of the last member.
-fn last_type(members: &[Member]) -> Option<u32>
-    ensures { result ≡ last_type members.now }
-{
-    match members.last() {
-        Some(member) => Some(member.ty),
-        None => None,
-    }
-}
-
-/// A type, if there is a value of it.
-fn if_any(count: u32, ty: u32) -> Option<u32>
-    ensures { result ≡ if_any count ty }
-{
-    if count > 0 { Some(ty) } else { None }
-}
-
-/// The type of the last part of a value of a form, which is no runtime array.
-pub fn last_part(form: &Form) -> Option<u32>
-    ensures { result ≡ last_part 0 form.now }
-{
-    match form {
-        Form::Vector { component, count } => if_any(*count, *component),
-        Form::Array {
-            element,
-            length,
-            ..
-        } => if_any(length.unwrap_or(0), *element),
-        Form::Struct { members, .. } => last_type(members.as_slice()),
-        _ => None,
     }
 }

@@ -1,7 +1,6 @@
 //! The journal: what undoes the changes of a state, event by event.
 #![tactic(auto)]
 
-mod cells;
 pub mod changes;
 pub mod entries;
 pub mod journal;

@@ -1,6 +1,6 @@
 //! Loads and stores of integers, each where the types say that there is one.
 
-use spv_base::{Cell, NoMemory, Path, Pointer, Root};
+use spv_base::{Cell, NoMemory, Pointer, Root};
 use spv_mem::{Memory, chain};
 use spv_values::Row;
 use std::alloc::Global;
@@ -15,10 +15,7 @@ pub(crate) fn pointer(alloc: Global, root: Root, path: &[u32]) -> Result<Pointer
             defined: true,
         })?;
     }
-    let start = Pointer {
-        root,
-        path: Path::new(alloc),
-    };
+    let start = Pointer::whole(alloc, root);
     // Each index is defined, so only memory can be missing.
     chain(alloc, &start, indexes.as_slice()).map_err(|_| NoMemory)
 }

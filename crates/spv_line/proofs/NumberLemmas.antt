@@ -42,10 +42,10 @@ digits_test = record {
 }
   where
     digit_in : (c : ℕ) (cs : List ℕ) → (is_digit c ≡ true) × (list_all is_digit cs ≡ true) → IsInRange 48 57 c × (list_all is_digit cs ≡ true)
-    digit_in c cs h = let both = and_parts _ _ h.0 in let low = leb-true 48 c both.0 in let high = ltb-true c 58 both.1 in ((low, omega (arith, high)), h.1)
+    digit_in c cs h = let both = and_parts _ _ h.0 in let low = leb-true 48 c both.0 in let high = leb-true c 57 both.1 in ((low, high), h.1)
 
     in_digit : (c : ℕ) → IsInRange 48 57 c → is_digit c ≡ true
-    in_digit c r = and_from _ _ (le-leb 48 c r.0) (lt-ltb c 58 (omega (arith, r.1)))
+    in_digit c r = and_from _ _ (le-leb 48 c r.0) (le-leb c 57 r.1)
 
 pub own : IsNumeralModel (λ ds. list_all is_digit ds ≡ true) value_of
 own = numerals_by_fold _ digits_test (λ n ds. fold (λ m b. 10 * m + (b - 48)) n ds) (record {

@@ -4,7 +4,7 @@ use Rattle.std.specs.List.{list_all}
 
 -- the digits `0` to `9` are the bytes 48 to 57
 abbrev pub is_digit : ℕ → Bool
-is_digit b = nat_le 48 b && nat_lt b 58
+is_digit b = nat_le 48 b && nat_le b 57
 
 -- the number that digits spell
 abbrev pub value_of : List ℕ → ℕ

@@ -6,5 +6,5 @@ mod numbers;
 mod words;
 
 pub use hex::bytes;
-pub use numbers::number;
+pub use numbers::{number, push_number};
 pub use words::{next_word, only_word};

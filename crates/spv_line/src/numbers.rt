@@ -1,7 +1,10 @@
-//! Numbers that decimal digits spell.
-ghost use Rattle.std.specs.Prelude.{◌≡◌, ◌^◌, ◌≤◌, min, IfSome};
+//! Numbers that decimal digits spell, and their texts.
+ghost use Rattle.std.specs.Prelude.{◌≡◌, ◌++◌, ◌^◌, ◌≤◌, decimal, min, IfSome, OnOk};
 ghost use Rattle.std.specs.List.{list_all};
 ghost use Rattle.spv_line.specs.Numbers.{number_of, value_of, is_digit};
+
+use spv_base::NoMemory;
+use std::alloc::Global;
 
 /// What decimal digits spell, or 2^64 where that is more.
 fn value(digits: &[u8]) -> u128
@@ -17,7 +20,7 @@ fn value(digits: &[u8]) -> u128
 fn all_digits(digits: &[u8]) -> bool
     ensures { result ≡ list_all is_digit digits.now }
 {
-    digits.iter().all(|b| b'0' <= *b && *b < b':')
+    digits.iter().all(|b| b.is_ascii_digit())
 }
 
 /// The number of one or more decimal digits, where it is at most a limit. Leading zeros are read.
@@ -38,4 +41,12 @@ pub fn number(digits: &[u8], limit: u64) -> Option<u64>
     } else {
         None
     }
+}
+
+/// Appends a number in decimal.
+pub fn push_number(alloc: Global, text: &mut Vec<u8>, number: u64) -> Result<(), NoMemory>
+    ensures { OnOk result (text.new.items ≡ text.old.items ++ decimal number) }
+{
+    text.extend_from_slice(number.to_string(alloc)?.as_bytes())?;
+    Ok(())
 }

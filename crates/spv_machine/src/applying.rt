@@ -20,7 +20,7 @@ ghost use Rattle.spv_state.specs.State as state;
 use crate::passing::come_to;
 use spv_actions::effects::{Entered, PhiValue};
 use spv_actions::{Control, Effect, Gain, Place, Target};
-use spv_base::{Inst, NoMemory, Path, Pointer};
+use spv_base::{Inst, NoMemory, Pointer};
 use spv_journal::Recorded;
 use spv_state::{Runnable, Whole};
 use spv_statuses::Status;
@@ -45,10 +45,7 @@ fn put_at(
 {
     match &target.place {
         Place::Whole(root) => {
-            let pointer = Pointer {
-                root: *root,
-                path: Path::new(alloc),
-            };
+            let pointer = Pointer::whole(alloc, *root);
             recorded.store(inv, &pointer, row)
         }
         Place::Part(pointer) => recorded.store(inv, pointer, row),

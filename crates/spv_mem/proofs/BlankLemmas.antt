@@ -13,10 +13,11 @@ use Rattle.spv_base.specs.Entries.{reads}
 use Rattle.spv_base.specs.Cell.{IsCell, Cell, undefined_cell}
 use Rattle.spv_base.specs.declared.values.Value.{Value, Scalar, List as Many}
 use Rattle.spv_base.proofs.Exports.{out_many, out_scalar, is_many}
+use Rattle.spv_base.specs.Options.{holds}
 use Rattle.spv_types.specs.declared.forms.Form.{Form}
 use Rattle.spv_types.specs.declared.forms.Form.TheVariants.{Void, Bool as Boolean, Int, Vector, Array, Runtime, Struct, Pointer, Function}
 use Rattle.spv_types.specs.declared.forms.Member.{Member}
-use Rattle.spv_types.specs.Types.{Types, form_of, found_among, in_first, is_number, number_of}
+use Rattle.spv_types.specs.Types.{Types, form_of, found_among, in_first, number_of}
 use Rattle.spv_types.specs.Cells.{added, cells_among, cells_of, cells_step, members_cells}
 use Rattle.spv_types.specs.Laws.{AreSound, ComesBefore, IsAmong}
 use Rattle.spv_types.specs.Rows.{leaves, no_roots}
@@ -108,7 +109,7 @@ module _ (ts : Types) (e : ℕ) (sound : AreSound ts) where
   pub counted_shape : (n id : ℕ) → is_data (form_of ts id) ≡ true → is_some (cells_among ts n id) ≡ true → HasShapeAmong ts no_roots n id (blank_among ts e n id)
   unfolding HasShapeAmong cells_among blank_among in_first
   counted_shape zero id d c = impossible c
-  counted_shape (suc n) id d c = here (λ part g h. counted_shape n part g h) (is_number n (number_of ts id)) c
+  counted_shape (suc n) id d c = here (λ part g h. counted_shape n part g h) (holds n (number_of ts id)) c
     where
       formed : ((part : ℕ) → is_data (form_of ts part) ≡ true → is_some (cells_among ts n part) ≡ true → HasShapeAmong ts no_roots n part (blank_among ts e n part))
           → (o : Option Form) → form_of ts id ≡ o → is_some (option_map_or (cells_step (cells_among ts n)) o None) ≡ true

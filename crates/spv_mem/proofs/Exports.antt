@@ -7,8 +7,6 @@ pub use Rattle.spv_mem.proofs.PartLemmas.{part_cons}
 pub use Rattle.spv_mem.proofs.PlaceLemmas.{whole_row}
 -- What an exchange in one variable is to the whole memory, and that it keeps what a memory keeps.
 pub use Rattle.spv_mem.proofs.MemoryLemmas.{get_set, change_set}
--- The one leaf of a scalar.
-pub use Rattle.spv_mem.proofs.CellLemmas.{is_scalar}
 -- Undefined values: they are made of their forms, and have their shapes.
 pub use Rattle.spv_mem.proofs.BlankLemmas.{blank_among_is, both_there, product_there, blank_shape, any_is, many_last, scalar_last, many_count, scalar_count}
 -- What the types of variables tell of the parts that pointers name.

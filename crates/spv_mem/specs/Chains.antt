@@ -1,13 +1,13 @@
 -- Access chains: the path of a pointer with further indexes, read as signed (SPIR-V 1.6 section 3.42.8, OpAccessChain).
-use Rattle.std.specs.Prelude.{◌≡◌, ℕ, ◌+◌, ◌-◌, ◌*◌, ◌^◌, ◌&&◌, nat_lt, if◌then◌else◌, Bool, true, false, List, [], ◌∷◌, ◌++◌, map, Result, Ok, Err}
+use Rattle.std.specs.Prelude.{◌≡◌, ℕ, ◌+◌, ◌-◌, ◌*◌, ◌^◌, nat_lt, if◌then◌else◌, Bool, true, false, List, [], ◌∷◌, ◌++◌, map, Result, Ok, Err}
+use Rattle.std.specs.List.{list_all}
 use Rattle.spv_base.specs.Cell.{Cell}
 use Rattle.spv_base.specs.declared.causes.MemErr.{MemErr}
 use Rattle.spv_base.specs.declared.causes.MemErr.TheVariants.{UndefinedIndex, OutOfBounds, NoMemory}
 use Rattle.spv_base.specs.declared.values.Pointer.{Pointer}
 
 abbrev pub all_defined : List Cell → Bool
-all_defined [] = true
-all_defined (c ∷ cs) = c.defined && all_defined cs
+all_defined cs = list_all (λ (c : Cell). c.defined) cs
 
 -- a number of a width, sign-extended to 64 bits, in two's complement
 abbrev pub extended : Cell → ℕ

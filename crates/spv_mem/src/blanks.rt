@@ -1,16 +1,13 @@
 //! Variables that begin undefined.
-ghost use Rattle.std.specs.Prelude.{◌≡◌, ◌++◌, IfOk, IfSome, OnOk, min, replicate};
+ghost use Rattle.std.specs.Prelude.{◌≡◌, ◌++◌, IfOk, OnOk, min, replicate};
 ghost use Rattle.std.specs.List.{flat_map};
 ghost use Rattle.spv_base.specs.Cell.{undefined_cell};
-ghost use Rattle.spv_mem.specs.Blanks.{blank_among, blank_in, blank_of, blank_step, if_any, last_part, part_count};
-ghost use Rattle.spv_mem.specs.Memory.{IsVariable};
+ghost use Rattle.spv_mem.specs.Blanks.{blank_among, blank_of, blank_step};
 ghost use Rattle.spv_mem.specs.Targets.{elements_in};
 ghost use Rattle.spv_types.specs.declared.forms.Member.{Member as Part};
 ghost use Rattle.spv_types.specs.Rows.{leaves};
-ghost use Rattle.spv_types.specs.Rules.{last_type};
 
-use crate::storage::Memory;
-use crate::variables::Variable;
+use crate::parts::{last_part, part_count};
 use spv_base::{Cell, Ghost, NoMemory, Value};
 use spv_types::{Form, Member, TypeTable};
 use spv_values::Row;
@@ -27,28 +24,11 @@ fn undefined(width: u32) -> Cell
     }
 }
 
-/// The type of the last member.
-fn last_type(members: &[Member]) -> Option<u32>
-    ensures { result ≡ last_type members.now }
-{
-    match members.last() {
-        Some(member) => Some(member.ty),
-        None => None,
-    }
-}
-
-/// A type, if there is a value of it.
-fn if_any(count: u32, ty: u32) -> Option<u32>
-    ensures { result ≡ if_any count ty }
-{
-    if count > 0 { Some(ty) } else { None }
-}
-
 /// Types, and how many elements a runtime array has.
 #[derive(Clone, Copy)]
-struct Blank<'a> {
-    types: &'a TypeTable,
-    elements: u32,
+pub(crate) struct Blank<'a> {
+    pub(crate) types: &'a TypeTable,
+    pub(crate) elements: u32,
 }
 
 impl<'a> Blank<'a> {
@@ -126,52 +106,19 @@ impl<'a> Blank<'a> {
         Ok(())
     }
 
-    /// The type of the last part of a value of a form.
-    fn last_part(&self, form: &Form) -> Option<u32>
-        ensures { result ≡ last_part self.now.elements form.now }
-    {
-        match form {
-            Form::Vector { component, count } => if_any(*count, *component),
-            Form::Array {
-                element,
-                length,
-                ..
-            } => if_any(length.unwrap_or(0), *element),
-            Form::Runtime { element, .. } => if_any(self.elements, *element),
-            Form::Struct { members, .. } => last_type(members.as_slice()),
-            _ => None,
-        }
-    }
-
-    /// How many parts a value of a form has. A type of 2 ^ 32 members has no variable.
-    fn part_count(&self, form: &Form) -> Result<u32, NoMemory>
-        ensures { IfOk result (λ n. n ≡ part_count self.now.elements form.now) }
-    {
-        match form {
-            Form::Vector { count, .. } => Ok(*count),
-            Form::Array { length, .. } => Ok(length.unwrap_or(0)),
-            Form::Runtime { .. } => Ok(self.elements),
-            Form::Struct { members, .. } => match u32::try_from(members.len()) {
-                Ok(count) => Ok(count),
-                Err(_) => Err(NoMemory),
-            },
-            _ => Ok(0),
-        }
-    }
-
     /// How many parts the last part of the value of a type has.
     #[tactic(auto, using(crate::proofs::BlankLemmas::elements_are))]
-    fn last_count(&self, ty: u32) -> Result<u32, NoMemory>
+    pub(crate) fn last_count(&self, ty: u32) -> Result<u32, NoMemory>
         ensures { IfOk result (λ n. n ≡ elements_in (blank_of self.now.types.now self.now.elements ty)) }
     {
         let Some((limit, form)) = self.types.found(self.types.len(), ty) else {
             return Ok(0);
         };
-        let Some(part) = self.last_part(form) else {
+        let Some(part) = last_part(form, self.elements) else {
             return Ok(0);
         };
         match self.types.found(limit, part) {
-            Some((_, form)) => self.part_count(form),
+            Some((_, form)) => part_count(form, self.elements),
             None => Ok(0),
         }
     }
@@ -201,46 +148,10 @@ impl<'a> Blank<'a> {
     }
 
     /// The value of a type.
-    fn row(&self, alloc: Global, ty: u32) -> Result<Row, NoMemory>
+    pub(crate) fn row(&self, alloc: Global, ty: u32) -> Result<Row, NoMemory>
         ensures { IfOk result (λ row. row ≡ blank_of self.now.types.now self.now.elements ty) }
     {
         let cells = self.cells(alloc, ty)?;
         Ok(Row::with_tree(cells, self.tree(ty)))
-    }
-}
-
-impl Variable {
-    /// The undefined value of a type of data, where a runtime array has so many elements.
-    pub fn blank(
-        alloc: Global,
-        types: &TypeTable,
-        ty: u32,
-        elements: u32,
-    ) -> Result<Variable, NoMemory>
-        ensures { IfOk result (λ variable. variable ≡ blank_of types.now elements ty) }
-    {
-        let blank = Blank { types, elements };
-        let count = blank.last_count(ty)?;
-        let row = blank.row(alloc, ty)?;
-        Ok(Variable::new(row, count))
-    }
-}
-
-impl Memory {
-    /// What the variable with an id holds before the first store: all its cells are undefined, and a runtime array has so many
-    /// elements. None exactly where the targets do not name the id, or name a type that is not one of data.
-    pub fn blank(&self, alloc: Global, id: u32, elements: u32) -> Result<Option<Variable>, NoMemory>
-        ensures value { IfOk result (λ variable. variable ≡ blank_in self.now id elements) }
-        ensures may { IfOk result (λ variable. IfSome variable (λ v. ∥ IsVariable self.now.types self.now.targets id v ∥₁)) }
-    {
-        let types = self.types.as_ref();
-        let Some(target) = self.targets.get(id) else {
-            return Ok(None);
-        };
-        if !types.is_data(target.ty) {
-            return Ok(None);
-        }
-        let variable = Variable::blank(alloc, types, target.ty, elements)?;
-        Ok(Some(variable))
     }
 }

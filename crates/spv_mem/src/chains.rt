@@ -9,12 +9,7 @@ use std::alloc::Global;
 fn all_defined(indexes: &[Cell]) -> bool
     ensures { result ≡ all_defined indexes.now }
 {
-    for index in indexes {
-        if !index.defined {
-            return false;
-        }
-    }
-    true
+    indexes.iter().all(|index| index.defined)
 }
 
 /// The greatest number of a width, up to 64 bits.

@@ -1,5 +1,5 @@
 //! Roots: variables under their ids.
-ghost use Rattle.std.specs.Prelude.{◌≡◌, ◌↔◌, ◌++◌, [], ◌∷◌, length, IsTrue, IfOk, OnOk, OnErr, None, Some, option_map, option_and_then, true};
+ghost use Rattle.std.specs.Prelude.{◌≡◌, ◌↔◌, ◌++◌, [], ◌∷◌, length, IsTrue, IfOk, OnOk, OnErr, None, Some, option_map, option_and_then, true, IfSome};
 ghost use Rattle.std.specs.Option.{MatchOption, option_map_or};
 ghost use Rattle.spv_base.specs.Entries.{reads};
 ghost use Rattle.spv_base.specs.Parts.{part_at};
@@ -7,12 +7,15 @@ ghost use Rattle.spv_base.specs.declared.values.Value.{Value};
 ghost use Rattle.spv_mem.specs.Roots.{AreFit, ExchangesIn, IsAt, MayBePutIn};
 ghost use Rattle.spv_mem.specs.Targets.{elements_in};
 ghost use Rattle.spv_types.specs.Rows.{leaves};
+ghost use Rattle.spv_mem.specs.Singles.{LeafIn, LiesIn};
 
+use crate::places::Place;
+use crate::singles::Spot;
 use crate::targets::{Target, Targets};
 use crate::variables::Variable;
-use spv_base::{Cell, NoMemory, Path};
+use spv_base::{Cell, Ghost, NoMemory, Path};
 use spv_types::TypeTable;
-use spv_values::{Part, Row};
+use spv_values::{Part, Row, Single};
 use std::alloc::Global;
 use std::marker::Model;
 
@@ -161,6 +164,38 @@ impl Roots {
             return false;
         };
         self.entries[k].1.exchange(types, target.ty, path, other)
+    }
+
+    /// Where the part that a path names lies in the variable with an id; none where there is no such part.
+    pub(crate) fn part_place(
+        &self,
+        types: &TypeTable,
+        target: Target,
+        id: u32,
+        path: &Path,
+    ) -> Option<Place>
+        requires { ∥ AreFit types.now target.ty id self.now ∥₁ }
+        ensures { IfSome result (λ p. LiesIn id self.now path.now p.start p.len) }
+    {
+        let k = self.find(id, target.place)?;
+        self.entries[k].1.place(types, target.ty, path)
+    }
+
+    /// Exchanges a leaf of the variable with an id, and says whether there is one.
+    pub(crate) fn exchange_single(
+        &mut self,
+        spot: Spot,
+        path: &Ghost<Path>,
+        other: &mut Single,
+    ) -> bool
+        requires { ∥ LeafIn spot.id self.old spot.leaf path.now.value other.old ∥₁ }
+        ensures { ExchangesIn self.old spot.id path.now.value other.old self.new other.new result }
+    {
+        let Some(k) = self.find(spot.id, spot.place) else {
+            return false;
+        };
+        self.entries[k].1.exchange_single(spot.leaf, path, other);
+        true
     }
 }
 

@@ -1,12 +1,14 @@
 //! The variables of the frames of an invocation, by depth.
 ghost use Rattle.std.specs.Prelude.{◌≡◌, ◌↔◌, ◌<◌, IsTrue, ◌≤◌, ◌++◌, [], ◌∷◌, IfOk, OnOk, OnErr, length, slice_get, option_copied, MatchOption};
 ghost use Rattle.spv_mem.specs.Levels.{ExchangesAt, ExchangesLevel, FitAt, FitLevel, MayBePutAt, MayBePutLevel};
+ghost use Rattle.spv_mem.specs.Singles.{LeafAt};
 
 use crate::entries::Locals;
+use crate::singles::{Spot, exchange_single_at};
 use crate::targets::Target;
-use spv_base::{NoMemory, Path};
+use spv_base::{Ghost, NoMemory, Path};
 use spv_types::TypeTable;
-use spv_values::Row;
+use spv_values::{Row, Single};
 use std::alloc::Global;
 use std::marker::Model;
 
@@ -113,6 +115,21 @@ impl Levels {
             path,
             other,
         )
+    }
+
+    /// Exchanges a leaf of the variable with an id of a depth, and says whether there is one.
+    pub(crate) fn exchange_single(
+        &mut self,
+        depth: u32,
+        spot: Spot,
+        path: &Ghost<Path>,
+        other: &mut Single,
+    ) -> bool
+        requires { ∥ LeafAt spot.id self.old.list depth spot.leaf path.now.value other.old ∥₁ }
+        ensures room { self.new.room ≡ self.old.room }
+        ensures list { ExchangesAt self.old.list depth spot.id path.now.value other.old self.new.list other.new result }
+    {
+        exchange_single_at(&mut self.list, depth as usize, spot, path, other)
     }
 }
 

@@ -5,17 +5,18 @@
 pub mod blanks;
 mod cells;
 pub mod chains;
-mod changes;
 pub mod conditions;
 pub mod entries;
 pub mod laws;
 pub mod levels;
+pub mod parts;
 pub mod places;
 pub mod singles;
 pub mod storage;
 pub mod targets;
 pub mod variables;
 
+pub use cells::cell_of;
 pub use chains::chain;
 pub use entries::{Locals, Roots};
 pub use storage::Memory;

@@ -7,11 +7,15 @@ ghost use Rattle.spv_types.specs.Cells.{cells_of};
 ghost use Rattle.spv_base.specs.Saturation.{saturated};
 ghost use Rattle.spv_types.specs.Rows.{leaves};
 ghost use Rattle.spv_values.specs.Places.{IsRowAt};
+ghost use Rattle.spv_mem.specs.Blanks.{blank_of};
+ghost use Rattle.spv_types.specs.declared.forms.Member.{Member as Part};
+ghost use Rattle.spv_mem.specs.Singles.{IsLeafFor};
 
+use crate::blanks::Blank;
 use crate::places::{Place, element_index, reached_type};
-use spv_base::{Cell, NoMemory, Path};
+use spv_base::{Cell, Ghost, NoMemory, Path, Value};
 use spv_types::TypeTable;
-use spv_values::{Part, Row};
+use spv_values::{Part, Row, Single};
 use std::alloc::Global;
 use std::marker::Model;
 
@@ -142,6 +146,29 @@ impl Variable {
         };
         self.row.exchange(path, place.start, other);
         true
+    }
+
+    /// The undefined value of a type of data, where a runtime array has so many elements.
+    pub fn blank(
+        alloc: Global,
+        types: &TypeTable,
+        ty: u32,
+        elements: u32,
+    ) -> Result<Variable, NoMemory>
+        ensures { IfOk result (λ variable. variable ≡ blank_of types.now elements ty) }
+    {
+        let blank = Blank { types, elements };
+        let count = blank.last_count(ty)?;
+        let row = blank.row(alloc, ty)?;
+        Ok(Variable::new(row, count))
+    }
+
+    /// Exchanges a leaf with a value of one cell.
+    pub(crate) fn exchange_single(&mut self, leaf: usize, path: &Ghost<Path>, other: &mut Single)
+        requires { ∥ IsLeafFor leaf path.now.value other.old self.old ∥₁ }
+        ensures { Exchanges self.old path.now.value other.old self.new other.new true }
+    {
+        self.row.exchange_single(path, leaf, other);
     }
 }
 

@@ -8,10 +8,11 @@ use Rattle.std.specs.Option.{option_map}
 use Rattle.spv_base.specs.Entries.{reads}
 use Rattle.spv_base.specs.declared.causes.Refusal.{Refusal}
 use Rattle.spv_base.specs.declared.instructions.Inst.{Inst}
+use Rattle.spv_base.specs.Options.{holds}
 use Rattle.spv_index.specs.declared.positions.Position.{Position}
 use Rattle.spv_index.specs.declared.positions.Stage.TheVariants.{Outside}
 use Rattle.spv_index.specs.Classes.{class_of, classes, is_debug, is_local, sets_of}
-use Rattle.spv_index.specs.Definitions.{before_functions, decoration, defining, has_result, holds, is_id}
+use Rattle.spv_index.specs.Definitions.{before_functions, decoration, defining, has_result, is_id}
 use Rattle.spv_index.specs.Operands.{literal_operand}
 use Rattle.spv_index.specs.Positions.{Stand, in_function, outside, position_after, stand_of, stands, stands_of}
 use Rattle.spv_index.specs.declared.classes.Class.TheVariants.{Executable}

@@ -11,7 +11,7 @@ use Rattle.spv_ops.specs.Module.{Decoded}
 use Rattle.spv_ops.specs.Opcodes.{table}
 use Rattle.spv_index.specs.declared.positions.Position.{Position}
 use Rattle.spv_index.specs.Classes.{class_of, sets_of}
-use Rattle.spv_index.specs.Definitions.{before_functions, holds}
+use Rattle.spv_index.specs.Definitions.{before_functions}
 use Rattle.spv_index.specs.Operands.{literal_operand}
 use Rattle.spv_index.specs.Positions.{Stand, outside, position_after, stands, stands_of}
 use Rattle.spv_types.specs.declared.forms.Form.{Form}
@@ -47,6 +47,7 @@ use Rattle.spv_operands.proofs.FrontLemmas.{form_stays, front_sound, plain_stays
 use Rattle.spv_operands.proofs.ListLemmas.{each_contained}
 use Rattle.spv_operands.proofs.TargetLemmas.{plain_counted, struct_target}
 use Rattle.spv_base.proofs.Exports.{each_weaker}
+use Rattle.spv_base.specs.Options.{holds}
 use Rattle.spv_types.proofs.Exports.{data_form}
 
 -- ---- lists

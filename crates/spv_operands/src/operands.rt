@@ -1,9 +1,9 @@
 //! Operands that were found.
-ghost use Rattle.std.specs.Prelude.{◌≡◌, [], option_map};
+ghost use Rattle.std.specs.Prelude.{◌≡◌, option_map};
 ghost use Rattle.spv_operands.specs.Operands.{IsPlain, data_of, pointer_of, referred, shown};
 
 use crate::trees::of_variable;
-use spv_base::{Path, Pointer, Root};
+use spv_base::{Pointer, Root};
 use spv_mem::Variable;
 use spv_values::Part;
 use std::alloc::Global;
@@ -40,14 +40,6 @@ impl<'a> Reference<'a> {
     }
 }
 
-/// The pointer to a whole variable. It takes no memory.
-fn pointer_to(alloc: Global, root: Root) -> Pointer
-    ensures { result ≡ record { root = root; path = [] } }
-{
-    let path = Path::new(alloc);
-    Pointer { root, path }
-}
-
 /// The value of a variable, lent.
 fn part_of(variable: &Variable) -> Part<'_>
     ensures { result ≡ variable.now }
@@ -73,7 +65,7 @@ impl<'a> Operand<'a> {
     {
         match self {
             Operand::Value(_) | Operand::Undefined(_) => None,
-            Operand::Variable(root) => Some(Reference::Made(pointer_to(alloc, *root))),
+            Operand::Variable(root) => Some(Reference::Made(Pointer::whole(alloc, *root))),
             Operand::Pointer(pointer) => Some(Reference::Lent(pointer)),
         }
     }

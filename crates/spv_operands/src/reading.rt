@@ -1,5 +1,5 @@
 //! The operands of instructions in a frame.
-ghost use Rattle.std.specs.Prelude.{◌≡◌, ◌<◌, ◌==◌, IfOk, IfSome, None, Some, false, if◌then◌else◌, length, option_map, slice_get};
+ghost use Rattle.std.specs.Prelude.{◌≡◌, ◌==◌, IfOk, IfSome, None, Some, false, if◌then◌else◌, option_map};
 ghost use Rattle.std.specs.Option.{option_map_or};
 ghost use Rattle.spv_base.specs.Entries.{reads};
 ghost use Rattle.spv_frame.specs.Functions.{registers_of};
@@ -46,14 +46,6 @@ fn operand_at<'a>(plan: &Plan, frame: &'a Frame, id: u32, place: Place) -> Optio
     }
 }
 
-/// The plan with a number.
-fn plan_at(plans: &Plans, number: usize) -> &Plan
-    requires { number < length plans.now }
-    ensures { slice_get plans.now number ≡ Some result.now }
-{
-    plans.list()[number].as_ref()
-}
-
 /// What the register that was found for an id holds, if it is one of a frame's function and holds something.
 #[inline(always)]
 fn register<'a>(
@@ -73,7 +65,7 @@ fn register<'a>(
     registers_are_apart();
     registers_stand_once();
     let _insts = accepted.insts();
-    let plan = plan_at(plans, found.plan);
+    let plan = plans.at(found.plan);
     if plan.function() == frame.function() {
         operand_at(plan, frame, id, found.place)
     } else {

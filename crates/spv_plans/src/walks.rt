@@ -1,17 +1,14 @@
 //! Walks over the instructions of a function.
-ghost use Rattle.std.specs.Prelude.{◌≡◌, ◌&&◌, IfOk, Some, drop, find, true};
+ghost use Rattle.std.specs.Prelude.{◌≡◌, IfOk, Some, drop, find, true};
 ghost use Rattle.std.specs.List.{flat_map};
 ghost use Rattle.std.specs.Option.{is_some};
-ghost use Rattle.spv_index.specs.Classes.{is_executable};
-ghost use Rattle.spv_index.specs.Positions.{in_block};
 ghost use Rattle.spv_plans.specs.Members as spec;
 ghost use Rattle.spv_plans.specs.Plans.{HasRegisters};
 ghost use Rattle.spv_plans.specs.Registers.{AreCounted, register_of};
 
 use crate::drafts::Draft;
 use spv_base::NoMemory;
-use spv_index::classes::Class;
-use spv_index::positions::{Position, Stage};
+use spv_index::positions::Position;
 use spv_index::stands::Stands;
 use spv_types::TypeTable;
 use std::alloc::Global;
@@ -23,13 +20,6 @@ fn is_within(function: u32, position: Position) -> bool
     position.stage.in_function() && position.function == function
 }
 
-/// Whether a run stops at an instruction of a class at a stage.
-fn is_stop(class: Class, stage: Stage) -> bool
-    ensures { result ≡ (is_executable class && in_block stage) }
-{
-    class.is_executable() && stage.in_block()
-}
-
 /// The word of the first instruction from a number on at which a run stops.
 pub fn first_stop(stands: &Stands, start: usize) -> u32
     requires { is_some (find spec.is_stop (drop start stands.now)) ≡ true }
@@ -37,7 +27,7 @@ pub fn first_stop(stands: &Stands, start: usize) -> u32
 {
     for n in start..stands.len() {
         let stand = stands.at(n);
-        if is_stop(stand.class, stand.position.stage) {
+        if stand.is_stop() {
             return stand.inst.word;
         }
     }

@@ -10,6 +10,7 @@ use Rattle.spv_base.specs.Cell.{IsCell, Cell}
 use Rattle.spv_base.specs.Parts.{parts_in}
 use Rattle.spv_base.specs.declared.values.Value.{Value, out-Value}
 use Rattle.spv_base.specs.declared.values.Value.TheOpen.{Value-F}
+use Rattle.spv_base.specs.Options.{holds}
 use Rattle.spv_types.specs.declared.forms.Form.{Form}
 use Rattle.spv_types.specs.declared.forms.Form.TheVariants.{Void, Bool as Boolean, Int, Vector, Array, Runtime, Struct, Pointer, Function}
 use Rattle.spv_types.specs.declared.forms.Member.{Member}
@@ -17,7 +18,7 @@ use Rattle.spv_types.specs.Laws.{AreSound}
 use Rattle.spv_types.specs.Rows.{leaves, no_roots}
 use Rattle.spv_types.specs.Rules.{form_has_runtime, has_runtime, is_scalar, keeps_form}
 use Rattle.spv_types.specs.Shapes.{HasShape, HasShapeAmong, scalar_in, shape_step}
-use Rattle.spv_types.specs.Types.{Types, form_of, is_number, number_of}
+use Rattle.spv_types.specs.Types.{Types, form_of, number_of}
 use Rattle.spv_types.proofs.Exports.{many_is, many_row, scalar_row, no_pointer}
 use Rattle.spv_plans.proofs.Exports.{scalar_plain, sized_plain, Plain, members_plain}
 
@@ -143,7 +144,7 @@ module _ (ts : Types) where
   among_fits : (n id : ℕ) → Fit (HasShapeAmong ts no_roots n id)
   unfolding HasShapeAmong
   among_fits zero id v p = absurd p
-  among_fits (suc n) id v p = here (among_fits n) (is_number n (number_of ts id)) p
+  among_fits (suc n) id v p = here (among_fits n) (holds n (number_of ts id)) p
     where
       formed : ((k : ℕ) → Fit (HasShapeAmong ts no_roots n k)) → (o : Option Form) → MatchOption o ⊥ (λ f. shape_step ts no_roots (HasShapeAmong ts no_roots n) f v) → All IsCell (leaves v)
       formed below None p = absurd p
@@ -157,7 +158,7 @@ module _ (ts : Types) where
   among_alike : AreSound ts → (n id : ℕ) → has_runtime ts id ≡ false → Alike (HasShapeAmong ts no_roots n id)
   unfolding HasShapeAmong
   among_alike sound zero id plain v u p q = absurd p
-  among_alike sound (suc n) id plain v u p q = here (among_alike sound n) (is_number n (number_of ts id)) p q
+  among_alike sound (suc n) id plain v u p q = here (among_alike sound n) (holds n (number_of ts id)) p q
     where
       formed : AreAlikeBy ts (HasShapeAmong ts no_roots n) → (o : Option Form) → form_of ts id ≡ o
           → MatchOption o ⊥ (λ f. shape_step ts no_roots (HasShapeAmong ts no_roots n) f v) → MatchOption o ⊥ (λ f. shape_step ts no_roots (HasShapeAmong ts no_roots n) f u)

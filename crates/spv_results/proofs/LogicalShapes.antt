@@ -7,10 +7,11 @@ use Rattle.std.specs.List.{All, AllZip}
 use Rattle.spv_base.specs.Parts.{parts_in}
 use Rattle.spv_base.specs.declared.values.Root.{Root}
 use Rattle.spv_base.specs.declared.values.Value.{Value, out-Value}
+use Rattle.spv_base.specs.Options.{holds}
 use Rattle.spv_types.specs.declared.forms.Form.{Form}
 use Rattle.spv_types.specs.declared.forms.Form.TheVariants.{Void, Bool as Boolean, Int, Vector, Array, Runtime, Struct, Pointer, Function}
 use Rattle.spv_types.specs.declared.forms.Member.{Member}
-use Rattle.spv_types.specs.Types.{Types, form_of, in_first, is_number, number_of}
+use Rattle.spv_types.specs.Types.{Types, form_of, in_first, number_of}
 use Rattle.spv_types.specs.Shapes.{HasShape, HasShapeAmong, IsScalar, shape_step}
 use Rattle.spv_bodies.specs.Matching.{Match, Term, form_term, members_term, repeated, term_among}
 use Rattle.spv_bodies.specs.Matching.Term.{Number, Pair}
@@ -118,7 +119,7 @@ step_both ts roots shape term tells (Function returns parameters) t h v = cc
 among_both : (ts : Types) (roots : Root → Option ℕ) (n : ℕ) → Tells (HasShapeAmong ts roots n) (term_among ts n)
 unfolding HasShapeAmong term_among in_first
 among_both ts roots zero id t h v = cc
-among_both ts roots (suc n) id t h v = here (among_both ts roots n) (is_number n (number_of ts id)) (form_of ts id) h
+among_both ts roots (suc n) id t h v = here (among_both ts roots n) (holds n (number_of ts id)) (form_of ts id) h
   where
     here : Tells (HasShapeAmong ts roots n) (term_among ts n) → (b : Bool) (o : Option Form) → (if b then option_map_or (form_term (term_among ts n)) o None else term_among ts n id) ≡ Some t
         → MatchBool b (MatchOption o ⊥ (λ f. shape_step ts roots (HasShapeAmong ts roots n) f v)) (HasShapeAmong ts roots n id v) ↔ (says t).value v

@@ -7,10 +7,11 @@ use Rattle.std.specs.List.{All, AllZip}
 use Rattle.spv_base.specs.declared.values.Pointer.{Pointer as Reference}
 use Rattle.spv_base.specs.declared.values.Root.{Root}
 use Rattle.spv_base.specs.declared.values.Value.{Value}
+use Rattle.spv_base.specs.Options.{holds}
 use Rattle.spv_types.specs.declared.forms.Form.{Form}
 use Rattle.spv_types.specs.declared.forms.Form.TheVariants.{Void, Bool as Boolean, Int, Vector, Array, Runtime, Struct, Pointer, Function}
 use Rattle.spv_types.specs.declared.forms.Member.{Member}
-use Rattle.spv_types.specs.Types.{Types, form_of, is_number, number_of}
+use Rattle.spv_types.specs.Types.{Types, form_of, number_of}
 use Rattle.spv_types.specs.Shapes.{HasShape, HasShapeAmong, LeadsTo, shape_step}
 
 -- each type has shapes in one way
@@ -47,7 +48,7 @@ formed_prop ts roots shape each (Some f) v = step_prop ts roots shape each f v
 among_prop : (ts : Types) (roots : Root → Option ℕ) (n : ℕ) → AreProps (HasShapeAmong ts roots n)
 unfolding HasShapeAmong
 among_prop ts roots zero id v = hlevel props
-among_prop ts roots (suc n) id v = here (among_prop ts roots n) (is_number n (number_of ts id))
+among_prop ts roots (suc n) id v = here (among_prop ts roots n) (holds n (number_of ts id))
   where
     here : AreProps (HasShapeAmong ts roots n) → (b : Bool) → IsProp (MatchBool b (MatchOption (form_of ts id) ⊥ (λ f. shape_step ts roots (HasShapeAmong ts roots n) f v)) (HasShapeAmong ts roots n id v))
     here below true = formed_prop ts roots (HasShapeAmong ts roots n) below (form_of ts id) v

@@ -170,12 +170,7 @@ fn is_operand(index: &Index, operand: &Operand) -> bool
 fn are_operands(index: &Index, operands: &[Operand]) -> bool
     ensures { result ≡ list_all (spec.is_operand index.now.bound) operands.now }
 {
-    for operand in operands {
-        if !is_operand(index, operand) {
-            return false;
-        }
-    }
-    true
+    operands.iter().all(|operand| is_operand(index, operand))
 }
 
 /// Whether the ids of an instruction are in order as numbers.

@@ -11,9 +11,9 @@ ghost use Rattle.spv_show.specs.Rows.{IsRowOf};
 ghost use Rattle.spv_session.specs.Frames.{IsShown};
 ghost use Rattle.spv_session.specs.Texts.{ascending, register_text, registers_text, shown_in, shown_line, shown_pointer, shown_value, type_of, with_any, with_shown};
 
-use crate::texts::push_number;
 use spv_base::{NoMemory, Pointer, Text};
 use spv_frame::Frame;
+use spv_line::push_number;
 use spv_plans::laws::registers_have_types;
 use spv_show::{pointer_text, value_text};
 use spv_state::Runnable;

@@ -1,9 +1,10 @@
 //! The texts of replies.
-ghost use Rattle.std.specs.Prelude.{◌≡◌, ◌++◌, OnOk, decimal, option_copied};
+ghost use Rattle.std.specs.Prelude.{◌≡◌, ◌++◌, OnOk, option_copied};
 ghost use Rattle.spv_session.specs.Texts.{refusal_line, place_text, position_line, standing_text, invocation_line, cause_text, stop_line};
 
 use spv_base::{CmdRefusal, EndCause, NoMemory, Status4};
 use spv_frame::Frame;
+use spv_line::push_number;
 use std::alloc::Global;
 
 /// The line of a refusal. Its code is 1 to 13.
@@ -26,14 +27,6 @@ pub fn refusal_line(refusal: CmdRefusal) -> &'static [u8]
         13 => b"refused: C13 past the end\n",
         _ => b"refused: \n",
     }
-}
-
-/// Appends a number in decimal.
-pub fn push_number(alloc: Global, text: &mut Vec<u8>, number: u64) -> Result<(), NoMemory>
-    ensures { OnOk result (text.new.items ≡ text.old.items ++ decimal number) }
-{
-    text.extend_from_slice(number.to_string(alloc)?.as_bytes())?;
-    Ok(())
 }
 
 /// Appends where a frame stands, or that there is none.

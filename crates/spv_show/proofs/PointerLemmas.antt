@@ -10,9 +10,10 @@ use Rattle.spv_base.specs.declared.values.Pointer.{Pointer as Reference}
 use Rattle.spv_base.specs.declared.values.Root.{Root}
 use Rattle.spv_base.specs.declared.values.Value.{Value, Ptr, out-Value}
 use Rattle.spv_base.specs.declared.values.Value.TheOpen.{Value-F}
+use Rattle.spv_base.specs.Options.{holds}
 use Rattle.spv_types.specs.declared.forms.Form.{Form}
 use Rattle.spv_types.specs.declared.forms.Form.TheVariants.{Void, Bool as Boolean, Int, Vector, Array, Runtime, Struct, Pointer, Function}
-use Rattle.spv_types.specs.Types.{Types, form_of, in_first, is_number, number_of}
+use Rattle.spv_types.specs.Types.{Types, form_of, in_first, number_of}
 use Rattle.spv_types.specs.Shapes.{HasShape, HasShapeAmong, scalar_in, shape_step}
 use Rattle.spv_show.specs.Pointers.{pointer_text}
 use Rattle.spv_show.specs.Texts.{Text, no_text, text_among, text_step, value_text}
@@ -43,7 +44,7 @@ formed_shown ts roots shape text (Some f) v p left e h = step_shown ts roots sha
 among_shown : (ts : Types) (roots : Root → Option ℕ) (m id : ℕ) (v : Value) (p : Reference) (left : ℕ) → out-Value v ≡ Value-F.Ptr p → HasShapeAmong ts roots m id v → (text_among ts m id v left).text ≡ pointer_text p
 unfolding HasShapeAmong in_first text_among
 among_shown ts roots zero id v p left e h = absurd h
-among_shown ts roots (suc m) id v p left e h = here (λ k. among_shown ts roots m id v p left e k) (is_number m (number_of ts id)) h
+among_shown ts roots (suc m) id v p left e h = here (λ k. among_shown ts roots m id v p left e k) (holds m (number_of ts id)) h
   where
     here : (HasShapeAmong ts roots m id v → (text_among ts m id v left).text ≡ pointer_text p) → (b : Bool)
         → MatchBool b (MatchOption (form_of ts id) ⊥ (λ f. shape_step ts roots (HasShapeAmong ts roots m) f v)) (HasShapeAmong ts roots m id v)

@@ -9,10 +9,11 @@ use Rattle.spv_base.specs.Cell.{Cell}
 use Rattle.spv_base.specs.Parts.{parts_in}
 use Rattle.spv_base.specs.declared.values.Value.{Value, out-Value}
 use Rattle.spv_base.specs.declared.values.Value.TheOpen.{Value-F}
+use Rattle.spv_base.specs.Options.{holds}
 use Rattle.spv_types.specs.declared.forms.Form.{Form}
 use Rattle.spv_types.specs.declared.forms.Form.TheVariants.{Void, Bool as Boolean, Int, Vector, Array, Runtime, Struct, Pointer, Function}
 use Rattle.spv_types.specs.declared.forms.Member.{Member}
-use Rattle.spv_types.specs.Types.{Types, form_of, in_first, is_number, number_of}
+use Rattle.spv_types.specs.Types.{Types, form_of, in_first, number_of}
 use Rattle.spv_types.specs.Cells.{cells_among, cells_of, cells_step, members_cells}
 use Rattle.spv_types.specs.Shapes.{HasShape, HasShapeAmong, scalar_in, shape_step}
 use Rattle.spv_types.specs.Rows.{leaves, no_roots}
@@ -221,7 +222,7 @@ formed_agrees ts cells shape counts change text (Some f) v n agree h k = step_ag
 among_agree : (ts : Types) (cells : List Cell) (m : ℕ) → Agree cells (HasShapeAmong ts no_roots m) (cells_among ts m) (put_among ts cells m) (text_among ts m)
 unfolding HasShapeAmong cells_among in_first put_among text_among
 among_agree ts cells zero id v n h k = absurd h
-among_agree ts cells (suc m) id v n h k = here (among_agree ts cells m) (is_number m (number_of ts id)) h k
+among_agree ts cells (suc m) id v n h k = here (among_agree ts cells m) (holds m (number_of ts id)) h k
   where
     here : Agree cells (HasShapeAmong ts no_roots m) (cells_among ts m) (put_among ts cells m) (text_among ts m) → (b : Bool)
         → MatchBool b (MatchOption (form_of ts id) ⊥ (λ f. shape_step ts no_roots (HasShapeAmong ts no_roots m) f v)) (HasShapeAmong ts no_roots m id v)

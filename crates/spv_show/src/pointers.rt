@@ -8,9 +8,9 @@ ghost use Rattle.spv_types.specs.Types.{Types};
 ghost use Rattle.spv_show.specs.Pointers.{index_text, pointer_text};
 ghost use Rattle.spv_show.specs.Texts.{value_text};
 
-use crate::scalars::push_number;
 use spv_alu::integers::signed;
 use spv_base::{NoMemory, Pointer};
+use spv_line::push_number;
 use std::alloc::Global;
 
 /// Appends the text of a pointer, which is that of the value at its type: `&%ROOT`, and `[I]` for each of its indexes, read as signed. After

@@ -1,11 +1,12 @@
 //! The text of a scalar.
-ghost use Rattle.std.specs.Prelude.{◌≡◌, ◌++◌, OnOk, decimal};
+ghost use Rattle.std.specs.Prelude.{◌≡◌, ◌++◌, OnOk};
 ghost use Rattle.std.specs.Fmt.{signed_decimal};
 ghost use Rattle.spv_alu.specs.Integers.{signed};
 ghost use Rattle.spv_show.specs.Scalars.{boolean_text, reading_of, scalar_text};
 
 use spv_alu::integers::{is_width, signed};
 use spv_base::{Cell, NoMemory};
+use spv_line::push_number;
 use std::alloc::Global;
 
 /// How the bits of a scalar are read, by its type.
@@ -26,14 +27,6 @@ pub fn reading_of(sign: u32) -> Reading
     } else {
         Reading::Unsigned
     }
-}
-
-/// Appends a number in decimal.
-pub fn push_number(alloc: Global, text: &mut Vec<u8>, number: u64) -> Result<(), NoMemory>
-    ensures { OnOk result (text.new.items ≡ text.old.items ++ decimal number) }
-{
-    text.extend_from_slice(number.to_string(alloc)?.as_bytes())?;
-    Ok(())
 }
 
 /// Appends the integer that bits stand for where they are read as signed.

@@ -4,8 +4,9 @@ ghost use Rattle.spv_show.specs.Lists.{separator};
 ghost use Rattle.spv_show.specs.Scalars.{unavailable};
 ghost use Rattle.spv_show.specs.Sheets.{blank, is_full, put, put_cell, put_leaf, put_rest};
 
-use crate::scalars::{Reading, push_number, push_scalar};
+use crate::scalars::{Reading, push_scalar};
 use spv_base::{Cell, NoMemory};
+use spv_line::push_number;
 use std::alloc::Global;
 use std::marker::Model;
 

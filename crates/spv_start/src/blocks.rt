@@ -2,25 +2,13 @@
 ghost use Rattle.std.specs.Prelude.{◌≡◌, ◌++◌, ◌<◌, ◌*◌, ◌+◌, ◌^◌, IfOk, OnOk, length};
 ghost use Rattle.std.specs.List.{flat_map};
 ghost use Rattle.spv_types.specs.Rows.{leaves};
-ghost use Rattle.spv_types.specs.Places.{scalar_bytes};
-ghost use Rattle.spv_types.specs.Types.{form_of};
 ghost use Rattle.spv_start.specs.Blocks.{read_among, read_members, read_row, read_step, value_in};
 
 use crate::numbers::scalar_at;
 use spv_base::{Cell, NoMemory};
-use spv_types::places::elements_in;
+use spv_types::places::{elements_in, scalar_bytes};
 use spv_types::{Form, Member, TypeTable};
 use std::alloc::Global;
-
-/// The bytes of a scalar type in a block.
-fn scalar_bytes(types: &TypeTable, ty: u32) -> u32
-    ensures { result ≡ scalar_bytes (form_of types.now ty) }
-{
-    match types.form(ty) {
-        Some(Form::Int { width, .. }) => *width / 8,
-        _ => 0,
-    }
-}
 
 /// So many bytes, of which those behind the ones written out are 0, as values of types.
 #[derive(Clone, Copy)]

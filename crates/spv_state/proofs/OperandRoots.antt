@@ -35,6 +35,7 @@ use Rattle.spv_state.specs.Roots.{IsRoot, IsRooted, ids_at, ids_with, is_shared,
 use Rattle.spv_state.specs.Variables.{function_in, is_variable_of, variables_of}
 use Rattle.spv_state.proofs.RootLemmas.{contains_kept, contains_later, contains_mapped, ids_kept}
 use Rattle.spv_base.proofs.Exports.{out_pointer}
+use Rattle.spv_base.specs.Options.{holds}
 
 -- ---- pointers
 
@@ -151,8 +152,8 @@ module _ (a : Accepted) (is : IsAccepted a) (valid : IsValid a) (fs : List Frame
 
       own_variable : is_variable_of a function among.declared ≡ true
       own_variable =
-          ap (λ (k : ℕ). option_map_or (λ (n : ℕ). n == function) (option_and_then function_in (meaning_of a.insts k)) false) among.id_is
-          ∙ ap (λ (o : Option Meaning). option_map_or (λ (n : ℕ). n == function) (option_and_then function_in o) false) meant ∙ eq-eqb function function refl
+          ap (λ (k : ℕ). holds function (option_and_then function_in (meaning_of a.insts k))) among.id_is
+          ∙ ap (λ (o : Option Meaning). holds function (option_and_then function_in o)) meant ∙ eq-eqb function function refl
 
       there : Contains (local_ids a function) id
       there =

@@ -13,7 +13,8 @@ use Rattle.spv_base.specs.Variables.{Roots}
 use Rattle.spv_base.specs.declared.causes.SetupRefusal.{SetupRefusal}
 use Rattle.spv_base.specs.declared.instructions.Inst.{Inst}
 use Rattle.spv_base.specs.declared.values.Value.{Value}
-use Rattle.spv_index.specs.Definitions.{before_functions, decoration, holds}
+use Rattle.spv_base.specs.Options.{holds}
+use Rattle.spv_index.specs.Definitions.{before_functions, decoration}
 use Rattle.spv_index.specs.Operands.{literal_operand}
 use Rattle.spv_types.specs.declared.queries.Pointed.{Pointed}
 use Rattle.spv_types.specs.InterfaceBlocks.{is_block_class, is_block_variable}

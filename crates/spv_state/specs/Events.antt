@@ -7,8 +7,8 @@ use Rattle.std.specs.declared.alloc.Global.{Global}
 use Rattle.spv_base.specs.Entries.{reads}
 use Rattle.spv_base.specs.declared.instructions.Inst.{Inst}
 use Rattle.spv_base.specs.declared.values.PassedEvent.{PassedEvent}
+use Rattle.spv_base.specs.Options.{holds}
 use Rattle.spv_index.specs.Classes.{is_label}
-use Rattle.spv_index.specs.Definitions.{holds}
 use Rattle.spv_index.specs.Operands.{id_operand}
 use Rattle.spv_index.specs.Positions.{Stand, stands_of}
 use Rattle.spv_dbg.specs.Marks.{set_number}

@@ -1,9 +1,10 @@
 -- The variables of the functions of a module, in its order (SPIR-V 1.6 section 3.42.8, OpVariable).
-use Rattle.std.specs.Prelude.{ℕ, ◌==◌, Bool, false, List, [], Option, Some, None, Vec, filter}
+use Rattle.std.specs.Prelude.{ℕ, Bool, List, [], Option, Some, None, Vec, filter}
 use Rattle.std.specs.BTreeMap.{BTreeMap, get}
 use Rattle.std.specs.Option.{option_and_then, option_map_or}
 use Rattle.std.specs.Ordering.{nat_cmp}
 use Rattle.std.specs.declared.alloc.Global.{Global}
+use Rattle.spv_base.specs.Options.{holds}
 use Rattle.spv_valid.specs.Acceptance.{Accepted}
 use Rattle.spv_valid.specs.Meanings.{meaning_of}
 use Rattle.spv_valid.specs.declared.meanings.Meaning.{Meaning}
@@ -21,7 +22,7 @@ function_of a d = option_and_then function_in (meaning_of a.insts d.id)
 
 -- a variable is one of a function
 abbrev pub is_variable_of : Accepted → ℕ → Declared → Bool
-is_variable_of a function d = option_map_or (λ f. f == function) (function_of a d) false
+is_variable_of a function d = holds function (function_of a d)
 
 -- the variables of a function
 abbrev pub variables_of : Accepted → ℕ → List Declared

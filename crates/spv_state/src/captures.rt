@@ -1,15 +1,12 @@
 //! The debug instructions that a run passes: DebugDeclare and DebugValue of NonSemantic.Shader.DebugInfo.100, by the executables
 //! before which they stand.
-ghost use Rattle.std.specs.Prelude.{◌≡◌, ◌&&◌, ◌++◌, ℕ, [], IfOk, OnOk, map};
-ghost use Rattle.spv_index.specs.Classes.{is_executable};
-ghost use Rattle.spv_index.specs.Positions.{in_block, stands_of};
+ghost use Rattle.std.specs.Prelude.{◌≡◌, ◌++◌, ℕ, [], IfOk, OnOk, map};
+ghost use Rattle.spv_index.specs.Positions.{stands_of};
 ghost use Rattle.spv_state.specs.Events as spec;
 
 use spv_base::{Inst, NoMemory};
 use spv_dbg::number::{DECLARE, VALUE};
 use spv_dbg::{Keyed, set_number};
-use spv_index::classes::Class;
-use spv_index::positions::Position;
 use spv_index::stands::Stand;
 use spv_index::{Index, id_operand};
 use spv_valid::Module;
@@ -33,13 +30,6 @@ fn captures(index: &Index, inst: &Inst) -> bool
     }
 }
 
-/// Whether a run stops at an instruction of a class at a position.
-fn is_stop(position: Position, class: Class) -> bool
-    ensures { result ≡ (is_executable class && in_block position.stage) }
-{
-    class.is_executable() && position.stage.in_block()
-}
-
 /// Goes past an instruction, where some were passed since the last executable or label. An executable gets those, if there are some.
 fn go_past(
     alloc: Global,
@@ -52,7 +42,7 @@ fn go_past(
     ensures entries { OnOk result (map spec.listed entries.new.items ≡ map spec.listed entries.old.items
         ++ spec.entry (record { position = stand.now.position; class = stand.now.class; inst = stand.now.inst.now }) passed.old.items) }
 {
-    if is_stop(stand.position, stand.class) {
+    if stand.is_stop() {
         let before = mem::replace(passed, Vec::new(alloc));
         if !before.is_empty() {
             entries.push((stand.inst.word, before))?;

@@ -1,5 +1,5 @@
 //! The debug events that a frame passes as it comes to an executable, each with the value that it captures.
-ghost use Rattle.std.specs.Prelude.{◌≡◌, ◌<◌, [], IfOk, IfSome, OnOk, OnErr, Some, length, option_map};
+ghost use Rattle.std.specs.Prelude.{◌≡◌, ◌<◌, IfOk, IfSome, OnOk, OnErr, Some, length, option_map};
 ghost use Rattle.std.specs.Option.{option_and_then};
 ghost use Rattle.spv_frame.specs.Events as passing;
 ghost use Rattle.spv_operands.specs.Operands.{IsPlain, shown};
@@ -10,20 +10,12 @@ ghost use Rattle.spv_state.specs.Events as spec;
 use crate::captures::Capture;
 use crate::runnable::Runnable;
 use crate::whole::Whole;
-use spv_base::{NoMemory, Path, Pointer, Root};
+use spv_base::{NoMemory, Pointer};
 use spv_frame::{Captured, DebugEvent, Frame, Plans};
 use spv_operands::{Operand, operand};
 use spv_valid::Module;
 use spv_values::Row;
 use std::alloc::Global;
-
-/// The pointer to a whole variable. It takes no memory.
-fn pointer_to(alloc: Global, root: Root) -> Pointer
-    ensures { result ≡ record { root = root; path = [] } }
-{
-    let path = Path::new(alloc);
-    Pointer { root, path }
-}
 
 /// The value that an operand stands for, copied.
 fn copied(alloc: Global, operand: &Operand<'_>) -> Result<Captured, NoMemory>
@@ -36,7 +28,7 @@ fn copied(alloc: Global, operand: &Operand<'_>) -> Result<Captured, NoMemory>
             Some(part) => Ok(Captured::Data(Row::of_part(alloc, &part)?)),
             None => unreachable!(),
         },
-        Operand::Variable(root) => Ok(Captured::Pointer(pointer_to(alloc, *root))),
+        Operand::Variable(root) => Ok(Captured::Pointer(Pointer::whole(alloc, *root))),
         Operand::Pointer(pointer) => Ok(Captured::Pointer(pointer.copy(alloc)?)),
     }
 }

@@ -1,14 +1,12 @@
 //! What the registers of pointers of the top frame of an invocation hold, by their ids.
-ghost use Rattle.std.specs.Prelude.{◌≡◌, ◌<◌, None, length, option_copied};
-ghost use Rattle.std.specs.Option.{IsSomeAnd, MatchOption};
+ghost use Rattle.std.specs.Prelude.{◌≡◌, ◌<◌, None, option_copied};
+ghost use Rattle.std.specs.Option.{MatchOption};
 ghost use Rattle.spv_frame.specs.Registers.{number_of};
 ghost use Rattle.spv_plans.specs.Plans.{plans_in};
 ghost use Rattle.spv_state.specs.Slots.{IsHeldPointer};
 ghost use Rattle.spv_state.specs.Sound.{IsSoundFrame};
-ghost use Rattle.spv_state.specs.State as state;
 
 use crate::registers::pointer_slot_of;
-use crate::whole::Whole;
 use spv_base::Pointer;
 use spv_frame::{Frame, Plans};
 use spv_plans::laws::plans_are_of_functions;
@@ -22,7 +20,7 @@ pub struct HeldPointer<'a> {
 }
 
 /// What the register with an id of a frame holds, if it is one of a pointer there.
-fn held_pointer_in<'a>(
+pub(crate) fn held_pointer_in<'a>(
     accepted: &Module,
     plans: &Plans,
     frame: &'a Frame,
@@ -40,20 +38,5 @@ fn held_pointer_in<'a>(
             pointer: frame.pointer(slot),
         }),
         None => None,
-    }
-}
-
-impl Whole {
-    /// What the register with an id of the top frame of an invocation holds, if it is one of a pointer there. In constant time.
-    pub fn held_pointer(&self, accepted: &Module, i: u32, id: u32) -> Option<HeldPointer<'_>>
-        requires inv { i < length self.now.stacks }
-        requires plans { self.now.plans ≡ plans_in accepted.now }
-        requires frame { IsSomeAnd (state.top_of self.now i) (IsSoundFrame accepted.now) }
-        ensures { IsSomeAnd (state.top_of self.now i) (λ f. MatchOption result (number_of id f.plan.pointers ≡ None) (λ h. IsHeldPointer id f h.number (option_copied h.pointer))) }
-    {
-        match self.top(i) {
-            Some(frame) => held_pointer_in(accepted, self.plans(), frame, id),
-            None => unreachable!(),
-        }
     }
 }

@@ -1,5 +1,5 @@
 //! The registers of the top frame of an invocation by their ids, exchanged in place. It takes no memory and can't fail.
-ghost use Rattle.std.specs.Prelude.{◌≡◌, ◌<◌, ℕ, IfNone, IsSome, None, Some, length, option_copied, slice_get};
+ghost use Rattle.std.specs.Prelude.{◌≡◌, ◌<◌, ℕ, IfNone, None, Some, option_copied};
 ghost use Rattle.std.specs.Option.{IsSomeAnd, MatchOption};
 ghost use Rattle.spv_frame.specs.Numbers.{with_value};
 ghost use Rattle.spv_frame.specs.Registers.{ids, marked, number_of};
@@ -13,7 +13,6 @@ ghost use Rattle.spv_plans.specs.Registered.{HasApart, HasNumber};
 ghost use Rattle.spv_types.specs.Rows.{no_roots};
 ghost use Rattle.spv_types.specs.Shapes.{HasShape};
 
-use crate::whole::Whole;
 use spv_frame::{Place, Plan, Plans, PointerSlot, Slot, Stack};
 use spv_plans::laws::{
     plans_are_of_functions, registers_are_apart, registers_have_types, registers_stand_once,
@@ -46,14 +45,6 @@ fn pointer_slot(plan: &Plan, place: Place, id: u32) -> Option<PointerSlot>
     }
 }
 
-/// The plan with a number.
-fn plan_at(plans: &Plans, number: usize) -> &Plan
-    requires { number < length plans.now }
-    ensures { slice_get plans.now number ≡ Some result.now }
-{
-    plans.list()[number].as_ref()
-}
-
 /// Where the register of a value with an id lies in the frames of a function, if they have it. In constant time.
 pub(crate) fn value_slot_of<'a>(
     accepted: &Module,
@@ -70,7 +61,7 @@ pub(crate) fn value_slot_of<'a>(
     registers_stand_once();
     let _insts = accepted.insts();
     let register = plans.register(id)?;
-    let plan = plan_at(plans, register.plan);
+    let plan = plans.at(register.plan);
     if plan.function() == function {
         value_slot(plan, register.place, id)
     } else {
@@ -94,7 +85,7 @@ pub(crate) fn pointer_slot_of(
     registers_stand_once();
     let _insts = accepted.insts();
     let register = plans.register(id)?;
-    let plan = plan_at(plans, register.plan);
+    let plan = plans.at(register.plan);
     if plan.function() == function {
         pointer_slot(plan, register.place, id)
     } else {
@@ -104,7 +95,7 @@ pub(crate) fn pointer_slot_of(
 
 /// Exchanges the value of the register with an id of the top frame, which is one of a function, and its mark, if the frame has this
 /// register, and gives its number in the plan.
-fn exchange_in(
+pub(crate) fn exchange_in(
     accepted: &Module,
     plans: &Plans,
     stack: &mut Stack,
@@ -131,43 +122,5 @@ fn exchange_in(
             Some(slot.number)
         }
         None => None,
-    }
-}
-
-impl Whole {
-    /// The function of the top frame of an invocation.
-    fn function(&self, i: u32) -> u32
-        requires inv { i < length self.now.stacks }
-        requires frame { IsSome (state.top_of self.now i) }
-        ensures { IsSomeAnd (state.top_of self.now i) (λ f. f.plan.function ≡ result) }
-    {
-        match self.top(i) {
-            Some(frame) => frame.function(),
-            None => unreachable!(),
-        }
-    }
-
-    /// Exchanges the value of the register with an id of the top frame of an invocation and its mark, if the frame has this register, and
-    /// gives its number in the plan. A value of the id's type has as many cells as the register, so what comes back can be put back by the
-    /// number. In constant time.
-    pub fn exchange_register(
-        &mut self,
-        accepted: &Module,
-        i: u32,
-        id: u32,
-        row: &mut Row,
-        has: &mut bool,
-    ) -> Option<usize>
-        requires inv { i < length self.old.stacks }
-        requires plans { self.old.plans ≡ plans_in accepted.now }
-        requires frame { IsSomeAnd (state.top_of self.old i) (IsSoundFrame accepted.now) }
-        requires value { (ty : ℕ) → result_type accepted.now.insts id ≡ Some ty → HasShape accepted.now.types no_roots ty row.old }
-        ensures after { MatchOption result (self.new ≡ self.old) (λ n. self.new ≡ state.on_frame i (with_value n (marked row.old has.old)) self.old) }
-        ensures kept { IfNone result ((row.new ≡ row.old) × (has.new ≡ has.old)) }
-        ensures register { IsSomeAnd (state.top_of self.old i) (λ f. MatchOption result (number_of id (ids f.plan.values) ≡ None) (λ n. IsExchanged id n row.old row.new has.new f)) }
-    {
-        let function = self.function(i);
-        let stack = &mut self.stacks[i as usize];
-        exchange_in(accepted, &self.plans, stack, function, id, row, has)
     }
 }

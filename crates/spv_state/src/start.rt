@@ -8,7 +8,6 @@ ghost use Rattle.spv_mem.specs.Memory.{Levels};
 ghost use Rattle.spv_plans.specs.Plans.{plan_of, plans_in};
 ghost use Rattle.spv_state.specs.Events.{IsReadable, passed};
 ghost use Rattle.spv_state.specs.Program as program;
-ghost use Rattle.spv_state.specs.Sound.{IsSound};
 ghost use Rattle.spv_state.specs.Start as spec;
 
 use crate::events::pass_events;
@@ -16,16 +15,13 @@ use crate::plans::plan_in;
 use crate::runnable::Runnable;
 use crate::whole::Whole;
 use spv_base::NoMemory;
-use spv_effects::reserved;
 use spv_frame::{Frame, Plan, Plans, Stack};
-use spv_initial::memory::invocations;
 use spv_initial::{Declared, local_variables, starting};
 use spv_mem::Memory;
 use spv_plans::laws::functions_have_their_plans;
 use spv_plans::plans_of;
 use spv_statuses::Statuses;
 use spv_valid::Module;
-use spv_values::Row;
 use std::alloc::Global;
 use std::rc::Rc;
 
@@ -68,7 +64,7 @@ fn memory(alloc: Global, m: &Runnable) -> Result<Memory, NoMemory>
     let _insts = accepted.insts();
     let list = m.variables(accepted.entry());
     let mut memory = starting(alloc, accepted, m.setup())?;
-    enter_each(alloc, accepted, list, &mut memory, invocations(accepted))?;
+    enter_each(alloc, accepted, list, &mut memory, accepted.invocations())?;
     Ok(memory)
 }
 
@@ -132,13 +128,13 @@ fn stacks(
 }
 
 /// The state at the start of a run.
-fn whole(alloc: Global, m: &Runnable) -> Result<Whole, NoMemory>
+pub(crate) fn whole(alloc: Global, m: &Runnable) -> Result<Whole, NoMemory>
     ensures { IfOk result (λ whole. whole ≡ spec.start_of m.now) }
 {
     functions_have_their_plans();
     let accepted = m.accepted();
     let _insts = accepted.insts();
-    let count = invocations(accepted);
+    let count = accepted.invocations();
     let plans = plans_of(alloc, accepted)?;
     let plan = entry_plan(accepted, &plans);
     let stacks = stacks(alloc, m, &plans, plan, accepted.depth(), count)?;
@@ -163,7 +159,7 @@ fn most_cells(plan: &Plan) -> usize
 }
 
 /// The most cells that a register of any of some plans has.
-fn most_cells_of(plans: &Plans) -> usize
+pub(crate) fn most_cells_of(plans: &Plans) -> usize
     ensures { (n k : ℕ) (p : Planned) (r : ℕ × ℕ) → slice_get plans.now n ≡ Some p → slice_get p.values k ≡ Some r → r.1 ≤ result }
 {
     let list = plans.list();
@@ -172,22 +168,4 @@ fn most_cells_of(plans: &Plans) -> usize
         most = most.max(most_cells(plan));
     }
     most
-}
-
-impl Whole {
-    /// The state at the start of a run. It is sound.
-    pub fn start(alloc: Global, m: &Runnable) -> Result<Whole, NoMemory>
-        ensures start { IfOk result (λ w. w ≡ spec.start_of m.now) }
-        ensures sound { IfOk result (λ w. IsSound m.now w) }
-    {
-        functions_have_their_plans();
-        let _insts = m.accepted().insts();
-        let _setup = m.setup();
-        whole(alloc, m)
-    }
-
-    /// A row with room for the value of the largest register of any function.
-    pub fn row(&self, alloc: Global) -> Result<Row, NoMemory> {
-        reserved(alloc, most_cells_of(&self.plans))
-    }
 }

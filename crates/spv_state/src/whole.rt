@@ -1,17 +1,40 @@
-//! The state of a workgroup, and its primitive changes. Each takes no memory and can't fail.
-ghost use Rattle.std.specs.Prelude.{◌≡◌, ◌<◌, IsSome, Some, length, slice_get, option_copied, option_map, true};
-ghost use Rattle.spv_frame.specs.Stacks.{Stacked};
+//! The state of a workgroup, how it begins, and its primitive changes. Each takes no memory and can't fail, but for the start, a
+//! copy and the appending of a debug event.
+ghost use Rattle.std.specs.Prelude.{◌≡◌, ◌<◌, IsSome, Some, length, slice_get, option_copied, option_map, true, [], ℕ, IfOk, OnOk, IfNone, None, ◌≢◌, OnErr};
+ghost use Rattle.spv_frame.specs.Stacks.{Stacked, top};
 ghost use Rattle.spv_mem.specs.Memory.{AreVariables, HasRoom, MayStore, load_of};
 ghost use Rattle.spv_statuses.specs.Group.{all_wait_at};
-ghost use Rattle.spv_statuses.specs.Invocations.{IsWithin};
+ghost use Rattle.spv_statuses.specs.Invocations.{IsWithin, is_passed};
 ghost use Rattle.spv_state.specs.Rooms.{HasLocals, IsBounded};
 ghost use Rattle.spv_state.specs.State as state;
+ghost use Rattle.spv_frame.specs.Registers.{ids, marked, number_of};
+ghost use Rattle.spv_plans.specs.Plans.{plans_in};
+ghost use Rattle.spv_state.specs.Events.{passed};
+ghost use Rattle.spv_state.specs.Sound.{IsSound, IsSoundFrame};
+ghost use Rattle.spv_state.specs.Start as spec;
+ghost use Rattle.std.specs.Option.{IsSomeAnd, MatchOption};
+ghost use Rattle.spv_frame.specs.Numbers.{with_value, HasCells, HasPointer, HoldsPointer, HoldsValue, with_pointer};
+ghost use Rattle.spv_index.specs.Definitions.{result_type};
+ghost use Rattle.spv_state.specs.Slots.{IsExchanged, IsHeldPointer};
+ghost use Rattle.spv_types.specs.Rows.{no_roots, leaves};
+ghost use Rattle.spv_types.specs.Shapes.{HasShape};
+ghost use Rattle.std.specs.List.{list_all};
+ghost use Rattle.spv_mem.specs.Singles.{NamesRow};
 
-use spv_base::Pointer;
-use spv_frame::{Frame, Plans, Stack};
+use crate::held::{HeldPointer, held_pointer_in};
+use crate::registers::exchange_in;
+use crate::runnable::Runnable;
+use crate::start::{most_cells_of, whole};
+use crate::undoing::{plans_copied, stacks_copied};
+use spv_base::{Ghost, NoMemory, Path, Pointer, Root};
+use spv_effects::reserved;
+use spv_frame::{DebugEvent, Frame, Plans, Stack};
 use spv_mem::{Locals, Memory};
+use spv_plans::laws::functions_have_their_plans;
 use spv_statuses::{Status, Statuses};
-use spv_values::Row;
+use spv_valid::Module;
+use spv_values::{Row, Single};
+use std::alloc::Global;
 use std::marker::Model;
 
 /// The state of a workgroup: the plans of the module's functions, its memory, and per invocation the calls that it is in and a status.
@@ -183,5 +206,168 @@ impl Whole {
         ensures { self.new ≡ state.open_barrier self.old }
     {
         self.statuses.open(word);
+    }
+
+    /// The state at the start of a run. It is sound.
+    pub fn start(alloc: Global, m: &Runnable) -> Result<Whole, NoMemory>
+        ensures start { IfOk result (λ w. w ≡ spec.start_of m.now) }
+        ensures sound { IfOk result (λ w. IsSound m.now w) }
+    {
+        functions_have_their_plans();
+        let _insts = m.accepted().insts();
+        let _setup = m.setup();
+        whole(alloc, m)
+    }
+
+    /// A row with room for the value of the largest register of any function.
+    pub fn row(&self, alloc: Global) -> Result<Row, NoMemory> {
+        reserved(alloc, most_cells_of(&self.plans))
+    }
+
+    /// The function of the top frame of an invocation.
+    fn function(&self, i: u32) -> u32
+        requires inv { i < length self.now.stacks }
+        requires frame { IsSome (state.top_of self.now i) }
+        ensures { IsSomeAnd (state.top_of self.now i) (λ f. f.plan.function ≡ result) }
+    {
+        match self.top(i) {
+            Some(frame) => frame.function(),
+            None => unreachable!(),
+        }
+    }
+
+    /// Exchanges the value of the register with an id of the top frame of an invocation and its mark, if the frame has this register, and
+    /// gives its number in the plan. A value of the id's type has as many cells as the register, so what comes back can be put back by the
+    /// number. In constant time.
+    pub fn exchange_register(
+        &mut self,
+        accepted: &Module,
+        i: u32,
+        id: u32,
+        row: &mut Row,
+        has: &mut bool,
+    ) -> Option<usize>
+        requires inv { i < length self.old.stacks }
+        requires plans { self.old.plans ≡ plans_in accepted.now }
+        requires frame { IsSomeAnd (state.top_of self.old i) (IsSoundFrame accepted.now) }
+        requires value { (ty : ℕ) → result_type accepted.now.insts id ≡ Some ty → HasShape accepted.now.types no_roots ty row.old }
+        ensures after { MatchOption result (self.new ≡ self.old) (λ n. self.new ≡ state.on_frame i (with_value n (marked row.old has.old)) self.old) }
+        ensures kept { IfNone result ((row.new ≡ row.old) × (has.new ≡ has.old)) }
+        ensures register { IsSomeAnd (state.top_of self.old i) (λ f. MatchOption result (number_of id (ids f.plan.values) ≡ None) (λ n. IsExchanged id n row.old row.new has.new f)) }
+    {
+        let function = self.function(i);
+        let stack = &mut self.stacks[i as usize];
+        exchange_in(accepted, &self.plans, stack, function, id, row, has)
+    }
+
+    /// What the register with an id of the top frame of an invocation holds, if it is one of a pointer there. In constant time.
+    pub fn held_pointer(&self, accepted: &Module, i: u32, id: u32) -> Option<HeldPointer<'_>>
+        requires inv { i < length self.now.stacks }
+        requires plans { self.now.plans ≡ plans_in accepted.now }
+        requires frame { IsSomeAnd (state.top_of self.now i) (IsSoundFrame accepted.now) }
+        ensures { IsSomeAnd (state.top_of self.now i) (λ f. MatchOption result (number_of id f.plan.pointers ≡ None) (λ h. IsHeldPointer id f h.number (option_copied h.pointer))) }
+    {
+        match self.top(i) {
+            Some(frame) => held_pointer_in(accepted, self.plans(), frame, id),
+            None => unreachable!(),
+        }
+    }
+
+    /// An equal state, with room for as many frames.
+    pub fn copy(&self, alloc: Global) -> Result<Whole, NoMemory>
+        ensures { IfOk result (λ w. w ≡ self.now) }
+    {
+        Ok(Whole {
+            plans: plans_copied(alloc, &self.plans)?,
+            stacks: stacks_copied(alloc, self.stacks.as_slice())?,
+            statuses: self.statuses.copy(alloc)?,
+            // The last, since it is what takes most to drop.
+            memory: self.memory.copy(alloc)?,
+        })
+    }
+
+    /// Exchanges a leaf of a variable of an invocation, which lies behind so many others and to which a path leads.
+    pub fn exchange_single(
+        &mut self,
+        i: u32,
+        root: Root,
+        leaf: usize,
+        path: &Ghost<Path>,
+        value: &mut Single,
+    )
+        requires there { IsSome (load_of self.old.memory i (record { root = root; path = path.now.value })) }
+        requires names { ∥ NamesRow self.old.memory i (record { root = root; path = path.now.value }) leaf 1 ∥₁ }
+        requires may { ∥ MayStore self.old.memory i (record { root = root; path = path.now.value }) value.old ∥₁ }
+        ensures after { self.new ≡ state.put_store i (Some (record { root = root; path = path.now.value }, value.old)) self.old }
+        ensures handed { load_of self.old.memory i (record { root = root; path = path.now.value }) ≡ Some value.new }
+    {
+        let _stored = self.memory.exchange_single(i, root, leaf, path, value);
+    }
+
+    /// Exchanges the value of a register of one cell of the top frame of an invocation, by its number in the plan, and its mark.
+    pub fn exchange_cell(&mut self, i: u32, number: usize, value: &mut Single, has: &mut bool)
+        requires inv { i < length self.old.stacks }
+        requires register { IsSomeAnd (state.top_of self.old i) (HasCells number 1) }
+        ensures after { self.new ≡ state.on_frame i (with_value number (marked value.old has.old)) self.old }
+        ensures handed { IsSomeAnd (state.top_of self.old i) (HoldsValue number (marked value.new has.new)) }
+    {
+        self.stacks[i as usize].exchange_single(number, value, has);
+    }
+
+    /// Exchanges the value of a register of the top frame of an invocation, by its number in the plan, and its mark.
+    pub fn exchange_value(&mut self, i: u32, number: usize, value: &mut Row, has: &mut bool)
+        requires inv { i < length self.old.stacks }
+        requires register { IsSomeAnd (state.top_of self.old i) (HasCells number (length (leaves value.old))) }
+        ensures after { self.new ≡ state.on_frame i (with_value number (marked value.old has.old)) self.old }
+        ensures handed { IsSomeAnd (state.top_of self.old i) (HoldsValue number (marked value.new has.new)) }
+    {
+        self.stacks[i as usize].exchange_numbered(number, value, has);
+    }
+
+    /// Takes the value of a register of the top frame of an invocation away, by its number in the plan.
+    pub fn clear_value(&mut self, i: u32, number: usize)
+        requires inv { i < length self.old.stacks }
+        requires register { IsSomeAnd (state.top_of self.old i) (λ f. number < length f.plan.values) }
+        ensures { self.new ≡ state.on_frame i (with_value number None) self.old }
+    {
+        self.stacks[i as usize].clear_numbered(number);
+    }
+
+    /// Exchanges the pointer of a register of the top frame of an invocation, by its number in the plan.
+    pub fn exchange_pointer(&mut self, i: u32, number: usize, pointer: &mut Option<Pointer>)
+        requires inv { i < length self.old.stacks }
+        requires register { IsSomeAnd (state.top_of self.old i) (HasPointer number) }
+        ensures after { self.new ≡ state.on_frame i (with_pointer number pointer.old) self.old }
+        ensures handed { IsSomeAnd (state.top_of self.old i) (HoldsPointer number pointer.new) }
+    {
+        self.stacks[i as usize].exchange_numbered_pointer(number, pointer);
+    }
+
+    /// Appends a debug event to those that the top frame of an invocation passed.
+    pub fn append(&mut self, i: u32, event: DebugEvent) -> Result<(), NoMemory>
+        requires inv { i < length self.old.stacks }
+        requires frames { IsSome (state.top_of self.old i) }
+        ensures ok { OnOk result (self.new ≡ state.on_frame i (state.append_event event) self.old) }
+        ensures err { OnErr result (self.new ≡ self.old) }
+    {
+        self.stacks[i as usize].append(event)
+    }
+
+    /// Takes the last debug event of the top frame of an invocation away.
+    pub fn drop_event(&mut self, i: u32)
+        requires inv { i < length self.old.stacks }
+        requires events { IsSomeAnd (state.top_of self.old i) (λ f. f.events ≢ []) }
+        ensures { self.new ≡ state.on_frame i state.drop_event self.old }
+    {
+        let _event = self.stacks[i as usize].drop_event();
+    }
+
+    /// Closes the barrier at a word again, which all invocations have passed: all wait there.
+    pub fn close_barrier(&mut self, word: u32)
+        requires passed { list_all is_passed self.old.statuses.list ≡ true }
+        requires within { word < self.old.statuses.words }
+        ensures { self.new ≡ state.close_barrier word self.old }
+    {
+        self.statuses.close(word);
     }
 }

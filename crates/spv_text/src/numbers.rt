@@ -8,7 +8,7 @@ ghost use Rattle.spv_text.specs.Lines.{LeadsWell, is_name_byte, HasNoDigit, HasN
 fn digits_end(text: &[u8]) -> Option<usize>
     ensures { result ≡ position (λ b. not (is_digit b)) text.now }
 {
-    text.iter().position(|b| !(b'0' <= *b && *b < b':'))
+    text.iter().position(|b| !b.is_ascii_digit())
 }
 
 /// The digits at the front, and what follows them.
@@ -61,9 +61,7 @@ pub fn number_at(text: &[u8]) -> Option<(u32, &[u8])>
 fn name_end(text: &[u8]) -> Option<usize>
     ensures { result ≡ position (λ b. not (is_name_byte b)) text.now }
 {
-    text.iter().position(|b| {
-        !(b'0' <= *b && *b < b':' || b'A' <= *b && *b <= b'Z' || b'a' <= *b && *b <= b'z')
-    })
+    text.iter().position(|b| !b.is_ascii_alphanumeric())
 }
 
 /// The letters and digits at the front, and what follows them.

@@ -1,5 +1,5 @@
 //! Writing lines.
-ghost use Rattle.std.specs.Prelude.{◌≡◌, ◌++◌, ◌+◌, ◌<◌, IfOk, OnOk, codes, decimal, map};
+ghost use Rattle.std.specs.Prelude.{◌≡◌, ◌++◌, ◌+◌, ◌<◌, IfOk, OnOk, codes, map};
 ghost use Rattle.std.specs.List.{flat_map};
 ghost use Rattle.spv_ops.specs.Encoding.{head_of};
 ghost use Rattle.spv_ops.specs.Grammar.{row_of};
@@ -8,6 +8,7 @@ ghost use Rattle.spv_text.specs.Spelling.{byte_text, hex_digit, line_text, opera
 ghost use Rattle.spv_text.specs.Listing.{head_parts, line_of, listing, name_of};
 
 use spv_base::{Inst, NoMemory, Operand, Text};
+use spv_line::push_number;
 use spv_ops::{Head, opcode_of};
 use std::alloc::Global;
 
@@ -41,14 +42,6 @@ fn push_bytes(text: &mut Vec<u8>, bytes: &[u8]) -> Result<(), NoMemory>
     Ok(())
 }
 
-/// Appends a number in decimal.
-fn push_number(alloc: Global, text: &mut Vec<u8>, number: u32) -> Result<(), NoMemory>
-    ensures { OnOk result (text.new.items ≡ text.old.items ++ decimal number) }
-{
-    text.extend_from_slice(number.to_string(alloc)?.as_bytes())?;
-    Ok(())
-}
-
 /// Appends an operand.
 fn push_operand(alloc: Global, text: &mut Vec<u8>, operand: &Operand) -> Result<(), NoMemory>
     ensures { OnOk result (text.new.items ≡ text.old.items ++ operand_text operand.now) }
@@ -56,9 +49,9 @@ fn push_operand(alloc: Global, text: &mut Vec<u8>, operand: &Operand) -> Result<
     match operand {
         Operand::Id(id) => {
             text.push(b'%')?;
-            push_number(alloc, text, *id)
+            push_number(alloc, text, u64::from(*id))
         }
-        Operand::Lit(literal) => push_number(alloc, text, *literal),
+        Operand::Lit(literal) => push_number(alloc, text, u64::from(*literal)),
         Operand::Text(bytes) => {
             text.push(b'"')?;
             push_bytes(text, bytes.as_slice())?;
@@ -73,7 +66,7 @@ fn push_type(alloc: Global, text: &mut Vec<u8>, id: u32) -> Result<(), NoMemory>
     ensures { OnOk result (text.new.items ≡ text.old.items ++ part_text (part.ResultType id)) }
 {
     text.extend_from_slice(b"type=%")?;
-    push_number(alloc, text, id)
+    push_number(alloc, text, u64::from(id))
 }
 
 /// Appends a result id.
@@ -81,7 +74,7 @@ fn push_id(alloc: Global, text: &mut Vec<u8>, id: u32) -> Result<(), NoMemory>
     ensures { OnOk result (text.new.items ≡ text.old.items ++ part_text (part.ResultId id)) }
 {
     text.extend_from_slice(b"id=%")?;
-    push_number(alloc, text, id)
+    push_number(alloc, text, u64::from(id))
 }
 
 /// Appends the result type and the result id of a grammar, each after a space.
@@ -136,7 +129,7 @@ fn push_inst(alloc: Global, text: &mut Vec<u8>, inst: &Inst) -> Result<(), NoMem
     ensures { OnOk result (text.new.items ≡ text.old.items ++ line_text (line_of inst.now)) }
 {
     let (name, head) = name_and_head(inst.op);
-    push_number(alloc, text, inst.word)?;
+    push_number(alloc, text, u64::from(inst.word))?;
     text.extend_from_slice(b": Op")?;
     text.extend_from_slice(name.as_bytes())?;
     push_head(alloc, text, head, inst.ty, inst.id)?;

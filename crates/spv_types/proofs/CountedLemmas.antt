@@ -9,13 +9,14 @@ use Rattle.spv_types.specs.declared.counting.Count.{Count}
 use Rattle.spv_types.specs.declared.forms.Form.{Form}
 use Rattle.spv_types.specs.declared.forms.Form.TheVariants.{Void, Bool as Boolean, Int, Vector, Array, Runtime, Struct, Pointer, Function}
 use Rattle.spv_types.specs.declared.forms.Member.{Member}
-use Rattle.spv_types.specs.Types.{Types, form_at, form_of, found_among, in_first, is_number, number_of}
+use Rattle.spv_types.specs.Types.{Types, form_at, form_of, found_among, in_first, number_of}
 use Rattle.spv_types.specs.Cells.{added, cells_among, cells_of, cells_step, members_cells}
 use Rattle.spv_base.specs.Saturation.{saturated}
 use Rattle.spv_types.specs.Counted.{AreBefore, AreCounted, HasFirsts, IsCounted, PartsAreBefore, members_of}
 use Rattle.spv_types.specs.Laws.{IsAmong}
 use Rattle.spv_types.specs.Shapes.{part_type}
 use Rattle.spv_base.proofs.Exports.{saturated-add}
+use Rattle.spv_base.specs.Options.{holds}
 use Rattle.spv_types.proofs.CellLemmas.{members_cells_more}
 use Rattle.spv_types.proofs.TypeLemmas.{in_first-found, number_form, number_lt, number_push}
 use Rattle.spv_types.proofs.TableLemmas.{number_set}
@@ -135,23 +136,23 @@ counted_first ts n i ms c counted is l =
 -- ---- types that agree at the beginning
 
 pub record Agree (ts us : Types) (n : ℕ) : Type 0 where
-  pub numbers : (k q : ℕ) → k < n → is_number k (number_of us q) ≡ is_number k (number_of ts q)
+  pub numbers : (k q : ℕ) → k < n → holds k (number_of us q) ≡ holds k (number_of ts q)
   pub kept : (k q : ℕ) → k < n → number_of ts q ≡ Some k → number_of us q ≡ Some k
   pub forms : (k q : ℕ) → k < n → number_of ts q ≡ Some k → form_of us q ≡ form_of ts q
   pub at : (k : ℕ) → k < n → form_at us k ≡ form_at ts k
 
-is_some_number : (k : ℕ) (o : Option ℕ) → is_number k o ≡ true → o ≡ Some k
+is_some_number : (k : ℕ) (o : Option ℕ) → holds k o ≡ true → o ≡ Some k
 is_some_number k None h = cc
 is_some_number k (Some m) h = let e : m ≡ k = grind arith in ap Some e
 
 cells_agree : (ts us : Types) (n m : ℕ) → Agree ts us n → m ≤ n → cells_among us m ≡ cells_among ts m
 unfolding cells_among in_first
 cells_agree ts us n zero a l = refl
-cells_agree ts us n (suc m) a l = fun_ext (λ q. here (cells_agree ts us n m a (omega arith)) q (is_number m (number_of ts q)) refl)
+cells_agree ts us n (suc m) a l = fun_ext (λ q. here (cells_agree ts us n m a (omega arith)) q (holds m (number_of ts q)) refl)
   where
-    here : cells_among us m ≡ cells_among ts m → (q : ℕ) (b : Bool) → is_number m (number_of ts q) ≡ b
-        → (if is_number m (number_of us q) then option_map_or (cells_step (cells_among us m)) (form_of us q) None else cells_among us m q)
-        ≡ (if is_number m (number_of ts q) then option_map_or (cells_step (cells_among ts m)) (form_of ts q) None else cells_among ts m q)
+    here : cells_among us m ≡ cells_among ts m → (q : ℕ) (b : Bool) → holds m (number_of ts q) ≡ b
+        → (if holds m (number_of us q) then option_map_or (cells_step (cells_among us m)) (form_of us q) None else cells_among us m q)
+        ≡ (if holds m (number_of ts q) then option_map_or (cells_step (cells_among ts m)) (form_of ts q) None else cells_among ts m q)
     here below q true e = rw (a.numbers m q (omega arith), e, a.forms m q (omega arith) (is_some_number m (number_of ts q) e), below) refl
     here below q false e = rw (a.numbers m q (omega arith), e, below) refl
 
@@ -171,13 +172,13 @@ counted_agrees ts us n c a counted =
 
 push_agrees : (ts : Types) (t : ℕ × Form) → Agree ts (ts ++ t ∷ []) (length ts)
 push_agrees ts t = record {
-  numbers = λ k q l. ap (is_number k) (number_push ts t q) ∙ numbers k l (number_of ts q) (t.0 == q);
+  numbers = λ k q l. ap (holds k) (number_push ts t q) ∙ numbers k l (number_of ts q) (t.0 == q);
   kept = λ k q l is. number_push ts t q ∙ rw is refl;
   forms = λ k q l is. forms k q l is;
   at = λ k l. ap (λ (x : ℕ × Form). x.1) (get_or_append_left ts (t ∷ []) (0, Void) k l);
 }
   where
-    numbers : (k : ℕ) → k < length ts → (o : Option ℕ) (b : Bool) → is_number k (option_or o (if b then Some (length ts) else None)) ≡ is_number k o
+    numbers : (k : ℕ) → k < length ts → (o : Option ℕ) (b : Bool) → holds k (option_or o (if b then Some (length ts) else None)) ≡ holds k o
     numbers k l None true = grind arith
     numbers k l None false = refl
     numbers k l (Some m) b = refl
@@ -206,7 +207,7 @@ counted_push ts t counts all = record {
 
 set_agrees : (ts : Types) (n : ℕ) (x d : ℕ × Form) → n < length ts → x.0 ≡ (get_or ts n d).0 → Agree ts (set ts n x) n
 set_agrees ts n x d l same = record {
-  numbers = λ k q h. ap (is_number k) (number_set ts n x d q l same);
+  numbers = λ k q h. ap (holds k) (number_set ts n x d q l same);
   kept = λ k q h is. number_set ts n x d q l same ∙ is;
   forms = λ k q h is.
       number_form (set ts n x) q k (0, Void) (number_set ts n x d q l same ∙ is) ∙ ap (λ (y : ℕ × Form). Some y.1) (other k h) ∙ sym (number_form ts q k (0, Void) is);

@@ -6,7 +6,6 @@ pub use Rattle.spv_types.proofs.CellLemmas.{added_is}
 -- A type added at the end, and a form written under an id.
 pub use Rattle.spv_types.proofs.TableLemmas.{on_ok}
 -- The rules of members, one after another.
-pub use Rattle.spv_types.proofs.RuleLemmas.{last_type_is}
 -- What a test of a type tells of its form.
 pub use Rattle.spv_types.proofs.DataLemmas.{scalar_data, sized_data, member_data, width_narrow, data_form}
 -- The types and the refusals, one instruction after another.

@@ -8,7 +8,7 @@ use Rattle.spv_base.specs.declared.values.Root.{Root}
 use Rattle.spv_base.specs.declared.values.Value.{Value}
 use Rattle.spv_types.specs.declared.forms.Form.{Form}
 use Rattle.spv_types.specs.declared.forms.Form.TheVariants.{Void, Bool as Boolean, Int, Vector, Array, Runtime, Struct, Pointer, Function}
-use Rattle.spv_types.specs.Types.{Types, form_of, is_number, lengthened, number_of, with_length}
+use Rattle.spv_types.specs.Types.{Types, form_of, lengthened, number_of, with_length}
 use Rattle.spv_types.specs.Rules.{form_has_runtime, has_runtime, is_data, is_runtime, is_scalar, is_sized_data, keeps_form, last_type}
 use Rattle.spv_types.specs.Shapes.{HasShape, HasShapeAmong, part_type, reached_type, shape_step}
 use Rattle.spv_types.specs.Laws.{AreSound, ComesBefore, IsAmong}
@@ -17,6 +17,7 @@ use Rattle.spv_types.proofs.ShapeLemmas.{LeadAlike, among_same, step_maps}
 use Rattle.spv_types.proofs.SoundLemmas.{CountAlike, form_carried}
 use Rattle.std.proofs.lemmas.Bool.{eqb-true}
 use Rattle.spv_base.proofs.Exports.{not_same}
+use Rattle.spv_base.specs.Options.{holds}
 
 -- ---- a form written under an id
 
@@ -232,13 +233,13 @@ module _ (ts : Types) (id n : ℕ) where
       here below false same g = below q v g
 
       go : ((p : ℕ) (w : Value) → HasShapeAmong ts roots m p w → HasShapeAmong (with_length ts id n) roots m p w) → (o : Option ℕ) → number_of ts q ≡ o
-          → MatchBool (is_number m (number_of ts q)) (MatchOption (form_of ts q) ⊥ (λ f. shape_step ts roots (HasShapeAmong ts roots m) f v)) (HasShapeAmong ts roots m q v)
-          → MatchBool (is_number m (number_of ts q)) (MatchOption (form_of (with_length ts id n) q) ⊥ (λ f. shape_step (with_length ts id n) roots (HasShapeAmong (with_length ts id n) roots m) f v))
+          → MatchBool (holds m (number_of ts q)) (MatchOption (form_of ts q) ⊥ (λ f. shape_step ts roots (HasShapeAmong ts roots m) f v)) (HasShapeAmong ts roots m q v)
+          → MatchBool (holds m (number_of ts q)) (MatchOption (form_of (with_length ts id n) q) ⊥ (λ f. shape_step (with_length ts id n) roots (HasShapeAmong (with_length ts id n) roots m) f v))
           (HasShapeAmong (with_length ts id n) roots m q v)
-      go below o e = here below (is_number m (number_of ts q)) (numbered o e)
+      go below o e = here below (holds m (number_of ts q)) (numbered o e)
         where
-          numbered : (o : Option ℕ) → number_of ts q ≡ o → is_number m (number_of ts q) ≡ true → form_of (with_length ts id n) q ≡ form_of ts q
-          numbered None e t = let s : is_number m (number_of ts q) ≡ false = rw e refl in cc
+          numbered : (o : Option ℕ) → number_of ts q ≡ o → holds m (number_of ts q) ≡ true → form_of (with_length ts id n) q ≡ form_of ts q
+          numbered None e t = let s : holds m (number_of ts q) ≡ false = rw e refl in cc
           numbered (Some j) e t =
               let s : (j == m) ≡ true = rw e at t in
               let same : j ≡ m = eqb-true j m s in

@@ -11,10 +11,11 @@ use Rattle.spv_base.specs.declared.values.Pointer.{Pointer as Reference}
 use Rattle.spv_base.specs.declared.values.Root.{Root}
 use Rattle.spv_base.specs.declared.values.Value.{Value, out-Value}
 use Rattle.spv_base.specs.declared.values.Value.TheOpen.{Value-F}
+use Rattle.spv_base.specs.Options.{holds}
 use Rattle.spv_types.specs.declared.forms.Form.{Form}
 use Rattle.spv_types.specs.declared.forms.Form.TheVariants.{Void, Bool as Boolean, Int, Vector, Array, Runtime, Struct, Pointer, Function}
 use Rattle.spv_types.specs.declared.forms.Member.{Member}
-use Rattle.spv_types.specs.Types.{Types, form_of, in_first, is_number, number_of}
+use Rattle.spv_types.specs.Types.{Types, form_of, in_first, number_of}
 use Rattle.spv_types.specs.Cells.{cells_among, cells_of, cells_step, members_cells}
 use Rattle.spv_types.specs.Shapes.{HasShape, HasShapeAmong, pointer_in, scalar_in, shape_step}
 use Rattle.spv_types.proofs.CellLemmas.{added_is}
@@ -112,7 +113,7 @@ formed_count ts roots shape cells (Some f) v n count h k = step_count ts roots s
 pub among_counts : (ts : Types) (roots : Root → Option ℕ) (m : ℕ) → Counts (HasShapeAmong ts roots m) (cells_among ts m)
 unfolding HasShapeAmong cells_among in_first
 among_counts ts roots zero id v n h k = absurd h
-among_counts ts roots (suc m) id v n h k = here (among_counts ts roots m) (is_number m (number_of ts id)) h k
+among_counts ts roots (suc m) id v n h k = here (among_counts ts roots m) (holds m (number_of ts id)) h k
   where
     here : Counts (HasShapeAmong ts roots m) (cells_among ts m) → (b : Bool)
         → MatchBool b (MatchOption (form_of ts id) ⊥ (λ f. shape_step ts roots (HasShapeAmong ts roots m) f v)) (HasShapeAmong ts roots m id v)

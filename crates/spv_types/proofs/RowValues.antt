@@ -8,10 +8,11 @@ use Rattle.std.proofs.lemmas.List.Elements.{All-head, All-tail}
 use Rattle.spv_base.specs.Cell.{Cell}
 use Rattle.spv_base.specs.declared.values.Value.{Value, Scalar, List as Many, out-Value}
 use Rattle.spv_base.specs.declared.values.Value.TheOpen.{Value-F}
+use Rattle.spv_base.specs.Options.{holds}
 use Rattle.spv_types.specs.declared.forms.Form.{Form}
 use Rattle.spv_types.specs.declared.forms.Form.TheVariants.{Void, Bool as Boolean, Int, Vector, Array, Runtime, Struct, Pointer, Function}
 use Rattle.spv_types.specs.declared.forms.Member.{Member}
-use Rattle.spv_types.specs.Types.{Types, form_of, in_first, is_number, number_of}
+use Rattle.spv_types.specs.Types.{Types, form_of, in_first, number_of}
 use Rattle.spv_types.specs.Cells.{cells_among, cells_of, cells_step, members_cells}
 use Rattle.spv_types.specs.Shapes.{HasShape, HasShapeAmong, LeadsTo, pointer_in, scalar_in, shape_step}
 use Rattle.spv_types.specs.Rows.{leaves, no_roots}
@@ -123,7 +124,7 @@ formed_tells ts shape cells (Some f) v u n count tell p q k h = step_tells ts sh
 among_tells : (ts : Types) (m : ℕ) → Tells (HasShapeAmong ts no_roots m) (cells_among ts m)
 unfolding HasShapeAmong cells_among in_first
 among_tells ts zero id v u n p q k h = absurd p
-among_tells ts (suc m) id v u n p q k h = here (among_tells ts m) (is_number m (number_of ts id)) p q k
+among_tells ts (suc m) id v u n p q k h = here (among_tells ts m) (holds m (number_of ts id)) p q k
   where
     here : Tells (HasShapeAmong ts no_roots m) (cells_among ts m) → (b : Bool)
         → MatchBool b (MatchOption (form_of ts id) ⊥ (λ f. shape_step ts no_roots (HasShapeAmong ts no_roots m) f v)) (HasShapeAmong ts no_roots m id v)

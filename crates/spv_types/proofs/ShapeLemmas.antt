@@ -10,12 +10,13 @@ use Rattle.spv_base.specs.declared.values.Value.{Value, out-Value}
 use Rattle.spv_types.specs.declared.forms.Form.{Form}
 use Rattle.spv_types.specs.declared.forms.Form.TheVariants.{Void, Bool as Boolean, Int, Vector, Array, Runtime, Struct, Pointer, Function}
 use Rattle.spv_types.specs.declared.forms.Member.{Member}
-use Rattle.spv_types.specs.Types.{Types, form_of, number_of, is_number}
+use Rattle.spv_types.specs.Types.{Types, form_of, number_of}
 use Rattle.spv_types.specs.Shapes.{HasShape, HasShapeAmong, LeadsTo, part_type, pointer_in, shape_step}
 use Rattle.spv_types.specs.Laws.{AreByForms, AreSound, ComesBefore}
 use Rattle.spv_types.proofs.TypeLemmas.{number_less, number_lt, number_none}
 use Rattle.std.proofs.lemmas.Bool.{eqb-true}
 use Rattle.spv_base.proofs.Exports.{some_and}
+use Rattle.spv_base.specs.Options.{holds}
 
 -- ---- a form's values, where its parts' values are carried along
 
@@ -123,7 +124,7 @@ module _ (ts : Types) (roots : Root → Option ℕ) (sound : AreSound ts) where
 pub no_form : (ts : Types) (roots : Root → Option ℕ) (n id : ℕ) (v : Value) → form_of ts id ≡ None → HasShapeAmong ts roots n id v → ⊥
 unfolding HasShapeAmong
 no_form ts roots zero id v none h = h
-no_form ts roots (suc n) id v none h = go (no_form ts roots n id v none) (is_number n (number_of ts id)) (form_of ts id) none h
+no_form ts roots (suc n) id v none h = go (no_form ts roots n id v none) (holds n (number_of ts id)) (form_of ts id) none h
   where
     go : (HasShapeAmong ts roots n id v → ⊥) → (b : Bool) (o : Option Form) → o ≡ None → MatchBool b (MatchOption o ⊥ (λ f. shape_step ts roots (HasShapeAmong ts roots n) f v)) (HasShapeAmong ts roots n id v) → ⊥
     go below true None e has = has

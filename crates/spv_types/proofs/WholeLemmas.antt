@@ -7,9 +7,10 @@ use Rattle.spv_types.specs.declared.forms.Form.{Form}
 use Rattle.spv_types.specs.declared.forms.Form.TheVariants.{Void, Bool as Boolean, Int, Vector, Array, Runtime, Struct, Pointer, Function}
 use Rattle.spv_types.specs.declared.forms.Member.{Member}
 use Rattle.spv_types.specs.declared.limits.Limit.{Limit}
-use Rattle.spv_types.specs.Types.{Types, form_of, in_first, is_number, number_of}
+use Rattle.spv_types.specs.Types.{Types, form_of, in_first, number_of}
 use Rattle.spv_types.specs.Cells.{cells_among, cells_of, cells_step, members_cells}
 use Rattle.spv_base.specs.Saturation.{saturated}
+use Rattle.spv_base.specs.Options.{holds}
 use Rattle.spv_types.specs.Limits.{limit_among, limit_of, limit_step, members_limit, no_limit}
 use Rattle.spv_types.proofs.CellLemmas.{added_is}
 use Rattle.spv_types.proofs.RowCounts.{times_is}
@@ -56,7 +57,7 @@ step_whole cells limit (Function returns parameters) n whole h l = let z : n ≡
 among_whole : (ts : Types) (m : ℕ) → Whole (cells_among ts m) (limit_among ts m)
 unfolding cells_among limit_among in_first
 among_whole ts zero id n h l = cc
-among_whole ts (suc m) id n h l = here (among_whole ts m) (is_number m (number_of ts id)) (form_of ts id) h l
+among_whole ts (suc m) id n h l = here (among_whole ts m) (holds m (number_of ts id)) (form_of ts id) h l
   where
     here : Whole (cells_among ts m) (limit_among ts m) → (b : Bool) (o : Option Form) → (if b then option_map_or (cells_step (cells_among ts m)) o None else cells_among ts m id) ≡ Some n
         → (if b then option_map_or (limit_step (limit_among ts m)) o no_limit else limit_among ts m id).cells < 18446744073709551615

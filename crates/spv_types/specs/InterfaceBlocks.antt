@@ -5,10 +5,11 @@ use Rattle.std.specs.List.{list_any}
 use Rattle.std.specs.Option.{is_some, option_and_then, option_map_or}
 use Rattle.spv_base.specs.declared.instructions.Inst.{Inst}
 use Rattle.spv_base.specs.declared.causes.Refusal.{Refusal}
+use Rattle.spv_base.specs.Options.{holds}
 use Rattle.spv_types.specs.declared.forms.Form.{Form}
 use Rattle.spv_types.specs.declared.forms.Form.TheVariants.{Pointer}
 use Rattle.spv_types.specs.Types.{Types, form_of}
-use Rattle.spv_index.specs.Definitions.{decoration, defining, holds}
+use Rattle.spv_index.specs.Definitions.{decoration, defining}
 use Rattle.spv_index.specs.Operands.{id_operand, literal_operand}
 use Rattle.spv_types.specs.Build.{unless_refused}
 use Rattle.spv_types.specs.Layout.{is_laid}

@@ -10,10 +10,11 @@ use Rattle.spv_base.specs.declared.values.Pointer.{Pointer as Reference}
 use Rattle.spv_base.specs.declared.values.Root.{Root}
 use Rattle.spv_base.specs.declared.values.Value.{Value, out-Value}
 use Rattle.spv_base.specs.declared.values.Value.TheOpen.{Value-F}
+use Rattle.spv_base.specs.Options.{holds}
 use Rattle.spv_types.specs.declared.forms.Form.{Form}
 use Rattle.spv_types.specs.declared.forms.Form.TheVariants.{Void, Bool as Boolean, Int, Vector, Array, Runtime, Struct, Pointer, Function}
 use Rattle.spv_types.specs.declared.forms.Member.{Member}
-use Rattle.spv_types.specs.Types.{Types, form_of, is_number, number_of}
+use Rattle.spv_types.specs.Types.{Types, form_of, number_of}
 
 -- the type of part i of a form; an index of a row may be any number
 abbrev pub part_type : Form → ℕ → Option ℕ
@@ -61,7 +62,7 @@ shape_step ts roots shape (Function returns parameters) v = ⊥
 unfoldable pub HasShapeAmong : Types → (Root → Option ℕ) → ℕ → ℕ → Value → Type 0
 HasShapeAmong ts roots zero id v = ⊥
 HasShapeAmong ts roots (suc n) id v =
-    MatchBool (is_number n (number_of ts id)) (MatchOption (form_of ts id) ⊥ (λ f. shape_step ts roots (HasShapeAmong ts roots n) f v)) (HasShapeAmong ts roots n id v)
+    MatchBool (holds n (number_of ts id)) (MatchOption (form_of ts id) ⊥ (λ f. shape_step ts roots (HasShapeAmong ts roots n) f v)) (HasShapeAmong ts roots n id v)
 
 -- a value has the shape of the type with an id, where roots gives the type of each variable that pointers lead into
 unfoldable pub HasShape : Types → (Root → Option ℕ) → ℕ → Value → Type 0

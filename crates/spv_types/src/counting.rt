@@ -22,7 +22,7 @@ pub struct Count {
 }
 
 /// The members of a struct, and none of any other type.
-pub(crate) fn members_of(form: &Form) -> &[Member]
+pub fn members_of(form: &Form) -> &[Member]
     ensures { result.now ≡ members_of form.now }
 {
     match form {
@@ -59,12 +59,9 @@ fn is_before(types: &TypeTable, limit: usize, ty: u32) -> bool
 fn members_before(types: &TypeTable, limit: usize, members: &[Member]) -> bool
     ensures { IsTrue result → AreBefore types.now limit members.now }
 {
-    for member in members {
-        if !is_before(types, limit, member.ty) {
-            return false;
-        }
-    }
-    true
+    members
+        .iter()
+        .all(|member| is_before(types, limit, member.ty))
 }
 
 /// Whether the parts of a form are among the first types.

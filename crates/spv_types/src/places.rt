@@ -83,8 +83,8 @@ fn element_place(
     Some(start.saturating_add(within))
 }
 
-/// The bytes of a scalar type in a block.
-fn scalar_bytes(types: &TypeTable, ty: u32) -> u32
+/// The bytes of a scalar type in a block, where 0 stands for what is no integer (SPIR-V 1.6 section 2.16.2).
+pub fn scalar_bytes(types: &TypeTable, ty: u32) -> u32
     ensures { result ≡ scalar_bytes (form_of types.now ty) }
 {
     match types.form(ty) {

@@ -58,7 +58,7 @@ fn is_class(n: u32) -> bool
 }
 
 /// The type of the last member.
-pub(crate) fn last_type(members: &[Member]) -> Option<u32>
+pub fn last_type(members: &[Member]) -> Option<u32>
     ensures { result ≡ last_type members.now }
 {
     match members.last() {

@@ -2,7 +2,6 @@
 use Rattle.std.proofs.Common.{◌≡◌, ◌∙◌, ℕ, ◌*◌, ◌≤◌, ◌==◌, Bool, true, false, [], ◌∷◌, Option, Some, None, refl, sym, ap, arith, inl, inr}
 use Rattle.std.specs.Prelude.{◌&&◌, ◌||◌, not, nat_le, ◌↔◌}
 use Rattle.std.specs.Option.{option_and_then, option_map_or}
-use Rattle.spv_index.specs.Definitions.{holds as is_held}
 use Rattle.spv_types.specs.declared.forms.Form.{Form}
 use Rattle.spv_types.specs.declared.forms.Form.TheVariants.{Void, Bool as FormBool, Int as FormInt, Vector, Array, Runtime, Struct, Pointer, Function}
 use Rattle.spv_types.specs.declared.forms.Member.{Member}
@@ -10,6 +9,7 @@ use Rattle.spv_types.specs.Types.{Types, form_of}
 use Rattle.spv_types.proofs.Exports.{impossible}
 use Rattle.std.proofs.lemmas.Bool.{and_from, leb-true, eqb-true, and_parts, or_right, le-leb, eq-eqb, or_cases}
 use Rattle.spv_base.proofs.Exports.{same_number}
+use Rattle.spv_base.specs.Options.{holds as is_held}
 use Rattle.spv_typing.specs.declared.lanes.Element.{Element}
 use Rattle.spv_typing.specs.declared.lanes.Element.TheVariants.{Bool as Boolean, Int}
 use Rattle.spv_typing.specs.declared.lanes.Lanes.{Lanes}
@@ -18,7 +18,7 @@ use Rattle.spv_typing.specs.Fitting.{fits, fits_rule, is_selectable, are_counted
 use Rattle.spv_typing.specs.declared.rules.Rule.{Rule}
 use Rattle.spv_typing.specs.declared.rules.Rule.TheVariants.{Convert, Bitcast, Integer, Integers, Clamp, Shift, Boolean as OneBoolean, Booleans, Reduce, Compare, Extended, Select, InsertField, ExtractField}
 use Rattle.spv_typing.specs.Rules.{is_constant_operation, is_constant_rule, operand_count, rule_count, rule_of}
-use Rattle.spv_typing.specs.Glsl.{fits_glsl, glsl_rule, has_count}
+use Rattle.spv_typing.specs.Glsl.{fits_glsl, glsl_rule}
 use Rattle.spv_typing.specs.Laws.{IsCondition, IsTyped, booleans, integers}
 use Rattle.spv_typing.specs.Operands.{operand_type, types_by}
 
@@ -341,24 +341,17 @@ rule_is ts op r ty = (found (rule_of op), back)
     back : (rule : Rule) × (rule_of op ≡ Some rule) × IsTyped ts rule r ty → fits ts op r ty ≡ true
     back t = rw t.1 (holds ts t.0 r ty t.2)
 
-count_says : (count : ℕ) (n : Option ℕ) → has_count count n ≡ true → n ≡ Some count
-count_says count None h = cc
-count_says count (Some n) h = ap Some (eqb-true n count h)
-
-count_holds : (count : ℕ) (n : Option ℕ) → n ≡ Some count → has_count count n ≡ true
-count_holds count n e = rw e (same_number count)
-
 pub glsl_rule_is : (ts : Types) (number count r : ℕ) (ty : ℕ → Option ℕ) → (fits_glsl ts number count r ty ≡ true) ↔ ((rule : Rule) × (glsl_rule number ≡ Some rule) × (rule_count rule ≡ Some count) × IsTyped ts rule r ty)
 glsl_rule_is ts number count r ty = (found (glsl_rule number), back)
   where
-    found : (o : Option Rule) → option_map_or (λ rule. has_count count (rule_count rule) && fits_rule ts rule r ty) o false ≡ true → (rule : Rule) × (o ≡ Some rule) × (rule_count rule ≡ Some count) × IsTyped ts rule r ty
+    found : (o : Option Rule) → option_map_or (λ rule. is_held count (rule_count rule) && fits_rule ts rule r ty) o false ≡ true → (rule : Rule) × (o ≡ Some rule) × (rule_count rule ≡ Some count) × IsTyped ts rule r ty
     found None h = impossible h
     found (Some rule) h =
-        let p = and_parts (has_count count (rule_count rule)) (fits_rule ts rule r ty) h in
-        (rule, refl, count_says count (rule_count rule) p.0, says ts rule r ty p.1)
+        let p = and_parts (is_held count (rule_count rule)) (fits_rule ts rule r ty) h in
+        (rule, refl, held count (rule_count rule) p.0, says ts rule r ty p.1)
 
     back : (rule : Rule) × (glsl_rule number ≡ Some rule) × (rule_count rule ≡ Some count) × IsTyped ts rule r ty → fits_glsl ts number count r ty ≡ true
-    back t = rw t.1 (and_from (has_count count (rule_count t.0)) (fits_rule ts t.0 r ty) (count_holds count (rule_count t.0) t.2) (holds ts t.0 r ty t.3))
+    back t = rw t.1 (and_from (is_held count (rule_count t.0)) (fits_rule ts t.0 r ty) (holding count (rule_count t.0) t.2) (holds ts t.0 r ty t.3))
 
 pub constants_have_operands : (op : ℕ) → is_constant_operation op ≡ true → (n : ℕ) × (operand_count op ≡ Some n) × (1 ≤ n) × (n ≤ 3)
 constants_have_operands op h = counted (rule_of op) (and_parts (option_map_or is_constant_rule (rule_of op) false) (not (op == 204 || op == 205)) h).0
@@ -408,6 +401,6 @@ fits_by ts op r ty = found (rule_of op)
 pub fits_glsl_by : (ts : Types) (number count r : ℕ) (ty : ℕ → Option ℕ) → fits_glsl ts number count r (operand_type (types_by ty)) ≡ fits_glsl ts number count r ty
 fits_glsl_by ts number count r ty = found (glsl_rule number)
   where
-    found : (o : Option Rule) → option_map_or (λ rule. has_count count (rule_count rule) && fits_rule ts rule r (operand_type (types_by ty))) o false ≡ option_map_or (λ rule. has_count count (rule_count rule) && fits_rule ts rule r ty) o false
+    found : (o : Option Rule) → option_map_or (λ rule. is_held count (rule_count rule) && fits_rule ts rule r (operand_type (types_by ty))) o false ≡ option_map_or (λ rule. is_held count (rule_count rule) && fits_rule ts rule r ty) o false
     found None = refl
     found (Some rule) = rw (rule_by ts rule r ty) refl

@@ -3,7 +3,7 @@
 -- their ids are equal.
 use Rattle.std.specs.Prelude.{ℕ, ◌==◌, ◌&&◌, ◌||◌, Bool, true, false, List, [], ◌∷◌, Option, Some, None}
 use Rattle.std.specs.Option.{option_map_or}
-use Rattle.spv_index.specs.Definitions.{holds}
+use Rattle.spv_base.specs.Options.{holds}
 use Rattle.spv_types.specs.declared.forms.Form.{Form}
 use Rattle.spv_types.specs.declared.forms.Form.TheVariants.{Void, Bool as FormBool, Int, Vector, Array, Runtime, Struct, Pointer, Function}
 use Rattle.spv_types.specs.declared.forms.Member.{Member}

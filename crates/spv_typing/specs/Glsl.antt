@@ -1,8 +1,9 @@
 -- Whether the types of the operands of an instruction of GLSL.std.450 fit the type of its result ("SPIR-V Extended
 -- Instructions for GLSL"): the instructions on integers. This project's profile takes every width.
-use Rattle.std.specs.Prelude.{ℕ, ◌==◌, ◌&&◌, Bool, false, List, [], ◌∷◌, Option}
+use Rattle.std.specs.Prelude.{ℕ, ◌&&◌, Bool, false, List, [], ◌∷◌, Option}
 use Rattle.std.specs.Option.{option_map_or}
 use Rattle.spv_base.specs.Entries.{reads}
+use Rattle.spv_base.specs.Options.{holds}
 use Rattle.spv_types.specs.Types.{Types}
 use Rattle.spv_typing.specs.declared.rules.Rule.{Rule}
 use Rattle.spv_typing.specs.declared.rules.Rule.TheVariants.{Integer, Integers, Clamp}
@@ -19,10 +20,6 @@ glsl_rules =
 abbrev pub glsl_rule : ℕ → Option Rule
 glsl_rule number = reads number glsl_rules
 
--- a rule has so many operands
-abbrev pub has_count : ℕ → Option ℕ → Bool
-has_count count n = option_map_or (λ k. k == count) n false
-
 -- Whether so many operands fit the result of an instruction, where ty gives the type of each operand that has one.
 abbrev pub fits_glsl : Types → ℕ → ℕ → ℕ → (ℕ → Option ℕ) → Bool
-fits_glsl ts number count result ty = option_map_or (λ rule. has_count count (rule_count rule) && fits_rule ts rule result ty) (glsl_rule number) false
+fits_glsl ts number count result ty = option_map_or (λ rule. holds count (rule_count rule) && fits_rule ts rule result ty) (glsl_rule number) false

@@ -1,5 +1,6 @@
 //! Whether the types of the operands of an instruction of GLSL.std.450 fit the type of its result.
 ghost use Rattle.std.specs.Prelude.{◌≡◌};
+ghost use Rattle.spv_base.specs.Options.{holds};
 ghost use Rattle.spv_typing.specs.Glsl as spec;
 ghost use Rattle.spv_typing.specs.Operands.{operand_type};
 ghost use Rattle.spv_typing.specs.Rules.{rule_count};
@@ -26,7 +27,7 @@ pub fn glsl_rule(number: u32) -> Option<Rule>
 
 /// Whether a rule has so many operands.
 fn has_count(rule: Rule, count: usize) -> bool
-    ensures { result ≡ spec.has_count count (rule_count rule) }
+    ensures { result ≡ holds count (rule_count rule) }
 {
     match rule.count() {
         Some(n) => n as usize == count,

@@ -3,3 +3,5 @@
 pub use Rattle.spv_valid.proofs.AcceptedLemmas.{accepted_passes}
 -- What each pass tells of its breaches, and all of them together.
 pub use Rattle.spv_valid.proofs.PassLemmas.{flow_is}
+-- The size of a workgroup.
+pub use Rattle.spv_valid.proofs.SizeLemmas.{IsFit, size_fits, size_holds}

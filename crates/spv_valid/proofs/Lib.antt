@@ -5,4 +5,5 @@ mod LeastLemmas
 mod PassLemmas
 mod EntryLemmas
 mod MeaningLemmas
+mod SizeLemmas
 pub mod Exports

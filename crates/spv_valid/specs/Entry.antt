@@ -7,8 +7,9 @@ use Rattle.spv_base.specs.Entries.{reads}
 use Rattle.spv_base.specs.Cell.{Cell, defined_number}
 use Rattle.spv_base.specs.declared.causes.Refusal.{Refusal}
 use Rattle.spv_base.specs.declared.instructions.Inst.{Inst}
+use Rattle.spv_base.specs.Options.{holds}
 use Rattle.spv_index.specs.Operands.{id_operand, literal_operand, text_operand}
-use Rattle.spv_index.specs.Definitions.{decoration, defining, holds}
+use Rattle.spv_index.specs.Definitions.{decoration, defining}
 use Rattle.spv_types.specs.declared.forms.Form.{Form}
 use Rattle.spv_types.specs.declared.forms.Form.TheVariants.{Void, Bool as Boolean, Int, Vector, Array, Runtime, Struct, Pointer, Function}
 use Rattle.spv_types.specs.Types.{Types, form_of}

@@ -51,24 +51,14 @@ fn is_named(name: &[u8], inst: &Inst) -> bool
 fn first_entry_point(insts: &[Inst]) -> Option<&Inst>
     ensures { option_copied result ≡ find spec.is_entry_point insts.now }
 {
-    for inst in insts {
-        if inst.op == op::ENTRY_POINT {
-            return Some(inst);
-        }
-    }
-    None
+    insts.iter().find(|inst| inst.op == op::ENTRY_POINT)
 }
 
 /// The first GLCompute entry point of a name.
 fn named_entry_point<'a>(insts: &'a [Inst], name: &[u8]) -> Option<&'a Inst>
     ensures { option_copied result ≡ find (spec.is_named name.now) insts.now }
 {
-    for inst in insts {
-        if is_named(name, inst) {
-            return Some(inst);
-        }
-    }
-    None
+    insts.iter().find(|inst| is_named(name, inst))
 }
 
 /// Without a name the first entry point, which has to be a GLCompute one; with a name the first GLCompute one of this name.
@@ -161,27 +151,21 @@ fn is_size_constant(index: &Index, inst: &Inst) -> bool
 fn size_constant<'a>(index: &Index, insts: &'a [Inst]) -> Option<&'a Inst>
     ensures { option_copied result ≡ find (spec.is_size_constant index.now.insts) insts.now }
 {
-    for inst in insts {
-        if is_size_constant(index, inst) {
-            return Some(inst);
-        }
-    }
-    None
+    insts.iter().find(|inst| is_size_constant(index, inst))
+}
+
+/// Whether an instruction with an opcode gives an execution mode to the entry point of a function.
+fn is_mode(op: u16, mode: u32, function: u32, inst: &Inst) -> bool
+    ensures { result ≡ spec.is_mode op mode function inst.now }
+{
+    inst.op == op && id_operand(inst, 0) == Some(function) && literal_operand(inst, 1) == Some(mode)
 }
 
 /// The first instruction that gives an execution mode to the entry point of a function.
 fn mode_of(insts: &[Inst], op: u16, mode: u32, function: u32) -> Option<&Inst>
     ensures { option_copied result ≡ find (spec.is_mode op mode function) insts.now }
 {
-    for inst in insts {
-        if inst.op == op
-            && id_operand(inst, 0) == Some(function)
-            && literal_operand(inst, 1) == Some(mode)
-        {
-            return Some(inst);
-        }
-    }
-    None
+    insts.iter().find(|inst| is_mode(op, mode, function, inst))
 }
 
 /// The size that a constant with such cells gives, which has to be a vector of three 32-bit integers.

@@ -1,8 +1,8 @@
 //! Modules that broke no rule.
-ghost use Rattle.std.specs.Prelude.{◌≡◌, IsSome, Some, option_copied, option_map};
+ghost use Rattle.std.specs.Prelude.{◌≡◌, ◌<◌, ◌≤◌, IsSome, Some, option_copied, option_map};
 ghost use Rattle.spv_base.specs.Entries.{reads};
 ghost use Rattle.spv_index.specs.Definitions as definitions;
-ghost use Rattle.spv_valid.specs.Acceptance.{IsAccepted};
+ghost use Rattle.spv_valid.specs.Acceptance.{IsAccepted, invocations};
 ghost use Rattle.spv_valid.specs.Meanings.{meaning_of};
 ghost use Rattle.spv_valid.specs.Validity.{IsValid};
 
@@ -157,6 +157,17 @@ impl Module {
         ensures { result ≡ self.now.size }
     {
         self.entry.size
+    }
+
+    /// How many invocations a workgroup has, from 1 to 1,024.
+    pub fn invocations(&self) -> u32
+        ensures count { result ≡ invocations self.now }
+        ensures some { 0 < result }
+        ensures limit { result ≤ 1024 }
+    {
+        let _insts = self.insts();
+        let (x, y, z) = self.size();
+        x * y * z
     }
 
     /// How many functions the longest chain of calls from the entry point has, from 1 to 64.

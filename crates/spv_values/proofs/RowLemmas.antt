@@ -50,23 +50,18 @@ no_leaves = leaves_many []
 
 -- ---- scalars
 
-pub one_leaf : (v : Value) → IsSome (scalar_in (out-Value v)) → 0 < length (leaves v)
-one_leaf v h = level (out-Value v) refl h
+pub scalar_leaf : (v : Value) → IsSome (scalar_in (out-Value v)) → length (leaves v) ≡ 1
+scalar_leaf v h = level (out-Value v) refl h
   where
-    level : (l : Value-F Value) → out-Value v ≡ l → IsSome (scalar_in l) → 0 < length (leaves v)
-    level (Value-F.Scalar c) e h = let n : length (leaves v) ≡ 1 = ap length (scalar_row v c e) in omega (arith, n)
+    level : (l : Value-F Value) → out-Value v ≡ l → IsSome (scalar_in l) → length (leaves v) ≡ 1
+    level (Value-F.Scalar c) e h = ap length (scalar_row v c e)
     level (Value-F.List vs) e h = absurd cc
     level (Value-F.Ptr p) e h = absurd cc
+
+pub one_leaf : (v : Value) → IsSome (scalar_in (out-Value v)) → 0 < length (leaves v)
+one_leaf v h = omega (arith, scalar_leaf v h)
 
 pub one_set : (ls : List Cell) (c : Cell) → length ls ≡ 1 → leaves (Scalar c) ≡ slice_set ls 0 c
 one_set [] c h = absurd cc
 one_set (d ∷ []) c h = leaves_scalar c
 one_set (d ∷ e ∷ ls) c h = absurd cc
-
-pub one_row : (v : Value) (c : Cell) → IsSome (scalar_in (out-Value v)) → leaves (Scalar c) ≡ slice_set (leaves v) 0 c
-one_row v c h = level (out-Value v) refl h
-  where
-    level : (l : Value-F Value) → out-Value v ≡ l → IsSome (scalar_in l) → leaves (Scalar c) ≡ slice_set (leaves v) 0 c
-    level (Value-F.Scalar d) e h = leaves_scalar c ∙ ap (λ (ls : List Cell). slice_set ls 0 c) (sym (scalar_row v d e))
-    level (Value-F.List vs) e h = absurd cc
-    level (Value-F.Ptr p) e h = absurd cc

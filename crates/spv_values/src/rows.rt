@@ -1,9 +1,8 @@
 //! Rows that own their cells: variables, and the results of instructions.
-ghost use Rattle.std.specs.Prelude.{◌≡◌, ◌+◌, [], IfOk, IsSome, Some, length};
+ghost use Rattle.std.specs.Prelude.{◌≡◌, ◌+◌, [], IfOk, Some, length};
 ghost use Rattle.spv_base.specs.Parts.{part_at, with_part};
-ghost use Rattle.spv_base.specs.declared.values.Value.{Value, Scalar, List as Many, out-Value};
+ghost use Rattle.spv_base.specs.declared.values.Value.{Value, Scalar, List as Many};
 ghost use Rattle.spv_types.specs.Rows.{leaves};
-ghost use Rattle.spv_types.specs.Shapes.{scalar_in};
 ghost use Rattle.spv_values.specs.Places.{IsRowAt};
 
 use crate::parts::Part;
@@ -110,19 +109,9 @@ impl Row {
         Part::with_tree(&self.cells[start..start + len], part_of(&self.tree, path))
     }
 
-    /// Puts another scalar in the place of a scalar. It takes no memory.
-    #[tactic(auto, using(crate::proofs::RowLemmas::one_leaf, crate::proofs::RowLemmas::one_row))]
-    pub fn put_cell(&mut self, cell: Cell)
-        requires { IsSome (scalar_in (out-Value self.old)) }
-        ensures { self.new ≡ Scalar cell }
-    {
-        self.cells[0] = cell;
-        self.tree = scalar(&self.tree, &cell);
-    }
-
     /// Puts a scalar in the place of a value of one cell. It takes no memory.
     #[tactic(auto, using(spv_types::proofs::Exports::leaves_scalar, crate::proofs::RowLemmas::one_set))]
-    pub fn put_lane(&mut self, cell: Cell)
+    pub fn put_cell(&mut self, cell: Cell)
         requires { length (leaves self.old) ≡ 1 }
         ensures { self.new ≡ Scalar cell }
     {

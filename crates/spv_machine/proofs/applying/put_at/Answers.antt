@@ -1,16 +1,12 @@
-use Rattle.std.proofs.Common.{◌≡◌, ◌∙◌, ℕ, List, ap, rules, subst, sym}
+use Rattle.std.proofs.Common.{◌≡◌, ◌∙◌, ap, rules, subst, sym}
 use Rattle.spv_base.specs.declared.values.Pointer.{Pointer as Reference}
-use Rattle.spv_base.specs.declared.values.Root.{Root}
 use Rattle.spv_mem.specs.Memory.{MayStore}
 use Rattle.spv_actions.specs.Targets.{leading_to}
 use Rattle.spv_machine.proofs.applying.put_at.Goals as goal
 
-abbrev led_by : Root → List ℕ → Reference
-led_by r path = record { root = r; path = path }
-
 pub store-requires-clause-may : goal.store-requires-clause-may
 store-requires-clause-may c =
-    let there : c.args.target.now ≡ led_by c.in-Whole.root c.new.result = sym c.target.view_is ∙ ap leading_to c.in-Whole.is ∙ ap (led_by c.in-Whole.root) (sym c.new.ensures) in
+    let there : c.args.target.now ≡ c.whole-pointer.result = sym c.target.view_is ∙ ap leading_to c.in-Whole.is ∙ sym c.whole-pointer.ensures in
     subst (λ (q : Reference). ∥ MayStore c.args.recorded.now.state.memory c.args.inv q c.args.row.now ∥₁) there c.requires.fits.1
 
 pub store-requires-in-Part-clause-may : goal.store-requires-in-Part-clause-may

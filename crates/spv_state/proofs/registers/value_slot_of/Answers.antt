@@ -7,8 +7,8 @@ use Rattle.spv_plans.specs.Registered.{IsAt, IsOfFunction}
 use Rattle.spv_operands.proofs.Exports.{StandsIn, found_below, found_plan, plan_apart}
 use Rattle.spv_state.proofs.registers.value_slot_of.Goals as goal
 
-pub plan_at-plan-requires : goal.plan_at-plan-requires
-plan_at-plan-requires c =
+pub at-plan-requires : goal.at-plan-requires
+at-plan-requires c =
     let a = c.args.accepted.now in
     let r = c.in_ok-register.register in
     let at : IsAt a c.args.id r
@@ -28,16 +28,16 @@ value_slot-requires-clause-stands c =
     let r = c.in_ok-register.register in
     let at : IsAt a c.args.id r
     = c.registers_stand_once.ensures.found a c.args.id r c.insts-insts.ensures.accepted (sym (ap (λ (ps : List Planned). reads c.args.id (registers_of ps)) c.requires.plans) ∙ sym c.register.ensures ∙ c.in_ok-register.was) in
-    (found_plan a c.args.plans.now c.args.id r c.plan_at-plan.result.now c.requires.plans at c.plan_at-plan.ensures).stands
+    (found_plan a c.args.plans.now c.args.id r c.at-plan.result.now c.requires.plans at c.at-plan.ensures).stands
 
 pub value_slot-requires-clause-apart : goal.value_slot-requires-clause-apart
 value_slot-requires-clause-apart c =
     let a = c.args.accepted.now in
     let r = c.in_ok-register.register in
-    let p = c.plan_at-plan.result.now in
+    let p = c.at-plan.result.now in
     let at : IsAt a c.args.id r
     = c.registers_stand_once.ensures.found a c.args.id r c.insts-insts.ensures.accepted (sym (ap (λ (ps : List Planned). reads c.args.id (registers_of ps)) c.requires.plans) ∙ sym c.register.ensures ∙ c.in_ok-register.was) in
-    let stands : StandsIn a c.args.id r p = found_plan a c.args.plans.now c.args.id r p c.requires.plans at c.plan_at-plan.ensures in
+    let stands : StandsIn a c.args.id r p = found_plan a c.args.plans.now c.args.id r p c.requires.plans at c.at-plan.ensures in
     let of_function : IsOfFunction a p = c.plans_are_of_functions.ensures.plans a r.plan p stands.at in
     plan_apart a p of_function (c.registers_are_apart.ensures a p.function c.insts-insts.ensures.accepted)
 
@@ -45,9 +45,9 @@ pub returns-else-function : goal.returns-else-function
 returns-else-function c =
     let a = c.args.accepted.now in
     let r = c.in_ok-register.register in
-    let p = c.plan_at-plan.result.now in
+    let p = c.at-plan.result.now in
     let at : IsAt a c.args.id r
     = c.registers_stand_once.ensures.found a c.args.id r c.insts-insts.ensures.accepted (sym (ap (λ (ps : List Planned). reads c.args.id (registers_of ps)) c.requires.plans) ∙ sym c.register.ensures ∙ c.in_ok-register.was) in
-    let stands : StandsIn a c.args.id r p = found_plan a c.args.plans.now c.args.id r p c.requires.plans at c.plan_at-plan.ensures in
+    let stands : StandsIn a c.args.id r p = found_plan a c.args.plans.now c.args.id r p c.requires.plans at c.at-plan.ensures in
     (stands.alone c.requires.function.number (plan_of a c.args.function) c.requires.function.at
     (λ same. c.if-function.false (c.function.ensures ∙ sym same ∙ c.plans_are_of_functions.ensures.function a c.args.function))).values

@@ -3,7 +3,7 @@ use Rattle.spv_state.proofs.start.memory.Goals as goal
 
 pub enter_each-requires-clause-count : goal.enter_each-requires-clause-count
 enter_each-requires-clause-count c =
-    starting_count c.accepted-accepted.result.now c.setup.result.now c.in_ok-memory.memory c.invocations.result c.in_ok-memory.ensures c.invocations.ensures
+    starting_count c.accepted-accepted.result.now c.setup.result.now c.in_ok-memory.memory c.invocations.result c.in_ok-memory.ensures c.invocations.ensures.count
 
 pub enter_each-requires-clause-types : goal.enter_each-requires-clause-types
 enter_each-requires-clause-types c = starting_types c.accepted-accepted.result.now c.setup.result.now c.in_ok-memory.memory c.in_ok-memory.ensures

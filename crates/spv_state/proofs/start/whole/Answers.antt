@@ -34,5 +34,5 @@ invariant_of-result-2 c =
 pub returns : goal.returns
 returns c =
     start_is c.args.m.now c.accepted-accepted.result.now _ c.in_ok-memory.field-0 c.in_ok-stacks.stacks.items c.in_ok-new.field-0 c.entry_plan-plan.result.now.value c.invocations-count.result c.depth.result
-    c.words_of.result c.accepted-accepted.ensures.module (c.plans.view_is ∙ c.in_ok-plans.ensures.are) c.in_ok-memory.ensures c.entry_plan-plan.ensures c.invocations-count.ensures c.depth.ensures
+    c.words_of.result c.accepted-accepted.ensures.module (c.plans.view_is ∙ c.in_ok-plans.ensures.are) c.in_ok-memory.ensures c.entry_plan-plan.ensures c.invocations-count.ensures.count c.depth.ensures
     c.in_ok-stacks.ensures c.words_of.ensures c.in_ok-new.ensures

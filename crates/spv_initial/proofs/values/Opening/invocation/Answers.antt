@@ -1,5 +1,5 @@
 use Rattle.std.proofs.Common.{subst, sym}
-use Rattle.spv_initial.proofs.StartLemmas.{IsFit, size_fits, size_holds}
+use Rattle.spv_valid.proofs.Exports.{IsFit, size_fits, size_holds}
 use Rattle.spv_initial.proofs.values.Opening.invocation.Goals as goal
 
 pub returns-clause-x : goal.returns-clause-x

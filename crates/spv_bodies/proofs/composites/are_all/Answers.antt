@@ -1,6 +1,0 @@
-use Rattle.std.proofs.Common.{arith}
-use Rattle.std.proofs.lemmas.Grind.{common_steps}
-use Rattle.spv_bodies.proofs.composites.are_all.Goals as goal
-
-pub loop-operand-preserved : goal.loop-operand-preserved
-loop-operand-preserved c = grind (arith, common_steps)

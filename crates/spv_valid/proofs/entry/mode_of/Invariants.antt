@@ -1,8 +1,0 @@
-use Rattle.std.proofs.Common.{◌≡◌, drop}
-use Rattle.std.specs.List.{find}
-use Rattle.spv_valid.specs.Entry as spec
-use Rattle.spv_valid.proofs.entry.mode_of.Given as goal
-
--- none of the instructions so far is it
-abbrev pub invariant-loop-inst : goal.invariant-loop-inst
-invariant-loop-inst l = find (spec.is_mode l.op l.mode l.function) l.insts ≡ find (spec.is_mode l.op l.mode l.function) (drop l.inst-index l.insts)
