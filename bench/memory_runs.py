@@ -14,11 +14,13 @@ TOP = os.path.join(os.path.dirname(os.path.abspath(__file__)), "..")
 DATA = os.path.join(TOP, "crates", "spv_runs", "data")
 SHADERS = os.path.join(TOP, "bench", "shaders")
 GLSLANG = ["glslangValidator", "-V", "--target-env", "vulkan1.1"]
+LAID_OUT = ["glslangValidator", "-V", "-g0", "--target-env", "vulkan1.2"]
 GLSLC = ["glslc", "--target-env=vulkan1.2"]
 ASSEMBLER = ["spirv-as", "--target-env", "spv1.3"]
 COMPILED = [
     ("structs-glslang", GLSLANG, "structs.comp"), ("structs-glslc", GLSLC, "structs.comp"),
     ("nested-glslang", GLSLANG, "nested.comp"), ("nested-glslc", GLSLC, "nested.comp"),
+    ("layouts", LAID_OUT, "layouts.comp"),
     ("copies", ASSEMBLER, "copies.spvasm"), ("lengths", ASSEMBLER, "lengths.spvasm"),
     ("undefined", ASSEMBLER, "undefined.spvasm"), ("large", ASSEMBLER, "large.spvasm"),
 ]
@@ -346,6 +348,13 @@ NESTED = {
     },
     "push": b"",
 }
+def counted(size, first):
+    """So many bytes, each one more than the one before it."""
+    return bytes((first + n) % 256 for n in range(size))
+
+
+# The last element of the runtime array of binding 1 is cut where the bytes end.
+LAYOUTS = {"buffers": {(0, n): counted(size, 64 * n + 1) for n, size in enumerate((192, 175, 92, 15, 24))}, "push": b""}
 COPIES = {"buffers": {(0, 0): words(0, 0) + words(1, 0, 2, 3) + words(4, 0, 5, 6) + words(7, 0, 8, 9) + words(10, 0, 11, 12)}, "push": b""}
 ROW = {"buffers": {(0, 0): bytes(20)}, "push": b""}
 
@@ -356,6 +365,11 @@ RUNS = [
     ("nested-glslang", "nested-glslang", NESTED, {}, (5, 30)),
     ("nested-glslang-specialized", "nested-glslang", NESTED, {0: 5}, ()),
     ("nested-glslc", "nested-glslc", NESTED, {0: 3}, (20,)),
+    ("layouts", "layouts", LAYOUTS, {}, (10, 40, 75)),
+    ("layouts-first", "layouts", LAYOUTS, {0: 0, 1: 4}, (75,)),
+    ("layouts-behind-the-structs", "layouts", LAYOUTS, {0: 2}, ()),
+    ("layouts-before-the-structs", "layouts", LAYOUTS, {0: 0xFFFFFFFF}, ()),
+    ("layouts-behind-the-bytes", "layouts", LAYOUTS, {1: 5}, ()),
     ("copies", "copies", COPIES, {}, (5, 9, 14)),
     ("lengths", "lengths", ROW, {}, (1, 3)),
     ("lengths-none", "lengths", {"buffers": {(0, 0): bytes(4)}, "push": b""}, {}, (1,)),

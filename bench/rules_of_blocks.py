@@ -97,6 +97,25 @@ CALLS = [
 ]
 
 
+# A variable of a class whose variables point to blocks, in a function: what is decorated, the types that it needs, and the variable. The rules of
+# layout look at the block that it points to, if it does, and at its set and binding; then those of functions and of bodies.
+SET, BINDING = inst("Decorate", 13, 34, 0), inst("Decorate", 13, 33, 0)
+BLOCK, OFFSET = inst("Decorate", 40, 2), inst("MemberDecorate", 40, 0, 35, 0)
+STRUCT, TO_STRUCT = inst("TypeStruct", 40, 3), inst("TypePointer", 41, 12, 40)
+UNIFORM, PUSHED, BUFFER = ([inst("Variable", 41, 13, class_)] for class_ in (2, 9, 12))
+TO_UNIFORM, TO_PUSHED = [inst("TypePointer", 41, 2, 3)], [inst("TypePointer", 41, 9, 3)]
+VARIABLES = [
+    ("a Uniform to no block, with set and binding", [SET, BINDING], TO_UNIFORM, UNIFORM, (12, 2)),
+    ("a Uniform to no block without a binding", [SET], TO_UNIFORM, UNIFORM, (13, 2)),
+    ("a Uniform to no block without a set", [BINDING], TO_UNIFORM, UNIFORM, (13, 2)),
+    ("a PushConstant to no block", [], TO_PUSHED, PUSHED, (12, 2)),
+    ("a StorageBuffer to a struct that is no block", [SET, BINDING], [STRUCT, TO_STRUCT], BUFFER, (12, 2)),
+    ("a StorageBuffer to a block without an offset", [BLOCK, SET, BINDING], [STRUCT, TO_STRUCT], BUFFER, (13, 2)),
+    ("a StorageBuffer to a block", [BLOCK, OFFSET, SET, BINDING], [STRUCT, TO_STRUCT], BUFFER, (12, 2)),
+    ("a Uniform to no block before a variable", [SET, BINDING], TO_UNIFORM, UNIFORM + [ANOTHER], (15, 3)),
+]
+
+
 def behind(front, body, due):
     """The functions behind the front of a module; what is due is counted from the first of them on."""
     return front + MAIN + body, due and (due[0], due[1] + len(front) + len(MAIN))
@@ -118,6 +137,9 @@ def rules_of_blocks():
         yield Rule(what, *behind(FRONT, body, due))
     for what, types, words, due in SWITCHES:
         yield Rule(what, *behind(FRONT + types, [FUNCTION, FIRST, inst("Switch", 41, *words), SECOND, RETURN, END], due))
+    for what, decorations, types, variables, due in VARIABLES:
+        front = FRONT[:4] + decorations + FRONT[4:] + types
+        yield Rule(what + ", in a function", *behind(front, [FUNCTION, FIRST, *variables, RETURN, END], due))
     for count, group, due in ((64, 64, None), (65, 65, (16, 0)), (130, 65, (16, 0)), (256, 64, None)):
         yield Rule("%d functions in chains of %d" % (count, group), *behind(FRONT, chains(count, group), due))
 

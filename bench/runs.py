@@ -5,8 +5,8 @@
 
 A call of a file `*.runs` is a line `== WHAT: MODULE: WORDS`, the text of the setup, and behind `-- commands` the input. The
 transcripts are worked out by hand from the manual, docs/SETUP.md and the standard; the numbers in runs_of_values.py and
-arithmetic.py by Python, and those of memory.runs, flow.runs and group.runs by the interpreters memory_runs.py, flow.py and
-group_runs.py. None is taken from the program that is tested.
+arithmetic.py by Python, and those of memory.runs, flow.runs and group.runs, and of the runs that docs/MANUAL.md speaks of, by the
+interpreters memory_runs.py, flow.py, group_runs.py and manual_runs.py. None is taken from the program that is tested.
 """
 import os
 import struct
@@ -14,6 +14,7 @@ import arithmetic
 import flow
 import group_runs
 import make
+import manual_runs
 import memory_runs
 import runs_of_setups as setups
 import runs_of_values as values
@@ -51,6 +52,7 @@ COMMANDS = [
     ("goto -1\n", ARGUMENTS),
     ("goto 1\r\n", ARGUMENTS),
     ("regs 1\n", ARGUMENTS),
+    ("fwd x\nback x\nfwd 0\nback 0\n", 4 * ARGUMENTS),
     ("quit now\nquit\ngoto 1\n", ARGUMENTS),
     (" " * 4096 + "\n", ""),
     (" " * 4097 + "\n", "refused: C11 line too long\n"),
@@ -139,7 +141,7 @@ def calls():
     """By file: what each call is, the module, the words, the setup, the commands, the status and what is written."""
     yield "commands.runs", [("commands", "first.spv", DEBUG, TEN_ROUNDS, commands, DONE, out) for commands, out in COMMANDS] + [
         ("schedules", "first-big.spv", DEBUG, setup, commands, DONE, out) for setup, commands, out in SCHEDULES
-    ] + [("assembled", name, DEBUG, "spvdbg-setup 1\nrounds 20\n", commands, DONE, out) for name, commands, out in ASSEMBLED]
+    ] + [("assembled", name, DEBUG, "spvdbg-setup 1\nrounds 20\n", commands, DONE, out) for name, commands, out in ASSEMBLED] + list(manual_runs.calls())
     yield "words.runs", [("words", "first.spv", words, TEN_ROUNDS, "goto 1\n", status, out) for words, status, out in WORDS] + [
         ("a listing", "first.spv", "spvdbg text module", "", "goto 1\n", DONE, LISTING)
     ] + [

@@ -10,10 +10,10 @@ use Rattle.spv_mem.specs.Memory.{load_of}
 use Rattle.spv_frame.specs.Registers.{IsSlotOf}
 use Rattle.spv_state.specs.Sources.{slot_of}
 use Rattle.spv_state.specs.declared.predecoded.CellSlot.{CellSlot}
-use Rattle.spv_actions.specs.Effects as spec
-use Rattle.spv_actions.specs.Effects.{gives, sets}
-use Rattle.spv_actions.specs.Fits.{Fits}
-use Rattle.spv_actions.specs.Sites.{Site, due}
+use Rattle.spv_sites.specs.Effects as spec
+use Rattle.spv_sites.specs.Effects.{gives, sets}
+use Rattle.spv_sites.specs.Fits.{Fits}
+use Rattle.spv_sites.specs.Sites.{Site, due}
 use Rattle.spv_actions.specs.declared.cells.CellEffect.{CellEffect}
 use Rattle.spv_actions.specs.declared.cells.CellEffect.TheVariants.{Gives, Sets}
 

@@ -5,13 +5,14 @@ ghost use Rattle.spv_results.specs.Computations.{computation_of};
 ghost use Rattle.spv_state.specs.Actions.{action_of};
 ghost use Rattle.spv_state.specs.Predecoded.{IsNamedAt, IsReadAt, IsResultAt, IsShort};
 
-use crate::accesses::variables_are_shaped;
-use crate::computing_lanes::binary_single;
-use crate::kept::{is_kept, load_is_kept, store_is_kept};
-use crate::sites::Site;
+use spv_accesses::accesses::variables_are_shaped;
+use spv_accesses::kept::{load_is_kept, store_is_kept};
 use spv_alu::BinaryOp;
 use spv_base::Root;
+use spv_computing::computing_lanes::binary_single;
+use spv_computing::kept::is_kept;
 use spv_results::Computation;
+use spv_sites::Site;
 use spv_state::{Action, CellSlot, Short, Source, VariableName};
 use spv_values::Single;
 

@@ -1,83 +1,25 @@
-//! What an instruction does to a world, before any of it is done.
+//! What an instruction does to a world, before any of it is done, or why it faults.
 ghost use Rattle.std.specs.Prelude.{◌≡◌, ◌<◌, IfOk, Some, length};
 ghost use Rattle.spv_index.specs.Definitions.{at};
-ghost use Rattle.spv_actions.specs.Planned.{IsDue, IsTaken, PlannedFits};
-ghost use Rattle.spv_actions.specs.Instructions as spec;
+ghost use Rattle.spv_sites.specs.Planned.{IsDue, IsTaken, PlannedFits};
+ghost use Rattle.spv_sites.specs.Instructions as spec;
 ghost use Rattle.spv_state.specs.Sound.{IsSound};
 ghost use Rattle.spv_state.specs.State as state;
 
-use crate::accesses::{copy_memory, load, store};
-use crate::atomics::atomic;
-use crate::barriers::{control_barrier, memory_barrier};
-use crate::branches::{branch, branch_conditional, switch};
-use crate::calls::{call, return_value};
-use crate::causes::Cause;
-use crate::chains::chain;
-use crate::computing::compute;
-use crate::lengths::array_length;
-use crate::sites::Site;
-use crate::targets::Target;
-use spv_base::{Cell, Fail, Inst, Pointer};
+use spv_accesses::accesses::{copy_memory, load, store};
+use spv_accesses::atomics::atomic;
+use spv_accesses::chains::chain;
+use spv_accesses::lengths::array_length;
+use spv_base::{Fail, Inst};
+use spv_computing::computing::compute;
+use spv_control::barriers::{control_barrier, memory_barrier};
+use spv_control::branches::{branch, branch_conditional, switch};
+use spv_control::calls::{call, return_value};
 use spv_frame::Frame;
-use spv_mem::Locals;
+use spv_sites::{Cause, Control, Effect, Gain, Site};
 use spv_state::{Action, Runnable, Whole};
 use spv_values::Row;
 use std::alloc::Global;
-
-/// The value that a phi takes.
-#[derive(Drop)]
-pub struct PhiValue {
-    pub id: u32,
-    pub row: Row,
-}
-
-/// A frame that a call makes, with its variables.
-#[derive(Drop)]
-pub struct Entered {
-    pub frame: Frame,
-    pub locals: Locals,
-}
-
-/// Where control goes.
-#[derive(Drop)]
-pub enum Control {
-    /// To the next executable of the block.
-    Next,
-    /// To a block of the function, whose phis all take their values at once.
-    Jump { block: u32, phis: Vec<PhiValue> },
-    /// Into a function: a frame with its variables, above the one that calls. It is boxed, so that an effect is small.
-    Enter(Box<Entered>),
-    /// Out of the function, which gives nothing.
-    Leave,
-    /// Out of the function, which gives the value in the row at hand.
-    Give,
-    /// Nowhere: the invocation waits at the barrier.
-    Wait,
-}
-
-/// What the register of the instruction takes.
-#[derive(Drop)]
-pub enum Gain {
-    Nothing,
-    /// The value in the row at hand.
-    Row,
-    /// A pointer, boxed as a new frame is.
-    Pointer(Box<Pointer>),
-    /// The scalar that the store hands back.
-    Handed(Cell),
-}
-
-/// What an instruction does. A value that it stores, that its register takes or that it gives lies in a row beside it.
-#[derive(Drop)]
-pub struct Effect {
-    /// Where memory is set.
-    pub store: Option<Target>,
-    pub gain: Gain,
-    pub control: Control,
-}
-
-/// An effect is moved twice an event.
-const _: () = prove!(size_of::<Effect>() <= 96);
 
 /// What an instruction does at which the top frame of an invocation stands, or why it faults. What it does can be done.
 pub fn effect_at(

@@ -7,11 +7,11 @@ use Rattle.spv_base.specs.Outside.{Told, Asked, Holds, HoldsMore, Asks, Reads, C
 use Rattle.spv_base.specs.declared.causes.FileErr.{FileErr}
 use Rattle.spv_base.specs.declared.causes.FileErr.TheVariants.{Failed, TooLong}
 use Rattle.spv_base.specs.declared.causes.FileErr.TheVariants as error
-use Rattle.spv_app.specs.declared.status.Status.{Status}
-use Rattle.spv_app.specs.declared.status.Status.TheVariants.{FileFault, ReadFault, WriteFault, NoMemory}
+use Rattle.spv_loop.specs.declared.status.Status.{Status}
+use Rattle.spv_loop.specs.declared.status.Status.TheVariants.{FileFault, ReadFault, WriteFault, NoMemory}
 use Rattle.spv_app.specs.CommandLine.{name_after}
 use Rattle.spv_app.specs.Debug.{SaysLine}
-use Rattle.spv_app.specs.FileStatus.{status_of_file}
+use Rattle.spv_loop.specs.FileStatus.{status_of_file}
 use Rattle.spv_app.specs.Limits.{binary_limit}
 use Rattle.spv_app.specs.Outside.{Library}
 use Rattle.spv_app.specs.Checking.{Answered, Unread, Read, SaysUnread}

@@ -6,15 +6,16 @@ use Rattle.std.specs.declared.alloc.Global.{Global}
 use Rattle.spv_base.specs.Outside.{Holds, HoldsMore}
 use Rattle.spv_group.specs.Group.{Held as Group}
 use Rattle.spv_session.specs.View.{View, first_view}
-use Rattle.spv_app.specs.declared.status.Status.{Status}
-use Rattle.spv_app.specs.declared.status.Status.TheVariants.{Done, Usage, ModuleRefused, SetupRefused, FileFault, ReadFault, WriteFault, NoMemory, InputTooLong, FileTooLong}
+use Rattle.spv_loop.specs.declared.status.Status.{Status}
+use Rattle.spv_loop.specs.declared.status.Status.TheVariants.{Done, Usage, ModuleRefused, SetupRefused, FileFault, ReadFault, WriteFault, NoMemory, InputTooLong, FileTooLong}
 use Rattle.spv_app.specs.declared.opening.OpeningRefusal.{OpeningRefusal}
-use Rattle.spv_app.specs.Lines.{lines_of}
-use Rattle.spv_app.specs.Transcript.{transcript}
+use Rattle.spv_loop.specs.Lines.{lines_of}
+use Rattle.spv_loop.specs.Transcript.{transcript}
 use Rattle.spv_app.specs.CommandLine.{PairNames, debug_names}
-use Rattle.spv_app.specs.CommandLoop.{Says, with_rest}
+use Rattle.spv_loop.specs.CommandLoop.{Says, with_rest}
 use Rattle.spv_app.specs.Opening.{opening, refusal_line}
-use Rattle.spv_app.specs.Limits.{binary_limit, setup_limit, input_limit}
+use Rattle.spv_app.specs.Limits.{binary_limit, setup_limit}
+use Rattle.spv_loop.specs.Limits.{input_limit}
 use Rattle.spv_app.specs.Outside.{Library, Outside}
 use Rattle.spv_app.specs.Debug.{Debugged, Unopened, Refused, Opened, IsPair, IsTooLong, SaysLine, status_of_refusal, due_text, due_status}
 

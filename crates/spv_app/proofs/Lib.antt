@@ -1,12 +1,6 @@
-mod Spending
 mod Openings
-mod Transcripts
-mod Pieces
-mod Cuts
-mod Runs
 mod Headlines
 mod Checks
-mod Splits
 mod Readings
 mod Decodings
 mod OpeningLemmas

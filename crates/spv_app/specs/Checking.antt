@@ -7,8 +7,8 @@ use Rattle.spv_base.specs.declared.causes.Refusal.{Refusal}
 use Rattle.spv_words.specs.Words.{words_of}
 use Rattle.spv_app.specs.declared.checking.Report.{Report}
 use Rattle.spv_app.specs.declared.opening.OpeningRefusal.TheVariants.{Module}
-use Rattle.spv_app.specs.declared.status.Status.{Status}
-use Rattle.spv_app.specs.declared.status.Status.TheVariants.{Done, ModuleRefused, FileFault, NoMemory, FileTooLong}
+use Rattle.spv_loop.specs.declared.status.Status.{Status}
+use Rattle.spv_loop.specs.declared.status.Status.TheVariants.{Done, ModuleRefused, FileFault, NoMemory, FileTooLong}
 use Rattle.spv_app.specs.Acceptance.{accepted_of}
 use Rattle.spv_app.specs.Opening.{refusal_line}
 use Rattle.spv_app.specs.Debug.{SaysLine}

@@ -1,14 +1,8 @@
 pub mod Limits
-pub mod Lines
 pub mod Outside
-pub mod Transcript
-pub mod CommandLoop
-pub mod Stops
 pub mod Acceptance
 pub mod Opening
 pub mod Checking
 pub mod Texting
 pub mod CommandLine
 pub mod Debug
-pub mod FileStatus
-pub mod StatusNumbers

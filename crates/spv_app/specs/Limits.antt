@@ -1,4 +1,4 @@
--- How much is read.
+-- How much of files is read.
 use Rattle.std.specs.Prelude.{ℕ}
 
 -- the most bytes of a module, and of a setup
@@ -7,15 +7,3 @@ binary_limit = 4194304
 
 abbrev pub setup_limit : ℕ
 setup_limit = 67108864
-
--- the most bytes of an input
-abbrev pub input_limit : ℕ
-input_limit = 16777216
-
--- the most bytes that one read takes
-abbrev pub piece_limit : ℕ
-piece_limit = 4096
-
--- the most bytes that are taken behind a line's LF before its reply is written: those of the read that took the LF
-abbrev pub most_behind : ℕ
-most_behind = 4095

@@ -1,6 +1,7 @@
 -- What the outside of a call tells: the files, the input, the output, and the count of steps.
-use Rattle.std.specs.Prelude.{ℕ, List, Option}
+use Rattle.std.specs.Prelude.{ℕ, List}
 use Rattle.spv_base.specs.Outside.{Told, Asked}
+use Rattle.spv_loop.specs.Streams.{Streams}
 
 pub record Library : Type 0 where
   pub told : Told  -- the contents of the files by their names
@@ -8,10 +9,9 @@ pub record Library : Type 0 where
   pub taken : ℕ  -- how many bytes the last call took
   pub failed : List ℕ  -- the name whose reading failed last
 
-pub record Streams : Type 0 where
-  pub left : Option (List ℕ)  -- the bytes that the input has left
-  pub held : Option (List ℕ)  -- the bytes that the output has taken
-  pub steps : ℕ  -- how many steps were counted
+-- what files tell, by the meanings of their trait
+abbrev pub library : {F : Type 0} → (contents : F → Told) → (asked : F → Asked) → (taken : F → ℕ) → (failed : F → List ℕ) → F → Library
+library contents asked taken failed files = record { told = contents files; asked = asked files; taken = taken files; failed = failed files }
 
 pub record Outside : Type 0 where
   pub files : Library

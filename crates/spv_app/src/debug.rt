@@ -1,23 +1,24 @@
 //! The top call.
-ghost use Rattle.std.specs.Prelude.{◌≡◌, ◌≢◌, ◌↔◌, ◌⊎◌, ◌<◌, ◌≤◌, ◌-◌, ◌^◌, [], ◌∷◌, ◌++◌, List, ℕ, Option, Some, None, All, vec_len, length, IfOk, IfErr, IsOk, IsErrOf};
+ghost use Rattle.std.specs.Prelude.{◌≡◌, ◌≢◌, ◌↔◌, ◌⊎◌, ◌<◌, ◌≤◌, ◌+◌, ◌-◌, ◌^◌, [], ◌∷◌, ◌++◌, List, ℕ, Option, Some, None, All, vec_len, length, IfOk, IfErr, IsOk, IsErrOf};
 ghost use Rattle.std.specs.Io.KnownBytes.{Appends};
 ghost use Rattle.spv_app.specs.CommandLine.{PairNames, debug_names, check_name, text_name, usage_line};
 ghost use Rattle.spv_base.specs.Answers.{Answers};
 ghost use Rattle.spv_app.specs.Opening.{opening, refusal_line, viewed};
+ghost use Rattle.spv_app.specs.Outside.{library};
 ghost use Rattle.spv_app.specs.Debug.{Debugged, IsPair, IsOneOf, SaysLine, SaysUnopened, status_of_refusal, due_text, due_status};
 ghost use Rattle.spv_base.specs.Outside.{AsksFor};
-ghost use Rattle.spv_app.specs.FileStatus.{status_of_file};
-ghost use Rattle.spv_app.specs.Limits.{binary_limit, setup_limit, input_limit};
+ghost use Rattle.spv_loop.specs.FileStatus.{status_of_file};
+ghost use Rattle.spv_app.specs.Limits.{binary_limit, setup_limit};
+ghost use Rattle.spv_loop.specs.Limits.{input_limit};
 ghost use Rattle.spv_app.specs.Checking.{Checked, checking, check_line, check_status, report_line};
 ghost use Rattle.spv_app.specs.Texting.{Texted, texting, text_line, text_status};
 
 use crate::checking::{Report, check_bytes};
-use crate::command_loop::run;
 use crate::limits::{BINARY_LIMIT, SETUP_LIMIT};
 use crate::opening::{OpeningRefusal, open};
-use crate::status::Status;
 use crate::texting::text_of_bytes;
 use spv_base::{Fail, Failed, FileErr, Files, Probe, Sink, Source, Steps, write_all};
+use spv_loop::{Status, run};
 use spv_session::Session;
 use std::alloc::Global;
 use std::sync::ledger::Ledger;
@@ -74,8 +75,8 @@ fn read_pair<F: Files>(
     ensures counted { F.faults files.old ≤ F.faults files.new }
     ensures name { IsErrOf result FileErr.Failed → (F.failed_name files.new ≡ binary_name.now) ⊎ (F.failed_name files.new ≡ setup_name.now) }
     ensures says { IfErr result (λ error. SaysUnopened (record { binary = binary_name.now; setup = setup_name.now })
-        (record { told = F.contents files.old; asked = F.asked files.old; taken = F.taken files.old; failed = F.failed_name files.old })
-        (record { told = F.contents files.new; asked = F.asked files.new; taken = F.taken files.new; failed = F.failed_name files.new }) (status_of_file error)) }
+        (library F.contents F.asked F.taken F.failed_name files.old)
+        (library F.contents F.asked F.taken F.failed_name files.new) (status_of_file error)) }
 {
     let binary = files.read_all(alloc, binary_name, BINARY_LIMIT)?;
     let setup = files.read_all(alloc, setup_name, SETUP_LIMIT)?;
@@ -116,13 +117,14 @@ fn debug<F: Files, I: Source, K: Sink, L: Ledger>(
     requires input { I.faults input.old < 2 ^ 64 - 1 }
     requires out { K.faults out.old < 2 ^ 64 - 1 }
     ensures debugged { Debugged (record { binary = binary_name.now; setup = setup_name.now })
-        (record { files = record { told = F.contents files.old; asked = F.asked files.old; taken = F.taken files.old; failed = F.failed_name files.old }; streams = record { left = I.left input.old; held = K.taken out.old; steps = steps.old } })
-        (record { files = record { told = F.contents files.new; asked = F.asked files.new; taken = F.taken files.new; failed = F.failed_name files.new }; streams = record { left = I.left input.new; held = K.taken out.new; steps = steps.new } }) (input.new ≡ input.old) result }
+        (record { files = library F.contents F.asked F.taken F.failed_name files.old; streams = record { left = I.left input.old; held = K.taken out.old; offers = K.offers out.old; steps = steps.old } })
+        (record { files = library F.contents F.asked F.taken F.failed_name files.new; streams = record { left = I.left input.new; held = K.taken out.new; offers = K.offers out.new; steps = steps.new } }) (input.new ≡ input.old) result }
     ensures file_fault { (result ≡ Status.FileFault) ↔ (F.faults files.old < F.faults files.new) }
     ensures file_name { result ≡ Status.FileFault → (F.failed_name files.new ≡ binary_name.now) ⊎ (F.failed_name files.new ≡ setup_name.now) }
     ensures read_fault { (result ≡ Status.ReadFault) ↔ (I.faults input.old < I.faults input.new) }
     ensures write_fault { (result ≡ Status.WriteFault) ↔ (K.faults out.old < K.faults out.new) }
     ensures counted { (F.faults files.old ≤ F.faults files.new) × (I.faults input.old ≤ I.faults input.new) × (K.faults out.old ≤ K.faults out.new) }
+    ensures ends { I.ends input.new ≤ I.ends input.old + 1 }
 {
     let (binary, setup) = match read_pair(alloc, files, binary_name, setup_name) {
         Ok(pair) => pair,
@@ -153,8 +155,8 @@ fn check<F: Files, K: Sink>(alloc: Global, binary_name: &str, files: &mut F, out
     requires files { F.faults files.old < 2 ^ 64 - 1 }
     requires out { K.faults out.old < 2 ^ 64 - 1 }
     ensures checked { Checked binary_name.now
-        (record { told = F.contents files.old; asked = F.asked files.old; taken = F.taken files.old; failed = F.failed_name files.old })
-        (record { told = F.contents files.new; asked = F.asked files.new; taken = F.taken files.new; failed = F.failed_name files.new }) (K.taken out.old) (K.taken out.new) result }
+        (library F.contents F.asked F.taken F.failed_name files.old)
+        (library F.contents F.asked F.taken F.failed_name files.new) (K.taken out.old) (K.taken out.new) result }
     ensures file_fault { (result ≡ Status.FileFault) ↔ (F.faults files.old < F.faults files.new) }
     ensures file_name { result ≡ Status.FileFault → F.failed_name files.new ≡ binary_name.now }
     ensures no_read { result ≢ Status.ReadFault }
@@ -177,8 +179,8 @@ fn text<F: Files, K: Sink>(alloc: Global, binary_name: &str, files: &mut F, out:
     requires files { F.faults files.old < 2 ^ 64 - 1 }
     requires out { K.faults out.old < 2 ^ 64 - 1 }
     ensures texted { Texted binary_name.now
-        (record { told = F.contents files.old; asked = F.asked files.old; taken = F.taken files.old; failed = F.failed_name files.old })
-        (record { told = F.contents files.new; asked = F.asked files.new; taken = F.taken files.new; failed = F.failed_name files.new }) (K.taken out.old) (K.taken out.new) result }
+        (library F.contents F.asked F.taken F.failed_name files.old)
+        (library F.contents F.asked F.taken F.failed_name files.new) (K.taken out.old) (K.taken out.new) result }
     ensures file_fault { (result ≡ Status.FileFault) ↔ (F.faults files.old < F.faults files.new) }
     ensures file_name { result ≡ Status.FileFault → F.failed_name files.new ≡ binary_name.now }
     ensures no_read { result ≢ Status.ReadFault }
@@ -251,18 +253,18 @@ pub fn debug_main<F: Files, I: Source, K: Sink, L: Ledger>(
     // What each status says, whatever was told and whatever failed.
     ensures debugged { (names : PairNames) → debug_names words.now ≡ Some names
         → Debugged names
-        (record { files = record { told = F.contents files.old; asked = F.asked files.old; taken = F.taken files.old; failed = F.failed_name files.old }; streams = record { left = I.left input.old; held = K.taken out.old; steps = steps.old } })
-        (record { files = record { told = F.contents files.new; asked = F.asked files.new; taken = F.taken files.new; failed = F.failed_name files.new }; streams = record { left = I.left input.new; held = K.taken out.new; steps = steps.new } }) (input.new ≡ input.old) result }
+        (record { files = library F.contents F.asked F.taken F.failed_name files.old; streams = record { left = I.left input.old; held = K.taken out.old; offers = K.offers out.old; steps = steps.old } })
+        (record { files = library F.contents F.asked F.taken F.failed_name files.new; streams = record { left = I.left input.new; held = K.taken out.new; offers = K.offers out.new; steps = steps.new } }) (input.new ≡ input.old) result }
     ensures checked { (name : List ℕ) → check_name words.now ≡ Some name
         → (input.new ≡ input.old) × (steps.new ≡ steps.old)
         × Checked name
-        (record { told = F.contents files.old; asked = F.asked files.old; taken = F.taken files.old; failed = F.failed_name files.old })
-        (record { told = F.contents files.new; asked = F.asked files.new; taken = F.taken files.new; failed = F.failed_name files.new }) (K.taken out.old) (K.taken out.new) result }
+        (library F.contents F.asked F.taken F.failed_name files.old)
+        (library F.contents F.asked F.taken F.failed_name files.new) (K.taken out.old) (K.taken out.new) result }
     ensures texted { (name : List ℕ) → text_name words.now ≡ Some name
         → (input.new ≡ input.old) × (steps.new ≡ steps.old)
         × Texted name
-        (record { told = F.contents files.old; asked = F.asked files.old; taken = F.taken files.old; failed = F.failed_name files.old })
-        (record { told = F.contents files.new; asked = F.asked files.new; taken = F.taken files.new; failed = F.failed_name files.new }) (K.taken out.old) (K.taken out.new) result }
+        (library F.contents F.asked F.taken F.failed_name files.old)
+        (library F.contents F.asked F.taken F.failed_name files.new) (K.taken out.old) (K.taken out.new) result }
     ensures usage { debug_names words.now ≡ None → check_name words.now ≡ None → text_name words.now ≡ None
         → (files.new ≡ files.old) × (input.new ≡ input.old) × (steps.new ≡ steps.old)
         × ((put : List ℕ) × Appends (K.taken out.old) (K.taken out.new) put × SaysLine Status.Usage usage_line result put) }
@@ -274,6 +276,9 @@ pub fn debug_main<F: Files, I: Source, K: Sink, L: Ledger>(
     ensures read_fault { (result ≡ Status.ReadFault) ↔ (I.faults input.old < I.faults input.new) }
     ensures write_fault { (result ≡ Status.WriteFault) ↔ (K.faults out.old < K.faults out.new) }
     ensures counted { (F.faults files.old ≤ F.faults files.new) × (I.faults input.old ≤ I.faults input.new) × (K.faults out.old ≤ K.faults out.new) }
+
+    // The input isn't read again once its end was told.
+    ensures ends { I.ends input.new ≤ I.ends input.old + 1 }
 {
     match words {
         [_, command, binary, setup] if command.as_str() == "debug" => debug(

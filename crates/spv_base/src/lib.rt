@@ -15,6 +15,7 @@ pub mod outside;
 pub mod probes;
 pub mod real;
 pub mod streams;
+mod told;
 pub mod values;
 
 pub use causes::{CmdRefusal, Fail, Failed, FileErr, MemErr, NoMemory, Refusal, SetupRefusal};

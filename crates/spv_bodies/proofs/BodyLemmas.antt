@@ -1,6 +1,7 @@
 -- The breaches of bodies, one instruction after another.
 use Rattle.std.proofs.Common.{◌≡◌, ◌∙◌, ℕ, ◌+◌, ◌-◌, ◌<◌, ◌≤◌, suc, Bool, true, false, List, [], ◌∷◌, ◌++◌, length, get_or, take, drop, drop-cons, drop_of_length-le, add-one, Result, Ok, Err, Some, refl, sym, ap, subst, length-take-le, arith}
 use Rattle.std.specs.Prelude.{if◌then◌else◌, ◌==◌}
+use Rattle.spv_base.proofs.Exports.{rest_of}
 use Rattle.spv_base.specs.Answers.{Answers}
 use Rattle.spv_base.specs.declared.causes.Fail.{Fail}
 use Rattle.spv_base.specs.declared.causes.Refusal.{Refusal}
@@ -9,7 +10,6 @@ use Rattle.spv_consts.specs.Table.{Constants}
 use Rattle.spv_types.specs.Build.{unless_refused}
 use Rattle.spv_types.specs.Types.{Types}
 use Rattle.spv_index.specs.Definitions.{before_functions}
-use Rattle.spv_types.proofs.Exports.{tail_is}
 use Rattle.spv_types.specs.InterfaceBlocks.{nothing}
 use Rattle.spv_bodies.specs.declared.within.Within.{Within}
 use Rattle.spv_bodies.specs.Context.{Known, known_of}
@@ -27,18 +27,18 @@ body_at k w is n i l e = rw (drop-cons is n i l, ← e, add-one) refl
 
 pub body_refused : (k : Known) (w : Within) (is : List Inst) (n : ℕ) (i : Inst) → n < length is → i ≡ get_or is n i → false ≡ keeps_body k (place i w (take (length is - (n + 1)) (drop (n + 1) is)))
     → breaches_from k nowhere is ≡ breaches_from k w (drop n is) → unless_refused nothing (breaches_from k nowhere is) ≡ Err (breach i)
-body_refused k w is n i l e t h = let u = rw (tail_is is (n + 1)) at t in rw (h, body_at k w is n i l e, ← u) refl
+body_refused k w is n i l e t h = let u = rw (rest_of is (n + 1)) at t in rw (h, body_at k w is n i l e, ← u) refl
 
 pub body_kept : (k : Known) (w : Within) (is : List Inst) (n : ℕ) (i : Inst) → n < length is → i ≡ get_or is n i → true ≡ keeps_body k (place i w (take (length is - (n + 1)) (drop (n + 1) is)))
     → breaches_from k nowhere is ≡ breaches_from k w (drop n is) → breaches_from k nowhere is ≡ breaches_from k (within_after w i) (drop (n + 1) is)
-body_kept k w is n i l e t h = let u = rw (tail_is is (n + 1)) at t in h ∙ body_at k w is n i l e ∙ rw (← u) refl
+body_kept k w is n i l e t h = let u = rw (rest_of is (n + 1)) at t in h ∙ body_at k w is n i l e ∙ rw (← u) refl
 
 pub body_done : (k : Known) (w : Within) (is : List Inst) (n : ℕ) → length is ≤ n → breaches_from k nowhere is ≡ breaches_from k w (drop n is) → unless_refused nothing (breaches_from k nowhere is) ≡ Ok nothing
 body_done k w is n l h = rw (h, drop_of_length-le is l) refl
 
 -- the instructions from the first function on
 rest_is : (insts : List Inst) (start : ℕ) → start ≤ length insts → take start insts ≡ before_functions insts → take (length insts - start) (drop start insts) ≡ drop (length (before_functions insts)) insts
-rest_is insts start l e = tail_is insts start ∙ rw (ap length (sym e) ∙ length-take-le start insts l) refl
+rest_is insts start l e = rest_of insts start ∙ rw (ap length (sym e) ∙ length-take-le start insts l) refl
 
 pub bodies_are : (ts : Types) (cs : Constants) (insts others : List Inst) (start : ℕ) (k : Known) (r : Result (Unit {0}) (Fail Refusal)) → k ≡ known_of ts cs insts → others ≡ insts → start ≤ length insts → take start insts ≡ before_functions insts
     → Answers (unless_refused nothing (breaches_from k nowhere (take (length others - start) (drop start others)))) r → Answers (bodies_of ts cs insts) r

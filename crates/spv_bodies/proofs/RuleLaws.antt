@@ -46,8 +46,8 @@ use Rattle.spv_index.specs.Operands.{literal_in, literal_operand}
 use Rattle.spv_bodies.specs.Places.{Placed, placed}
 use Rattle.spv_bodies.specs.Rules.{rule_of}
 use Rattle.spv_bodies.proofs.TermLemmas.{both_written}
-use Rattle.spv_bodies.proofs.TestLemmas.{all_are, boolean, composed, declaring, equal, has_is, integer, leading, less, one_more, opposite, present, runtime, some, void, word}
-use Rattle.spv_base.proofs.Exports.{itself, at_most}
+use Rattle.spv_bodies.proofs.TestLemmas.{all_are, boolean, composed, declaring, equal, has_is, integer, leading, less, one_more, opposite, runtime, void, word}
+use Rattle.spv_base.proofs.Exports.{itself, at_most, some_decides, test_decides}
 use Rattle.spv_base.specs.Options.{holds}
 
 -- ---- memory
@@ -71,14 +71,14 @@ memory k i Store = leading _ _ (form_at k i 0) (λ p. Decides-and (holds p.targe
 memory k i CopyMemory = leading _ _ (form_at k i 0) (λ p. leading _ _ (form_at k i 1) (λ q. Decides-and (q.target == p.target) (may_be_stored k p) (equal q.target p.target) (storing k p)))
 memory k i ArrayLength =
     Decides-and (is_word (form_of k.types i.ty)) _ (word (form_of k.types i.ty))
-    (leading _ _ (form_at k i 0) (λ p. some _ _ (member_at k i 1 p.target) (λ ty. runtime (form_of k.types ty))))
+    (leading _ _ (form_at k i 0) (λ p. test_decides _ _ (member_at k i 1 p.target) (λ ty. runtime (form_of k.types ty))))
 memory k i Chain = leading _ _ (form_at k i 0) (λ p. leading _ _ (form_of k.types i.ty) (λ q.
     Decides-and (q.class == p.class) (holds q.target (reached_type k p.target (drop 1 i.operands))) (equal q.class p.class) (has_is q.target (reached_type k p.target (drop 1 i.operands)))))
 
 -- ---- atomics
 
 constant : (k : Known) (i : Inst) (n : ℕ) → Decides (is_constant_at k i n) (IsConstantAt k i n)
-constant k i n = present (constant_at k i n)
+constant k i n = some_decides (constant_at k i n)
 
 ordered : (k : Known) (i : Inst) → Decides (is_ordered k i) (IsOrdered k i)
 ordered k i = Decides-and (is_constant_at k i 1) (is_constant_at k i 2) (constant k i 1) (constant k i 2)
@@ -109,7 +109,7 @@ atomic k i MemoryBarrier = Decides-and (is_constant_at k i 0) (is_constant_at k 
 -- ---- composites
 
 choosing : (count : ℕ) (o : Operand) → Decides (is_choice count o) (IsChoice count o)
-choosing count o = some _ _ (literal_in o) (λ choice. Decides-or (nat_lt choice count) (choice == 4294967295) (less choice count) (equal choice 4294967295))
+choosing count o = test_decides _ _ (literal_in o) (λ choice. Decides-or (nat_lt choice count) (choice == 4294967295) (less choice count) (equal choice 4294967295))
 
 shuffling : (os : List Operand) (a b r : Components) → Decides (is_shuffle os a b r) (IsShuffle os a b r)
 shuffling os a b r =
@@ -155,12 +155,12 @@ composite k i InsertDynamic =
     (composed _ _ (form_of k.types i.ty) (λ v. has_is v.ty (type_at k i 1)))
 composite k i Shuffle = composed _ _ (form_at k i 0) (λ a. composed _ _ (form_at k i 1) (λ b. composed _ _ (form_of k.types i.ty) (λ r. shuffling (drop 2 i.operands) a b r)))
 composite k i Construct = parts k i.operands (form_of k.types i.ty)
-composite k i Extract = some _ _ (type_at k i 0) (λ whole. part_of k whole (drop 1 i.operands) i.ty)
+composite k i Extract = test_decides _ _ (type_at k i 0) (λ whole. part_of k whole (drop 1 i.operands) i.ty)
 composite k i Insert =
-    Decides-and (holds i.ty (type_at k i 1)) _ (has_is i.ty (type_at k i 1)) (some _ _ (type_at k i 0) (λ ty. part_of k i.ty (drop 2 i.operands) ty))
+    Decides-and (holds i.ty (type_at k i 1)) _ (has_is i.ty (type_at k i 1)) (test_decides _ _ (type_at k i 0) (λ ty. part_of k i.ty (drop 2 i.operands) ty))
 composite k i CopyObject = has_is i.ty (type_at k i 0)
 composite k i CopyLogical =
-    Decides-and (is_selectable (form_of k.types i.ty)) _ (itself _) (some _ _ (type_at k i 0) (λ ty. matching k.types ty i.ty))
+    Decides-and (is_selectable (form_of k.types i.ty)) _ (itself _) (test_decides _ _ (type_at k i 0) (λ ty. matching k.types ty i.ty))
 
 -- ---- control and calls
 
@@ -179,8 +179,8 @@ control : (k : Known) (p : Placed) (rule : ControlRule) → Decides (keeps_contr
 control k p Phi = Decides-and (not (is_pointer (form_of k.types p.inst.ty))) (are_values k p.inst.ty true p.inst.operands) (opposite _) (values k p.inst.ty p.inst.operands)
 control k p Branch = boolean (form_at k p.inst 0)
 control k p Switch = integer (form_at k p.inst 0)
-control k p Return = some _ _ p.within.returns (λ ty. void (form_of k.types ty))
-control k p ReturnValue = some _ _ p.within.returns (λ ty.
+control k p Return = test_decides _ _ p.within.returns (λ ty. void (form_of k.types ty))
+control k p ReturnValue = test_decides _ _ p.within.returns (λ ty.
     Decides-and (holds ty (type_at k p.inst 0)) (not (is_pointer (form_of k.types ty))) (has_is ty (type_at k p.inst 0)) (opposite _))
 control k p Function = declaring _ _ (function_form k p.inst) p.inst.ty (λ ps. at_most (length ps) (parameters_ahead p.rest))
 control k p Parameter = has_is p.inst.ty (parameter_type k p.within.parameters p.within.ty)
@@ -194,7 +194,7 @@ rule_kept k p Free = (λ h. tt, λ h. refl)
 rule_kept k p Lanes = rule_is k.types p.inst.op p.inst.ty (types_after k p.inst 0)
 rule_kept k p Extended =
     Decides-or (is_debug k.sets p.inst) _ (itself _)
-    (some _ _ (literal_operand p.inst 1) (λ number. glsl_rule_is k.types number (count_of p.inst) p.inst.ty (types_after k p.inst 2)))
+    (test_decides _ _ (literal_operand p.inst 1) (λ number. glsl_rule_is k.types number (count_of p.inst) p.inst.ty (types_after k p.inst 2)))
 rule_kept k p (Memory rule) = memory k p.inst rule
 rule_kept k p (Atomic rule) = atomic k p.inst rule
 rule_kept k p (Composite rule) = composite k p.inst rule

@@ -6,6 +6,7 @@ use Rattle.std.specs.Bool.{Decides}
 use Rattle.std.specs.List.{All, list_all}
 use Rattle.std.specs.Option.{is_some, option_map_or}
 use Rattle.std.specs.Prelude.{◌&&◌, not, nat_lt}
+use Rattle.spv_base.proofs.Exports.{test_decides}
 use Rattle.spv_base.specs.Options.{holds}
 use Rattle.spv_types.specs.declared.forms.Form.{Form}
 use Rattle.spv_types.specs.declared.forms.Form.TheVariants.{Void, Bool as Boolean, Int, Vector, Runtime, Pointer, Function}
@@ -28,26 +29,9 @@ equal n m = (λ h. grind arith, λ h. grind arith)
 pub less : (n m : ℕ) → Decides (nat_lt n m) (n < m)
 less n m = (λ h. grind arith, λ h. grind arith)
 
-pub some : {A : Type 0} (T : A → Type 0) (t : A → Bool) (o : Option A) → ((x : A) → Decides (t x) (T x)) → Decides (option_map_or t o false) ((x : A) × (o ≡ Some x) × T x)
-some {A = A} T t None d = (λ h. impossible h, λ r. none r)
-  where
-    none : (x : A) × (None ≡ Some x) × T x → false ≡ true
-    none r = absurd (let e = r.1 in cc)
-some {A = A} T t (Some y) d = (λ h. (y, refl, (d y).0 h), λ r. there r)
-  where
-    there : (x : A) × (Some y ≡ Some x) × T x → t y ≡ true
-    there r = let e : y ≡ r.0 = (let s = r.1 in cc) in rw e ((d r.0).1 r.2)
-
 pub has_is : (n : ℕ) (o : Option ℕ) → Decides (holds n o) (o ≡ Some n)
 has_is n None = (λ h. impossible h, λ h. cc)
 has_is n (Some m) = (λ h. ap Some ((equal m n).0 h), λ h. let e : m ≡ n = cc in (equal m n).1 e)
-
-pub present : (o : Option ℕ) → Decides (is_some o) ((n : ℕ) × (o ≡ Some n))
-present None = (λ h. impossible h, λ r. none r)
-  where
-    none : (n : ℕ) × (None ≡ Some n) → false ≡ true
-    none r = absurd (let e = r.1 in cc)
-present (Some n) = (λ h. (n, refl), λ r. refl)
 
 -- ---- lists
 
@@ -67,7 +51,7 @@ pointee_is _ p h = absurd (cc)
 
 -- a pointer type, with a test of where it leads
 pub leading : (T : Pointed → Type 0) (t : Pointed → Bool) (f : Option Form) → ((p : Pointed) → Decides (t p) (T p)) → Decides (option_map_or t (pointee f) false) ((p : Pointed) × IsPointerTo f p × T p)
-leading T t f d = Decides-like (option_map_or t (pointee f) false) (λ r. (r.0, pointee_is f r.0 r.1, r.2)) (λ r. (r.0, back r.0 r.1, r.2)) (some T t (pointee f) d)
+leading T t f d = Decides-like (option_map_or t (pointee f) false) (λ r. (r.0, pointee_is f r.0 r.1, r.2)) (λ r. (r.0, back r.0 r.1, r.2)) (test_decides T t (pointee f) d)
   where
     back : (p : Pointed) → IsPointerTo f p → pointee f ≡ Some p
     back p e = rw e refl
@@ -78,7 +62,7 @@ components_are _ v h = absurd (cc)
 
 -- a vector type, with a test of its components
 pub composed : (T : Components → Type 0) (t : Components → Bool) (f : Option Form) → ((v : Components) → Decides (t v) (T v)) → Decides (option_map_or t (components_in f) false) ((v : Components) × IsVectorOf f v × T v)
-composed T t f d = Decides-like (option_map_or t (components_in f) false) (λ r. (r.0, components_are f r.0 r.1, r.2)) (λ r. (r.0, back r.0 r.1, r.2)) (some T t (components_in f) d)
+composed T t f d = Decides-like (option_map_or t (components_in f) false) (λ r. (r.0, components_are f r.0 r.1, r.2)) (λ r. (r.0, back r.0 r.1, r.2)) (test_decides T t (components_in f) d)
   where
     back : (v : Components) → IsVectorOf f v → components_in f ≡ Some v
     back v e = rw e refl

@@ -123,7 +123,7 @@ impl Calls {
         self.functions.as_slice()
     }
 
-    /// The number of the function with an id, counted from 0 in the order of the module. In constant time.
+    /// The number of the function with an id, counted from 0 in the order of the module.
     pub fn number(&self, function: u32) -> Option<usize>
         ensures number { result ≡ reads function (spec.numbered 0 self.now.functions) }
         ensures within { IfSome result (λ number. number < length self.now.functions) }

@@ -66,7 +66,7 @@ fn definer(index: &Index, id: Option<u32>) -> Option<&Inst>
     index.defining(id?)
 }
 
-/// The width of the type of a switch's selector, which is the first operand. In constant time.
+/// The width of the type of a switch's selector, which is the first operand.
 pub fn selector_width(index: &Index, inst: &Inst) -> u32
     ensures { result ≡ spec.selector_width index.now.insts inst.now }
 {

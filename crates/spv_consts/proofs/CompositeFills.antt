@@ -18,30 +18,15 @@ use Rattle.spv_consts.specs.Rules.{has_type, keeps_composite, keeps_part, keeps_
 use Rattle.spv_consts.specs.Laws.{FillType, OperandsFillTypes}
 use Rattle.spv_consts.specs.Values.{leaf_widths, widths_step}
 use Rattle.spv_consts.proofs.FillLemmas.{Fill, fill_append}
+use Rattle.spv_consts.proofs.WidthLemmas.{member_got, some_got}
+use Rattle.std.proofs.lemmas.List.{length-replicate}
 use Rattle.std.proofs.lemmas.Bool.{eqb-true, and_parts}
 use Rattle.std.proofs.lemmas.Option.{same_Some}
-
-same_number : (n : ℕ) (o : Option ℕ) → holds n o ≡ true → Some n ≡ o
-same_number n None h = impossible h
-same_number n (Some k) h = ap Some (sym (eqb-true k n h))
+use Rattle.spv_base.proofs.Exports.{holds_is}
 
 -- the parts of a form from number k on, listed
 abbrev Lists : Option Form → ℕ → List ℕ → Type 0
 Lists form k types = (index part : ℕ) → slice_get types index ≡ Some part → part_type_of form (index + k) ≡ Some part
-
-alike : (n t index part : ℕ) → slice_get (replicate n t) index ≡ Some part → Some t ≡ Some part
-alike zero t index part h = cc
-alike (suc n) t zero part h = h
-alike (suc n) t (suc index) part h = alike n t index part h
-
-member_at : (ms : List Member) (index part : ℕ) → slice_get (map (λ (p : Member). p.ty) ms) index ≡ Some part → option_map (λ (p : Member). p.ty) (slice_get ms index) ≡ Some part
-member_at [] index part h = cc
-member_at (p ∷ ps) zero part h = h
-member_at (p ∷ ps) (suc index) part h = member_at ps index part h
-
-long : (n t : ℕ) → length (replicate n t) ≡ n
-long zero t = refl
-long (suc n) t = ap suc (long n t)
 
 many : (ms : List Member) → length (map (λ (p : Member). p.ty) ms) ≡ length ms
 many [] = refl
@@ -61,7 +46,7 @@ module _ (m : Context) (s : State) (word : ℕ) (operands : OperandsFillTypes m 
       by_type : (t : Option ℕ) → result_type m.all id ≡ t → option_map_or (λ q. holds q part) t false ≡ true → FillType s.types ty (operand_cells m s id)
       by_type None e h = impossible h
       by_type (Some t) e h =
-          let at : t ≡ ty = same_Some t ty (same_number t part h ∙ same) in
+          let at : t ≡ ty = same_Some t ty (sym (holds_is t part h) ∙ same) in
           subst (λ (q : ℕ). FillType s.types q (operand_cells m s id)) at (operands id t p.0 e)
 
   parts_fill : (form : Option Form) (k : ℕ) (types : List ℕ) (os : List Operand) → length os ≡ length types → Lists form k types
@@ -86,16 +71,16 @@ module _ (m : Context) (s : State) (word : ℕ) (operands : OperandsFillTypes m 
   form_fills Boolean os h g = impossible h
   form_fills (Int width sign) os h g = impossible h
   form_fills (Vector component count) os h g =
-      parts_fill (Some (Vector component count)) 0 (replicate count component) os (sym (eqb-true count (length os) h) ∙ sym (long count component)) (λ index part got. alike count component index part got) g
+      parts_fill (Some (Vector component count)) 0 (replicate count component) os (sym (eqb-true count (length os) h) ∙ sym (length-replicate count component)) (λ index part got. some_got count component index part got) g
   form_fills (Array element None stride) os h g = impossible h
   form_fills (Array element (Some n) stride) os h g =
-      parts_fill (Some (Array element (Some n) stride)) 0 (replicate n element) os (sym (eqb-true n (length os) h) ∙ sym (long n element)) (λ index part got. alike n element index part got) g
+      parts_fill (Some (Array element (Some n) stride)) 0 (replicate n element) os (sym (eqb-true n (length os) h) ∙ sym (length-replicate n element)) (λ index part got. some_got n element index part got) g
   form_fills (Runtime element stride) os h g = impossible h
   form_fills (Struct members block) os h g =
       parts_fill (Some (Struct members block)) 0 (map (λ (p : Member). p.ty) members) os (sym (eqb-true (length members) (length os) h) ∙ sym (many members)) at g
     where
       at : Lists (Some (Struct members block)) 0 (map (λ (p : Member). p.ty) members)
-      at index part got = let same : index ≡ index + 0 = omega arith in subst (λ (n : ℕ). part_type_of (Some (Struct members block)) n ≡ Some part) same (member_at members index part got)
+      at index part got = let same : index ≡ index + 0 = omega arith in subst (λ (n : ℕ). part_type_of (Some (Struct members block)) n ≡ Some part) same (member_got members index part got)
   form_fills (Pointer class target) os h g = impossible h
   form_fills (Function returns parameters) os h g = impossible h
 

@@ -4,6 +4,7 @@ use Rattle.std.proofs.lemmas.Bool.{cases_eq, eq-eqb, ne_eqb}
 use Rattle.std.specs.Prelude.{nat_lt, ◌&&◌, if◌then◌else◌}
 use Rattle.std.specs.List.{AllByRecursion}
 use Rattle.std.specs.Option.{option_map}
+use Rattle.spv_base.proofs.Exports.{each_left, each_right}
 use Rattle.spv_base.specs.Entries.{reads}
 use Rattle.spv_base.specs.declared.instructions.Inst.{Inst}
 use Rattle.spv_types.specs.declared.forms.Form.{Form}
@@ -21,7 +22,7 @@ use Rattle.spv_consts.specs.Evaluation.{value_of}
 use Rattle.spv_consts.specs.Lengths.{is_unset, length_at, lengthened, with_array, with_length_if}
 use Rattle.spv_consts.specs.Steps.{with_entry, with_constant, with_type}
 use Rattle.spv_consts.proofs.LengthLemmas.{next_is}
-use Rattle.spv_consts.proofs.WalkIds.{Differs, each_left, each_right}
+use Rattle.spv_consts.proofs.WalkIds.{Differs}
 use Rattle.spv_consts.proofs.WalkPlaces.{wider}
 use Rattle.spv_consts.proofs.WalkSteps.{earlier_among, widths_kept}
 
@@ -124,15 +125,7 @@ grows_entered m s i defined = by_tests (is_next s i.id) (is_constant i.op) refl
 -- ---- the length of an array
 
 erased_length : (n : ℕ) (f : Form) → erased (Some (with_size n f)) ≡ erased (Some f)
-erased_length n Void = refl
-erased_length n Boolean = refl
-erased_length n (Int width sign) = refl
-erased_length n (Vector component count) = refl
-erased_length n (Array element length stride) = refl
-erased_length n (Runtime element stride) = refl
-erased_length n (Struct members block) = refl
-erased_length n (Pointer class target) = refl
-erased_length n (Function returns parameters) = refl
+erased_length n f = grind arith
 
 module _
     (sound_kept : (ts : Types) (id n : ℕ) → AreSound ts → AreSound (with_length ts id n))

@@ -1,6 +1,6 @@
 -- The row of a constant, made of the rows of its operands as they are in the end.
 use Rattle.spv_index.specs.Operands.{id_in}
-use Rattle.std.proofs.Common.{◌≡◌, ◌∙◌, ℕ, suc, ◌<◌, ◌==◌, Bool, true, false, List, [], ◌∷◌, length, map, Option, Some, None, pos, refl, sym, ap, subst}
+use Rattle.std.proofs.Common.{◌≡◌, ◌∙◌, ℕ, suc, ◌<◌, ◌==◌, Bool, true, false, List, [], ◌∷◌, length, map, Option, Some, None, pos, refl, sym, ap, subst, arith}
 use Rattle.std.proofs.lemmas.Bool.{and_parts, eqb-true, ltb-true}
 use Rattle.std.specs.Prelude.{if◌then◌else◌, nat_lt, ◌||◌}
 use Rattle.std.specs.List.{flat_map}
@@ -38,53 +38,17 @@ use Rattle.spv_consts.proofs.WalkConstants.{constant_among, operands_fill}
 -- ---- what a form but for its length tells
 
 width_erased : (o : Option Form) → integer_width (erased o) ≡ integer_width o
-width_erased None = refl
-width_erased (Some Void) = refl
-width_erased (Some Boolean) = refl
-width_erased (Some (Int width sign)) = refl
-width_erased (Some (Vector component count)) = refl
-width_erased (Some (Array element n stride)) = refl
-width_erased (Some (Runtime element stride)) = refl
-width_erased (Some (Struct members block)) = refl
-width_erased (Some (Pointer class target)) = refl
-width_erased (Some (Function returns parameters)) = refl
+width_erased o = grind arith
 
 scalar_erased : (o : Option Form) → scalar_width (erased o) ≡ scalar_width o
-scalar_erased None = refl
-scalar_erased (Some Void) = refl
-scalar_erased (Some Boolean) = refl
-scalar_erased (Some (Int width sign)) = refl
-scalar_erased (Some (Vector component count)) = refl
-scalar_erased (Some (Array element n stride)) = refl
-scalar_erased (Some (Runtime element stride)) = refl
-scalar_erased (Some (Struct members block)) = refl
-scalar_erased (Some (Pointer class target)) = refl
-scalar_erased (Some (Function returns parameters)) = refl
+scalar_erased o = grind arith
 
 lanes_erased : (ts : Types) (o : Option Form) → lane_width ts (erased o) ≡ lane_width ts o
-lanes_erased ts None = refl
-lanes_erased ts (Some Void) = refl
-lanes_erased ts (Some Boolean) = refl
-lanes_erased ts (Some (Int width sign)) = refl
-lanes_erased ts (Some (Vector component count)) = refl
-lanes_erased ts (Some (Array element n stride)) = refl
-lanes_erased ts (Some (Runtime element stride)) = refl
-lanes_erased ts (Some (Struct members block)) = refl
-lanes_erased ts (Some (Pointer class target)) = refl
-lanes_erased ts (Some (Function returns parameters)) = refl
+lanes_erased ts o = grind arith
 
 -- the width of lanes by two lists of types whose scalars have the same widths
 lanes_alike : (ts us : Types) → ((q : ℕ) → scalar_width (form_of ts q) ≡ scalar_width (form_of us q)) → (o : Option Form) → lane_width ts o ≡ lane_width us o
-lanes_alike ts us same None = refl
-lanes_alike ts us same (Some Void) = refl
-lanes_alike ts us same (Some Boolean) = refl
-lanes_alike ts us same (Some (Int width sign)) = refl
-lanes_alike ts us same (Some (Vector component count)) = same component
-lanes_alike ts us same (Some (Array element n stride)) = refl
-lanes_alike ts us same (Some (Runtime element stride)) = refl
-lanes_alike ts us same (Some (Struct members block)) = refl
-lanes_alike ts us same (Some (Pointer class target)) = refl
-lanes_alike ts us same (Some (Function returns parameters)) = refl
+lanes_alike ts us same o = grind (arith, same)
 
 -- ---- a constant whose rules are kept, by the state before it and the one in the end
 

@@ -13,6 +13,7 @@ use Rattle.spv_types.specs.Laws.{IsAmong}
 use Rattle.spv_types.proofs.Exports.{in_first-found, number_lt, number_written, form_written}
 use Rattle.spv_types.specs.Limits.{AreLimits, limit_among, limit_step, no_limit}
 use Rattle.std.proofs.lemmas.Bool.{eqb-true}
+use Rattle.spv_base.proofs.Exports.{holds_is}
 use Rattle.spv_alu.specs.Integers.{signed}
 use Rattle.spv_consts.specs.Lengths.{number_in}
 
@@ -87,8 +88,7 @@ limits_kept ts limits id n a h = by_form (form_of ts id)
     by_form (Some f) = kept (lengthened n f)
 
 pub next_is : (n : ℕ) (o : Option ℕ) → true ≡ holds n o → o ≡ Some n
-next_is n None h = cc
-next_is n (Some m) h = let e : m ≡ n = eqb-true m n (sym h) in ap Some e
+next_is n o h = holds_is n o (sym h)
 
 -- a number of at least 1 isn't 0
 pub length_positive : (sign : ℕ) (c : Cell) → int_le (pos 1) (number_in sign c) ≡ true → 1 ≤ c.bits

@@ -34,14 +34,12 @@ use Rattle.spv_consts.proofs.LaneFills.{binary_has_width, select_has_width, take
 use Rattle.spv_consts.proofs.OperationKinds.{arithmetic_takes, booleans_take, comparisons_take, compares, conversion_takes, gives_integer, integers_take, is_arithmetic, is_conversion, is_negation, joins_booleans, negation_takes, one_computed, select_computed, shifts, shifts_take, suits, suits_of, two_computed}
 use Rattle.spv_consts.proofs.ScalarTypes.{are_lanes}
 use Rattle.std.proofs.lemmas.Bool.{eqb-true, and_parts}
+use Rattle.spv_base.proofs.Exports.{holds_is, same_some}
 
 -- ---- operands
 
 same_count : (n : ℕ) (o : Option ℕ) (k : ℕ) → o ≡ Some k → holds n o ≡ true → n ≡ k
-same_count n None k e h = cc
-same_count n (Some j) k e h =
-    let a : j ≡ k = cc in
-    sym (eqb-true j n h) ∙ a
+same_count n o k e h = same_some o n k (holds_is n o h) e
 
 module _ (m : Context) (s : State) (word : ℕ) where
   operand_among : (os : List Operand) (k : ℕ) → are_operands m s word os ≡ true → k < length os → is_given m s word (option_and_then id_in (slice_get os k)) ≡ true

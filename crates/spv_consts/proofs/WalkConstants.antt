@@ -53,7 +53,7 @@ read_filled insts ts known (c ∷ cs) id v (first, rest) e = by_test (c.0 == id)
     by_test false t h behind = behind h
 
 -- a type of data has a number
-data_number : (ts : Types) (id : ℕ) → is_data (form_of ts id) ≡ true → (n : ℕ) × (number_of ts id ≡ Some n)
+pub data_number : (ts : Types) (id : ℕ) → is_data (form_of ts id) ≡ true → (n : ℕ) × (number_of ts id ≡ Some n)
 data_number ts id h = by_form (form_of ts id) refl h
   where
     by_form : (o : Option Form) → form_of ts id ≡ o → is_data o ≡ true → (n : ℕ) × (number_of ts id ≡ Some n)

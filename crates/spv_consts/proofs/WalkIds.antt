@@ -1,7 +1,7 @@
 -- Ids that no two instructions share: what each of them defines, and where it stands.
 use Rattle.std.proofs.Common.{◌≡◌, ◌≢◌, ◌⊎◌, ◌∙◌, ℕ, zero, suc, ◌<◌, ◌≤◌, ◌==◌, Bool, true, false, cond, eqb, List, [], ◌∷◌, ◌++◌, map, append_assoc, append-nil, Some, None, inl, inr, refl, sym, ap, arith}
 use Rattle.std.proofs.lemmas.Bool.{cases_eq, eq-eqb, lt-ltb, ne_eqb}
-use Rattle.spv_base.proofs.Exports.{each_weaker}
+use Rattle.spv_base.proofs.Exports.{each_weaker, each_left, each_right}
 use Rattle.std.specs.Prelude.{nat_lt, find, if◌then◌else◌}
 use Rattle.std.specs.List.{AllByRecursion, Contains}
 use Rattle.spv_base.specs.Order.{AreDistinct, Ascend}
@@ -12,14 +12,6 @@ use Rattle.spv_ops.specs.declared.op.TheConstants.{FUNCTION}
 use Rattle.spv_index.specs.Definitions.{before_functions, defining, has_result, is_id}
 
 -- ---- each of some instructions
-
-pub each_left : {X : Type 0} (P : X → Type 0) (xs ys : List X) → AllByRecursion P (xs ++ ys) → AllByRecursion P xs
-each_left P [] ys h = tt
-each_left P (x ∷ xs) ys (first, rest) = (first, each_left P xs ys rest)
-
-pub each_right : {X : Type 0} (P : X → Type 0) (xs ys : List X) → AllByRecursion P (xs ++ ys) → AllByRecursion P ys
-each_right P [] ys h = h
-each_right P (x ∷ xs) ys (first, rest) = each_right P xs ys rest
 
 pub each_push : {X : Type 0} (P : X → Type 0) (xs : List X) (y : X) → AllByRecursion P xs → P y → AllByRecursion P (xs ++ y ∷ [])
 each_push P [] y h last = (last, tt)

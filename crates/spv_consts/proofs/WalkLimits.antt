@@ -31,6 +31,7 @@ use Rattle.spv_consts.specs.Rules.{keeps_kind, keeps_rules}
 use Rattle.spv_consts.specs.Evaluation.{value_of}
 use Rattle.spv_consts.specs.Steps.{breaches_at, breaches_from, cells_with, with_entry, is_great, is_great_type, passes_limit, after_one, after_all, with_constant, with_type}
 use Rattle.spv_consts.proofs.LengthLemmas.{in_first_kept}
+use Rattle.spv_consts.proofs.WalkConstants.{constant_rules, data_number}
 use Rattle.spv_consts.proofs.WalkIds.{before_is_front, each_push}
 use Rattle.spv_consts.proofs.WalkTypes.{same_number, types_joined}
 use Rattle.spv_consts.proofs.WalkStates.{array_length, constant_no_array, no_length, passed}
@@ -122,22 +123,6 @@ constants_few s i other constant h = let small : nat_lt 4194304 (cells_with s i.
 unsaturated : (a b : ℕ) → min (a + b) (2 ^ 64 - 1) ≤ 4194304 → min (a + b) (2 ^ 64 - 1) ≡ a + b
 unsaturated a b le = omega arith
 
--- ---- the types of constants
-
--- a type of data has a number
-data_number : (ts : Types) (id : ℕ) → is_data (form_of ts id) ≡ true → (n : ℕ) × (number_of ts id ≡ Some n)
-data_number ts id h = by_form (form_of ts id) refl h
-  where
-    by_form : (o : Option Form) → form_of ts id ≡ o → is_data o ≡ true → (n : ℕ) × (number_of ts id ≡ Some n)
-    by_form None e data_is = cc
-    by_form (Some f) e data_is = form_number ts id f e
-
-constant_data : (m : Context) (s : State) (i : Inst) → is_constant i.op ≡ true → keeps_rules m s i ≡ true → is_data (form_of s.types i.ty) ≡ true
-constant_data m s i constant rules =
-    let rest : (is_sized_data s.types i.ty && keeps_kind m s i) ≡ true = rw (constant_no_array i.op constant, constant) at rules in
-    let sized = and_parts (is_sized_data s.types i.ty) (keeps_kind m s i) rest in
-    (and_parts (is_data (form_of s.types i.ty)) _ sized.0).0
-
 -- ---- a state
 
 -- What is so in the state after some instructions: as many types were passed as they declare, under their numbers, each within the
@@ -216,7 +201,7 @@ constant_entered m front i s limited place form aside constant rules none = reco
   where
     among : IsAmong s.types s.known i.ty
     among =
-        let number = data_number s.types i.ty (constant_data m s i constant rules) in
+        let number = data_number s.types i.ty (constant_rules m s i constant rules) in
         let below = place.earlier constant number.0 (sym (limited.numbers i.ty) ∙ number.1) in
         record { number = number.0; is = number.1; below = subst (λ (n : ℕ). number.0 < n) (sym limited.known) below }
 

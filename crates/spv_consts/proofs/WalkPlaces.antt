@@ -4,6 +4,7 @@ use Rattle.std.proofs.lemmas.Bool.{and_parts, or_right}
 use Rattle.std.specs.Prelude.{find}
 use Rattle.std.specs.List.{AllByRecursion}
 use Rattle.std.specs.Option.{is_some}
+use Rattle.spv_base.proofs.Exports.{each_left, each_right}
 use Rattle.spv_base.specs.Order.{AreDistinct, Ascend}
 use Rattle.spv_base.specs.declared.instructions.Inst.{Inst}
 use Rattle.spv_types.specs.declared.forms.Form.{Form}
@@ -15,7 +16,7 @@ use Rattle.spv_types.specs.Rules.{is_data, is_sized_data}
 use Rattle.spv_types.specs.Types.{Types, form_of, number_of}
 use Rattle.spv_types.specs.Typing.{defined_form, types_in, types_read}
 use Rattle.spv_index.specs.Definitions.{before_functions, defining, has_result}
-use Rattle.spv_consts.proofs.WalkIds.{Differs, defining_is, differ_before, distinct_left, each_left, each_right, found_before, found_of_defining, type_comes_first}
+use Rattle.spv_consts.proofs.WalkIds.{Differs, defining_is, differ_before, distinct_left, found_before, found_of_defining, type_comes_first}
 use Rattle.spv_consts.proofs.WalkStates.{array_has_form}
 use Rattle.spv_consts.proofs.WalkTypes.{earlier_type, kept_at, known_data, other_number, type_number, types_joined, undef_is_sized}
 

@@ -1,5 +1,5 @@
 -- What one instruction makes of a state, and what is so in each state of the walk over a module's constants.
-use Rattle.std.proofs.Common.{◌≡◌, ◌⊎◌, ◌∙◌, ℕ, ◌==◌, Bool, true, false, List, [], ◌∷◌, ◌++◌, drop, Option, Some, None, inl, inr, refl, sym, ap}
+use Rattle.std.proofs.Common.{◌≡◌, ◌⊎◌, ◌∙◌, ℕ, ◌==◌, Bool, true, false, List, [], ◌∷◌, ◌++◌, drop, Option, Some, None, inl, inr, refl, sym, ap, arith}
 use Rattle.std.proofs.lemmas.Bool.{eqb-true, ne_eqb}
 use Rattle.std.specs.Prelude.{nat_lt, not, ◌&&◌, if◌then◌else◌, unwrap_or}
 use Rattle.std.specs.Option.{is_some, option_and_then, option_map, option_map_or}
@@ -49,15 +49,7 @@ sized_is_set n (Pointer class target) u = u
 sized_is_set n (Function returns parameters) u = u
 
 pub sized_data : (n : ℕ) (f : Form) → is_data (Some (with_size n f)) ≡ is_data (Some f)
-sized_data n Void = refl
-sized_data n Boolean = refl
-sized_data n (Int width sign) = refl
-sized_data n (Vector component count) = refl
-sized_data n (Array element size stride) = refl
-sized_data n (Runtime element stride) = refl
-sized_data n (Struct members block) = refl
-sized_data n (Pointer class target) = refl
-sized_data n (Function returns parameters) = refl
+sized_data n f = grind arith
 
 -- ---- kinds of instructions
 

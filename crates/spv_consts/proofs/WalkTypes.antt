@@ -4,6 +4,7 @@ use Rattle.std.proofs.lemmas.Bool.{eq-eqb, eqb-true, ne_eqb, or_left}
 use Rattle.std.specs.Prelude.{◌||◌, if◌then◌else◌}
 use Rattle.std.specs.List.{AllByRecursion, Contains}
 use Rattle.std.specs.Option.{is_some, option_map, option_or}
+use Rattle.spv_base.proofs.Exports.{each_left, each_right}
 use Rattle.spv_base.specs.Order.{AreDistinct}
 use Rattle.spv_base.specs.declared.instructions.Inst.{Inst}
 use Rattle.spv_types.specs.declared.forms.Form.{Form}
@@ -15,7 +16,7 @@ use Rattle.spv_types.specs.Rules.{is_data, is_sized_data, keeps_rules}
 use Rattle.spv_types.specs.Types.{Types, form_of, number_of}
 use Rattle.spv_types.specs.Typing.{defined_form, types_in, with_form}
 use Rattle.spv_types.proofs.Exports.{form_append, number_lt, number_none, form_number}
-use Rattle.spv_consts.proofs.WalkIds.{Differs, differ_before, differ_behind, differ_from_earlier, each_left, each_right}
+use Rattle.spv_consts.proofs.WalkIds.{Differs, differ_before, differ_behind, differ_from_earlier}
 
 -- ---- joined types
 

@@ -13,17 +13,16 @@ use Rattle.spv_types.specs.Shapes.{part_type}
 use Rattle.spv_types.specs.Laws.{AreSound, ComesBefore}
 use Rattle.spv_types.proofs.Exports.{in_first-found, number_lt, form_number, width_narrow}
 use Rattle.std.proofs.lemmas.Bool.{and_parts}
+use Rattle.spv_base.proofs.Exports.{get_replicate}
 use Rattle.spv_base.specs.Options.{holds}
 use Rattle.spv_consts.specs.Values.{leaf_widths, own_width, part_types, widths_among, widths_step}
 
 -- ---- the parts of a form, listed
 
-some_got : (n t index part : ℕ) → slice_get (replicate n t) index ≡ Some part → Some t ≡ Some part
-some_got zero t index part h = cc
-some_got (suc n) t zero part h = h
-some_got (suc n) t (suc index) part h = some_got n t index part h
+pub some_got : (n t index part : ℕ) → slice_get (replicate n t) index ≡ Some part → Some t ≡ Some part
+some_got n t index part h = ap Some (sym (get_replicate n index t part h))
 
-member_got : (ms : List Member) (index part : ℕ) → slice_get (map (λ (m : Member). m.ty) ms) index ≡ Some part → option_map (λ (m : Member). m.ty) (slice_get ms index) ≡ Some part
+pub member_got : (ms : List Member) (index part : ℕ) → slice_get (map (λ (m : Member). m.ty) ms) index ≡ Some part → option_map (λ (m : Member). m.ty) (slice_get ms index) ≡ Some part
 member_got [] index part h = cc
 member_got (m ∷ ms) zero part h = h
 member_got (m ∷ ms) (suc index) part h = member_got ms index part h

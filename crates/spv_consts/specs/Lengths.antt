@@ -16,16 +16,8 @@ use Rattle.spv_consts.specs.State.{State, is_next}
 
 -- the sign of an integer type
 abbrev pub sign_of : Option Form → Option ℕ
-sign_of None = None
-sign_of (Some Void) = None
-sign_of (Some Boolean) = None
 sign_of (Some (Int width sign)) = Some sign
-sign_of (Some (Vector component count)) = None
-sign_of (Some (Array element n stride)) = None
-sign_of (Some (Runtime element stride)) = None
-sign_of (Some (Struct members block)) = None
-sign_of (Some (Pointer class target)) = None
-sign_of (Some (Function returns parameters)) = None
+sign_of _ = None
 
 -- the sign of a type that is there, and an integer
 abbrev pub sign_at : Types → Option ℕ → Option ℕ
@@ -48,17 +40,8 @@ abbrev pub length_at : Context → State → Inst → Option ℕ
 length_at m s i = if i.op == 28 then option_and_then (constant_length m s) (id_operand i 1) else None
 
 abbrev pub is_unset : Option Form → Bool
-is_unset None = false
-is_unset (Some Void) = false
-is_unset (Some Boolean) = false
-is_unset (Some (Int width sign)) = false
-is_unset (Some (Vector component count)) = false
 is_unset (Some (Array element None stride)) = true
-is_unset (Some (Array element (Some n) stride)) = false
-is_unset (Some (Runtime element stride)) = false
-is_unset (Some (Struct members block)) = false
-is_unset (Some (Pointer class target)) = false
-is_unset (Some (Function returns parameters)) = false
+is_unset _ = false
 
 -- the state with the length of the array type that comes next
 abbrev pub with_array : State → ℕ → ℕ → State

@@ -12,16 +12,8 @@ use Rattle.spv_alu.specs.Results.{integer}
 
 -- the width of an integer type
 abbrev pub integer_width : Option Form → Option ℕ
-integer_width None = None
-integer_width (Some Void) = None
-integer_width (Some Boolean) = None
 integer_width (Some (Int width sign)) = if is_width width then Some width else None
-integer_width (Some (Vector component count)) = None
-integer_width (Some (Array element n stride)) = None
-integer_width (Some (Runtime element stride)) = None
-integer_width (Some (Struct members block)) = None
-integer_width (Some (Pointer class target)) = None
-integer_width (Some (Function returns parameters)) = None
+integer_width _ = None
 
 -- the words of a literal of a width
 abbrev pub word_count : ℕ → ℕ

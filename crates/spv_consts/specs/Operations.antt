@@ -24,26 +24,13 @@ selected (c ∷ d ∷ cs) xs ys = zip3 select_lane (c ∷ d ∷ cs) xs ys
 
 -- the width of a scalar; no lane is wider than 64 bits
 abbrev pub scalar_width : Option Form → ℕ
-scalar_width None = 0
-scalar_width (Some Void) = 0
 scalar_width (Some Boolean) = 1
 scalar_width (Some (Int width sign)) = min width 64
-scalar_width (Some (Vector component count)) = 0
-scalar_width (Some (Array element n stride)) = 0
-scalar_width (Some (Runtime element stride)) = 0
-scalar_width (Some (Struct members block)) = 0
-scalar_width (Some (Pointer class target)) = 0
-scalar_width (Some (Function returns parameters)) = 0
+scalar_width _ = 0
 
 -- the width of the lanes of a scalar or vector
 abbrev pub lane_width : Types → Option Form → ℕ
-lane_width ts None = 0
-lane_width ts (Some Void) = 0
 lane_width ts (Some Boolean) = scalar_width (Some Boolean)
 lane_width ts (Some (Int width sign)) = scalar_width (Some (Int width sign))
 lane_width ts (Some (Vector component count)) = scalar_width (form_of ts component)
-lane_width ts (Some (Array element n stride)) = 0
-lane_width ts (Some (Runtime element stride)) = 0
-lane_width ts (Some (Struct members block)) = 0
-lane_width ts (Some (Pointer class target)) = 0
-lane_width ts (Some (Function returns parameters)) = 0
+lane_width ts _ = 0

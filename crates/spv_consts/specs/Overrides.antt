@@ -31,16 +31,9 @@ is_between least greatest n = int_le least n && int_le n greatest
 
 -- a number fits a Boolean where it is 0 or 1, and an integer where it is one of that width, signed or unsigned
 abbrev pub fits_form : Option Form → ℤ → Bool
-fits_form None n = false
-fits_form (Some Void) n = false
 fits_form (Some Boolean) n = is_between (pos 0) (pos 1) n
 fits_form (Some (Int width sign)) n = is_width width && is_between (neg_ℤ (pos (2 ^ (width - 1)))) (pos (2 ^ width - 1)) n
-fits_form (Some (Vector component count)) n = false
-fits_form (Some (Array element m stride)) n = false
-fits_form (Some (Runtime element stride)) n = false
-fits_form (Some (Struct members block)) n = false
-fits_form (Some (Pointer class target)) n = false
-fits_form (Some (Function returns parameters)) n = false
+fits_form _ n = false
 
 -- a constant with a SpecId whose type the number for that SpecId does not fit
 abbrev pub is_misfit : List Inst → Types → Numbers → ℕ → Inst → Bool

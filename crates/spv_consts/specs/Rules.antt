@@ -23,16 +23,10 @@ use Rattle.spv_consts.specs.Lengths.{length_at}
 
 -- the number of parts of a vector, array or struct
 abbrev pub part_count : Option Form → Option ℕ
-part_count None = None
-part_count (Some Void) = None
-part_count (Some Boolean) = None
-part_count (Some (Int width sign)) = None
 part_count (Some (Vector component count)) = Some count
 part_count (Some (Array element n stride)) = n
-part_count (Some (Runtime element stride)) = None
 part_count (Some (Struct members block)) = Some (length members)
-part_count (Some (Pointer class target)) = None
-part_count (Some (Function returns parameters)) = None
+part_count _ = None
 
 -- the type of part k
 abbrev pub part_type_of : Option Form → ℕ → Option ℕ

@@ -10,27 +10,16 @@ use Rattle.spv_types.specs.Types.{Types, in_first}
 
 -- the types of the parts of a form, in order
 abbrev pub part_types : Form → List ℕ
-part_types Void = []
-part_types Boolean = []
-part_types (Int width sign) = []
 part_types (Vector component count) = replicate count component
 part_types (Array element n stride) = replicate (unwrap_or n 0) element
-part_types (Runtime element stride) = []
 part_types (Struct members block) = map (λ (m : Member). m.ty) members
-part_types (Pointer class target) = []
-part_types (Function returns parameters) = []
+part_types _ = []
 
 -- the width of the leaf that a scalar is
 abbrev pub own_width : Form → List ℕ
-own_width Void = []
 own_width Boolean = 1 ∷ []
 own_width (Int width sign) = width ∷ []
-own_width (Vector component count) = []
-own_width (Array element n stride) = []
-own_width (Runtime element stride) = []
-own_width (Struct members block) = []
-own_width (Pointer class target) = []
-own_width (Function returns parameters) = []
+own_width _ = []
 
 -- the widths of a form's leaves: its own, or those of its parts
 abbrev pub widths_step : (ℕ → List ℕ) → Form → List ℕ

@@ -187,7 +187,7 @@ impl ConstTable {
         self.places.get(id)
     }
 
-    /// The place of the row of the constant with an id, in constant time.
+    /// The place of the row of the constant with an id.
     pub fn row_place(&self, id: u32) -> Option<RowPlace>
         ensures place { result ≡ place_from 0 self.now id }
         ensures row { option_map (row_at self.now) result ≡ reads id self.now }
@@ -201,7 +201,7 @@ impl ConstTable {
         })
     }
 
-    /// The row at a place, in constant time.
+    /// The row at a place.
     pub fn row_at(&self, place: RowPlace) -> Row<'_>
         ensures { record { ty = result.ty; cells = result.cells.now } ≡ row_at self.now place }
     {
@@ -211,7 +211,7 @@ impl ConstTable {
         }
     }
 
-    /// The row of the constant with an id, in constant time.
+    /// The row of the constant with an id.
     pub fn value(&self, id: u32) -> Option<Row<'_>>
         ensures { option_map (λ r. record { ty = r.ty; cells = r.cells.now }) result ≡ reads id self.now }
     {

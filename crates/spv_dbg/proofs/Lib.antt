@@ -1,4 +1,3 @@
-mod PlaceLemmas
 mod OperandLemmas
 mod MeasureLemmas
 mod InlinedLemmas

@@ -13,9 +13,10 @@ use Rattle.std.specs.declared.alloc.Global.{Global}
 use Rattle.std.proofs.lemmas.Bool.{cases_Bool}
 use Rattle.std.proofs.lemmas.Grind.{common_steps}
 use Rattle.std.proofs.lemmas.Map.Text.{is_eq-slice_cmp}
+use Rattle.spv_base.proofs.Exports.{none_of}
 use Rattle.spv_base.specs.Entries.{reads}
-use Rattle.spv_dbg.specs.Names.{number_under}
-use Rattle.spv_dbg.specs.Places.{number_from, places_from}
+use Rattle.spv_dbg.specs.Names.{number_from, number_under}
+use Rattle.spv_index.specs.Places.{places_from}
 use Rattle.spv_dbg.specs.Sources.{Strings, has_name}
 
 -- ---- a map after a number was put under a name
@@ -46,10 +47,6 @@ or_some : (o p : Option ℕ) → is_some o ≡ true → o ≡ option_or o p
 or_some None p h = absurd (cc)
 or_some (Some n) p h = refl
 
-none : (o : Option ℕ) → is_some o ≡ false → o ≡ None
-none None h = refl
-none (Some n) h = absurd (cc)
-
 -- what is put under the name with an id
 abbrev pub with_name : Strings → ℕ → ℕ → List ℕ → Option ℕ
 with_name strings id n file = if has_name strings file id then Some n else None
@@ -59,7 +56,7 @@ pub put_new : (strings : Strings) (id n : ℕ) (name file : List ℕ) (old new :
 put_new strings id n name file old new h t e =
     elim (cases_Bool (bytes_eq name file)) [
       | inl y ↦
-          let o : number_under old file ≡ None = subst (λ (l : List ℕ). number_under old l ≡ None) ((bytes_decides name file).0 y) (none (number_under old name) t) in
+          let o : number_under old file ≡ None = subst (λ (l : List ℕ). number_under old l ≡ None) ((bytes_decides name file).0 y) (none_of (number_under old name) t) in
           let f = rw y at e in
           rw (h, y, o) f
       | inr d ↦ let f = rw d at e in rw (h, d) (f ∙ or_none (number_under old file))

@@ -3,7 +3,8 @@ use Rattle.std.proofs.Common.{◌≡◌, ◌∙◌, Bool, true, false, ℕ, cond
 use Rattle.std.specs.Prelude.{find}
 use Rattle.std.specs.Option.{option_and_then, option_map}
 use Rattle.spv_dbg.specs.declared.sources.SourceText.{SourceText}
-use Rattle.spv_dbg.specs.Places.{keys_of, number_from}
+use Rattle.spv_dbg.specs.Names.{number_from}
+use Rattle.spv_index.specs.Places.{keys_of}
 use Rattle.spv_dbg.specs.Seen.{seen, seen_in}
 use Rattle.spv_dbg.specs.Sources.{Strings, has_name, source_of}
 use Rattle.spv_dbg.proofs.NameLemmas.{numbered}

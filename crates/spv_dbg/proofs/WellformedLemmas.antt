@@ -5,8 +5,8 @@ use Rattle.std.specs.Bool.{Decides}
 use Rattle.std.specs.List.{list_all}
 use Rattle.std.specs.Option.{is_some, option_and_then, option_map_or}
 use Rattle.std.proofs.lemmas.Bool.{cases_eq, eq-eqb, ne_eqb}
-use Rattle.std.proofs.lemmas.Bool.Decides.{Decides-eqb}
-use Rattle.spv_base.proofs.Exports.{itself, at_most}
+use Rattle.std.proofs.lemmas.Bool.Decides.{Decides-and, Decides-eqb}
+use Rattle.spv_base.proofs.Exports.{itself, at_most, some_decides, test_decides}
 use Rattle.spv_base.specs.Entries.{reads}
 use Rattle.spv_valid.specs.Acceptance.{Accepted}
 use Rattle.spv_dbg.specs.declared.insts.DebugInst.{DebugInst}
@@ -22,22 +22,9 @@ use Rattle.spv_dbg.specs.Marks.{Marks, is_one_of, known, measure_of}
 use Rattle.spv_dbg.specs.Forming.{all_fit, fits, fragment_is_last, has_operands, is_exact, is_formed, is_fragment, is_operation, is_within, leads_to, more_fit, opcode_of, operands_fit, pairs_fit}
 use Rattle.spv_dbg.specs.Wellformed.{AllFit, EachFits, Fits, FragmentIsLast, IsOperation, IsWellFormed, MoreFit, PairsFit}
 
-and_decides : (a b : Bool) (P Q : Type 0) → Decides a P → Decides b Q → Decides (a && b) (P × Q)
-and_decides true b P Q p q = ((λ h. (p.0 refl, q.0 h)), (λ h. q.1 h.1))
-and_decides false b P Q p q = ((λ h. absurd (cc)), (λ h. p.1 h.0))
-
-some_decides : {T : Type 0} (o : Option T) → Decides (is_some o) ((x : T) × (o ≡ Some x))
-some_decides None = ((λ h. absurd (cc)), (λ h. let e = h.1 in absurd (cc)))
-some_decides (Some x) = ((λ h. (x, refl)), (λ h. refl))
-
--- what is tested of what is there
-or_decides : {T : Type 0} (f : T → Bool) (P : T → Type 0) → ((x : T) → Decides (f x) (P x)) → (o : Option T) → Decides (option_map_or f o false) ((x : T) × (o ≡ Some x) × P x)
-or_decides f P d None = ((λ h. absurd (cc)), (λ h. let e = h.1 in absurd (cc)))
-or_decides {T} f P d (Some x) = ((λ h. (x, refl, (d x).0 h)), (λ h. let e : h.0 ≡ x = (let s = h.1 in cc) in (d x).1 (subst P e h.2)))
-
 module _ (m : Accepted) (marks : Marks) where
   names_decides : (role : Role) (id : ℕ) → Decides (leads_to m marks role id) ((k : Mark) × (known m marks id ≡ Some k) × (is_one_of (numbers_for role) k.number ≡ true))
-  names_decides role id = or_decides (λ (k : Mark). is_one_of (numbers_for role) k.number) (λ (k : Mark). is_one_of (numbers_for role) k.number ≡ true) (λ k. itself (is_one_of (numbers_for role) k.number)) (known m marks id)
+  names_decides role id = test_decides (λ (k : Mark). is_one_of (numbers_for role) k.number ≡ true) (λ (k : Mark). is_one_of (numbers_for role) k.number) (known m marks id) (λ k. itself (is_one_of (numbers_for role) k.number))
 
   fits_decides : (role : Role) (id : ℕ) → Decides (fits m marks role id) (Fits m marks role id)
   fits_decides Any id = ((λ h. tt), (λ h. refl))
@@ -56,19 +43,19 @@ module _ (m : Accepted) (marks : Marks) where
   all_decides [] ids = ((λ h. tt), (λ h. refl))
   all_decides (role ∷ roles) [] = ((λ h. absurd (cc)), (λ h. absurd h))
   all_decides (role ∷ roles) (id ∷ ids) =
-      and_decides (fits m marks role id) (all_fit m marks roles ids) (Fits m marks role id) (AllFit m marks roles ids) (fits_decides role id) (all_decides roles ids)
+      Decides-and (fits m marks role id) (all_fit m marks roles ids) (fits_decides role id) (all_decides roles ids)
 
   each_decides : (role : Role) (ids : List ℕ) → Decides (list_all (fits m marks role) ids) (EachFits m marks role ids)
   each_decides role [] = ((λ h. tt), (λ h. refl))
   each_decides role (id ∷ ids) =
-      and_decides (fits m marks role id) (list_all (fits m marks role) ids) (Fits m marks role id) (EachFits m marks role ids) (fits_decides role id) (each_decides role ids)
+      Decides-and (fits m marks role id) (list_all (fits m marks role) ids) (fits_decides role id) (each_decides role ids)
 
   pairs_decides : (first second : Role) (ids : List ℕ) → Decides (pairs_fit m marks first second ids) (PairsFit m marks first second ids)
   pairs_decides first second [] = ((λ h. tt), (λ h. refl))
   pairs_decides first second (a ∷ []) = ((λ h. tt), (λ h. refl))
   pairs_decides first second (a ∷ b ∷ ids) =
-      and_decides (fits m marks first a && fits m marks second b) (pairs_fit m marks first second ids) (Fits m marks first a × Fits m marks second b) (PairsFit m marks first second ids)
-      (and_decides (fits m marks first a) (fits m marks second b) (Fits m marks first a) (Fits m marks second b) (fits_decides first a) (fits_decides second b))
+      Decides-and (fits m marks first a && fits m marks second b) (pairs_fit m marks first second ids)
+      (Decides-and (fits m marks first a) (fits m marks second b) (fits_decides first a) (fits_decides second b))
       (pairs_decides first second ids)
 
   more_decides : (more : More) (ids : List ℕ) → Decides (more_fit m marks more ids) (MoreFit m marks more ids)
@@ -85,16 +72,15 @@ module _ (m : Accepted) (marks : Marks) where
   operands_decides : (number : ℕ) (ids : List ℕ) → Decides (has_operands m marks number ids) ((kind : List Role × More) × (reads number kinds ≡ Some kind) × OfKind ids kind)
   unfolding has_operands
   operands_decides number ids =
-      or_decides (λ (kind : List Role × More). operands_fit m marks kind ids) (OfKind ids)
-      (λ kind. and_decides (all_fit m marks kind.0 ids) (more_fit m marks kind.1 (drop (length kind.0) ids)) (AllFit m marks kind.0 ids) (MoreFit m marks kind.1 (drop (length kind.0) ids)) (all_decides kind.0 ids) (more_decides kind.1 (drop (length kind.0) ids)))
-      (reads number kinds)
+      test_decides (OfKind ids) (λ (kind : List Role × More). operands_fit m marks kind ids) (reads number kinds)
+      (λ kind. Decides-and (all_fit m marks kind.0 ids) (more_fit m marks kind.1 (drop (length kind.0) ids)) (all_decides kind.0 ids) (more_decides kind.1 (drop (length kind.0) ids)))
 
   operation_decides : (ids : List ℕ) → Decides (is_operation m marks ids) (IsOperation m marks ids)
   operation_decides [] = ((λ h. absurd (cc)), (λ h. absurd h))
   operation_decides (code ∷ ids) =
-      or_decides (λ (roles : List Role). (length ids == length roles) && all_fit m marks roles ids) (λ (roles : List Role). (length ids ≡ length roles) × AllFit m marks roles ids)
-      (λ roles. and_decides (length ids == length roles) (all_fit m marks roles ids) (length ids ≡ length roles) (AllFit m marks roles ids) (Decides-eqb (length ids) (length roles)) (all_decides roles ids))
+      test_decides (λ (roles : List Role). (length ids ≡ length roles) × AllFit m marks roles ids) (λ (roles : List Role). (length ids == length roles) && all_fit m marks roles ids)
       (option_and_then (λ opcode. reads opcode operations) (literal_of m code))
+      (λ roles. Decides-and (length ids == length roles) (all_fit m marks roles ids) (Decides-eqb (length ids) (length roles)) (all_decides roles ids))
 
   no_fragment : (o : Option ℕ) → Decides (not (is_fragment o)) (o ≢ Some 9)
   no_fragment None = ((λ h e. absurd (cc)), (λ h. refl))
@@ -108,7 +94,7 @@ module _ (m : Accepted) (marks : Marks) where
   last_decides [] = ((λ h. tt), (λ h. refl))
   last_decides (id ∷ []) = ((λ h. tt), (λ h. refl))
   last_decides (id ∷ next ∷ ids) =
-      and_decides (not (is_fragment (opcode_of m id))) (fragment_is_last m (next ∷ ids)) (opcode_of m id ≢ Some 9) (FragmentIsLast m marks (next ∷ ids)) (no_fragment (opcode_of m id)) (last_decides (next ∷ ids))
+      Decides-and (not (is_fragment (opcode_of m id))) (fragment_is_last m (next ∷ ids)) (no_fragment (opcode_of m id)) (last_decides (next ∷ ids))
 
   place_decides : (inside alone : Bool) → Decides (inside || not alone) (alone ≡ true → inside ≡ true)
   place_decides true alone = ((λ h e. refl), (λ h. refl))
@@ -138,7 +124,7 @@ module _ (m : Accepted) (marks : Marks) where
   exact_decides : (number : ℕ) (ids : List ℕ) → Decides (is_exact m marks number ids) ((number ≡ 30 → IsOperation m marks ids) × (number ≡ 31 → FragmentIsLast m marks ids))
   exact_decides number ids =
       rw (exact_split number (is_operation m marks ids) (fragment_is_last m ids))
-      (and_decides (if number == 30 then is_operation m marks ids else true) (if number == 31 then fragment_is_last m ids else true) (number ≡ 30 → IsOperation m marks ids) (number ≡ 31 → FragmentIsLast m marks ids)
+      (Decides-and (if number == 30 then is_operation m marks ids else true) (if number == 31 then fragment_is_last m ids else true)
       (asked number 30 (is_operation m marks ids) (IsOperation m marks ids) (operation_decides ids)) (asked number 31 (fragment_is_last m ids) (FragmentIsLast m marks ids) (last_decides ids)))
 
   -- all of it
@@ -155,7 +141,7 @@ module _ (m : Accepted) (marks : Marks) where
   IsWithin x = (x.bits ≤ 268435456) × (x.nesting ≤ 64)
 
   within_decides : (x : Measure) → Decides (is_within x) (IsWithin x)
-  within_decides x = and_decides (nat_le x.bits 268435456) (nat_le x.nesting 64) (x.bits ≤ 268435456) (x.nesting ≤ 64) (at_most x.bits 268435456) (at_most x.nesting 64)
+  within_decides x = Decides-and (nat_le x.bits 268435456) (nat_le x.nesting 64) (at_most x.bits 268435456) (at_most x.nesting 64)
 
   abbrev Parts : Bool → DebugInst → Type 0
   Parts inside d = ((HasKind d × HasPlace inside d) × IsExact d) × IsWithin (measure_of m marks d.number d.operands)
@@ -166,9 +152,9 @@ module _ (m : Accepted) (marks : Marks) where
       let place = inside || not (is_one_of in_blocks_alone d.number) in
       let exact = is_exact m marks d.number d.operands in
       let measure = measure_of m marks d.number d.operands in
-      and_decides ((kind && place) && exact) (is_within measure) ((HasKind d × HasPlace inside d) × IsExact d) (IsWithin measure)
-      (and_decides (kind && place) exact (HasKind d × HasPlace inside d) (IsExact d)
-      (and_decides kind place (HasKind d) (HasPlace inside d) (operands_decides d.number d.operands) (place_decides inside (is_one_of in_blocks_alone d.number)))
+      Decides-and ((kind && place) && exact) (is_within measure)
+      (Decides-and (kind && place) exact
+      (Decides-and kind place (operands_decides d.number d.operands) (place_decides inside (is_one_of in_blocks_alone d.number)))
       (exact_decides d.number d.operands))
       (within_decides measure)
 

@@ -20,7 +20,8 @@ use Rattle.spv_dbg.specs.declared.marks.Mark.{Mark}
 use Rattle.spv_dbg.specs.declared.measures.Measure.{Measure}
 use Rattle.spv_dbg.specs.Kinds.{in_blocks_alone, kinds, numbers_for, operations}
 use Rattle.spv_dbg.specs.Literals.{literal_of, string_of}
-use Rattle.spv_dbg.specs.Marks.{Marks, debug_inst, is_one_of, known, measure_of, set_number}
+use Rattle.spv_dbg.specs.Marks.{Marks, debug_inst, is_one_of, known, measure_of}
+use Rattle.spv_index.specs.DebugSet.{set_number}
 
 -- the OpCode of the Operation with an id
 abbrev pub opcode_of : Accepted → ℕ → Option ℕ

@@ -1,8 +1,8 @@
 -- What stored tables are.
 use Rattle.std.specs.Prelude.{◌≡◌, ℕ, List, map}
 use Rattle.spv_dbg.specs.declared.tables.DebugTables.TheInside.{Inside}
-use Rattle.spv_dbg.specs.Names.{number_under}
-use Rattle.spv_dbg.specs.Places.{keys_of, number_from, places_from}
+use Rattle.spv_dbg.specs.Names.{number_from, number_under}
+use Rattle.spv_index.specs.Places.{keys_of, places_from}
 use Rattle.spv_dbg.specs.Seen.{seen}
 use Rattle.spv_dbg.specs.Sources.{has_name}
 use Rattle.spv_dbg.specs.Tables.{Tables}

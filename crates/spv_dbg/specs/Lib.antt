@@ -3,7 +3,6 @@ pub mod Literals
 pub mod Marks
 pub mod Saturation
 pub mod Forming
-pub mod Places
 pub mod Sources
 pub mod Seen
 pub mod Names

@@ -1,29 +1,16 @@
 -- The debug instructions of a module, what is kept of each well-formed one, and how many bits the values of types have.
-use Rattle.std.specs.Prelude.{ℕ, ◌+◌, ◌*◌, ◌==◌, ◌&&◌, Bool, false, if◌then◌else◌, List, [], ◌∷◌, length, map, drop, max, codes, slice_get, slice_index, unwrap_or, Option, None}
+use Rattle.std.specs.Prelude.{ℕ, ◌+◌, ◌*◌, ◌==◌, Bool, if◌then◌else◌, List, [], ◌∷◌, length, map, drop, max, slice_get, slice_index, unwrap_or, Option, None}
 use Rattle.std.specs.Option.{option_and_then, option_map_or}
 use Rattle.std.specs.List.{list_any}
-use Rattle.std.specs.Str.{bytes_eq}
 use Rattle.spv_base.specs.declared.instructions.Inst.{Inst}
 use Rattle.spv_base.specs.declared.instructions.Operand.{Operand}
-use Rattle.spv_index.specs.Definitions.{defining, number_of}
-use Rattle.spv_index.specs.Operands.{id_in, id_operand, literal_operand, text_operand}
+use Rattle.spv_index.specs.Definitions.{number_of}
+use Rattle.spv_index.specs.Operands.{id_in}
 use Rattle.spv_valid.specs.Acceptance.{Accepted}
 use Rattle.spv_dbg.specs.declared.insts.DebugInst.{DebugInst}
 use Rattle.spv_dbg.specs.declared.marks.Mark.{Mark}
 use Rattle.spv_dbg.specs.declared.measures.Measure.{Measure}
 use Rattle.spv_dbg.specs.Literals.{literal_of}
-
--- OpExtInstImport (11) of the set
-abbrev pub is_set : Inst → Bool
-is_set i = i.op == 11 && option_map_or (λ name. bytes_eq name (codes "NonSemantic.Shader.DebugInfo.100")) (text_operand i 0) false
-
--- the set that an instruction names is this one
-abbrev pub names_set : List Inst → Inst → Bool
-names_set insts i = option_map_or is_set (option_and_then (defining insts) (id_operand i 0)) false
-
--- the number in the set of an OpExtInst (12) of the set: Set, Instruction, operands
-unfoldable pub set_number : List Inst → Inst → Option ℕ
-set_number insts i = if i.op == 12 && names_set insts i then literal_operand i 1 else None
 
 -- the id that an operand is; one that is none has the number 0, which is no id
 abbrev pub id_or_0 : Operand → ℕ

@@ -2,10 +2,10 @@
 ghost use Rattle.std.specs.Prelude.{◌≡◌, ◌++◌, IfOk, OnOk};
 ghost use Rattle.spv_dbg.specs.Tables as spec;
 
-use crate::keyed::Keyed;
 use crate::literals::number_of_row;
 use spv_base::{Cells, Inst, NoMemory};
 use spv_consts::table::Row;
+use spv_index::Keyed;
 use spv_valid::Module;
 use std::alloc::Global;
 

@@ -7,8 +7,8 @@ use crate::kinds::{FRAGMENT, More, Role, is_in_blocks_alone, kind_of, operands_o
 use crate::literals::{literal_of, string_of};
 use crate::marks::{Mark, known};
 use crate::measures::{Measure, measure_of, operands_from};
-use crate::number::{EXPRESSION, OPERATION};
 use spv_index::id_operand;
+use spv_ops::debug_info::{EXPRESSION, OPERATION};
 use spv_valid::Module;
 
 /// The most bits of a type's values.

@@ -4,10 +4,10 @@ ghost use Rattle.spv_dbg.specs.Tables as spec;
 
 use crate::insts::operand_of;
 use crate::marks::Mark;
-use crate::number::{NO_SCOPE, SCOPE};
 use spv_base::{Inst, NoMemory};
 use spv_index::Table;
 use spv_index::stands::{Stand, Stands};
+use spv_ops::debug_info::{NO_SCOPE, SCOPE};
 use spv_valid::Module;
 use std::alloc::Global;
 

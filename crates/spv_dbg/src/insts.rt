@@ -1,14 +1,9 @@
 //! Debug instructions.
 ghost use Rattle.std.specs.Prelude.{◌≡◌, ◌≤◌, slice_index, IfOk};
-ghost use Rattle.std.specs.Prelude.{option_copied};
-ghost use Rattle.std.specs.Option.{option_and_then};
-ghost use Rattle.spv_index.specs.Definitions.{defining};
-ghost use Rattle.spv_index.specs.Operands.{id_operand};
 ghost use Rattle.spv_dbg.specs.Marks as spec;
 
 use spv_base::{Inst, NoMemory, Operand, Places};
-use spv_index::{Index, id_in, id_operand, literal_operand, operands_from, text_operand};
-use spv_ops::op;
+use spv_index::{id_in, id_operand, operands_from};
 use std::alloc::Global;
 
 /// An instruction of the set NonSemantic.Shader.DebugInfo.100: the number of its first word, its number in the set, its
@@ -19,50 +14,6 @@ pub struct DebugInst {
     pub number: u32,
     pub id: u32,
     pub operands: Places,
-}
-
-/// The name of the set.
-const SET: &[u8] = b"NonSemantic.Shader.DebugInfo.100";
-
-/// Whether an import is of the set.
-fn is_set(inst: &Inst) -> bool
-    ensures { result ≡ spec.is_set inst.now }
-{
-    if inst.op != op::EXT_INST_IMPORT {
-        return false;
-    }
-    match text_operand(inst, 0) {
-        Some(name) => name == SET,
-        None => false,
-    }
-}
-
-/// The import of the set that an instruction names.
-fn set_of<'a>(index: &'a Index, inst: &Inst) -> Option<&'a Inst>
-    ensures { option_copied result ≡ option_and_then (defining index.now.insts) (id_operand inst.now 0) }
-{
-    index.defining(id_operand(inst, 0)?)
-}
-
-/// Whether the set that an instruction names is this one.
-fn names_set(index: &Index, inst: &Inst) -> bool
-    ensures { result ≡ spec.names_set index.now.insts inst.now }
-{
-    match set_of(index, inst) {
-        Some(import) => is_set(import),
-        None => false,
-    }
-}
-
-/// The number of an instruction of the set, and None for another one.
-#[tactic(auto, unfolding(crate::specs::Marks::set_number))]
-pub fn set_number(index: &Index, inst: &Inst) -> Option<u32>
-    ensures { result ≡ spec.set_number index.now.insts inst.now }
-{
-    if inst.op != op::EXT_INST || !names_set(index, inst) {
-        return None;
-    }
-    literal_operand(inst, 1)
 }
 
 /// The id that an operand is, and 0, which is no id, where it is none.

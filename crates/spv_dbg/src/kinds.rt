@@ -9,7 +9,7 @@ use crate::kinds::More::{Many, Nothing, Optional, Pairs};
 use crate::kinds::Role::{
     Any, DebugType, Expression, InlinedAt, Literal, Local, Operation, Scope, Source, Text, Variable,
 };
-use crate::number::*;
+use spv_ops::debug_info::*;
 
 /// What an operand has to be.
 #[derive(Clone, Copy)]

@@ -30,7 +30,7 @@ pub(crate) fn number_of_row(types: &TypeTable, row: Row<'_>) -> Option<u32>
     word_in(only(row.cells)?)
 }
 
-/// The number of the constant with an id. In constant time.
+/// The number of the constant with an id.
 #[tactic(auto, unfolding(crate::specs::Literals::literal_of))]
 pub(crate) fn literal_of(module: &Module, id: u32) -> Option<u32>
     ensures { result ≡ spec.literal_of module.now id }
@@ -48,7 +48,7 @@ pub(crate) fn text_in(inst: &Inst) -> Option<&[u8]>
     text_operand(inst, 0)
 }
 
-/// The bytes of the OpString with an id. In constant time.
+/// The bytes of the OpString with an id.
 #[tactic(auto, unfolding(crate::specs::Literals::string_of))]
 pub(crate) fn string_of(index: &Index, id: u32) -> Option<&[u8]>
     ensures { option_copied result ≡ spec.string_of index.now.insts id }

@@ -13,7 +13,7 @@ pub struct Mark {
     pub nesting: u64,
 }
 
-/// The mark of the instruction that defines an id, where it is among these. In constant time.
+/// The mark of the instruction that defines an id, where it is among these.
 #[tactic(auto, unfolding(crate::specs::Marks::known))]
 pub(crate) fn known(module: &Module, marks: &[Option<Mark>], id: u32) -> Option<Mark>
     ensures { result ≡ spec.known module.now marks.now id }

@@ -7,7 +7,7 @@ ghost use Rattle.spv_dbg.specs.Marks as spec;
 use crate::insts::operand;
 use crate::literals::literal_of;
 use crate::marks::{Mark, known};
-use crate::number::*;
+use spv_ops::debug_info::*;
 use spv_valid::Module;
 
 /// The bits of the values of a type, and its nesting.

@@ -1,14 +1,14 @@
 //! The texts of source files by the names of the files.
 ghost use Rattle.std.specs.Prelude.{◌≡◌, ℕ, List, IfOk, OnOk, Some, None, if◌then◌else◌, option_copied, option_map, slice_get};
 ghost use Rattle.std.specs.Option.{option_and_then, option_or};
-ghost use Rattle.spv_dbg.specs.Names.{number_under};
-ghost use Rattle.spv_dbg.specs.Places.{keys_of, number_from};
+ghost use Rattle.spv_dbg.specs.Names.{number_from, number_under};
+ghost use Rattle.spv_index.specs.Places.{keys_of};
 ghost use Rattle.spv_dbg.specs.Seen.{seen_in};
 ghost use Rattle.spv_dbg.specs.Sources as spec;
 
-use crate::keyed::{Keyed, keys_of, places_of};
 use crate::sources::{Source, SourceText, text_of};
 use spv_base::{Bytes, NoMemory};
+use spv_index::{Keyed, keys_of, places_of};
 use std::alloc::Global;
 use std::collections::BTreeMap;
 

@@ -4,9 +4,10 @@ ghost use Rattle.spv_dbg.specs.Forming as spec;
 ghost use Rattle.spv_dbg.specs.Tables.{ignored_of, insts_of, marks_of};
 
 use crate::forming::mark_of;
-use crate::insts::{DebugInst, debug_inst, set_number};
+use crate::insts::{DebugInst, debug_inst};
 use crate::marks::Mark;
 use spv_base::NoMemory;
+use spv_index::set_number;
 use spv_index::stands::Stand;
 use spv_valid::Module;
 use std::alloc::Global;

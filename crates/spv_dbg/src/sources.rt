@@ -5,10 +5,10 @@ ghost use Rattle.spv_dbg.specs.Seen.{seen, seen_in};
 ghost use Rattle.spv_dbg.specs.Sources as spec;
 
 use crate::insts::{DebugInst, operand};
-use crate::keyed::Keyed;
-use crate::number::{SOURCE, SOURCE_CONTINUED};
 use crate::op_sources::add_op_sources;
 use spv_base::{Bytes, Inst, NoMemory};
+use spv_index::Keyed;
+use spv_ops::debug_info::{SOURCE, SOURCE_CONTINUED};
 use std::alloc::Global;
 
 /// A text of a source file. Many Sources may name one long OpString, so it isn't copied where nothing continues it.

@@ -2,9 +2,9 @@
 ghost use Rattle.std.specs.Prelude.{◌≡◌, ◌++◌, IfOk, OnOk};
 ghost use Rattle.spv_dbg.specs.Tables as spec;
 
-use crate::keyed::Keyed;
 use crate::literals::text_in;
 use spv_base::{Bytes, Inst, NoMemory};
+use spv_index::Keyed;
 use std::alloc::Global;
 
 /// Adds the string that an instruction defines, if it does.

@@ -2,8 +2,8 @@
 ghost use Rattle.std.specs.Prelude.{◌≡◌, ◌++◌, ℕ, List, IfOk, map, option_copied, option_map, slice_get};
 ghost use Rattle.std.specs.Option.{option_and_then};
 ghost use Rattle.spv_base.specs.Entries.{reads};
-ghost use Rattle.spv_dbg.specs.Names.{number_under};
-ghost use Rattle.spv_dbg.specs.Places.{keys_of, number_from, places_from};
+ghost use Rattle.spv_dbg.specs.Names.{number_from, number_under};
+ghost use Rattle.spv_index.specs.Places.{keys_of, places_from};
 ghost use Rattle.spv_dbg.specs.Seen.{seen};
 ghost use Rattle.spv_dbg.specs.Sources.{debug_sources, has_name, op_sources_in};
 ghost use Rattle.spv_dbg.specs.Tables as spec;
@@ -11,14 +11,13 @@ ghost use Rattle.spv_dbg.specs.Tables as spec;
 use crate::constants::{Constant, constants_of};
 use crate::inlined::inlined_of;
 use crate::insts::DebugInst;
-use crate::keyed::{Keyed, places_of};
 use crate::names::{Names, names_of, text_with};
 use crate::records::{Records, records_of};
 use crate::sources::{Source, sources_of};
 use crate::strings::strings_of;
 use spv_base::{Bytes, Inst, NoMemory};
 use spv_consts::table::Row;
-use spv_index::Table;
+use spv_index::{Keyed, Table, places_of};
 use spv_valid::Module;
 use std::alloc::Global;
 use std::marker::Model;
@@ -156,28 +155,28 @@ impl DebugTables {
         self.insts.as_slice()
     }
 
-    /// The well-formed debug instruction with an id. In constant time.
+    /// The well-formed debug instruction with an id.
     pub fn get(&self, id: u32) -> Option<&DebugInst>
         ensures { option_copied result ≡ spec.with_id self.now id }
     {
         inst_with(self.insts.as_slice(), self.by_id.get(id))
     }
 
-    /// The well-formed debug instruction at a word. In constant time.
+    /// The well-formed debug instruction at a word.
     pub fn at(&self, word: u32) -> Option<&DebugInst>
         ensures { option_copied result ≡ spec.at_word self.now word }
     {
         inst_with(self.insts.as_slice(), self.by_word.get(word))
     }
 
-    /// The bytes of the OpString with an id. In constant time.
+    /// The bytes of the OpString with an id.
     pub fn string(&self, id: u32) -> Option<&[u8]>
         ensures { option_copied result ≡ reads id self.now.strings }
     {
         Some(self.strings.get(id)?.as_slice())
     }
 
-    /// The row of the constant with an id: its type, and the leaves of its value in order. In constant time.
+    /// The row of the constant with an id: its type, and the leaves of its value in order.
     pub fn constant(&self, id: u32) -> Option<Row<'_>>
         ensures { option_map (λ r. record { ty = r.ty; cells = r.cells.now }) result ≡ option_map spec.row_in (reads id self.now.constants) }
     {
@@ -188,15 +187,14 @@ impl DebugTables {
         })
     }
 
-    /// The number of the 32-bit integer constant with an id, read as unsigned. It is 0 where the constant is undefined. In
-    /// constant time.
+    /// The number of the 32-bit integer constant with an id, read as unsigned. It is 0 where the constant is undefined.
     pub fn number_of(&self, id: u32) -> Option<u32>
         ensures { result ≡ spec.number_of self.now id }
     {
         self.constants.get(id)?.number
     }
 
-    /// The InlinedAt that holds at the instruction at a word, and 0 where there is none. In constant time.
+    /// The InlinedAt that holds at the instruction at a word, and 0 where there is none.
     pub fn inlined_at(&self, word: u32) -> u32
         ensures { result ≡ spec.inlined_at self.now word }
     {

@@ -1,3 +1,4 @@
 mod GivenLemmas
 mod CellLemmas
 mod FitLemmas
+pub mod Exports

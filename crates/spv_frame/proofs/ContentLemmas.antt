@@ -175,11 +175,3 @@ as_many_phis rs f [] [] h = refl
 as_many_phis rs f [] (x ∷ xs) h = absurd h
 as_many_phis rs f (s ∷ ss) [] h = absurd h
 as_many_phis rs f (s ∷ ss) (x ∷ xs) h = ap suc (as_many_phis rs f ss xs h.1)
-
--- registers set and put back
-pub back_again : (f g h : Held) (ss : List Slot) (vs olds : List (Option Value)) → Differ ss → length vs ≡ length ss → g ≡ record f { values = puts ss vs f.values } → olds ≡ map (held f) ss
-    → h ≡ record g { values = puts ss olds g.values } → h ≡ f
-back_again f g h ss vs olds differ many made were back =
-    back
-    ∙ ap (λ (x : Held). record x { values = puts ss olds x.values }) made
-    ∙ ap (λ (es : Registers). record f { values = es }) (puts_back ss vs olds f differ many were)

@@ -1,13 +1,12 @@
 -- Calls: the frame of a function with the arguments of a call (SPIR-V 1.6 section 3.42.9, OpFunctionCall).
 use Rattle.std.specs.Prelude.{◌≡◌, ◌<◌, ℕ, List, [], ◌∷◌, Some, length, slice_get, unwrap_or}
 use Rattle.std.specs.List.{AllZip}
-use Rattle.spv_base.specs.Entries.{writes}
 use Rattle.spv_types.specs.Rows.{leaves}
 use Rattle.spv_frame.specs.declared.contents.Argument.{Argument}
 use Rattle.spv_frame.specs.declared.contents.Argument.TheVariants.{Value, Pointer}
 use Rattle.spv_frame.specs.declared.slots.Place.{Place}
 use Rattle.spv_frame.specs.declared.slots.Place.TheVariants.{Value as ValueAt, Pointer as PointerAt}
-use Rattle.spv_frame.specs.Frames.{Held, fresh}
+use Rattle.spv_frame.specs.Frames.{Held, fresh, with_pointer_under, with_value_under}
 use Rattle.spv_frame.specs.Registers.{Planned, ids, sizes}
 
 -- the id with a number
@@ -16,10 +15,10 @@ id_at ks n = unwrap_or (slice_get ks n) 0
 
 -- a frame with an argument in the register at a place
 abbrev pub with_argument : Held → Place → Argument → Held
-with_argument f (ValueAt n) (Value v) = record f { values = writes (id_at (ids f.plan.values) n) (Some v) f.values }
+with_argument f (ValueAt n) (Value v) = with_value_under (id_at (ids f.plan.values) n) (Some v) f
 with_argument f (ValueAt n) (Pointer p) = f
 with_argument f (PointerAt n) (Value v) = f
-with_argument f (PointerAt n) (Pointer p) = record f { pointers = writes (id_at f.plan.pointers n) (Some p.now) f.pointers }
+with_argument f (PointerAt n) (Pointer p) = with_pointer_under (id_at f.plan.pointers n) (Some p.now) f
 
 -- a frame with arguments in the registers at places
 abbrev pub with_arguments : List Place → List Argument → Held → Held

@@ -38,3 +38,7 @@ abbrev pub puts : List Slot → List (Option Value) → Registers → Registers
 puts [] vs es = es
 puts (s ∷ ss) [] es = es
 puts (s ∷ ss) (v ∷ vs) es = puts ss vs (writes s.id v es)
+
+-- the frame with a value or none in each of some registers
+abbrev pub with_contents : List Slot → List (Option Value) → Held → Held
+with_contents ss vs f = record f { values = puts ss vs f.values }

@@ -2,6 +2,7 @@
 -- events that it passed. A map of registers is the list of its entries in the order of the module.
 use Rattle.std.specs.Prelude.{◌≡◌, ℕ, Bool, List, [], Option, None, map, length, unwrap_or}
 use Rattle.std.specs.List.{zip}
+use Rattle.spv_base.specs.Entries.{writes}
 use Rattle.spv_base.specs.Parts.{parts_in}
 use Rattle.spv_base.specs.Variables.{Registers}
 use Rattle.spv_base.specs.declared.values.PassedEvent.{PassedEvent}
@@ -24,6 +25,14 @@ none ks = map (λ k. (k, None)) ks
 -- a frame as it begins: no register has a value, and no event was passed
 abbrev pub fresh : Planned → Held
 fresh p = record { plan = p; pc = p.first; values = none (ids p.values); pointers = none p.pointers; events = [] }
+
+-- the frame with a value or none under an id
+abbrev pub with_value_under : ℕ → Option Value → Held → Held
+with_value_under id o f = record f { values = writes id o f.values }
+
+-- the frame with a pointer or none under an id
+abbrev pub with_pointer_under : ℕ → Option Pointer → Held → Held
+with_pointer_under id o f = record f { pointers = writes id o f.pointers }
 
 -- ---- how registers lie
 

@@ -1,11 +1,11 @@
 -- Phis (SPIR-V 1.6 section 3.42.17, OpPhi): registers that take values all at once.
-use Rattle.std.specs.Prelude.{◌≡◌, ℕ, Option, Some, length}
+use Rattle.std.specs.Prelude.{◌≡◌, ℕ, List, Option, Some, length, map}
 use Rattle.spv_base.specs.declared.values.Value.{Value as Whole}
 use Rattle.spv_types.specs.Rows.{leaves}
 use Rattle.spv_frame.specs.declared.contents.Source.{Source}
 use Rattle.spv_frame.specs.declared.contents.Source.TheVariants.{Register, Value}
 use Rattle.spv_frame.specs.declared.slots.Slot.{Slot}
-use Rattle.spv_frame.specs.Contents.{held}
+use Rattle.spv_frame.specs.Contents.{held, with_contents}
 use Rattle.spv_frame.specs.Frames.{Held}
 use Rattle.spv_frame.specs.Registers.{IsSlotOf, Rooms}
 
@@ -27,3 +27,7 @@ cells_from (Value v) = length (leaves v)
 -- a register, and a source of as many cells
 abbrev pub IsPhi : Rooms → Slot → Source → Type 0
 IsPhi rs s x = IsSlotOf rs s × IsSource rs x × (cells_from x ≡ s.len)
+
+-- the frame with what each source gave in it, in the register of its phi
+abbrev pub with_phis : List Slot → List Source → Held → Held
+with_phis ss xs f = with_contents ss (map (given f) xs) f

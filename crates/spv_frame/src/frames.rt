@@ -1,14 +1,14 @@
 //! Frames: the registers of a call in one row, each with a mark whether it has a value.
 ghost use Rattle.std.specs.Prelude.{◌≡◌, ◌≢◌, ◌++◌, [], ◌∷◌, IfOk, OnOk, OnErr, None, Some, false, length, option_copied, replicate, ◌<◌, slice_get, map};
-ghost use Rattle.spv_base.specs.Entries.{reads, writes};
-ghost use Rattle.spv_frame.specs.Frames.{Held, fresh};
+ghost use Rattle.spv_base.specs.Entries.{reads};
+ghost use Rattle.spv_frame.specs.Frames.{Held, fresh, with_pointer_under, with_value_under};
 ghost use Rattle.spv_frame.specs.Registers.{IsPointerSlotOf, IsSlotOf, marked, ids, number_of};
 ghost use Rattle.spv_types.specs.Rows.{leaves};
 ghost use Rattle.spv_frame.specs.Calls.{AreArguments, IsArgument, entered, with_argument};
 ghost use Rattle.spv_frame.specs.Numbers.{HasCells, HasPointer, HoldsPointer, HoldsValue, with_pointer, with_value};
 ghost use Rattle.std.specs.List.{AllByRecursion, AllZip};
-ghost use Rattle.spv_frame.specs.Contents.{AllSuit, Differ, Suits, cells, content, held, puts};
-ghost use Rattle.spv_frame.specs.Phis.{IsPhi, IsSource, cells_from, given};
+ghost use Rattle.spv_frame.specs.Contents.{AllSuit, Differ, Suits, cells, content, held, with_contents};
+ghost use Rattle.spv_frame.specs.Phis.{IsPhi, IsSource, cells_from, given, with_phis};
 
 use crate::contents::{Argument, Content, Source};
 use crate::events::DebugEvent;
@@ -134,7 +134,7 @@ impl Frame {
     pub fn exchange(&mut self, slot: &Slot, value: &mut Row, has: &mut bool)
         requires slot { IsSlotOf self.old.plan.values slot.now }
         requires room { length (leaves value.old) ≡ slot.now.len }
-        ensures after { self.new ≡ record self.old { values = writes slot.now.id (marked value.old has.old) self.old.values } }
+        ensures after { self.new ≡ with_value_under slot.now.id (marked value.old has.old) self.old }
         ensures handed { reads slot.now.id self.old.values ≡ Some (marked value.new has.new) }
         ensures room { length (leaves value.new) ≡ slot.now.len }
     {
@@ -146,7 +146,7 @@ impl Frame {
     /// Exchanges the pointer of a register. It takes no memory, and the same call undoes it.
     pub fn exchange_pointer(&mut self, slot: PointerSlot, pointer: &mut Option<Pointer>)
         requires { IsPointerSlotOf self.old.plan.pointers slot }
-        ensures after { self.new ≡ record self.old { pointers = writes slot.id pointer.old self.old.pointers } }
+        ensures after { self.new ≡ with_pointer_under slot.id pointer.old self.old }
         ensures handed { reads slot.id self.old.pointers ≡ Some pointer.new }
     {
         mem::swap(&mut self.pointers[slot.number], pointer);
@@ -316,7 +316,7 @@ impl Frame {
     /// Exchanges what a register holds. It takes no memory, and the same call undoes it.
     fn exchange_content(&mut self, slot: &Slot, other: &mut Content)
         requires { Suits self.old.plan.values slot.now other.old }
-        ensures after { self.new ≡ record self.old { values = writes slot.now.id (content other.old) self.old.values } }
+        ensures after { self.new ≡ with_value_under slot.now.id (content other.old) self.old }
         ensures handed { content other.new ≡ held self.old slot.now }
         ensures suits { Suits self.old.plan.values slot.now other.new }
     {
@@ -327,7 +327,7 @@ impl Frame {
     pub fn exchange_all(&mut self, slots: &[Slot], others: &mut [Content])
         requires differ { Differ slots.now }
         requires suit { AllSuit self.old.plan.values slots.now others.old }
-        ensures after { self.new ≡ record self.old { values = puts slots.now (map content others.old) self.old.values } }
+        ensures after { self.new ≡ with_contents slots.now (map content others.old) self.old }
         ensures handed { map content others.new ≡ map (held self.old) slots.now }
         ensures suit { AllSuit self.old.plan.values slots.now others.new }
     {
@@ -374,7 +374,7 @@ impl Frame {
     ) -> Result<Vec<Content>, NoMemory>
         requires differ { Differ slots.now }
         requires phis { AllZip (IsPhi self.old.plan.values) slots.now sources.now }
-        ensures ok { OnOk result (self.new ≡ record self.old { values = puts slots.now (map (given self.old) sources.now) self.old.values }) }
+        ensures ok { OnOk result (self.new ≡ with_phis slots.now sources.now self.old) }
         ensures handed { IfOk result (λ olds. map content olds.items ≡ map (held self.old) slots.now) }
         ensures suit { IfOk result (λ olds. AllSuit self.old.plan.values slots.now olds.items) }
         ensures err { OnErr result (self.new ≡ self.old) }
@@ -388,7 +388,7 @@ impl Frame {
     pub fn put_back_phis(&mut self, slots: &[Slot], mut olds: Vec<Content>)
         requires differ { Differ slots.now }
         requires suit { AllSuit self.old.plan.values slots.now olds.items }
-        ensures { self.new ≡ record self.old { values = puts slots.now (map content olds.items) self.old.values } }
+        ensures { self.new ≡ with_contents slots.now (map content olds.items) self.old }
     {
         self.exchange_all(slots, olds.as_mut_slice());
     }

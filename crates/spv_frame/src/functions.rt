@@ -20,7 +20,8 @@ pub struct Register {
     pub place: Place,
 }
 
-/// The plans of the functions of a module, in its order.
+/// The plans of the functions of a module, in its order. A function, and a register or its type, is found by its id without a walk over
+/// them (which is measured, and said by no clause).
 #[derive(Drop)]
 pub struct Plans {
     list: Vec<Rc<Plan>>,
@@ -75,21 +76,21 @@ impl Plans {
         self.list[number].as_ref()
     }
 
-    /// The number of the plan of the function with an id, if there is one. In constant time.
+    /// The number of the plan of the function with an id, if there is one.
     pub fn number(&self, function: u32) -> Option<usize>
         ensures { result ≡ reads function (spec.numbered 0 self.now) }
     {
         self.numbers.get(function)
     }
 
-    /// Where the register of a parameter or a result lies, if there is one. In constant time.
+    /// Where the register of a parameter or a result lies, if there is one.
     pub fn register(&self, id: u32) -> Option<Register>
         ensures { result ≡ reads id (spec.registers_of self.now) }
     {
         self.registers.get(id)
     }
 
-    /// The type of a parameter or a result, if there is one. In constant time.
+    /// The type of a parameter or a result, if there is one.
     pub fn type_of(&self, id: u32) -> Option<u32>
         ensures { result ≡ reads id (spec.types_of self.now) }
     {

@@ -1,51 +1,30 @@
-//! Laws of exchanges.
-ghost use Rattle.std.specs.Prelude.{◌≡◌, length};
+//! Laws of registers that are put back.
+ghost use Rattle.std.specs.Prelude.{◌≡◌, ℕ, List, Option, Some, map};
 ghost use Rattle.std.specs.List.{AllZip};
-ghost use Rattle.spv_frame.specs.Contents.{Differ};
-ghost use Rattle.spv_frame.specs.Phis.{IsPhi};
-ghost use Rattle.spv_frame.specs.Registers.{IsPointerSlotOf, IsSlotOf};
-ghost use Rattle.spv_types.specs.Rows.{leaves};
+ghost use Rattle.spv_base.specs.Entries.{reads};
+ghost use Rattle.spv_base.specs.declared.values.Pointer.{Pointer};
+ghost use Rattle.spv_base.specs.declared.values.Value.{Value};
+ghost use Rattle.spv_frame.specs.declared.contents.Source.{Source};
+ghost use Rattle.spv_frame.specs.declared.slots.Slot.{Slot};
+ghost use Rattle.spv_frame.specs.Contents.{Differ, held, with_contents};
+ghost use Rattle.spv_frame.specs.Frames.{Held, with_pointer_under, with_value_under};
+ghost use Rattle.spv_frame.specs.Phis.{IsPhi, with_phis};
 
-use crate::contents::Source;
-use crate::frames::Frame;
-use crate::slots::{PointerSlot, Slot};
-use spv_base::{NoMemory, Pointer};
-use spv_values::Row;
-use std::alloc::Global;
-
-/// An exchange of a value made twice leaves the frame as it was.
+/// A law, with nothing to run: an exchange of a value made twice leaves the frame as it was.
 #[tactic(auto, using(crate::proofs::RegisterLemmas::put_back))]
-pub fn exchange_twice(frame: &mut Frame, slot: &Slot, value: &mut Row, has: &mut bool)
-    requires slot { IsSlotOf frame.old.plan.values slot.now }
-    requires room { length (leaves value.old) ≡ slot.now.len }
-    ensures { frame.new ≡ frame.old }
-{
-    frame.exchange(slot, value, has);
-    frame.exchange(slot, value, has);
-}
+pub fn exchange_twice()
+    ensures { (f : Held) (id : ℕ) (old new : Option Value) → reads id f.values ≡ Some old → with_value_under id old (with_value_under id new f) ≡ f }
+{}
 
-/// An exchange of a pointer made twice leaves the frame as it was.
+/// A law, with nothing to run: an exchange of a pointer made twice leaves the frame as it was.
 #[tactic(auto, using(crate::proofs::RegisterLemmas::put_back))]
-pub fn exchange_pointer_twice(frame: &mut Frame, slot: PointerSlot, pointer: &mut Option<Pointer>)
-    requires { IsPointerSlotOf frame.old.plan.pointers slot }
-    ensures { frame.new ≡ frame.old }
-{
-    frame.exchange_pointer(slot, pointer);
-    frame.exchange_pointer(slot, pointer);
-}
+pub fn exchange_pointer_twice()
+    ensures { (f : Held) (id : ℕ) (old new : Option Pointer) → reads id f.pointers ≡ Some old
+        → with_pointer_under id old (with_pointer_under id new f) ≡ f }
+{}
 
-/// Phis that are set and put back leave the frame as it was, and so do phis for which memory runs out.
-pub fn phis_put_back(
-    frame: &mut Frame,
-    alloc: Global,
-    slots: &[Slot],
-    sources: &[Source],
-) -> Result<(), NoMemory>
-    requires differ { Differ slots.now }
-    requires phis { AllZip (IsPhi frame.old.plan.values) slots.now sources.now }
-    ensures { frame.new ≡ frame.old }
-{
-    let olds = frame.phis(alloc, slots, sources)?;
-    frame.put_back_phis(slots, olds);
-    Ok(())
-}
+/// A law, with nothing to run: what registers of phis held, put back after they were set, leaves the frame as it was.
+pub fn phis_put_back()
+    ensures { (f : Held) (slots : List Slot) (sources : List Source) → Differ slots → AllZip (IsPhi f.plan.values) slots sources
+        → with_contents slots (map (held f) slots) (with_phis slots sources f) ≡ f }
+{}

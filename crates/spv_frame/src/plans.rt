@@ -99,7 +99,7 @@ impl Plan {
         self.pointers.len()
     }
 
-    /// Where the register of a value with a number lies. In constant time.
+    /// Where the register of a value with a number lies.
     pub fn slot(&self, number: usize) -> &Slot
         requires { number < length self.now.values }
         ensures slot { IsSlotOf self.now.values result.now }
@@ -119,7 +119,7 @@ impl Plan {
         slots_between(self.values.as_slice(), first, count)
     }
 
-    /// Where the register of a pointer with a number lies. In constant time.
+    /// Where the register of a pointer with a number lies.
     pub fn pointer_slot(&self, number: usize) -> PointerSlot
         requires { number < length self.now.pointers }
         ensures slot { IsPointerSlotOf self.now.pointers result }

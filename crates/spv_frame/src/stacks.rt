@@ -2,10 +2,11 @@
 ghost use Rattle.std.specs.Prelude.{◌≡◌, ◌≢◌, ◌<◌, ◌++◌, [], ◌∷◌, IfOk, OnOk, OnErr, Some, length, map, slice_get, option_copied, option_map, MatchOption, None};
 ghost use Rattle.std.specs.List.{AllZip};
 ghost use Rattle.std.specs.Option.{IsSomeAnd};
-ghost use Rattle.spv_base.specs.Entries.{reads, writes};
+ghost use Rattle.spv_base.specs.Entries.{reads};
 ghost use Rattle.spv_frame.specs.Calls.{AreArguments, entered};
-ghost use Rattle.spv_frame.specs.Contents.{AllSuit, Differ, content, held, puts};
-ghost use Rattle.spv_frame.specs.Phis.{IsPhi, given};
+ghost use Rattle.spv_frame.specs.Contents.{AllSuit, Differ, content, held, with_contents};
+ghost use Rattle.spv_frame.specs.Frames.{with_pointer_under, with_value_under};
+ghost use Rattle.spv_frame.specs.Phis.{IsPhi, with_phis};
 ghost use Rattle.spv_frame.specs.Registers.{IsPointerSlotOf, IsSlotOf, marked};
 ghost use Rattle.spv_frame.specs.Stacks.{Stacked, on_top, top};
 ghost use Rattle.spv_types.specs.Rows.{leaves};
@@ -122,7 +123,7 @@ impl Stack {
     pub fn exchange(&mut self, slot: &Slot, value: &mut Row, has: &mut bool)
         requires slot { IsSomeAnd (top self.old.frames) (λ f. IsSlotOf f.plan.values slot.now) }
         requires room { length (leaves value.old) ≡ slot.now.len }
-        ensures after { self.new ≡ record self.old { frames = on_top (λ f. record f { values = writes slot.now.id (marked value.old has.old) f.values }) self.old.frames } }
+        ensures after { self.new ≡ record self.old { frames = on_top (with_value_under slot.now.id (marked value.old has.old)) self.old.frames } }
         ensures handed { IsSomeAnd (top self.old.frames) (λ f. reads slot.now.id f.values ≡ Some (marked value.new has.new)) }
         ensures room { length (leaves value.new) ≡ slot.now.len }
     {
@@ -133,7 +134,7 @@ impl Stack {
     /// Exchanges the pointer of a register of the top frame. It takes no memory, and the same call undoes it.
     pub fn exchange_pointer(&mut self, slot: PointerSlot, pointer: &mut Option<Pointer>)
         requires { IsSomeAnd (top self.old.frames) (λ f. IsPointerSlotOf f.plan.pointers slot) }
-        ensures after { self.new ≡ record self.old { frames = on_top (λ f. record f { pointers = writes slot.id pointer.old f.pointers }) self.old.frames } }
+        ensures after { self.new ≡ record self.old { frames = on_top (with_pointer_under slot.id pointer.old) self.old.frames } }
         ensures handed { IsSomeAnd (top self.old.frames) (λ f. reads slot.id f.pointers ≡ Some pointer.new) }
     {
         let top = self.frames.len() - 1;
@@ -150,7 +151,7 @@ impl Stack {
     ) -> Result<Vec<Content>, NoMemory>
         requires differ { Differ slots.now }
         requires phis { IsSomeAnd (top self.old.frames) (λ f. AllZip (IsPhi f.plan.values) slots.now sources.now) }
-        ensures ok { OnOk result (self.new ≡ record self.old { frames = on_top (λ f. record f { values = puts slots.now (map (given f) sources.now) f.values }) self.old.frames }) }
+        ensures ok { OnOk result (self.new ≡ record self.old { frames = on_top (with_phis slots.now sources.now) self.old.frames }) }
         ensures handed { IfOk result (λ olds. IsSomeAnd (top self.old.frames) (λ f. map content olds.items ≡ map (held f) slots.now)) }
         ensures suit { IfOk result (λ olds. IsSomeAnd (top self.old.frames) (λ f. AllSuit f.plan.values slots.now olds.items)) }
         ensures err { OnErr result (self.new ≡ self.old) }
@@ -163,7 +164,7 @@ impl Stack {
     pub fn put_back_phis(&mut self, slots: &[Slot], olds: Vec<Content>)
         requires differ { Differ slots.now }
         requires suit { IsSomeAnd (top self.old.frames) (λ f. AllSuit f.plan.values slots.now olds.items) }
-        ensures { self.new ≡ record self.old { frames = on_top (λ f. record f { values = puts slots.now (map content olds.items) f.values }) self.old.frames } }
+        ensures { self.new ≡ record self.old { frames = on_top (with_contents slots.now (map content olds.items)) self.old.frames } }
     {
         let top = self.frames.len() - 1;
         self.frames[top].put_back_phis(slots, olds);

@@ -1,6 +1,7 @@
 mod ListLemmas
 mod FirstLemmas
 mod SlotLemmas
+mod PlaceLemmas
 mod KeyLemmas
 mod IndexLemmas
 mod StartLemmas

@@ -2,7 +2,9 @@ pub mod Definitions
 pub mod Classes
 pub mod Positions
 pub mod Operands
+pub mod DebugSet
 pub mod Firsts
 pub mod Keys
 pub mod Contents
 pub mod Tables
+pub mod Places

@@ -45,7 +45,7 @@ impl<V: Copy> Firsts<V> {
         }
     }
 
-    /// The first value under a number, in constant time.
+    /// The first value under a number.
     pub fn get(&self, number: u32) -> Option<V>
         ensures { result ≡ slot self.now number }
     {

@@ -238,14 +238,14 @@ impl Index {
         Stands::of(self.insts(), self.standings())
     }
 
-    /// Where the instruction that defines an id stands, and what it is there. In constant time.
+    /// Where the instruction that defines an id stands, and what it is there.
     pub fn standing(&self, id: u32) -> Option<Standing>
         ensures { result ≡ option_map standing (stand_of self.now.insts id) }
     {
         standing_with(&self.standings, self.number_of(id))
     }
 
-    /// The number of the instruction that defines an id. In constant time.
+    /// The number of the instruction that defines an id.
     pub fn number_of(&self, id: u32) -> Option<usize>
         ensures number { result ≡ spec.number_of self.now.insts id }
         ensures within { IfSome result (λ n. n < length self.now.insts) }
@@ -256,7 +256,7 @@ impl Index {
         Some(self.definitions.get(id)? as usize)
     }
 
-    /// The instruction that defines an id. In constant time.
+    /// The instruction that defines an id.
     pub fn defining(&self, id: u32) -> Option<&Inst>
         ensures { option_copied result ≡ spec.defining self.now.insts id }
     {
@@ -266,14 +266,14 @@ impl Index {
         inst_with(self.module.insts(), self.definitions.get(id))
     }
 
-    /// The type of the result with an id, where it has one. In constant time.
+    /// The type of the result with an id, where it has one.
     pub fn result_type(&self, id: u32) -> Option<u32>
         ensures { result ≡ spec.result_type self.now.insts id }
     {
         type_in(self.defining(id)?)
     }
 
-    /// The number of the instruction that begins at a word. In constant time.
+    /// The number of the instruction that begins at a word.
     pub fn number_at(&self, word: u32) -> Option<usize>
         ensures number { result ≡ spec.number_at self.now.insts word }
         ensures within { IfSome result (λ n. n < length self.now.insts) }
@@ -281,7 +281,7 @@ impl Index {
         Some(self.words.get(word)? as usize)
     }
 
-    /// The instruction that begins at a word. In constant time.
+    /// The instruction that begins at a word.
     pub fn at(&self, word: u32) -> Option<&Inst>
         ensures { option_copied result ≡ spec.at self.now.insts word }
     {
@@ -296,7 +296,7 @@ impl Index {
         inst_with(self.module.insts(), self.names.get(id))
     }
 
-    /// The name that an OpName gives an id. In constant time.
+    /// The name that an OpName gives an id.
     #[tactic(auto, unfolding(crate::specs::Definitions::name_of))]
     pub fn name(&self, id: u32) -> Option<&[u8]>
         ensures { option_copied result ≡ spec.name_of self.now.insts id }

@@ -1,4 +1,5 @@
-//! Lists of entries under numbers, with look-ups in constant time for ids and words of a module.
+//! Lists of entries under numbers. Ids and words of a module are found in a vector, whatever their number; that this is quick is
+//! measured, and no clause says so.
 ghost use Rattle.std.specs.Prelude.{◌≡◌, ℕ, None, IfOk, OnOk};
 ghost use Rattle.std.specs.BTreeMap as tree;
 ghost use Rattle.std.specs.Ordering.{nat_cmp};
@@ -37,7 +38,8 @@ impl<V> Model for Table<V> {
     ghost invariant = { λ t. (k : ℕ) → found t.low.items (tree.get nat_cmp t.high) k ≡ reads k t.entries.items };
 }
 
-/// A number that is above each of these that is an id or a word.
+/// A number that is above each of these that is an id or a word: how long the vector gets. Another number would be as right, and
+/// slower.
 fn above<V>(entries: &[(u32, V)]) -> usize {
     let mut above = 0;
     for (key, _) in entries {

@@ -1,5 +1,5 @@
 -- Variables and registers of one cell whose entries lead back.
-use Rattle.std.proofs.Common.{◌≡◌, ◌∙◌, ℕ, zero, suc, ◌<◌, Bool, true, false, [], ◌∷◌, Option, Some, None, IsSome, length, option_map, slice_get, refl, sym, ap, subst}
+use Rattle.std.proofs.Common.{◌≡◌, ◌∙◌, ℕ, zero, suc, ◌<◌, ◌≤◌, arith, Bool, true, false, [], ◌∷◌, Option, Some, None, IsSome, length, option_map, slice_get, refl, sym, ap, subst}
 use Rattle.std.specs.Option.{IsSomeAnd, option_and_then}
 use Rattle.spv_base.specs.Entries.{writes}
 use Rattle.spv_base.specs.Parts.{part_at}
@@ -17,38 +17,25 @@ use Rattle.spv_frame.specs.Numbers.{HasCells, HoldsValue, with_value}
 use Rattle.spv_frame.specs.Registers.{IsSlotOf, Rooms, ids, marked, sizes}
 use Rattle.spv_frame.specs.declared.slots.Slot.{Slot}
 use Rattle.spv_state.specs.State.{State, on_frame, top_of, with_pc, with_register}
-use Rattle.spv_journal.specs.Entries.{KeepsValue}
-use Rattle.spv_journal.specs.Events.{Kept}
+use Rattle.spv_undo.specs.OldValues.{KeepsValue}
+use Rattle.spv_journal.specs.Events.{Kept, fitting, opened}
+use Rattle.spv_undo.specs.Entries.{count_of}
 use Rattle.spv_journal.specs.Held.{Held}
-use Rattle.spv_journal.specs.Marks.{register_item, variable_item}
-use Rattle.spv_journal.specs.Undo.{CanUndo, HasTop, Undoes, undo}
-use Rattle.spv_journal.specs.declared.entries.Entry.{Entry}
-use Rattle.spv_journal.specs.declared.entries.Entry.TheVariants.{PcMoved}
-use Rattle.spv_journal.proofs.EntryLemmas.{level_is, same_frames, value_undone}
-use Rattle.spv_journal.proofs.LawLemmas.{frame_back, has_top, pc_undone, value_back}
-use Rattle.spv_journal.proofs.RecordLemmas.{held_of}
-use Rattle.spv_journal.proofs.StoreLemmas.{put_back_leaf}
+use Rattle.spv_journal.specs.Marks.{Marked, register_item}
+use Rattle.spv_journal.specs.Rings.{event_of}
+use Rattle.spv_journal.specs.Undo.{CanUnwind}
+use Rattle.spv_base.specs.declared.happenings.Happening.{Happening}
+use Rattle.spv_undo.specs.Entries.{variable_item}
+use Rattle.spv_undo.specs.Undo.{CanUndo, HasTop, Undoes, undo}
+use Rattle.spv_undo.specs.declared.entries.Entry.{Entry}
+use Rattle.spv_undo.specs.declared.entries.Entry.TheVariants.{PcMoved}
+use Rattle.spv_undo.proofs.Exports.{value_undone}
+use Rattle.spv_undo.proofs.Exports.{frame_back, has_top, value_back}
+use Rattle.spv_journal.proofs.RecordLemmas.{AtOnce, at_once, held_of}
+use Rattle.spv_undo.proofs.Exports.{HasOne, Stands, move_undone, named_whole, register_at, some_there, whole}
 use Rattle.spv_base.proofs.Exports.{some_and}
 
 -- ---- variables
-
-abbrev pub whole : Root → Pointer
-whole root = record { root = root; path = [] }
-
--- the variable that a root of an invocation names has one cell
-abbrev pub HasOne : Memory → ℕ → Root → Type 0
-HasOne m i root = IsSomeAnd (load_of m i (whole root)) (λ v. length (leaves v) ≡ 1)
-
-named_whole : (m : Memory) (i : ℕ) (root : Root) → HasOne m i root → NamesRow m i (whole root) 0 1
-named_whole m i root h = each (root_value m i root) refl h
-  where
-    each : (o : Option Value) → root_value m i root ≡ o → IsSomeAnd (option_and_then (λ v. part_at v []) o) (λ v. length (leaves v) ≡ 1) → NamesRow m i (whole root) 0 1
-    each None is h = absurd h
-    each (Some v) is h = record { value = v; is = is; row = whole_row v [] 1 refl (sym h) }
-
-pub some_there : {X : Type 0} (o : Option X) (P : X → Type 0) → IsSomeAnd o P → IsSome o
-some_there None P h = absurd h
-some_there (Some x) P h = refl
 
 -- a value may be put there
 pub can_put : (i : ℕ) (root : Root) (u : Value) (s : State) (j : Kept) (old : Held) → held_of s j ≡ old → HasOne old.state.memory i root → ∥ MayStore old.state.memory i (whole root) u ∥₁ → CanUndo i (variable_item root u) s
@@ -58,19 +45,7 @@ can_put i root u s j old is one may = subst (λ (h : Held). CanUndo i (variable_
   may,
 )
 
--- and the entry of the old one leads back
-pub variable_undone : (i : ℕ) (root : Root) (u w x : Value) (s t : State) → CanUndo i (variable_item root u) s → t ≡ undo i (variable_item root u) s → load_of s.memory i (whole root) ≡ Some w → length (leaves u) ≡ 1
-    → ∥ IsMemory s.memory ∥₁ → x ≡ w → Undoes i (variable_item root x) s t
-variable_undone i root u w x s t can after h one is same =
-    let b = put_back_leaf i (whole root) 0 u w s t after h one can.1 is can.2 in
-    subst (λ (y : Value). Undoes i (variable_item root y) s t) (sym same) (record { back = b.back; can = (subst IsSome (sym b.load) refl, b.names, b.may) })
-
 -- ---- registers
-
-register_at : (rs : Rooms) (n id k : ℕ) → slice_get rs n ≡ Some (id, k) → (id_at (ids rs) n ≡ id) × (slice_get (sizes rs) n ≡ Some k)
-register_at [] n id k h = absurd cc
-register_at (r ∷ rs) zero id k h = let e : r ≡ (id, k) = cc in (ap (λ x. x.0) e, ap (λ x. Some x.1) e)
-register_at (r ∷ rs) (suc n) id k h = register_at rs n id k h
 
 -- the register of a slot held what a value r and a mark say, and took a value
 pub record CellExchanged (i n : ℕ) (r : Value) (has : Bool) (s t : State) : Type 0 where
@@ -92,31 +67,22 @@ cell_exchanged i x v r has s t j old is inside slot one after held =
           (some_and (top_of s i) (HoldsValue n (marked r has)) (λ f. with_value n (marked r has) (with_value n (Some v) f) ≡ f) (λ f h. value_back n (marked r has) (Some v) f h) held);
     })
 
--- a slot's number stands for its id
-pub cell_register_is : (i : ℕ) (x : Slot) (v : Value) (s : State) → pointer_in (out-Value v) ≡ None → IsSomeAnd (top_of s i) (λ f. IsSlotOf f.plan.values x) → on_frame i (with_value x.number (Some v)) s ≡ on_frame i (with_register x.id v) s
-cell_register_is i x v s plain slot =
-    same_frames i (with_value x.number (Some v)) (with_register x.id v) s
-    (some_and (top_of s i) (λ f. IsSlotOf f.plan.values x) (λ f. with_value x.number (Some v) f ≡ with_register x.id v f)
-    (λ f h. ap (λ (k : ℕ). record f { values = writes k (Some v) f.values }) (register_at f.plan.values x.number x.id x.len h.long).0 ∙ sym (level_is x.id v (out-Value v) f plain)) slot)
-
 -- what a mark says of the register
 pub register_kept : (n : ℕ) (r : Value) (has : Bool) → KeepsValue n (marked r has) 1 (register_item n r has)
 register_kept n r true = (refl, refl, refl)
 register_kept n r false = (refl, refl)
 
+pub register_counts : (n : ℕ) (r : Value) (has : Bool) → count_of (register_item n r has) ≤ 1
+register_counts n r true = omega arith
+register_counts n r false = omega arith
+
 -- ---- moves
 
--- the top frame of an invocation stands at a word
-abbrev pub Stands : State → ℕ → ℕ → Type 0
-Stands s i w = HasTop s i (λ f. f.pc ≡ w)
+-- ---- events that are made at once
 
-pub move_undone : (i pc w : ℕ) (s : State) → Stands s i w → Undoes i (PcMoved w) s (on_frame i (with_pc pc) s)
-move_undone i pc w s h = pc_undone i pc w s h.0 (some_there (top_of s i) (λ f. f.pc ≡ w) h.1) (each (top_of s i) h.1)
-  where
-    each : (o : Option Frame) → IsSomeAnd o (λ f. f.pc ≡ w) → option_map (λ (f : Frame). f.pc) o ≡ Some w
-    each None h = absurd h
-    each (Some f) h = ap (λ (n : ℕ). Some n) h
-
--- a register doesn't move it
-pub stands_still : (i n w : ℕ) (v : Value) (s t : State) → i < length s.stacks → IsSomeAnd (top_of s i) (λ f. f.pc ≡ w) → t ≡ on_frame i (with_value n (Some v)) s → Stands t i w
-stands_still i n w v s t inside h after = subst (λ (x : State). Stands x i w) (sym after) (has_top i (with_value n (Some v)) s (λ f. f.pc ≡ w) inside h)
+-- a change of one register or variable, and the move behind it
+pub made_at_once : (h : Happening) (e : Entry) (pc : ℕ) (mark : Marked) (s t u : State) (j k : Kept) (old : Held) → held_of s j ≡ old → old.gathered ≡ None → Undoes h.inv e s t → Stands t h.inv h.word → u ≡ on_frame h.inv (with_pc pc) t
+    → mark ≡ record { happening = h; items = PcMoved h.word ∷ e ∷ []; beside = 0 } → k ≡ record j { ring = fitting j.limit (event_of mark [] ∷ j.ring) } → count_of e ≤ 1 → CanUnwind (opened j.gathered j.ring) s → AtOnce h old u k
+made_at_once h e pc mark s t u j k old is none first there after made kept few can =
+    at_once h e (PcMoved h.word) s t u j k old is none (kept ∙ ap (λ (m : Marked). record j { ring = fitting j.limit (event_of m [] ∷ j.ring) }) made) first
+    (subst (Undoes h.inv (PcMoved h.word) t) (sym after) (move_undone h.inv pc h.word t there)) (omega (arith, few)) can

@@ -1,7 +1,4 @@
 mod UndoLemmas
 mod RingLemmas
-mod StoreLemmas
-mod LawLemmas
 mod RecordLemmas
-mod EntryLemmas
 mod CellLemmas

@@ -1,12 +1,14 @@
 -- A change that is recorded.
-use Rattle.std.proofs.Common.{◌≡◌, ◌∙◌, ℕ, ◌≤◌, List, [], ◌∷◌, Option, Some, None, IsSome, option_map, refl, sym, ap, subst, arith}
+use Rattle.std.proofs.Common.{◌≡◌, ◌∙◌, ℕ, ◌+◌, ◌≤◌, List, [], ◌∷◌, Option, Some, None, IsSome, option_map, refl, sym, ap, subst, arith}
 use Rattle.spv_base.specs.declared.happenings.Happening.{Happening}
 use Rattle.spv_state.specs.State.{State}
 use Rattle.spv_journal.specs.Entries.{Keeps}
 use Rattle.spv_journal.specs.Events.{Event, Kept, fitting, opened, pushed}
+use Rattle.spv_undo.specs.Entries.{count_of}
 use Rattle.spv_journal.specs.Held.{Held, IsMaking, KeepsEvent, Records}
-use Rattle.spv_journal.specs.Undo.{CanUndo, CanUndoAll, CanUnwind, Undoes, past, undo, undo_all}
-use Rattle.spv_journal.specs.declared.entries.Entry.{Entry}
+use Rattle.spv_undo.specs.Undo.{CanUndo, CanUndoAll, Undoes, undo, undo_all}
+use Rattle.spv_journal.specs.Undo.{CanUnwind, past}
+use Rattle.spv_undo.specs.declared.entries.Entry.{Entry}
 use Rattle.spv_journal.proofs.UndoLemmas.{fitting_unwinds}
 
 -- a state beside what a journal keeps
@@ -20,9 +22,9 @@ pub record Extended (n : ℕ) (old : Held) (t : State) (k : Kept) : Type 0 where
   pub unwinds : CanUnwind (opened k.gathered k.ring) t
   pub records : Records n old (held_of t k)
 
-pub extended : (n i : ℕ) (e : Entry) (s t : State) (j k : Kept) (old : Held) → held_of s j ≡ old → IsMaking old.gathered i → k ≡ with_entry e j → Undoes i e s t → CanUnwind (opened j.gathered j.ring) s → 1 ≤ n
+pub extended : (n i : ℕ) (e : Entry) (s t : State) (j k : Kept) (old : Held) → held_of s j ≡ old → IsMaking old.gathered i → k ≡ with_entry e j → Undoes i e s t → CanUnwind (opened j.gathered j.ring) s → count_of e ≤ n
     → Extended n old t k
-extended n i e s t j k old is making added u can some =
+extended n i e s t j k old is making added u can few =
     subst (Extended n old t) (sym added)
     (subst (λ (o : Held). Extended n o t (with_entry e j)) is (each j.ring j.limit j.gathered (subst (λ (o : Held). IsMaking o.gathered i) (sym is) making) can))
   where
@@ -41,14 +43,14 @@ extended n i e s t j k old is making added u can some =
             ring = refl;
             limit = refl;
             happening = refl;
-            changes = omega (arith, some);
+            changes = omega (arith, few);
           };
         }
 
 -- the same of an entry that was added
-pub kept : (n i : ℕ) (P : Entry → Type 0) (s t : State) (j k : Kept) (old : Held) → held_of s j ≡ old → IsMaking old.gathered i → Keeps P j k → ((e : Entry) → P e → Undoes i e s t) → CanUnwind (opened j.gathered j.ring) s → 1 ≤ n
-    → Extended n old t k
-kept n i P s t j k old is making added u can some = extended n i added.entry s t j k old is making added.added (u added.entry added.holds) can some
+pub kept : (n i : ℕ) (P : Entry → Type 0) (s t : State) (j k : Kept) (old : Held) → held_of s j ≡ old → IsMaking old.gathered i → Keeps P j k → ((e : Entry) → P e → Undoes i e s t) → ((e : Entry) → P e → count_of e ≤ n)
+    → CanUnwind (opened j.gathered j.ring) s → Extended n old t k
+kept n i P s t j k old is making added u few can = extended n i added.entry s t j k old is making added.added (u added.entry added.holds) can (few added.entry added.holds)
 
 -- nothing changed
 pub still : (n : ℕ) (old new : Held) → new ≡ old → Records n old new
@@ -75,8 +77,8 @@ pub record AtOnce (h : Happening) (old : Held) (t : State) (k : Kept) : Type 0 w
   pub kept : KeepsEvent 2 h old (held_of t k)
 
 pub at_once : (h : Happening) (e d : Entry) (s t u : State) (j k : Kept) (old : Held) → held_of s j ≡ old → old.gathered ≡ None → k ≡ record j { ring = fitting j.limit (event_with h d e ∷ j.ring) }
-    → Undoes h.inv e s t → Undoes h.inv d t u → CanUnwind (opened j.gathered j.ring) s → AtOnce h old u k
-at_once h e d s t u j k old is none made first second can =
+    → Undoes h.inv e s t → Undoes h.inv d t u → count_of d + count_of e ≤ 2 → CanUnwind (opened j.gathered j.ring) s → AtOnce h old u k
+at_once h e d s t u j k old is none made first second two can =
     subst (AtOnce h old u) (sym made)
     (subst (λ (o : Held). AtOnce h o u (record j { ring = fitting j.limit (event_with h d e ∷ j.ring) })) is
     (each j.ring j.limit j.gathered (ap (λ (o : Held). o.gathered) is ∙ none) can))
@@ -89,5 +91,5 @@ at_once h e d s t u j k old is none made first second can =
     each vs limit (Some v) missing c = absurd cc
     each vs limit None missing c = record {
       unwinds = fitting_unwinds limit (event_with h d e ∷ vs) u ((second.can, (subst (CanUndo h.inv e) (sym second.back) first.can, tt)), subst (CanUnwind vs) (sym leads) c);
-      kept = record { event = event_with h d e; happening = refl; leads = leads; few = omega arith; ring = refl; gathered = refl; limit = refl };
+      kept = record { event = event_with h d e; happening = refl; leads = leads; few = omega (arith, two); ring = refl; gathered = refl; limit = refl };
     }

@@ -4,13 +4,16 @@ use Rattle.std.specs.Option.{option_map_or}
 use Rattle.spv_base.specs.declared.values.Root.{Root}
 use Rattle.spv_base.specs.declared.values.Value.{Value}
 use Rattle.spv_journal.specs.Events.{Event, Kept, fitting, newest, older, opened, size_of}
-use Rattle.spv_journal.specs.Marks.{Marked, items_of, moved, variable_item}
+use Rattle.spv_journal.specs.Marks.{Marked, items_of, moved}
+use Rattle.spv_undo.specs.Entries.{variable_item}
 use Rattle.spv_journal.specs.Rings.{event_of, made}
-use Rattle.spv_journal.specs.Undo.{CanUndo, CanUndoAll, CanUnwind, before, undo, undo_all}
-use Rattle.spv_journal.specs.declared.entries.Entry.{Entry}
+use Rattle.spv_undo.specs.Undo.{CanUndo, CanUndoAll, undo, undo_all}
+use Rattle.spv_journal.specs.Undo.{CanUndoNewest, CanUnwind, before}
+use Rattle.spv_undo.specs.declared.entries.Entry.{Entry}
 use Rattle.spv_journal.specs.declared.marks.Change.{Change}
 use Rattle.spv_journal.specs.declared.marks.Change.TheVariants.{Variable}
 use Rattle.spv_state.specs.State.{State}
+use Rattle.spv_undo.proofs.Exports.{front_undoes}
 
 -- the events that there is room for
 pub fitting_unwinds : (n : ℕ) (vs : List Event) (s : State) → CanUnwind vs s → CanUnwind (fitting n vs) s
@@ -21,20 +24,15 @@ fitting_unwinds n (v ∷ vs) s can = by_room (fitting_unwinds (n - size_of v) vs
     by_room rest true = (can.0, rest)
     by_room rest false = tt
 
+-- the newest event
+pub newest_undoes : (vs : List Event) (s : State) → CanUnwind vs s → CanUndoNewest vs s
+newest_undoes [] s can = tt
+newest_undoes (v ∷ vs) s can = can.0
+
 -- the events behind the newest
 pub older_unwind : (vs : List Event) (s : State) → CanUnwind vs s → CanUnwind (older vs) (option_map_or (λ v. before v s) (newest vs) s)
 older_unwind [] s can = tt
 older_unwind (v ∷ vs) s can = can.1
-
--- ---- changes before others
-
-pub front_undoes : (i : ℕ) (xs ys : List Entry) (s : State) → CanUndoAll i (xs ++ ys) s → CanUndoAll i xs s × CanUndoAll i ys (undo_all i xs s)
-front_undoes i [] ys s can = (tt, can)
-front_undoes i (x ∷ xs) ys s can = let rest = front_undoes i xs ys (undo i x s) can.1 in ((can.0, rest.0), rest.1)
-
-pub undo_both : (i : ℕ) (xs ys : List Entry) (s : State) → undo_all i ys (undo_all i xs s) ≡ undo_all i (xs ++ ys) s
-undo_both i [] ys s = refl
-undo_both i (x ∷ xs) ys s = undo_both i xs ys (undo i x s)
 
 -- a variable is set before the pc moves: it can be put back after the move is undone
 pub variable_first : (i w : ℕ) (m : Bool) (change : Change) (root : Root) (tree x : Value) (s t : State) → change ≡ Variable root → CanUndoAll i (items_of m w change tree) s → t ≡ undo_all i (moved m w) s → x ≡ tree
@@ -51,8 +49,7 @@ pub record Making (m : Marked) (es : List Entry) (k : Kept) (s : State) : Type 0
   pub can : CanUndoAll m.happening.inv (m.items ++ es) s
 
 -- it is the newest, and can be undone
-pub making : (b : Bool) (m : Marked) (es : List Entry) (k : Kept) (s : State) → b ≡ true → made b m es ≡ k.gathered → CanUnwind (opened k.gathered k.ring) s → Making m es k s
+pub making : (b : Bool) (m : Marked) (es : List Entry) (k : Kept) (s : State) → b ≡ true → made b m es ≡ k.gathered → CanUndoNewest (opened k.gathered k.ring) s → Making m es k s
 making b m es k s now view can =
     let is : Some (event_of m es) ≡ k.gathered = ap (λ (x : Bool). made x m es) (sym now) ∙ view in
-    let all : CanUnwind (opened (Some (event_of m es)) k.ring) s = subst (λ (o : Option Event). CanUnwind (opened o k.ring) s) (sym is) can in
-    record { is = is; can = all.0 }
+    record { is = is; can = subst (λ (o : Option Event). CanUndoNewest (opened o k.ring) s) (sym is) can }

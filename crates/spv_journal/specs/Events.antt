@@ -1,16 +1,17 @@
 -- Events that are kept, and which of them a journal has room for.
-use Rattle.std.specs.Prelude.{ℕ, suc, ◌+◌, ◌-◌, nat_le, if◌then◌else◌, List, [], ◌∷◌, length, Option, Some, None}
+use Rattle.std.specs.Prelude.{ℕ, suc, ◌+◌, ◌-◌, nat_le, if◌then◌else◌, List, [], ◌∷◌, Option, Some, None}
 use Rattle.spv_base.specs.declared.happenings.Happening.{Happening}
-use Rattle.spv_journal.specs.declared.entries.Entry.{Entry}
+use Rattle.spv_undo.specs.Entries.{count}
+use Rattle.spv_undo.specs.declared.entries.Entry.{Entry}
 
 -- what happened, and what undoes its changes, the newest first
 pub record Event : Type 0 where
   pub happening : Happening
   pub changes : List Entry
 
--- the mark of an event, and its entries
+-- the mark of an event, and its entries as they count
 abbrev pub size_of : Event → ℕ
-size_of v = suc (length v.changes)
+size_of v = suc (count v.changes)
 
 abbrev pub size : List Event → ℕ
 size [] = 0

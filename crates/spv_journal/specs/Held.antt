@@ -1,9 +1,10 @@
 -- What callers see of a state whose changes are recorded.
-use Rattle.std.specs.Prelude.{◌≡◌, ◌≤◌, ◌+◌, ℕ, List, ◌∷◌, length, Option, None, option_map}
+use Rattle.std.specs.Prelude.{◌≡◌, ◌≤◌, ◌+◌, ℕ, List, ◌∷◌, Option, None, option_map}
 use Rattle.std.specs.Option.{IsSomeAnd, option_map_or}
 use Rattle.spv_base.specs.declared.happenings.Happening.{Happening}
 use Rattle.spv_state.specs.State.{State}
 use Rattle.spv_journal.specs.Events.{Event, begun, fitting, newest, older, opened}
+use Rattle.spv_undo.specs.Entries.{count}
 use Rattle.spv_journal.specs.Undo.{Moment, before, past}
 
 -- a state beside what a journal keeps
@@ -21,9 +22,9 @@ past_of w = past (opened w.gathered w.ring) w.state
 abbrev pub IsMaking : Option Event → ℕ → Type 0
 IsMaking o i = IsSomeAnd o (λ (v : Event). v.happening.inv ≡ i)
 
--- how many changes it has
+-- how much its entries count
 abbrev pub changes_in : Option Event → ℕ
-changes_in o = option_map_or (λ (v : Event). length v.changes) o 0
+changes_in o = option_map_or (λ (v : Event). count v.changes) o 0
 
 -- ---- an event that begins
 
@@ -46,7 +47,7 @@ unwound w = record w {
 
 -- ---- a change that is recorded
 
--- The events lead back to the same states. Those that are kept stay, and the one that is being made has at most n changes more.
+-- The events lead back to the same states. Those that are kept stay, and the entries of the one that is being made count at most n more.
 pub record Records (n : ℕ) (old new : Held) : Type 0 where
   pub past : past_of new ≡ past_of old
   pub ring : new.ring ≡ old.ring
@@ -56,12 +57,12 @@ pub record Records (n : ℕ) (old new : Held) : Type 0 where
 
 -- ---- an event that is made at once
 
--- It is kept before the others, of which as many go as have to. It leads back to the state before, and has at most n changes.
+-- It is kept before the others, of which as many go as have to. It leads back to the state before, and its entries count at most n.
 pub record KeepsEvent (n : ℕ) (h : Happening) (old new : Held) : Type 0 where
   pub event : Event
   pub happening : event.happening ≡ h
   pub leads : before event new.state ≡ old.state
-  pub few : length event.changes ≤ n
+  pub few : count event.changes ≤ n
   pub ring : new.ring ≡ fitting old.limit (event ∷ old.ring)
   pub gathered : new.gathered ≡ None
   pub limit : new.limit ≡ old.limit

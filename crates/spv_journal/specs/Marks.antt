@@ -2,10 +2,10 @@
 use Rattle.std.specs.Prelude.{◌≡◌, ℕ, List, [], ◌∷◌, ◌++◌, Bool, true, false, ⊤}
 use Rattle.spv_base.specs.Cell.{IsCell, Cell}
 use Rattle.spv_base.specs.declared.happenings.Happening.{Happening}
-use Rattle.spv_base.specs.declared.values.Root.{Root}
 use Rattle.spv_base.specs.declared.values.Value.{Value}
-use Rattle.spv_journal.specs.declared.entries.Entry.{Entry}
-use Rattle.spv_journal.specs.declared.entries.Entry.TheVariants.{CellRegister, Leaf, NoValue, PcMoved, StatusChanged}
+use Rattle.spv_undo.specs.Entries.{variable_item}
+use Rattle.spv_undo.specs.declared.entries.Entry.{Entry}
+use Rattle.spv_undo.specs.declared.entries.Entry.TheVariants.{CellRegister, NoValue, PcMoved, StatusChanged}
 use Rattle.spv_journal.specs.declared.marks.Change.{Change}
 use Rattle.spv_journal.specs.declared.marks.MarkData.{MarkData}
 use Rattle.spv_journal.specs.declared.marks.Change.TheVariants.{Blank, Nothing, Register, Status, Variable}
@@ -50,10 +50,6 @@ moved true word = PcMoved word ∷ []
 abbrev pub is_change : Change → Bool
 is_change Nothing = false
 is_change _ = true
-
--- the entry of a whole variable of one cell that had a value
-abbrev pub variable_item : Root → Value → Entry
-variable_item root tree = Leaf root 0 (record { of = record {}; value = [] }) tree
 
 -- the entry of a register of one cell, by the value that it had, if a mark says that it had one
 abbrev pub register_item : ℕ → Value → Bool → Entry

@@ -1,8 +1,9 @@
 -- The events of a journal's rings, of which one has their marks and the other the changes that don't lie in the marks.
 use Rattle.std.specs.Prelude.{◌≡◌, ◌≤◌, ◌<◌, ◌+◌, ◌^◌, ℕ, suc, List, [], ◌∷◌, ◌++◌, drop, length, take, Bool, true, false, Option, None, Some}
 use Rattle.spv_journal.specs.Events.{Event, size}
+use Rattle.spv_undo.specs.Entries.{count}
 use Rattle.spv_journal.specs.Marks.{Marked}
-use Rattle.spv_journal.specs.declared.entries.Entry.{Entry}
+use Rattle.spv_undo.specs.declared.entries.Entry.{Entry}
 
 -- ---- one event
 
@@ -10,9 +11,9 @@ use Rattle.spv_journal.specs.declared.entries.Entry.{Entry}
 abbrev pub event_of : Marked → List Entry → Event
 event_of m es = record { happening = m.happening; changes = m.items ++ es }
 
--- how many marks and entries a mark stands for
+-- what a mark counts, with the entries that it stands for
 abbrev pub mark_size : Marked → ℕ
-mark_size m = suc (length m.items)
+mark_size m = suc (count m.items)
 
 -- the event that is being made, if one is
 abbrev pub made : Bool → Marked → List Entry → Option Event

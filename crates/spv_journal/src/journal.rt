@@ -4,16 +4,16 @@ ghost use Rattle.std.specs.Option.{option_map_or};
 ghost use Rattle.std.specs.VecDeque.{deque_capacity, deque_len};
 ghost use Rattle.spv_journal.specs.Events.{begun, fitting, newest, older, opened, pushed, size};
 ghost use Rattle.spv_journal.specs.Rings.{event_of};
-ghost use Rattle.spv_journal.specs.Undo.{CanUnwind, before};
-ghost use Rattle.spv_journal.specs.declared.entries.Entry.TheVariants.{CellRegister, PcMoved, StatusChanged};
+ghost use Rattle.spv_journal.specs.Undo.{CanUndoNewest, before};
+ghost use Rattle.spv_undo.specs.declared.entries.Entry.TheVariants.{CellRegister, PcMoved, StatusChanged};
 
-use crate::entries::Entry;
 use crate::marks::Mark;
 use crate::rings::Ring;
-use crate::undoing::undo_gathered;
 use spv_base::{Happening, Kind, NoMemory};
 use spv_state::Whole;
 use spv_statuses::Status;
+use spv_undo::Entry;
+use spv_undo::undoing::undo_gathered;
 use spv_values::Single;
 use std::alloc::Global;
 use std::collections::VecDeque;
@@ -37,7 +37,7 @@ impl Model for Journal {
     ghost use Rattle.std.specs.Coded.{codes};
     ghost use Rattle.spv_journal.specs.Events.{Kept};
     ghost use Rattle.spv_journal.specs.Rings.{made};
-    ghost use Rattle.spv_journal.specs.contracts.entries.Entry as entry;
+    ghost use Rattle.spv_undo.specs.contracts.entries.Entry as entry;
 
     ghost Value = { Kept };
 
@@ -193,10 +193,10 @@ impl Journal {
         self.ring.put(&mut self.mark, &mut self.gathered);
     }
 
-    /// Undoes the event that is being made, or else the newest, its newest entry first. None exactly where there is none. It takes no
-    /// memory.
+    /// Undoes the event that is being made, or else the newest, its newest entry first. None exactly where there is none. The older ones stay
+    /// as they are. It takes no memory.
     pub fn unwind(&mut self, whole: &mut Whole) -> Option<Happening>
-        requires { CanUnwind (opened self.old.gathered self.old.ring) whole.old }
+        requires { CanUndoNewest (opened self.old.gathered self.old.ring) whole.old }
         ensures whole { whole.new ≡ option_map_or (λ v. before v whole.old) (newest (opened self.old.gathered self.old.ring)) whole.old }
         ensures journal { self.new ≡ record self.old { ring = older (opened self.old.gathered self.old.ring); gathered = None } }
         ensures happening { result ≡ option_map (λ v. v.happening) (newest (opened self.old.gathered self.old.ring)) }
@@ -212,7 +212,7 @@ impl Journal {
         }
     }
 
-    /// How many marks and entries are kept.
+    /// How much the marks and entries that are kept count.
     pub fn len(&self) -> usize
         ensures len { result ≡ size self.now.ring }
         ensures within { result ≤ self.now.limit }

@@ -2,14 +2,11 @@
 #![tactic(auto)]
 
 pub mod changes;
-pub mod entries;
 pub mod journal;
 mod marks;
 mod noting;
 pub mod recorded;
 mod rings;
-mod undoing;
 
-pub use entries::Entry;
 pub use journal::Journal;
 pub use recorded::Recorded;

@@ -3,17 +3,19 @@ ghost use Rattle.std.specs.Prelude.{◌≡◌, ◌<◌, ◌≤◌, ◌∷◌, �
 ghost use Rattle.std.specs.Option.{option_to_list};
 ghost use Rattle.std.specs.VecDeque.{deque_capacity, deque_len};
 ghost use Rattle.spv_base.specs.Cell.{IsCell};
-ghost use Rattle.spv_journal.specs.Marks.{cell_in, happening_in, is_change, items_of, data_of, register_item, variable_item, with_item};
+ghost use Rattle.spv_journal.specs.Marks.{cell_in, happening_in, is_change, items_of, data_of, register_item, with_item};
+ghost use Rattle.spv_undo.specs.Entries.{variable_item};
 ghost use Rattle.spv_journal.specs.Rings.{mark_size};
-ghost use Rattle.spv_journal.specs.Undo.{CanUndoAll, undo_all};
-ghost use Rattle.spv_journal.specs.declared.entries.Entry.TheVariants.{CellRegister, PcMoved, StatusChanged};
+ghost use Rattle.spv_undo.specs.Undo.{CanUndoAll, undo_all};
+ghost use Rattle.spv_undo.specs.declared.entries.Entry.TheVariants.{CellRegister, PcMoved, StatusChanged};
 ghost use Rattle.spv_types.specs.Rows.{leaves};
 
-use crate::entries::Entry;
-use crate::undoing::{exchange_variable, put_cell};
-use spv_base::{Cell, Ghost, Happening, Kind, NoMemory, Path, Root, Value};
+use spv_base::{Cell, Ghost, Happening, Kind, NoMemory, Root, Value};
 use spv_state::Whole;
 use spv_statuses::Status;
+use spv_undo::Entry;
+use spv_undo::entries::variable_entry;
+use spv_undo::undoing::{exchange_variable, put_cell};
 use spv_values::trees::same;
 use spv_values::{Part, Single};
 use std::collections::VecDeque;
@@ -159,7 +161,7 @@ pub(crate) struct Mark {
 impl Model for Mark {
     ghost use Rattle.std.specs.Coded.{codes};
     ghost use Rattle.spv_journal.specs.Marks.{IsTree, Marked, cell_in, happening_in, items_of};
-    ghost use Rattle.spv_journal.specs.contracts.entries.Entry as entry;
+    ghost use Rattle.spv_undo.specs.contracts.entries.Entry as entry;
 
     ghost Value = { Marked };
 
@@ -185,26 +187,6 @@ pub(crate) fn tree_of(tree: &Ghost<Value>, value: &Single) -> Ghost<Value>
     ensures { result.value ≡ value.now }
 {
     tree.by(value, tree)
-}
-
-/// The path that leads to the whole of a variable, for proofs.
-pub(crate) fn no_path() -> Ghost<Path>
-    ensures { result.value ≡ [] }
-{
-    Ghost::of()
-}
-
-/// The entry of a whole variable of one cell, by the value that it had.
-#[inline(always)]
-pub(crate) fn variable_entry(root: Root, value: Single) -> Entry
-    ensures { result ≡ variable_item root value }
-{
-    Entry::Leaf {
-        root,
-        leaf: 0,
-        path: no_path(),
-        value,
-    }
 }
 
 /// Puts an entry before all, if there is one.
@@ -295,7 +277,7 @@ impl Mark {
         self.data.beside as usize
     }
 
-    /// How many marks and entries it stands for.
+    /// How much it counts, with the entries that it stands for.
     #[inline(always)]
     pub(crate) fn size(&self) -> usize
         ensures size { result ≡ mark_size self.now }

@@ -1,17 +1,17 @@
 //! Entries of changes, by what was there before.
 ghost use Rattle.std.specs.Prelude.{◌≡◌, IfErr, IfOk, IsSome, OnErr, OnOk, Some, length, option_copied, option_map};
 ghost use Rattle.spv_frame.specs.Registers.{marked};
-ghost use Rattle.spv_journal.specs.Entries.{Keeps, KeepsFrame, KeepsPointer, KeepsValue, popped};
-ghost use Rattle.spv_journal.specs.Undo.{Undoes};
+ghost use Rattle.spv_journal.specs.Entries.{Keeps, KeepsFrame};
+ghost use Rattle.spv_undo.specs.OldValues.{KeepsPart, KeepsPointer, KeepsValue, popped};
 ghost use Rattle.spv_mem.specs.Memory.{MayStore, load_of};
-ghost use Rattle.spv_state.specs.State as state;
 ghost use Rattle.spv_types.specs.Rows.{leaves};
 
-use crate::entries::{Entry, OldFrame, OldPart, OldValue};
 use crate::journal::Journal;
 use spv_base::{NoMemory, Pointer};
 use spv_state::Whole;
 use spv_state::held::HeldPointer;
+use spv_undo::Entry;
+use spv_undo::entries::{OldFrame, OldPart, OldValue};
 use spv_values::{Row, Single};
 use std::alloc::Global;
 
@@ -25,7 +25,7 @@ fn part_entry(
 ) -> Result<Entry, NoMemory>
     requires there { IsSome (load_of whole.now.memory i pointer.now) }
     requires may { ∥ MayStore whole.now.memory i pointer.now row.now ∥₁ }
-    ensures { IfOk result (λ e. Undoes i e (state.put_store i (Some (pointer.now, row.now)) whole.now) whole.now) }
+    ensures { IfOk result (KeepsPart i pointer.now row.now whole.now) }
 {
     let old = OldPart {
         place: pointer.copy(alloc)?,
@@ -47,7 +47,7 @@ pub(crate) fn keep_part(
     requires making { IsSome journal.old.gathered }
     requires there { IsSome (load_of whole.now.memory i pointer.now) }
     requires may { ∥ MayStore whole.now.memory i pointer.now row.now ∥₁ }
-    ensures ok { OnOk result (Keeps (λ e. Undoes i e (state.put_store i (Some (pointer.now, row.now)) whole.now) whole.now) journal.old journal.new) }
+    ensures ok { OnOk result (Keeps (KeepsPart i pointer.now row.now whole.now) journal.old journal.new) }
     ensures err { OnErr result (journal.new ≡ journal.old) }
 {
     let entry = part_entry(alloc, whole, i, pointer, row)?;

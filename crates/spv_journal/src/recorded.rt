@@ -20,16 +20,17 @@ ghost use Rattle.spv_frame.specs.Registers.{IsSlotOf};
 ghost use Rattle.spv_state.specs.Sources.{slot_of};
 
 use crate::changes::{exchange_leaf, named_leaf, put_pointer};
-use crate::entries::{Entry, OldFrame};
 use crate::journal::Journal;
 use crate::marks::Mark;
 use crate::noting::{keep_frame, keep_held, keep_part, pointer_entry};
-use crate::undoing::exchange_variable;
 use spv_base::{Happening, NoMemory, Pointer, Root};
 use spv_frame::{DebugEvent, Frame};
 use spv_mem::Locals;
 use spv_state::{CellSlot, Whole};
 use spv_statuses::Status;
+use spv_undo::Entry;
+use spv_undo::entries::OldFrame;
+use spv_undo::undoing::exchange_variable;
 use spv_valid::Module;
 use spv_values::trees::shadow;
 use spv_values::{Row, Single};
@@ -49,7 +50,7 @@ impl Model for Recorded {
     ghost use Rattle.std.specs.Prelude.{◌≤◌};
     ghost use Rattle.std.specs.Coded.{codes};
     ghost use Rattle.spv_base.specs.contracts.values.Value as value;
-    ghost use Rattle.spv_journal.specs.contracts.entries.Entry as entry;
+    ghost use Rattle.spv_undo.specs.contracts.entries.Entry as entry;
     ghost use Rattle.spv_journal.specs.Events.{opened, size};
     ghost use Rattle.spv_journal.specs.Held.{Held};
     ghost use Rattle.spv_journal.specs.Undo.{CanUnwind};

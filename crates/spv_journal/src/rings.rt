@@ -1,54 +1,77 @@
 //! The rings of a journal: the marks of its events, and beside them their changes, the newest first.
-ghost use Rattle.std.specs.Prelude.{◌≡◌, ◌<◌, ◌≤◌, ◌+◌, ◌-◌, ◌++◌, ◌∷◌, [], IfOk, drop, length, option_map, take};
+ghost use Rattle.std.specs.Prelude.{◌≡◌, ◌<◌, ◌≤◌, ◌+◌, ◌-◌, ◌^◌, ◌++◌, ◌∷◌, [], IfOk, IfSome, None, drop, length, option_map, take};
 ghost use Rattle.std.specs.Option.{option_map_or};
-ghost use Rattle.spv_journal.specs.Events.{fitting, newest, older, size};
+ghost use Rattle.spv_undo.specs.Entries.{count};
+ghost use Rattle.spv_journal.specs.Events.{fitting, newest, older, size, size_of};
 ghost use Rattle.spv_journal.specs.Rings.{but_oldest, event_of};
-ghost use Rattle.spv_journal.specs.Undo.{CanUndoAll, CanUnwind, before, undo_all};
+ghost use Rattle.spv_undo.specs.Undo.{CanUndoAll, undo_all};
+ghost use Rattle.spv_journal.specs.Undo.{CanUndoNewest, before};
 
-use crate::entries::Entry;
 use crate::marks::Mark;
-use crate::undoing::undo;
 use circular_buffer::HeapCircularBuffer;
 use spv_base::{Happening, NoMemory};
 use spv_state::Whole;
+use spv_undo::Entry;
+use spv_undo::undoing::undo;
 use std::alloc::Global;
 use std::collections::VecDeque;
 use std::marker::Model;
 
-/// Undoes the first changes of an invocation, so many, and takes them away.
-fn undo_first(whole: &mut Whole, inv: u32, entries: &mut HeapCircularBuffer<Entry>, count: usize)
-    requires there { count ≤ length entries.old.items }
-    requires can { CanUndoAll inv (take count entries.old.items) whole.old }
-    ensures whole { whole.new ≡ undo_all inv (take count entries.old.items) whole.old }
-    ensures entries { entries.new.items ≡ drop count entries.old.items }
+/// Undoes the first changes of an invocation, so many, takes them away, and says how much they counted.
+fn undo_first(
+    whole: &mut Whole,
+    inv: u32,
+    entries: &mut HeapCircularBuffer<Entry>,
+    many: usize,
+) -> usize
+    requires there { many ≤ length entries.old.items }
+    requires can { CanUndoAll inv (take many entries.old.items) whole.old }
+    requires bounded { count entries.old.items < 2 ^ 32 }
+    ensures whole { whole.new ≡ undo_all inv (take many entries.old.items) whole.old }
+    ensures entries { entries.new.items ≡ drop many entries.old.items }
     ensures capacity { entries.new.capacity ≡ entries.old.capacity }
+    ensures counted { result ≡ count (take many entries.old.items) }
 {
-    for _number in 0..count {
+    let mut counted = 0;
+    for _number in 0..many {
         match entries.pop_front() {
-            Some(entry) => undo(whole, inv, entry),
+            Some(entry) => {
+                counted += entry.count();
+                undo(whole, inv, entry);
+            }
             None => unreachable!(),
         }
     }
+    counted
 }
 
-/// Drops the last change. Apart from the way that most events go, which have none beside their marks.
+/// Drops the last change, if there is one, and says how much it counted. Apart from the way that most events go, which have none beside
+/// their marks.
 #[inline(never)]
-fn drop_one(entries: &mut HeapCircularBuffer<Entry>)
+fn drop_one(entries: &mut HeapCircularBuffer<Entry>) -> usize
     ensures entries { entries.new.items ≡ take (length entries.old.items - 1) entries.old.items }
     ensures capacity { entries.new.capacity ≡ entries.old.capacity }
+    ensures counted { result + count entries.new.items ≡ count entries.old.items }
 {
-    let _entry = entries.pop_back();
+    match entries.pop_back() {
+        Some(entry) => entry.count(),
+        None => 0,
+    }
 }
 
-/// Drops the last changes, so many.
-fn drop_last(entries: &mut HeapCircularBuffer<Entry>, count: usize)
-    requires { count ≤ length entries.old.items }
-    ensures entries { entries.new.items ≡ take (length entries.old.items - count) entries.old.items }
+/// Drops the last changes, so many, and says how much they counted.
+fn drop_last(entries: &mut HeapCircularBuffer<Entry>, many: usize) -> usize
+    requires there { many ≤ length entries.old.items }
+    requires bounded { count entries.old.items < 2 ^ 32 }
+    ensures entries { entries.new.items ≡ take (length entries.old.items - many) entries.old.items }
     ensures capacity { entries.new.capacity ≡ entries.old.capacity }
+    ensures counted { result + count entries.new.items ≡ count entries.old.items }
 {
-    for _number in 0..count {
-        drop_one(entries);
+    let mut counted = 0;
+    for _number in 0..many {
+        counted += drop_one(entries);
     }
+    counted
 }
 
 /// Puts a change before all, where there is room for it. Apart, as `drop_one` is.
@@ -73,8 +96,22 @@ fn put_all(entries: &mut HeapCircularBuffer<Entry>, gathered: &mut VecDeque<Entr
     }
 }
 
+/// How much may be kept beside an event that is to be kept, if there is room for the event itself.
+#[inline(always)]
+fn room_beside(limit: usize, mark: &Mark, gathered: &VecDeque<Entry>) -> Option<usize>
+    ensures room { IfSome result (λ room. room + size_of (event_of mark.now gathered.now.items) ≡ limit) }
+    ensures none { result ≡ None → limit < size_of (event_of mark.now gathered.now.items) }
+{
+    let mut room = limit.checked_sub(mark.size())?;
+    for entry in gathered.iter() {
+        room = room.checked_sub(entry.count())?;
+    }
+    Some(room)
+}
+
 /// The marks of events, and the changes that don't lie in them in another ring, so that an event is dropped by its mark. Contracts see the
-/// events, the newest first, and how many marks and entries there is room for. What lies in a mark is counted as an entry.
+/// events, the newest first, and how many marks and entries there is room for. What lies in a mark is counted as an entry, and an entry
+/// by the leaves that it puts back.
 #[derive(Drop)]
 pub(crate) struct Ring {
     marks: HeapCircularBuffer<Mark>,
@@ -86,7 +123,7 @@ impl Model for Ring {
     ghost use Rattle.std.specs.Prelude.{◌≡◌};
     ghost use Rattle.std.specs.Coded.{codes};
     ghost use Rattle.spv_journal.specs.Rings.{IsRing, Ringed, events};
-    ghost use Rattle.spv_journal.specs.contracts.entries.Entry as entry;
+    ghost use Rattle.spv_undo.specs.contracts.entries.Entry as entry;
 
     ghost Value = { Ringed };
 
@@ -112,7 +149,7 @@ impl Ring {
         })
     }
 
-    /// How many marks and entries are kept.
+    /// How much the marks and entries that are kept count.
     #[inline(always)]
     pub(crate) fn len(&self) -> usize
         ensures len { result ≡ size self.now.events }
@@ -148,9 +185,8 @@ impl Ring {
     {
         match self.marks.pop_back() {
             Some(mark) => {
-                let beside = mark.beside();
-                self.held -= mark.size() + beside;
-                drop_last(&mut self.entries, beside);
+                let counted = drop_last(&mut self.entries, mark.beside());
+                self.held -= mark.size() + counted;
             }
             None => unreachable!(),
         }
@@ -176,17 +212,18 @@ impl Ring {
         ensures gathered { gathered.new.items ≡ [] }
     {
         let limit = self.entries.capacity();
-        let beside = gathered.len();
-        let need = beside + mark.size();
-        if need > limit {
-            self.clear();
-            gathered.clear();
-        } else {
-            self.make_room(limit - need);
-            self.held += need;
-            mark.set_beside(beside as u32);
-            self.marks.push_front(mark.again());
-            put_all(&mut self.entries, gathered);
+        match room_beside(limit, mark, gathered) {
+            Some(room) => {
+                self.make_room(room);
+                self.held += limit - room;
+                mark.set_beside(gathered.len() as u32);
+                self.marks.push_front(mark.again());
+                put_all(&mut self.entries, gathered);
+            }
+            None => {
+                self.clear();
+                gathered.clear();
+            }
         }
     }
 
@@ -210,7 +247,7 @@ impl Ring {
 
     /// Undoes the newest event, if there is one, its newest change first.
     pub(crate) fn undo(&mut self, whole: &mut Whole) -> Option<Happening>
-        requires { CanUnwind self.old.events whole.old }
+        requires { CanUndoNewest self.old.events whole.old }
         ensures whole { whole.new ≡ option_map_or (λ v. before v whole.old) (newest self.old.events) whole.old }
         ensures events { self.new.events ≡ older self.old.events }
         ensures limit { self.new.limit ≡ self.old.limit }
@@ -218,10 +255,9 @@ impl Ring {
     {
         let mark = self.marks.pop_front()?;
         let happening = mark.happening();
-        let beside = mark.beside();
-        self.held -= mark.size() + beside;
         mark.undo(whole);
-        undo_first(whole, happening.inv, &mut self.entries, beside);
+        let counted = undo_first(whole, happening.inv, &mut self.entries, mark.beside());
+        self.held -= mark.size() + counted;
         Some(happening)
     }
 }

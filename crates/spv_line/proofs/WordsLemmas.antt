@@ -5,7 +5,7 @@ use Rattle.std.proofs.lemmas.List.{length-take-le, take_all, drop-drop}
 use Rattle.std.specs.List.{position, position_or_len, slice_split, list_all}
 use Rattle.std.proofs.lemmas.List.Splits.{slice_split-cons_yes, slice_split_first, slice_split_none}
 use Rattle.std.proofs.lemmas.List.Sums.{passes_at_first, fails_before_first}
-use Rattle.spv_base.proofs.Exports.{no_place}
+use Rattle.spv_base.proofs.Exports.{no_place, some_place}
 use Rattle.spv_line.specs.Words.{is_space, is_other, words_in, HasFirstWord, HasOnlyWord}
 
 words_space : (x : ℕ) (xs : List ℕ) → is_space x ≡ true → words_in (x ∷ xs) ≡ words_in xs
@@ -30,9 +30,6 @@ place_within p (x ∷ xs) = within_by (not (p x)) (position_or_len p xs) (length
 
 no_words : (n : ℕ) (xs : List ℕ) → length xs ≤ n → words_in (drop n xs) ≡ []
 no_words n xs h = ap words_in (drop_of_length-le xs h)
-
-pub at_place : (s n m : ℕ) → Some s ≡ cond (nat_lt n m) (Some n) None → (s ≡ n) × (n < m)
-at_place s n m h = (grind arith, grind arith)
 
 pub place_or_end : (n m : ℕ) → n ≤ m → unwrap_or (cond (nat_lt n m) (Some n) None) m ≡ n
 place_or_end n m h = grind arith
@@ -62,7 +59,7 @@ other_first false n h = omega arith
 -- the words of a text are those of what follows its first spaces
 after_spaces : (xs ys : List ℕ) (start : ℕ) → Some start ≡ position is_other xs → ys ≡ drop start xs → (words_in xs ≡ words_in ys) × (0 < position_or_len is_space ys) × (length ys ≤ length xs)
 after_spaces xs ys start h e =
-    let at = at_place start (position_or_len is_other xs) (length xs) h in
+    let at = some_place (position_or_len is_other xs) (length xs) start h in
     let same : ys ≡ drop (position_or_len is_other xs) xs = e ∙ ap (λ n. drop n xs) at.0 in
     let first : ys ≡ get_or xs (position_or_len is_other xs) 0 ∷ drop (suc (position_or_len is_other xs)) xs = same ∙ drop-cons xs (position_or_len is_other xs) 0 at.1 in
     let some : 0 < position_or_len is_space ys = subst (λ zs. 0 < position_or_len is_space zs) (sym first) (other_first (is_space (get_or xs (position_or_len is_other xs) 0)) (position_or_len is_space (drop (suc (position_or_len is_other xs)) xs)) (passes_at_first is_other xs 0 at.1)) in
@@ -73,7 +70,7 @@ after_spaces xs ys start h e =
 pub first_at_space : (xs ys word after rest : List ℕ) (start end : ℕ) → Some start ≡ position is_other xs → ys ≡ drop start xs → Some end ≡ position is_space ys → word ≡ take end ys → after ≡ drop end ys → rest ≡ drop 1 after → HasFirstWord xs word rest
 first_at_space xs ys word after rest start end h e k front back skip =
     let skipped = after_spaces xs ys start h e in
-    let at = at_place end (position_or_len is_space ys) (length ys) k in
+    let at = some_place (position_or_len is_space ys) (length ys) end k in
     let n = position_or_len is_space ys in
     let long : length (take n ys) ≡ n = length-take-le n ys (place_within is_space ys) in
     let some : 0 < length (take n ys) = omega (arith, long, skipped.1) in

@@ -1,5 +1,5 @@
 //! Numbers that decimal digits spell, and their texts.
-ghost use Rattle.std.specs.Prelude.{◌≡◌, ◌++◌, ◌^◌, ◌≤◌, decimal, min, IfSome, OnOk};
+ghost use Rattle.std.specs.Prelude.{◌≡◌, ◌++◌, ◌^◌, ◌≤◌, decimal, min, IfSome, OnOk, OnErr};
 ghost use Rattle.std.specs.List.{list_all};
 ghost use Rattle.spv_line.specs.Numbers.{number_of, value_of, is_digit};
 
@@ -43,9 +43,10 @@ pub fn number(digits: &[u8], limit: u64) -> Option<u64>
     }
 }
 
-/// Appends a number in decimal.
+/// Appends a number in decimal. Where memory runs out, the text is as before.
 pub fn push_number(alloc: Global, text: &mut Vec<u8>, number: u64) -> Result<(), NoMemory>
-    ensures { OnOk result (text.new.items ≡ text.old.items ++ decimal number) }
+    ensures ok { OnOk result (text.new.items ≡ text.old.items ++ decimal number) }
+    ensures err { OnErr result (text.new.items ≡ text.old.items) }
 {
     text.extend_from_slice(number.to_string(alloc)?.as_bytes())?;
     Ok(())

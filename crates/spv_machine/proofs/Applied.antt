@@ -13,11 +13,11 @@ use Rattle.spv_frame.specs.Frames.{Held as Frame}
 use Rattle.spv_frame.specs.Stacks.{on_top}
 use Rattle.spv_statuses.specs.Group.{Held as Statuses}
 use Rattle.spv_statuses.specs.declared.invocations.Status.TheVariants.{Arrived, Passed, Finished}
-use Rattle.spv_actions.specs.Effects.{Control, Effect, Next, Jump, Enter, Leave, Wait}
-use Rattle.spv_actions.specs.Fits.{ControlFits, ControlRooted, Fits, LeaveFits, ResultRooted}
-use Rattle.spv_actions.specs.Planned.{gained, gone, shown}
-use Rattle.spv_actions.proofs.Exports.{register_stays}
-use Rattle.spv_actions.specs.declared.effects.Effect.{Effect as CodeEffect}
+use Rattle.spv_sites.specs.Effects.{Control, Effect, Next, Jump, Enter, Leave, Wait}
+use Rattle.spv_sites.specs.Fits.{ControlFits, ControlRooted, Fits, LeaveFits, ResultRooted}
+use Rattle.spv_sites.specs.Planned.{gained, gone, shown}
+use Rattle.spv_sites.proofs.Exports.{register_stays}
+use Rattle.spv_sites.specs.declared.effects.Effect.{Effect as CodeEffect}
 use Rattle.spv_state.specs.Program.{Program}
 use Rattle.spv_state.specs.Roots.{IsRooted}
 use Rattle.spv_state.specs.Sound.{IsSound}

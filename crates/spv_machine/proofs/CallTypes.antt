@@ -31,7 +31,7 @@ use Rattle.spv_valid.specs.Validity.{IsValid}
 use Rattle.spv_results.specs.Operands.{known}
 use Rattle.spv_state.specs.Sound.{StandsIn}
 use Rattle.spv_state.proofs.Exports.{IsKnown, Standing, at_standing, standing}
-use Rattle.spv_actions.proofs.Exports.{IsKept, Runs, each_kept, runs_there}
+use Rattle.spv_sites.proofs.Exports.{IsKept, Runs, each_kept, runs_there}
 use Rattle.spv_base.proofs.Exports.{each_at}
 
 -- ---- the rule of a function

@@ -12,11 +12,11 @@ use Rattle.spv_index.specs.Definitions.{at}
 use Rattle.spv_frame.specs.Frames.{Held as Frame}
 use Rattle.spv_valid.specs.Acceptance.{Accepted}
 use Rattle.spv_actions.specs.Cells.{full}
-use Rattle.spv_actions.specs.Effects.{Control, Next}
-use Rattle.spv_actions.specs.Instructions.{effect_of}
+use Rattle.spv_sites.specs.Effects.{Control, Next}
+use Rattle.spv_sites.specs.Instructions.{effect_of}
 use Rattle.spv_actions.specs.declared.cells.CellEffect.{CellEffect}
 use Rattle.spv_actions.specs.declared.cells.CellEffect.TheVariants.{Gives, Sets}
-use Rattle.spv_actions.proofs.Exports.{register_stays}
+use Rattle.spv_sites.proofs.Exports.{register_stays}
 use Rattle.spv_journal.specs.Held.{Held as Recorded, KeepsEvent}
 use Rattle.spv_state.specs.Events.{captures_before, pass}
 use Rattle.spv_state.specs.Program.{Program}

@@ -11,10 +11,10 @@ use Rattle.spv_types.specs.Shapes.{HasShape}
 use Rattle.spv_valid.specs.Acceptance.{Accepted}
 use Rattle.spv_frame.specs.Frames.{Held as Frame}
 use Rattle.spv_frame.specs.Stacks.{Stacked, on_top}
-use Rattle.spv_actions.specs.Fits.{IsOfType, JumpFits}
-use Rattle.spv_actions.specs.Planned.{phi_value}
-use Rattle.spv_actions.specs.declared.effects.PhiValue.{PhiValue}
-use Rattle.spv_actions.proofs.Exports.{plain_rooted}
+use Rattle.spv_sites.specs.Fits.{IsOfType, JumpFits}
+use Rattle.spv_sites.specs.Planned.{phi_value}
+use Rattle.spv_sites.specs.declared.effects.PhiValue.{PhiValue}
+use Rattle.spv_sites.proofs.Exports.{plain_rooted}
 use Rattle.spv_state.specs.Program.{Program}
 use Rattle.spv_state.specs.Sound.{StandsIn}
 use Rattle.spv_state.specs.State.{State, frames_of, on_frame, on_frames, with_pc, with_register, with_registers}

@@ -19,14 +19,14 @@ use Rattle.spv_frame.specs.Frames.{Held as Frame}
 use Rattle.spv_frame.specs.Stacks.{Stacked, on_top, top}
 use Rattle.spv_statuses.specs.declared.invocations.Status.{Status}
 use Rattle.spv_statuses.specs.declared.invocations.Status.TheVariants.{Ready}
-use Rattle.spv_actions.specs.Effects.{Leave}
-use Rattle.spv_actions.specs.Fits.{LevelFits, ResultFits, ResultRooted}
-use Rattle.spv_actions.specs.Planned.{IsGained, IsGiven, gained, gone}
-use Rattle.spv_actions.specs.declared.effects.Control.{Control as CodeControl}
-use Rattle.spv_actions.specs.declared.effects.Control.TheVariants.{Next as CodeNext, Jump as CodeJump, Enter as CodeEnter, Leave as CodeLeave, Give as CodeGive, Wait as CodeWait}
-use Rattle.spv_actions.specs.declared.effects.Gain.{Gain}
-use Rattle.spv_actions.specs.declared.effects.Gain.TheVariants.{Nothing, Row, Pointer as PointerTo, Handed}
-use Rattle.spv_actions.proofs.Exports.{RegisterFits, register_kept, register_stays, register_rooted}
+use Rattle.spv_sites.specs.Effects.{Leave}
+use Rattle.spv_sites.specs.Fits.{LevelFits, ResultFits, ResultRooted}
+use Rattle.spv_sites.specs.Planned.{IsGained, IsGiven, gained, gone}
+use Rattle.spv_sites.specs.declared.effects.Control.{Control as CodeControl}
+use Rattle.spv_sites.specs.declared.effects.Control.TheVariants.{Next as CodeNext, Jump as CodeJump, Enter as CodeEnter, Leave as CodeLeave, Give as CodeGive, Wait as CodeWait}
+use Rattle.spv_sites.specs.declared.effects.Gain.{Gain}
+use Rattle.spv_sites.specs.declared.effects.Gain.TheVariants.{Nothing, Row, Pointer as PointerTo, Handed}
+use Rattle.spv_sites.proofs.Exports.{RegisterFits, register_kept, register_stays, register_rooted}
 use Rattle.spv_state.specs.Program.{Program}
 use Rattle.spv_state.specs.Sound.{StandsAs}
 use Rattle.spv_state.specs.State.{State, frames_of, on_frame, on_frames, put_store, top_of, with_register}

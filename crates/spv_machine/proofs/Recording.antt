@@ -1,13 +1,13 @@
 -- An event that is being made, step by step, and what becomes of it.
-use Rattle.std.proofs.Common.{◌≡◌, ◌∙◌, ℕ, suc, ◌+◌, ◌≤◌, List, ◌∷◌, Option, Some, None, Result, Ok, Err, OnOk, OnErr, length, refl, sym, ap, subst, arith}
+use Rattle.std.proofs.Common.{◌≡◌, ◌∙◌, ℕ, suc, ◌+◌, ◌≤◌, List, ◌∷◌, Option, Some, None, Result, Ok, Err, OnOk, OnErr, refl, sym, ap, subst, arith}
 use Rattle.std.specs.Prelude.{option_map}
 use Rattle.std.specs.Option.{option_map_or}
 use Rattle.spv_base.specs.declared.happenings.Happening.{Happening}
 use Rattle.spv_base.specs.declared.values.Pointer.{Pointer}
 use Rattle.spv_base.specs.declared.values.Value.{Value}
 use Rattle.spv_valid.specs.Acceptance.{Accepted}
-use Rattle.spv_actions.specs.Effects.{Effect}
-use Rattle.spv_journal.specs.Events.{Event, fitting, newest, older, opened}
+use Rattle.spv_sites.specs.Effects.{Effect}
+use Rattle.spv_journal.specs.Events.{Event, fitting, newest, older, opened, size_of}
 use Rattle.spv_journal.specs.Held.{Held as Recorded, IsMaking, Records, changes_in, marked, past_of, sealed, unwound}
 use Rattle.spv_journal.specs.Undo.{Moment, before, past}
 use Rattle.spv_state.specs.State.{State}
@@ -83,10 +83,10 @@ module _ (h : Happening) (n : ℕ) (a b c : Recorded) (none : a.gathered ≡ Non
   limit_is : c.limit ≡ a.limit
   limit_is = on.limit ∙ ap (λ (x : Recorded). x.limit) begins
 
-  few : (v : Event) → c.gathered ≡ Some v → length v.changes ≤ n
+  few : (v : Event) → c.gathered ≡ Some v → size_of v ≤ suc n
   few v is =
       let most = on.changes in
-      let at : changes_in c.gathered ≡ length v.changes = ap changes_in is in
+      let at : suc (changes_in c.gathered) ≡ size_of v = ap (λ (o : Option Event). suc (changes_in o)) is in
       let from : changes_in b.gathered ≡ 0 = ap (λ (x : Recorded). changes_in x.gathered) begins in
       omega (arith, most, at, from)
 

@@ -16,8 +16,8 @@ use Rattle.spv_valid.specs.Acceptance.{Accepted}
 use Rattle.spv_frame.specs.Frames.{Held as Frame}
 use Rattle.spv_frame.specs.Stacks.{Stacked, top}
 use Rattle.spv_statuses.specs.declared.invocations.Status.TheVariants.{Ready, Finished}
-use Rattle.spv_actions.specs.Fits.{EnterFits, LeaveFits, ResultFits, ResultRooted}
-use Rattle.spv_actions.proofs.Exports.{plain_rooted}
+use Rattle.spv_sites.specs.Fits.{EnterFits, LeaveFits, ResultFits, ResultRooted}
+use Rattle.spv_sites.proofs.Exports.{plain_rooted}
 use Rattle.spv_state.specs.Program.{Program}
 use Rattle.spv_state.specs.Sound.{IsCallOf, IsSoundFrame, IsSoundStack, StandsIn}
 use Rattle.spv_state.specs.State.{State, pop_frame, set_status, top_of, without_last}

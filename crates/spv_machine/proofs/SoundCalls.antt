@@ -14,7 +14,7 @@ use Rattle.spv_statuses.specs.declared.invocations.Status.{Status}
 use Rattle.spv_statuses.specs.declared.invocations.Status.TheVariants.{Ready, Finished}
 use Rattle.spv_valid.specs.Acceptance.{Accepted, IsAccepted}
 use Rattle.spv_valid.specs.Validity.{IsValid}
-use Rattle.spv_actions.specs.Fits.{EnterFits}
+use Rattle.spv_sites.specs.Fits.{EnterFits}
 use Rattle.spv_state.specs.Program.{Program}
 use Rattle.spv_state.specs.Roots.{IsRooted}
 use Rattle.spv_state.specs.Sound.{HasVariables, IsCallOf, IsSound, IsSoundFrame, IsSoundStack}

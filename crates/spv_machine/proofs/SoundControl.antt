@@ -18,7 +18,7 @@ use Rattle.spv_state.specs.Roots.{IsRooted}
 use Rattle.spv_state.specs.Sound.{IsSound, IsSoundFrame, IsSoundStack, StandsAs, StandsIn}
 use Rattle.spv_state.specs.State.{State, depth_of, on_frame, on_frames, set_status, top_of, with_pc}
 use Rattle.spv_machine.specs.Step.{go_on, next_of, to_next}
-use Rattle.spv_actions.proofs.Exports.{moved_kept}
+use Rattle.spv_sites.proofs.Exports.{moved_kept}
 use Rattle.spv_machine.proofs.SoundStacks.{AreSoundStacks, one_changed, top_kept}
 use Rattle.spv_state.proofs.Exports.{passed_rooted, IsKnown, goes_on, change_none, set_is_change, frame_there, rooted_moved, passed_sound, Standing, at_standing, next_stands, standing, stands_there, class_is, top_at}
 

@@ -26,8 +26,8 @@ use Rattle.spv_statuses.specs.declared.invocations.Status.{Status}
 use Rattle.spv_statuses.specs.declared.invocations.Status.TheVariants.{Ready}
 use Rattle.spv_valid.specs.Acceptance.{Accepted, IsAccepted, Passes}
 use Rattle.spv_valid.proofs.Exports.{accepted_passes, flow_is}
-use Rattle.spv_actions.specs.Fits.{IsOfType, JumpFits, LevelFits}
-use Rattle.spv_actions.proofs.Exports.{RegisterFits, moved_kept, register_kept, register_stays, register_rooted}
+use Rattle.spv_sites.specs.Fits.{IsOfType, JumpFits, LevelFits}
+use Rattle.spv_sites.proofs.Exports.{RegisterFits, moved_kept, register_kept, register_stays, register_rooted}
 use Rattle.spv_state.specs.Program.{Program}
 use Rattle.spv_state.specs.Roots.{IsRooted}
 use Rattle.spv_state.specs.Sound.{IsSound, IsSoundFrame, StandsAs, StandsIn}

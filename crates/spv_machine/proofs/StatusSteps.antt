@@ -14,15 +14,15 @@ use Rattle.spv_frame.specs.Stacks.{Stacked, top}
 use Rattle.spv_statuses.specs.declared.invocations.Status.{Status}
 use Rattle.spv_statuses.specs.declared.invocations.Status.TheVariants.{Ready, Arrived, Passed, Finished}
 use Rattle.spv_valid.specs.Acceptance.{Accepted}
-use Rattle.spv_actions.specs.Instructions.{effect_of}
-use Rattle.spv_actions.specs.Planned.{IsDue}
+use Rattle.spv_sites.specs.Instructions.{effect_of}
+use Rattle.spv_sites.specs.Planned.{IsDue}
 use Rattle.spv_state.specs.Program.{Program}
 use Rattle.spv_machine.specs.Reached.{IsReached, IsStepBy}
 use Rattle.spv_state.specs.Sound.{IsBarrier, IsSound, IsSoundFrame, IsSoundStack, StandsAs}
 use Rattle.spv_state.specs.State.{State, on_frame, on_frames, set_status, top_of, with_pc}
 use Rattle.spv_machine.specs.Step.{Idles, Moves, at_frame, at_inst, by_status, fault_in, go_on, next_of, outcome, past_frame, plain, step_of, to_next}
-use Rattle.spv_actions.specs.declared.causes.Cause.{Cause}
-use Rattle.spv_actions.specs.declared.effects.Effect.{Effect}
+use Rattle.spv_sites.specs.declared.causes.Cause.{Cause}
+use Rattle.spv_sites.specs.declared.effects.Effect.{Effect}
 use Rattle.spv_machine.proofs.SoundControl.{stands_before}
 use Rattle.spv_state.proofs.Exports.{IsKnown, change_same, at_standing, standing, top_at}
 use Rattle.spv_base.proofs.Exports.{element_at}

@@ -5,10 +5,10 @@ use Rattle.spv_base.specs.declared.instructions.Inst.{Inst}
 use Rattle.spv_base.specs.declared.values.Value.{Value}
 use Rattle.spv_frame.specs.Frames.{Held as Frame}
 use Rattle.spv_statuses.specs.declared.invocations.Status.TheVariants.{Arrived, Passed, Finished}
-use Rattle.spv_actions.specs.Instructions.{effect_of}
-use Rattle.spv_actions.specs.Planned.{IsDue, shown}
-use Rattle.spv_actions.specs.declared.causes.Cause.{Cause}
-use Rattle.spv_actions.specs.declared.effects.Effect.{Effect}
+use Rattle.spv_sites.specs.Instructions.{effect_of}
+use Rattle.spv_sites.specs.Planned.{IsDue, shown}
+use Rattle.spv_sites.specs.declared.causes.Cause.{Cause}
+use Rattle.spv_sites.specs.declared.effects.Effect.{Effect}
 use Rattle.spv_state.specs.Program.{Program}
 use Rattle.spv_state.specs.State.{State, top_of}
 use Rattle.spv_machine.specs.Reached.{IsReached}

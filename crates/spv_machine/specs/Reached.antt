@@ -1,24 +1,23 @@
 -- An instruction that is due: what is known of a state where an invocation has reached it.
-use Rattle.std.specs.Prelude.{◌≡◌, ℕ, Some, None, ⊤, slice_get}
+use Rattle.std.specs.Prelude.{◌≡◌, ℕ, Some, None, ⊤, slice_get, Result, Ok, Err}
 use Rattle.spv_base.specs.declared.causes.Fail.{Fail}
 use Rattle.spv_base.specs.declared.causes.Fail.TheVariants.{Refused, NoMemory}
 use Rattle.spv_base.specs.declared.instructions.Inst.{Inst}
 use Rattle.spv_base.specs.declared.values.Value.{Value, Scalar, out-Value}
-use Rattle.std.specs.Prelude.{Result, Ok, Err}
 use Rattle.spv_index.specs.Definitions.{at}
 use Rattle.spv_types.specs.Shapes.{pointer_in}
 use Rattle.spv_frame.specs.Frames.{Held as Frame}
 use Rattle.spv_statuses.specs.declared.invocations.Status.TheVariants.{Ready}
-use Rattle.spv_actions.specs.Effects.{code_of}
-use Rattle.spv_actions.specs.Planned.{shown}
+use Rattle.spv_sites.specs.Effects.{code_of}
+use Rattle.spv_sites.specs.Planned.{shown}
 use Rattle.spv_state.specs.Program.{Program}
 use Rattle.spv_state.specs.Sound.{IsSound}
 use Rattle.spv_state.specs.State.{State, top_of}
 use Rattle.spv_machine.specs.Step.{Moves, Faults, apply, happening_of, step_of}
-use Rattle.spv_actions.specs.declared.causes.Cause.{Cause}
-use Rattle.spv_actions.specs.declared.effects.Effect.{Effect}
-use Rattle.spv_actions.specs.declared.effects.Gain.{Gain}
-use Rattle.spv_actions.specs.declared.effects.Gain.TheVariants.{Nothing, Row, Pointer, Handed}
+use Rattle.spv_sites.specs.declared.causes.Cause.{Cause}
+use Rattle.spv_sites.specs.declared.effects.Effect.{Effect}
+use Rattle.spv_sites.specs.declared.effects.Gain.{Gain}
+use Rattle.spv_sites.specs.declared.effects.Gain.TheVariants.{Nothing, Row, Pointer, Handed}
 
 -- the top frame of a Ready invocation of a sound state stands at the instruction
 pub record IsReached (p : Program) (s : State) (i : ℕ) (d : Inst) : Type 0 where

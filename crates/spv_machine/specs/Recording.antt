@@ -5,7 +5,7 @@ use Rattle.spv_base.specs.declared.values.Pointer.{Pointer}
 use Rattle.spv_base.specs.declared.values.Value.{Value}
 use Rattle.spv_types.specs.Rows.{leaves}
 use Rattle.spv_valid.specs.Acceptance.{Accepted}
-use Rattle.spv_actions.specs.Effects.{Control, Effect}
+use Rattle.spv_sites.specs.Effects.{Control, Effect}
 use Rattle.spv_journal.specs.Held.{Held as Recorded}
 use Rattle.spv_state.specs.State.{State}
 use Rattle.spv_machine.specs.Weights.{events_appended, registers_set, taking}

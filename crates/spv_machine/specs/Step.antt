@@ -18,12 +18,12 @@ use Rattle.spv_operands.specs.Values.{storage_class}
 use Rattle.spv_statuses.specs.Group.{all_wait_at}
 use Rattle.spv_statuses.specs.declared.invocations.Status.{Status}
 use Rattle.spv_statuses.specs.declared.invocations.Status.TheVariants.{Ready, Arrived, Passed, Finished}
-use Rattle.spv_actions.specs.Effects.{Control, Effect, Next, Jump, Enter, Leave, Wait, code_of}
-use Rattle.spv_actions.specs.Instructions.{effect_of}
+use Rattle.spv_sites.specs.Effects.{Control, Effect, Next, Jump, Enter, Leave, Wait, code_of}
+use Rattle.spv_sites.specs.Instructions.{effect_of}
 use Rattle.spv_state.specs.Events.{pass}
 use Rattle.spv_state.specs.Program.{Program}
 use Rattle.spv_state.specs.State.{State, on_frame, open_barrier, pop_frame, push_frame, put_store, set_status, top_of, with_pc, with_register, with_registers}
-use Rattle.spv_actions.specs.declared.causes.Cause.{Cause}
+use Rattle.spv_sites.specs.declared.causes.Cause.{Cause}
 
 -- ---- an effect, done
 

@@ -10,9 +10,9 @@ use Rattle.spv_valid.specs.Acceptance.{Accepted}
 use Rattle.spv_frame.specs.Frames.{Held as Frame}
 use Rattle.spv_statuses.specs.declared.invocations.Status.{Status}
 use Rattle.spv_statuses.specs.declared.invocations.Status.TheVariants.{Ready, Arrived, Passed, Finished}
-use Rattle.spv_actions.specs.Effects.{Control, Effect, Next, Jump, Enter, Leave, Wait}
-use Rattle.spv_actions.specs.Instructions.{effect_of}
-use Rattle.spv_actions.specs.declared.causes.Cause.{Cause}
+use Rattle.spv_sites.specs.Effects.{Control, Effect, Next, Jump, Enter, Leave, Wait}
+use Rattle.spv_sites.specs.Instructions.{effect_of}
+use Rattle.spv_sites.specs.declared.causes.Cause.{Cause}
 use Rattle.spv_state.specs.Events.{captures_before}
 use Rattle.spv_state.specs.Program.{Program}
 use Rattle.spv_state.specs.State.{State, top_of}

@@ -10,10 +10,10 @@ ghost use Rattle.spv_state.specs.State.{State};
 
 use crate::execution::Did;
 use crate::happenings::{plain, written};
-use spv_actions::sites::Site;
 use spv_actions::{CellEffect, cell_effect};
 use spv_base::{Happening, Inst};
 use spv_journal::Recorded;
+use spv_sites::Site;
 use spv_state::{Runnable, Whole};
 use spv_valid::Module;
 use std::alloc::Global;

@@ -1,9 +1,9 @@
 //! One step of an invocation.
 ghost use Rattle.std.specs.Prelude.{◌≡◌, ◌<◌, ◌+◌, ◌∷◌, [], IfOk, None, OnOk, Some, length, slice_get};
 ghost use Rattle.std.specs.Option.{IsSomeAnd, MatchOption};
-ghost use Rattle.spv_actions.specs.Effects.{code_of};
-ghost use Rattle.spv_actions.specs.Fits.{Fits};
-ghost use Rattle.spv_actions.specs.Planned.{IsTaken, PlannedFits, shown};
+ghost use Rattle.spv_sites.specs.Effects.{code_of};
+ghost use Rattle.spv_sites.specs.Fits.{Fits};
+ghost use Rattle.spv_sites.specs.Planned.{IsTaken, PlannedFits, shown};
 ghost use Rattle.spv_journal.specs.Events.{older};
 ghost use Rattle.spv_journal.specs.Held.{IsMaking, Records};
 ghost use Rattle.spv_machine.specs.Does.{Does};
@@ -21,9 +21,10 @@ use crate::finishing::{finished, idle};
 use crate::happenings::{happening_of, plain};
 use crate::passing::come_to;
 use crate::world::World;
-use spv_actions::{Cause, Effect, effect_at};
+use spv_actions::effect_at;
 use spv_base::{Cell, Fail, Fault, Happening, Inst, NoMemory, Steps};
 use spv_journal::Recorded;
+use spv_sites::{Cause, Effect};
 use spv_state::{Runnable, Whole};
 use spv_statuses::Status;
 use spv_values::Row;

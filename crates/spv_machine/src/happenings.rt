@@ -1,13 +1,13 @@
 //! The event of a step, as all invocations see it.
 ghost use Rattle.std.specs.Prelude.{◌≡◌, ◌<◌, length};
 ghost use Rattle.spv_base.specs.declared.values.Value.{Value};
-ghost use Rattle.spv_actions.specs.Planned.{shown};
+ghost use Rattle.spv_sites.specs.Planned.{shown};
 ghost use Rattle.spv_machine.specs.Step as spec;
 
-use spv_actions::{Control, Effect};
 use spv_base::{Happening, Kind, Root};
 use spv_index::literal_operand;
 use spv_ops::storage_class;
+use spv_sites::{Control, Effect};
 use spv_state::Whole;
 use spv_valid::Module;
 

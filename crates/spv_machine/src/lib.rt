@@ -10,7 +10,7 @@ mod passing;
 pub mod world;
 
 pub use execution::{Did, StepErr, fault_of, step, unstep};
-pub use spv_actions::Cause;
 pub use spv_journal::Journal;
+pub use spv_sites::Cause;
 pub use spv_state::{Action, Runnable, Whole};
 pub use world::World;

@@ -12,7 +12,7 @@ use Rattle.spv_base.specs.declared.values.Root.TheVariants.{Shared, Private, Loc
 use Rattle.spv_base.specs.declared.values.Value.{Value}
 use Rattle.spv_types.specs.Types.{Types}
 use Rattle.spv_mem.specs.Memory.{AreTargets, AreVariables, Held, IsMemory, IsVariable, Leaves, Levels, empty, entered, roots_in, with_private, with_roots}
-use Rattle.spv_mem.proofs.MemoryLemmas.{change_set, get_set, with_roots_in}
+use Rattle.spv_mem.proofs.MemoryLemmas.{change_none, change_set, get_set, with_roots_in}
 use Rattle.spv_mem.proofs.RootLemmas.{reads_snoc}
 use Rattle.spv_base.proofs.Exports.{slice_get-set_same, set_same, get_replicate}
 
@@ -109,6 +109,14 @@ levels_keep m i l new h at all = record { sound = h.sound; targets = h.targets; 
     each j (Shared id) xs k = h.variables j (Shared id) xs k
     each j (Private id) xs k = h.variables j (Private id) xs k
     each j (Local d id) xs k = level j d id xs (slice_get (slice_set m.locals i new) j) refl k
+
+pub levels_kept : (m : Held) (i : ℕ) (g : Levels → Levels) → ((l : Levels) → IsMemory m → slice_get m.locals i ≡ Some l → (d : ℕ) (xs : Roots) → slice_get (g l).list d ≡ Some xs → AreVariables m.types m.targets xs)
+    → ∥ IsMemory m ∥₁ → ∥ IsMemory (record m { locals = change i g m.locals }) ∥₁
+levels_kept m i g all is = ∥∥₁_map is (λ (h : IsMemory m). by_level h (slice_get m.locals i) refl)
+  where
+    by_level : IsMemory m → (o : Option Levels) → slice_get m.locals i ≡ o → IsMemory (record m { locals = change i g m.locals })
+    by_level h None e = subst (λ (ls : List Levels). IsMemory (record m { locals = ls })) (sym (change_none i g m.locals e)) h
+    by_level h (Some l) e = subst (λ (ls : List Levels). IsMemory (record m { locals = ls })) (sym (change_set i g m.locals l e)) (levels_keep m i l (g l) h e (all l h e))
 
 snoc_get : {A : Type 0} (xs : List A) (x y : A) (k : ℕ) → slice_get (xs ++ x ∷ []) k ≡ Some y → (slice_get xs k ≡ Some y) ⊎ (y ≡ x)
 snoc_get [] x y zero h = let e : x ≡ y = cc in inr (sym e)

@@ -1,7 +1,9 @@
 -- What the types of variables tell of the parts that pointers name.
-use Rattle.std.proofs.Common.{◌≡◌, ◌∙◌, ℕ, zero, suc, ◌+◌, ◌<◌, ◌≤◌, ◌==◌, Bool, true, false, List, [], ◌∷◌, length, drop, get_or, add-one, Option, Some, None, refl, sym, ap, subst, arith}
+use Rattle.std.proofs.Common.{◌≡◌, ◌∙◌, ℕ, ◌==◌, Bool, true, false, List, [], ◌∷◌, Option, Some, None, refl, sym, ap, subst, arith}
 use Rattle.std.proofs.Props.{props}
 use Rattle.std.specs.Prelude.{if◌then◌else◌, IsSome}
+use Rattle.std.specs.List.{list_all}
+use Rattle.std.proofs.lemmas.Bool.{and_parts}
 use Rattle.std.specs.Option.{IfSome, IsSomeAnd, is_some, option_and_then}
 use Rattle.std.proofs.Math.Logic.{∥∥₁_elim, ∥∥₁_map}
 use Rattle.spv_base.specs.Entries.{reads}
@@ -13,7 +15,7 @@ use Rattle.spv_base.specs.declared.values.Value.{Value, Scalar, out-Value}
 use Rattle.spv_base.proofs.Exports.{out_scalar}
 use Rattle.spv_base.specs.Variables.{root_id}
 use Rattle.spv_types.specs.declared.forms.Form.{Form}
-use Rattle.spv_types.specs.declared.forms.Form.TheVariants.{Void, Bool as Boolean, Int, Vector, Array, Runtime, Struct, Pointer as PointerForm, Function}
+use Rattle.spv_types.specs.declared.forms.Form.TheVariants.{Int}
 use Rattle.spv_types.specs.Rows.{no_roots}
 use Rattle.spv_types.specs.Shapes.{HasShape, IsScalar, reached_type, scalar_in}
 use Rattle.spv_types.specs.Types.{Types, form_of}
@@ -47,16 +49,7 @@ pub record LeadsToInteger (m : Held) (p : Pointer) (width : ℕ) : Type 0 where
   pub form : form_of m.types part ≡ Some (Int width sign)
 
 form_is : (o : Option Form) (width : ℕ) → integer_width o ≡ Some width → (sign : ℕ) × (o ≡ Some (Int width sign))
-form_is None width h = absurd cc
-form_is (Some Void) width h = absurd cc
-form_is (Some Boolean) width h = absurd cc
-form_is (Some (Int w sign)) width h = let same : w ≡ width = cc in (sign, ap (λ (k : ℕ). Some (Int k sign)) same)
-form_is (Some (Vector component count)) width h = absurd cc
-form_is (Some (Array element len stride)) width h = absurd cc
-form_is (Some (Runtime element stride)) width h = absurd cc
-form_is (Some (Struct members block)) width h = absurd cc
-form_is (Some (PointerForm class target)) width h = absurd cc
-form_is (Some (Function returns parameters)) width h = absurd cc
+form_is o width h = grind arith
 
 leads : (m : Held) (p : Pointer) (width : ℕ) → width_at m p ≡ Some width → LeadsToInteger m p width
 leads m p width h =
@@ -127,20 +120,9 @@ with_first ts t targets may rest id type h = by_id (t.0 == id) refl h
     by_id true e h = let same : t.1 ≡ type = cc in subst (λ (k : ℕ). may_be_target ts k ≡ true) same may
     by_id false e h = rest id type h
 
--- a target that may have its type, before others
-one_more : (ts : Types) (targets : List (ℕ × ℕ)) (i : ℕ) (d : ℕ × ℕ) → i < length targets → may_be_target ts (get_or targets i d).1 ≡ true → MayBeTargets ts (drop (suc i) targets) → MayBeTargets ts (drop i targets)
-one_more ts [] i d l may rest = absurd (omega (arith, l))
-one_more ts (t ∷ targets) zero d l may rest = with_first ts t targets may rest
-one_more ts (t ∷ targets) (suc i) d l may rest = one_more ts targets i d (omega (arith, l)) may rest
-
-pub target_kept : (ts : Types) (targets : List (ℕ × ℕ)) (i : ℕ) (d : ℕ × ℕ) → i < length targets → true ≡ may_be_target ts (get_or targets i d).1 → MayBeTargets ts (drop (i + 1) targets) → MayBeTargets ts (drop i targets)
-target_kept ts targets i d l may rest = one_more ts targets i d l (sym may) (subst (λ (k : ℕ). MayBeTargets ts (drop k targets)) (add-one i) rest)
-
-pub none_left : (ts : Types) (targets : List (ℕ × ℕ)) (i : ℕ) → length targets ≤ i → MayBeTargets ts (drop i targets)
-none_left ts [] zero l = λ id type h. absurd cc
-none_left ts [] (suc i) l = λ id type h. absurd cc
-none_left ts (t ∷ targets) zero l = absurd (omega (arith, l))
-none_left ts (t ∷ targets) (suc i) l = none_left ts targets i (omega (arith, l))
+pub each_may : (ts : Types) (targets : List (ℕ × ℕ)) → list_all (λ (t : ℕ × ℕ). may_be_target ts t.1) targets ≡ true → MayBeTargets ts targets
+each_may ts [] all = λ id type h. absurd cc
+each_may ts (t ∷ targets) all = let both = and_parts (may_be_target ts t.1) (list_all (λ (s : ℕ × ℕ). may_be_target ts s.1) targets) all in with_first ts t targets both.0 (each_may ts targets both.1)
 
 -- ---- runtime arrays
 

@@ -6,7 +6,9 @@ pub use Rattle.spv_mem.proofs.PartLemmas.{part_cons}
 -- Where the part that a path names lies in the row of a variable, by numbers of 64 bits.
 pub use Rattle.spv_mem.proofs.PlaceLemmas.{whole_row}
 -- What an exchange in one variable is to the whole memory, and that it keeps what a memory keeps.
-pub use Rattle.spv_mem.proofs.MemoryLemmas.{get_set, change_set}
+pub use Rattle.spv_mem.proofs.MemoryLemmas.{get_set, change_set, stored_kept}
+-- Locals that come and go keep what a memory keeps.
+pub use Rattle.spv_mem.proofs.ChangeLemmas.{levels_kept}
 -- Undefined values: they are made of their forms, and have their shapes.
 pub use Rattle.spv_mem.proofs.BlankLemmas.{blank_among_is, both_there, product_there, blank_shape, any_is, many_last, scalar_last, many_count, scalar_count}
 -- What the types of variables tell of the parts that pointers name.

@@ -1,6 +1,6 @@
 -- What an exchange in one variable is to the whole memory, and that it keeps what a memory keeps.
 use Rattle.std.proofs.Common.{◌≡◌, ◌∙◌, ◌⊎◌, ℕ, zero, suc, Bool, true, false, List, [], ◌∷◌, slice_get, slice_set, Option, Some, None, Result, Ok, Err, inl, inr, refl, sym, ap, subst}
-use Rattle.std.specs.Prelude.{if◌then◌else◌}
+use Rattle.std.specs.Prelude.{IsSome, if◌then◌else◌}
 use Rattle.std.specs.Option.{MatchOption, option_and_then}
 use Rattle.std.proofs.Math.Logic.{∥∥₁_elim, ∥∥₁_map}
 use Rattle.std.proofs.Props.{props}
@@ -43,7 +43,7 @@ change_set i f [] x h = absurd cc
 change_set zero f (y ∷ xs) x h = let e : y ≡ x = cc in ap (λ z. f z ∷ xs) e
 change_set (suc i) f (y ∷ xs) x h = ap (λ ys. y ∷ ys) (change_set i f xs x h)
 
-change_none : {A : Type 0} (i : ℕ) (f : A → A) (xs : List A) → slice_get xs i ≡ None → change i f xs ≡ xs
+pub change_none : {A : Type 0} (i : ℕ) (f : A → A) (xs : List A) → slice_get xs i ≡ None → change i f xs ≡ xs
 change_none i f [] h = refl
 change_none zero f (y ∷ xs) h = absurd cc
 change_none (suc i) f (y ∷ xs) h = ap (λ ys. y ∷ ys) (change_none i f xs h)
@@ -238,6 +238,14 @@ stores_keep m i p u new handed result is may did = go (load_of m i p) refl did
     go (Some w) e k =
         subst (λ (x : Held). ∥ IsMemory x ∥₁) (sym k.1)
         (∥∥₁_elim is (hlevel props) (λ (h : IsMemory m). ∥∥₁_map may (λ (a : MayStore m i p u). stored_keeps m i p u w h a e)))
+
+-- a part that is there, and a value that may be put there
+pub stored_kept : (m : Held) (i : ℕ) (p : Pointer) (u : Value) → ∥ IsMemory m ∥₁ → ∥ MayStore m i p u ∥₁ → IsSome (load_of m i p) → ∥ IsMemory (stored i p u m) ∥₁
+stored_kept m i p u is may there = by_part (load_of m i p) refl there
+  where
+    by_part : (o : Option Value) → load_of m i p ≡ o → IsSome o → ∥ IsMemory (stored i p u m) ∥₁
+    by_part None e some = absurd (cc)
+    by_part (Some w) e some = ∥∥₁_elim is (hlevel props) (λ (h : IsMemory m). ∥∥₁_map may (λ (a : MayStore m i p u). stored_keeps m i p u w h a e))
 
 -- there is no variable where none is named
 pub unnamed : (m : Held) (i : ℕ) (p : Pointer) → ∥ IsMemory m ∥₁ → reads (root_id p.root) m.targets ≡ None → load_of m i p ≡ None

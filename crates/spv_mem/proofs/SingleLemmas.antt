@@ -1,18 +1,21 @@
 -- Leaves that are exchanged by where they lie.
-use Rattle.std.proofs.Common.{◌≡◌, ℕ, true, false, List, Option, Some, refl, sym, subst}
-use Rattle.std.specs.Option.{MatchOption}
+use Rattle.std.proofs.Common.{◌≡◌, ℕ, true, false, List, Option, Some, None, refl, sym, subst}
+use Rattle.std.specs.Option.{MatchOption, option_and_then}
 use Rattle.std.proofs.Math.Logic.{∥∥₁_elim, ∥∥₁_map}
 use Rattle.std.proofs.Props.{props}
 use Rattle.std.specs.Coded.{codes}
+use Rattle.spv_base.specs.Entries.{reads}
 use Rattle.spv_base.specs.Parts.{part_at, with_part}
 use Rattle.spv_base.specs.Variables.{Roots, root_id}
+use Rattle.spv_base.specs.declared.values.Pointer.{Pointer}
 use Rattle.spv_base.specs.declared.values.Root.{Root}
 use Rattle.spv_base.specs.declared.values.Root.TheVariants.{Shared, Private, Local}
 use Rattle.spv_base.specs.declared.values.Value.{Value}
 use Rattle.spv_values.specs.Places.{IsRowAt}
-use Rattle.spv_mem.specs.Memory.{Held, IsMemory, MayStore, root_value, roots_in}
+use Rattle.spv_mem.specs.declared.places.Place.{Place}
+use Rattle.spv_mem.specs.Memory.{Held, IsMemory, MayStore, load_of, root_value, roots_in}
 use Rattle.spv_mem.specs.Roots.{IsAt}
-use Rattle.spv_mem.specs.Singles.{IsLeafFor, LeafAt, LeafIn, LeafLevel, NamesRow}
+use Rattle.spv_mem.specs.Singles.{IsLeafFor, LeafAt, LeafIn, LeafLevel, LiesIn, NamesRow}
 use Rattle.spv_mem.specs.Targets.{Exchanges, Fits, MayBePut, elements_in}
 use Rattle.spv_mem.proofs.ElementLemmas.{elements_stay}
 
@@ -85,3 +88,18 @@ local_leaf m i depth id k leaf n path u e f t =
   where
     go : Told m i (Local depth id) leaf path u → LeafLevel id m.locals i depth leaf path u
     go h l at es e = leaf_in m i (Local depth id) es leaf path u h.memory h.names h.may (rw at e)
+
+-- ---- where a part lies
+
+-- in the list of its variable, by where it lies in the variable
+pub lies_in : (id : ℕ) (es : Roots) (path : List ℕ) (v : Value) (r : Option Place) → reads id es ≡ Some v → MatchOption r (part_at v path ≡ None) (λ p. IsRowAt v path p.start p.len)
+    → MatchOption r (option_and_then (λ w. part_at w path) (reads id es) ≡ None) (λ p. LiesIn id es path p.start p.len)
+lies_in id es path v None is h = rw is h
+lies_in id es path v (Some p) is h = record { value = v; is = is; row = h }
+
+-- in the memory, by where it lies in the list of its variable
+pub names_row : (m : Held) (i : ℕ) (p : Pointer) (es : Roots) (r : Option Place) → roots_in m i p.root ≡ Some es
+    → MatchOption r (option_and_then (λ v. part_at v p.path) (reads (root_id p.root) es) ≡ None) (λ at. LiesIn (root_id p.root) es p.path at.start at.len)
+    → MatchOption r (load_of m i p ≡ None) (λ at. NamesRow m i p at.start at.len)
+names_row m i p es None at h = rw at h
+names_row m i p es (Some place) at h = record { value = h.value; is = rw at h.is; row = h.row }

@@ -1,5 +1,6 @@
 //! Tests of what the calls of a memory ask.
 ghost use Rattle.std.specs.Prelude.{◌≡◌, ◌<◌, IsTrue, None, Some, option_copied};
+ghost use Rattle.std.specs.List.{list_all};
 ghost use Rattle.spv_mem.specs.Conditions.{integer_width};
 ghost use Rattle.spv_mem.specs.Memory.{AreTargets, MayBeTargets};
 ghost use Rattle.spv_mem.specs.Targets.{end_open, is_open_array, is_open_block, may_be_target};
@@ -45,17 +46,20 @@ pub fn may_be_target(types: &TypeTable, ty: u32) -> bool
     types.cells(ty).is_some() || is_open_block(types, types.form(ty))
 }
 
+/// Whether each entry of a list names such a type.
+fn name_targets(types: &TypeTable, targets: &[(u32, u32)]) -> bool
+    ensures { result ≡ list_all (λ t. may_be_target types.now t.1) targets.now }
+{
+    targets.iter().all(|target| may_be_target(types, target.1))
+}
+
 /// Whether each variable of a list may have the type that stands beside its id.
 pub fn may_be_targets(types: &TypeTable, targets: &[(u32, u32)]) -> bool
+    ensures tests { result ≡ list_all (λ t. may_be_target types.now t.1) targets.now }
     ensures each { IsTrue result → MayBeTargets types.now targets.now }
     ensures together { IsTrue result → ∥ AreSound types.now ∥₁ → ∥ AreTargets types.now targets.now ∥₁ }
 {
-    for target in targets {
-        if !may_be_target(types, target.1) {
-            return false;
-        }
-    }
-    true
+    name_targets(types, targets)
 }
 
 /// The width of an integer type, in bits.

@@ -1,5 +1,5 @@
 //! Roots: variables under their ids.
-ghost use Rattle.std.specs.Prelude.{◌≡◌, ◌↔◌, ◌++◌, [], ◌∷◌, length, IsTrue, IfOk, OnOk, OnErr, None, Some, option_map, option_and_then, true, IfSome};
+ghost use Rattle.std.specs.Prelude.{◌≡◌, ◌↔◌, ◌++◌, [], ◌∷◌, length, IsTrue, IfOk, OnOk, OnErr, None, Some, option_map, option_and_then, true};
 ghost use Rattle.std.specs.Option.{MatchOption, option_map_or};
 ghost use Rattle.spv_base.specs.Entries.{reads};
 ghost use Rattle.spv_base.specs.Parts.{part_at};
@@ -175,7 +175,7 @@ impl Roots {
         path: &Path,
     ) -> Option<Place>
         requires { ∥ AreFit types.now target.ty id self.now ∥₁ }
-        ensures { IfSome result (λ p. LiesIn id self.now path.now p.start p.len) }
+        ensures { MatchOption result (option_and_then (λ v. part_at v path.now) (reads id self.now) ≡ None) (λ p. LiesIn id self.now path.now p.start p.len) }
     {
         let k = self.find(id, target.place)?;
         self.entries[k].1.place(types, target.ty, path)

@@ -1,5 +1,6 @@
 //! Memory: loads and stores of parts of variables.
 ghost use Rattle.std.specs.Prelude.{◌≡◌, IfOk, [], Err, Ok, option_copied, replicate, if◌then◌else◌, IfSome, OnOk, ℕ, IsSome, Some, option_map, ◌<◌, None, OnErr, length, slice_get, ◌↔◌, IsTrue};
+ghost use Rattle.std.specs.Option.{MatchOption};
 ghost use Rattle.spv_base.specs.declared.causes.MemErr.TheVariants.{OutOfBounds as Outside};
 ghost use Rattle.spv_mem.specs.Memory.{AreTargets, IsMemory, Loads, MayStore, Stores, empty, load_of, root_value, roots_in, IsVariable, IsScalarAt, LoadsCell, NamesArray, StoresCell, member_of, AreVariables, HasRoom, Leaves, entered, with_private, with_shared};
 ghost use Rattle.spv_base.specs.Cell.{IsCell, Cell};
@@ -389,7 +390,7 @@ impl Memory {
     /// Whether an invocation has no Private or Input variable with an id.
     pub fn is_fresh_private(&self, inv: u32, id: u32) -> bool
         requires { inv < length self.now.privates }
-        ensures { IsTrue result → (es : Roots) → slice_get self.now.privates inv ≡ Some es → reads id es ≡ None }
+        ensures { IsTrue result ↔ ((es : Roots) → slice_get self.now.privates inv ≡ Some es → reads id es ≡ None) }
     {
         self.privates[inv as usize].has_none(id, self.targets.place(id))
     }
@@ -409,10 +410,10 @@ impl Memory {
         self.locals[inv as usize].has_room()
     }
 
-    /// Where the part that a pointer of an invocation names lies in its variable: the cells before it, and its own. None where there is
-    /// no such part. It takes no memory.
+    /// Where the part that a pointer of an invocation names lies in its variable: the cells before it, and its own. None exactly where
+    /// there is no such part. It takes no memory.
     pub fn place(&self, inv: u32, p: &Pointer) -> Option<Place>
-        ensures { IfSome result (λ at. NamesRow self.now inv p.now at.start at.len) }
+        ensures { MatchOption result (load_of self.now inv p.now ≡ None) (λ at. NamesRow self.now inv p.now at.start at.len) }
     {
         let id = p.root.id();
         let target = self.targets.get(id)?;

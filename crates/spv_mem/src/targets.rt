@@ -82,7 +82,7 @@ impl Targets {
         })
     }
 
-    /// The target of an id, in constant time.
+    /// The target of an id.
     pub(crate) fn get(&self, id: u32) -> Option<Target>
         ensures { option_map (λ t. t.ty) result ≡ reads id self.now }
     {

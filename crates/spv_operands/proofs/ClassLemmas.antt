@@ -55,40 +55,13 @@ held x (Some y) h = ap (λ (n : ℕ). Some n) (eqb-true y x h)
 -- ---- forms, whatever the lengths of arrays are
 
 block_settled : (o : Option Form) → is_block (erased_form o) ≡ is_block o
-block_settled None = refl
-block_settled (Some Void) = refl
-block_settled (Some Boolean) = refl
-block_settled (Some (Int width sign)) = refl
-block_settled (Some (Vector component count)) = refl
-block_settled (Some (Array element n stride)) = refl
-block_settled (Some (Runtime element stride)) = refl
-block_settled (Some (Struct members block)) = refl
-block_settled (Some (Pointer class target)) = refl
-block_settled (Some (Function returns parameters)) = refl
+block_settled o = grind arith
 
 word_settled : (o : Option Form) → is_word (erased_form o) ≡ is_word o
-word_settled None = refl
-word_settled (Some Void) = refl
-word_settled (Some Boolean) = refl
-word_settled (Some (Int width sign)) = refl
-word_settled (Some (Vector component count)) = refl
-word_settled (Some (Array element n stride)) = refl
-word_settled (Some (Runtime element stride)) = refl
-word_settled (Some (Struct members block)) = refl
-word_settled (Some (Pointer class target)) = refl
-word_settled (Some (Function returns parameters)) = refl
+word_settled o = grind arith
 
 words_settled : (ts : Types) (o : Option Form) → is_three_words ts (erased_form o) ≡ is_three_words ts o
-words_settled ts None = refl
-words_settled ts (Some Void) = refl
-words_settled ts (Some Boolean) = refl
-words_settled ts (Some (Int width sign)) = refl
-words_settled ts (Some (Vector component count)) = refl
-words_settled ts (Some (Array element n stride)) = refl
-words_settled ts (Some (Runtime element stride)) = refl
-words_settled ts (Some (Struct members block)) = refl
-words_settled ts (Some (Pointer class target)) = refl
-words_settled ts (Some (Function returns parameters)) = refl
+words_settled ts o = grind arith
 
 -- ---- variables before the functions
 

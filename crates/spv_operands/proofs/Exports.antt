@@ -8,7 +8,7 @@ pub use Rattle.spv_operands.proofs.MeaningLemmas.{stand_defines}
 -- Shapes of data and of pointers, and of the values that operands stand for.
 pub use Rattle.spv_operands.proofs.ShapeLemmas.{data_plain, blank_plain}
 -- What an operand stands for has the shape of its id's type.
-pub use Rattle.spv_operands.proofs.OperandLemmas.{register_read, Defines, defines}
+pub use Rattle.spv_operands.proofs.OperandLemmas.{register_read, Defines, defines, IsShaped, operand_shaped}
 -- Frames whose registers hold values of their types stay so.
 pub use Rattle.spv_operands.proofs.FrameLemmas.{fresh_shaped}
 -- Operands as code finds them.

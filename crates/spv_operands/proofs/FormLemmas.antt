@@ -1,5 +1,5 @@
 -- The types of a module are those that it declares, but for the lengths of its arrays.
-use Rattle.std.proofs.Common.{◌≡◌, ◌⊎◌, ◌∙◌, inl, inr, ℕ, ◌&&◌, Bool, true, false, List, [], ◌∷◌, Option, Some, None, refl, sym, ap, subst}
+use Rattle.std.proofs.Common.{◌≡◌, ◌⊎◌, ◌∙◌, inl, inr, ℕ, ◌&&◌, Bool, true, false, List, [], ◌∷◌, Option, Some, None, refl, sym, ap, subst, arith}
 use Rattle.std.proofs.lemmas.Bool.{cases_eq}
 use Rattle.std.specs.Prelude.{if◌then◌else◌, nat_lt, not, unwrap_or}
 use Rattle.std.specs.Option.{option_map, option_map_or}
@@ -41,15 +41,7 @@ abbrev pub erased_form : Option Form → Option Form
 erased_form o = option_map erased o
 
 size_erased : (n : ℕ) (f : Form) → erased (with_size n f) ≡ erased f
-size_erased n Void = refl
-size_erased n Boolean = refl
-size_erased n (Int width sign) = refl
-size_erased n (Vector component count) = refl
-size_erased n (Array element m stride) = refl
-size_erased n (Runtime element stride) = refl
-size_erased n (Struct members block) = refl
-size_erased n (Pointer class target) = refl
-size_erased n (Function returns parameters) = refl
+size_erased n f = grind arith
 
 -- the types of one list have the numbers of those of another, and their forms but for the lengths of arrays
 pub record AreAlike (ts us : Types) : Type 0 where
@@ -140,65 +132,20 @@ types_alike a is =
 -- ---- what is so of a form whatever its length
 
 data_erased : (o : Option Form) → is_data (erased_form o) ≡ is_data o
-data_erased None = refl
-data_erased (Some Void) = refl
-data_erased (Some Boolean) = refl
-data_erased (Some (Int width sign)) = refl
-data_erased (Some (Vector component count)) = refl
-data_erased (Some (Array element n stride)) = refl
-data_erased (Some (Runtime element stride)) = refl
-data_erased (Some (Struct members block)) = refl
-data_erased (Some (Pointer class target)) = refl
-data_erased (Some (Function returns parameters)) = refl
+data_erased o = grind arith
 
 runtime_erased : (o : Option Form) → is_runtime (erased_form o) ≡ is_runtime o
-runtime_erased None = refl
-runtime_erased (Some Void) = refl
-runtime_erased (Some Boolean) = refl
-runtime_erased (Some (Int width sign)) = refl
-runtime_erased (Some (Vector component count)) = refl
-runtime_erased (Some (Array element n stride)) = refl
-runtime_erased (Some (Runtime element stride)) = refl
-runtime_erased (Some (Struct members block)) = refl
-runtime_erased (Some (Pointer class target)) = refl
-runtime_erased (Some (Function returns parameters)) = refl
+runtime_erased o = grind arith
 
 within_erased : (ts : Types) (o : Option Form) → form_has_runtime ts (erased_form o) ≡ form_has_runtime ts o
-within_erased ts None = refl
-within_erased ts (Some Void) = refl
-within_erased ts (Some Boolean) = refl
-within_erased ts (Some (Int width sign)) = refl
-within_erased ts (Some (Vector component count)) = refl
-within_erased ts (Some (Array element n stride)) = refl
-within_erased ts (Some (Runtime element stride)) = refl
-within_erased ts (Some (Struct members block)) = refl
-within_erased ts (Some (Pointer class target)) = refl
-within_erased ts (Some (Function returns parameters)) = refl
+within_erased ts o = grind arith
 
 -- a pointer type and a struct type have no length
 pub erased_pointer : (o : Option Form) (class target : ℕ) → erased_form o ≡ Some (Pointer class target) → o ≡ Some (Pointer class target)
-erased_pointer None class target h = absurd (cc)
-erased_pointer (Some Void) class target h = absurd (cc)
-erased_pointer (Some Boolean) class target h = absurd (cc)
-erased_pointer (Some (Int width sign)) class target h = absurd (cc)
-erased_pointer (Some (Vector component count)) class target h = absurd (cc)
-erased_pointer (Some (Array element n stride)) class target h = absurd (cc)
-erased_pointer (Some (Runtime element stride)) class target h = absurd (cc)
-erased_pointer (Some (Struct members block)) class target h = absurd (cc)
-erased_pointer (Some (Pointer own to)) class target h = h
-erased_pointer (Some (Function returns parameters)) class target h = absurd (cc)
+erased_pointer o class target h = grind arith
 
 pub erased_struct : (o : Option Form) (members : List Member) (block : Bool) → erased_form o ≡ Some (Struct members block) → o ≡ Some (Struct members block)
-erased_struct None members block h = absurd (cc)
-erased_struct (Some Void) members block h = absurd (cc)
-erased_struct (Some Boolean) members block h = absurd (cc)
-erased_struct (Some (Int width sign)) members block h = absurd (cc)
-erased_struct (Some (Vector component count)) members block h = absurd (cc)
-erased_struct (Some (Array element n stride)) members block h = absurd (cc)
-erased_struct (Some (Runtime element stride)) members block h = absurd (cc)
-erased_struct (Some (Struct own ends)) members block h = h
-erased_struct (Some (Pointer own to)) members block h = absurd (cc)
-erased_struct (Some (Function returns parameters)) members block h = absurd (cc)
+erased_struct o members block h = grind arith
 
 module _ (ts us : Types) (alike : AreAlike ts us) where
   pub data_alike : (q : ℕ) → is_data (form_of us q) ≡ is_data (form_of ts q)

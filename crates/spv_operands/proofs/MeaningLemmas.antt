@@ -1,5 +1,5 @@
 -- What the meaning of an id tells of the instruction that defines it.
-use Rattle.std.proofs.Common.{◌≡◌, ◌⊎◌, ◌∙◌, inl, inr, ℕ, ◌==◌, ◌&&◌, ◌||◌, Bool, true, false, List, [], ◌∷◌, Option, Some, None, refl, sym, ap}
+use Rattle.std.proofs.Common.{◌≡◌, ◌⊎◌, ◌∙◌, inl, inr, ℕ, ◌==◌, ◌&&◌, ◌||◌, Bool, true, false, List, [], ◌∷◌, Option, Some, None, refl, sym, ap, arith}
 use Rattle.std.proofs.lemmas.Bool.{agree_below_at, and_parts, both_ways, eqb-true, not-false, not-true, or_cases}
 use Rattle.std.specs.Prelude.{find, if◌then◌else◌, not, unwrap_or}
 use Rattle.std.specs.List.{list_all}
@@ -139,16 +139,7 @@ is_constant_meaning (Some Function) = false
 is_constant_meaning (Some Other) = false
 
 constant_is : (o : Option Meaning) → is_constant_meaning o ≡ true → o ≡ Some Constant
-constant_is None h = absurd (cc)
-constant_is (Some TypeDefinition) h = absurd (cc)
-constant_is (Some Constant) h = refl
-constant_is (Some (Undefined ty)) h = absurd (cc)
-constant_is (Some ModuleVariable) h = absurd (cc)
-constant_is (Some (Variable function)) h = absurd (cc)
-constant_is (Some (Register function)) h = absurd (cc)
-constant_is (Some (Label function)) h = absurd (cc)
-constant_is (Some Function) h = absurd (cc)
-constant_is (Some Other) h = absurd (cc)
+constant_is o h = grind arith
 
 -- the meaning of an opcode of constants, outside functions
 pub constant_opcode : (op ty : ℕ) → is_constant op ≡ true → reads op (outside_meanings ty) ≡ Some Constant

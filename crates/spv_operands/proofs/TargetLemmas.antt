@@ -1,10 +1,10 @@
 -- Which types the variables of an accepted module may have: those of data, but for runtime arrays by themselves.
-use Rattle.std.proofs.Common.{◌≡◌, ◌⊎◌, ◌∙◌, inl, inr, ℕ, ◌==◌, ◌&&◌, Bool, true, false, List, [], ◌∷◌, length, Option, Some, None, refl, sym, ap, arith}
+use Rattle.std.proofs.Common.{◌≡◌, ◌⊎◌, ◌∙◌, inl, inr, ℕ, ◌==◌, ◌&&◌, Bool, true, false, List, [], ◌∷◌, length, Option, Some, refl, sym, ap, arith}
 use Rattle.std.proofs.lemmas.Bool.{and_parts, both_ways, ne_eqb, not-true, or_cases, or_left, or_right}
 use Rattle.std.specs.Prelude.{not}
 use Rattle.std.specs.Option.{option_map_or}
 use Rattle.spv_types.specs.declared.forms.Form.{Form}
-use Rattle.spv_types.specs.declared.forms.Form.TheVariants.{Void, Bool as Boolean, Int, Vector, Array, Runtime, Struct, Pointer, Function}
+use Rattle.spv_types.specs.declared.forms.Form.TheVariants.{Runtime, Struct}
 use Rattle.spv_types.specs.declared.forms.Member.{Member}
 use Rattle.spv_types.specs.Laws.{AreComplete, AreSound}
 use Rattle.spv_types.specs.Rules.{form_has_runtime, has_runtime, is_data, is_runtime, is_sized_data, keep_members, keeps_member, last_type}
@@ -15,16 +15,7 @@ use Rattle.spv_types.proofs.Exports.{data_form}
 
 -- a runtime array has its form
 runtime_form : (o : Option Form) → is_runtime o ≡ true → (element : ℕ) × (stride : Option ℕ) × (o ≡ Some (Runtime element stride))
-runtime_form None h = absurd (cc)
-runtime_form (Some Void) h = absurd (cc)
-runtime_form (Some Boolean) h = absurd (cc)
-runtime_form (Some (Int width sign)) h = absurd (cc)
-runtime_form (Some (Vector component count)) h = absurd (cc)
-runtime_form (Some (Array element n stride)) h = absurd (cc)
-runtime_form (Some (Runtime element stride)) h = (element, stride, refl)
-runtime_form (Some (Struct members block)) h = absurd (cc)
-runtime_form (Some (Pointer class target)) h = absurd (cc)
-runtime_form (Some (Function returns parameters)) h = absurd (cc)
+runtime_form o h = grind arith
 
 module _ (ts : Types) (sound : AreSound ts) (complete : AreComplete ts (length ts)) where
   -- data without a runtime array has a number of cells

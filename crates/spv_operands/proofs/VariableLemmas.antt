@@ -105,28 +105,13 @@ pub record IsTyped (a : Accepted) (i : Inst) : Type 0 where
   pub may : may_hold a.types pointed.class pointed.target ≡ true
 
 holds_counted : (d c e m : Bool) → d ≡ true → c ≡ true → (d && (c || (e && m))) ≡ true
-holds_counted true true e m h g = refl
-holds_counted true false e m h g = absurd (cc)
-holds_counted false c e m h g = absurd (cc)
+holds_counted d c e m h g = grind arith
 
 holds_open : (d c e m : Bool) → d ≡ true → e ≡ true → m ≡ true → (d && (c || (e && m))) ≡ true
-holds_open true true e m h g f = refl
-holds_open true false true true h g f = refl
-holds_open true false true false h g f = absurd (cc)
-holds_open true false false m h g f = absurd (cc)
-holds_open false c e m h g f = absurd (cc)
+holds_open d c e m h g f = grind arith
 
 pub block_form : (o : Option Form) → is_block o ≡ true → (members : List Member) × (block : Bool) × (o ≡ Some (Struct members block))
-block_form None h = absurd (cc)
-block_form (Some Void) h = absurd (cc)
-block_form (Some Boolean) h = absurd (cc)
-block_form (Some (Int width sign)) h = absurd (cc)
-block_form (Some (Vector component count)) h = absurd (cc)
-block_form (Some (Array element n stride)) h = absurd (cc)
-block_form (Some (Runtime element stride)) h = absurd (cc)
-block_form (Some (Struct members block)) h = (members, block, refl)
-block_form (Some (Pointer class target)) h = absurd (cc)
-block_form (Some (Function returns parameters)) h = absurd (cc)
+block_form o h = grind arith
 
 -- the rule of a StorageBuffer's target
 asks_block : (b c d e : Bool) → b ≡ true → (not ((b || c) || d) || e) ≡ true → e ≡ true

@@ -7,7 +7,7 @@ use crate::trees::of_constant;
 use spv_valid::Module;
 use spv_values::Part;
 
-/// The value of the constant with an id. In constant time, and without memory.
+/// The value of the constant with an id. It takes no memory.
 pub fn constant(accepted: &Module, id: u32) -> Option<Part<'_>>
     ensures { result ≡ option_map (tree_of accepted.now.types) (reads id accepted.now.constants) }
 {

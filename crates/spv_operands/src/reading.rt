@@ -187,8 +187,8 @@ fn elsewhere<'a>(
 }
 
 /// What an id stands for where an instruction of a frame at a depth names it; none where it stands for nothing there, as a register
-/// that holds nothing, a type or a block. In constant time; it takes memory only for the undefined value of an OpUndef outside
-/// functions. A frame's function is one of the module, and its plan the one that is read off the module.
+/// that holds nothing, a type or a block. It takes memory only for the undefined value of an OpUndef outside functions. A frame's
+/// function is one of the module, and its plan the one that is read off the module.
 #[inline(always)]
 pub fn operand<'a>(
     alloc: Global,

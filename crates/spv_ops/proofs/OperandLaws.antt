@@ -248,7 +248,7 @@ operands_take (part ∷ parts) r words operands fits e =
           let first = part_takes part words b.0 fits b.1 in
           let m = before_ok b.0.0 (operands_of parts r b.0.1) operands b.2 in
           let more = operands_take parts r b.0.1 m.0 first.more_fit m.1 in
-          subst (TakesAll (part ∷ parts) r words) m.2
+          subst (TakesAll (part ∷ parts) r words) {x = b.0.0 ++ m.0} m.2
           (record {
             follows = with_part part parts r b.0.0 m.0 first.is more.follows;
             spelled = spelled_both words b.0.1 b.0.0 m.0 first.parts more.spelled;

@@ -1,7 +1,7 @@
 -- Reading a string word by word, as a loop does.
-use Rattle.std.proofs.Common.{◌≡◌, ℕ, suc, ◌+◌, ◌-◌, ◌<◌, ◌≤◌, true, false, List, ◌++◌, length, get_or, take, drop, drop-cons, add-one, Result, Ok, Err, refl, sym, ap, ◌∙◌, append_assoc, arith}
+use Rattle.std.proofs.Common.{◌≡◌, ℕ, suc, ◌+◌, ◌<◌, ◌≤◌, true, false, List, ◌++◌, length, get_or, take, drop, drop-cons, add-one, Result, Ok, Err, refl, sym, ap, ◌∙◌, append_assoc, arith}
 use Rattle.std.specs.Prelude.{◌==◌}
-use Rattle.std.proofs.lemmas.List.{drop_all, take_all, length-drop}
+use Rattle.std.proofs.lemmas.List.{drop_all}
 use Rattle.std.proofs.lemmas.Bool.{ne_eqb}
 use Rattle.spv_ops.specs.declared.reading.WrongOperands.{WrongOperands}
 use Rattle.spv_ops.specs.Steps.{◌>>=◌, after}
@@ -48,7 +48,3 @@ unfolding text_at
 text_endless front words i total le so_far =
     let step : after front (text_at (drop i words)) ≡ Err (record {}) = rw (drop_all i words le) refl in
     sym so_far ∙ step
-
--- the value of a slice from a place to its end
-pub rest_of : (words : List ℕ) (i : ℕ) → take (length words - i) (drop i words) ≡ drop i words
-rest_of words i = take_all (length words - i) (drop i words) (omega (arith, length-drop i words))

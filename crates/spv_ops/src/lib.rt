@@ -5,6 +5,7 @@ pub mod addressing_model;
 pub mod built_in;
 pub mod capability;
 mod comparing;
+pub mod debug_info;
 mod decoding;
 pub mod decoration;
 mod encoding;

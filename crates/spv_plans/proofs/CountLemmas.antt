@@ -32,16 +32,7 @@ product_there (Some n) (Some c) h g = refl
 -- ---- forms without runtime arrays
 
 pub scalar_plain : (ts : Types) (o : Option Form) → is_scalar o ≡ true → form_has_runtime ts o ≡ false
-scalar_plain ts None h = absurd (cc)
-scalar_plain ts (Some Void) h = refl
-scalar_plain ts (Some Boolean) h = refl
-scalar_plain ts (Some (Int width sign)) h = refl
-scalar_plain ts (Some (Vector component count)) h = refl
-scalar_plain ts (Some (Array element n stride)) h = refl
-scalar_plain ts (Some (Runtime element stride)) h = absurd (cc)
-scalar_plain ts (Some (Struct members block)) h = absurd (cc)
-scalar_plain ts (Some (Pointer class target)) h = refl
-scalar_plain ts (Some (Function returns parameters)) h = refl
+scalar_plain ts o h = grind arith
 
 pub sized_plain : (ts : Types) (id : ℕ) → is_sized_data ts id ≡ true → has_runtime ts id ≡ false
 sized_plain ts id h = not-true (has_runtime ts id) (and_parts (is_data (form_of ts id)) (not (has_runtime ts id)) h).1

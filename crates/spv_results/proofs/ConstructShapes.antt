@@ -75,16 +75,7 @@ no_lanes w = record { count = refl; fit = All-nil (HasWidth w) }
 
 -- the components of a vector type
 components_are : (o : Option Form) (c : Components) → components_in o ≡ Some c → o ≡ Some (Vector c.ty c.count)
-components_are None c h = cc
-components_are (Some Void) c h = cc
-components_are (Some Boolean) c h = cc
-components_are (Some (Int width sign)) c h = cc
-components_are (Some (Vector component count)) c h = let e : record { ty = component; count = count } ≡ c = cc in ap (λ (c : Components). Some (Vector c.ty c.count)) e
-components_are (Some (Array element n stride)) c h = cc
-components_are (Some (Runtime element stride)) c h = cc
-components_are (Some (Struct members block)) c h = cc
-components_are (Some (Pointer class target)) c h = cc
-components_are (Some (Function returns parameters)) c h = cc
+components_are o c h = grind arith
 
 module _ (k : Known) (roots : Root → Option ℕ) (sound : AreSound k.types) (component width : ℕ) (is : option_and_then scalar_width (form_of k.types component) ≡ Some width) (one : HasLaneType k.types component width 1) where
   -- a constituent that gives components has as many lanes of their width
@@ -165,25 +156,7 @@ pub listed_count : (vs : List Value) → length (leaves (Many vs)) ≡ leaves_in
 listed_count vs = ap length (leaves_many vs)
 
 pub constructed_count : (o : Option Form) (vs : List Value) → length (leaves (constructed o vs)) ≡ leaves_in vs
-constructed_count None vs = listed_count vs
-constructed_count (Some Void) vs = listed_count vs
-constructed_count (Some Boolean) vs = listed_count vs
-constructed_count (Some (Int width sign)) vs = listed_count vs
-constructed_count (Some (Vector component count)) vs = joined_count vs
-constructed_count (Some (Array element n stride)) vs = listed_count vs
-constructed_count (Some (Runtime element stride)) vs = listed_count vs
-constructed_count (Some (Struct members block)) vs = listed_count vs
-constructed_count (Some (Pointer class target)) vs = listed_count vs
-constructed_count (Some (Function returns parameters)) vs = listed_count vs
+constructed_count o vs = grind (arith, joined_count, listed_count)
 
 pub constructed_by : (o : Option Form) (vs : List Value) → (if is_some (components_in o) then joined_value vs else Many vs) ≡ constructed o vs
-constructed_by None vs = refl
-constructed_by (Some Void) vs = refl
-constructed_by (Some Boolean) vs = refl
-constructed_by (Some (Int width sign)) vs = refl
-constructed_by (Some (Vector component count)) vs = refl
-constructed_by (Some (Array element n stride)) vs = refl
-constructed_by (Some (Runtime element stride)) vs = refl
-constructed_by (Some (Struct members block)) vs = refl
-constructed_by (Some (Pointer class target)) vs = refl
-constructed_by (Some (Function returns parameters)) vs = refl
+constructed_by o vs = grind arith

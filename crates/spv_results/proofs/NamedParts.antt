@@ -3,7 +3,7 @@ use Rattle.std.proofs.Common.{◌≡◌, ◌∙◌, ℕ, zero, suc, ◌+◌, ◌
 use Rattle.std.specs.Prelude.{if◌then◌else◌}
 use Rattle.std.specs.List.{All, AllZip}
 use Rattle.std.specs.Option.{option_and_then, option_map, option_map_or}
-use Rattle.std.proofs.lemmas.Bool.{and_parts, not-true, ltb-true}
+use Rattle.std.proofs.lemmas.Bool.{and_parts, ltb-true}
 use Rattle.spv_base.specs.Parts.{part_at}
 use Rattle.spv_base.specs.declared.instructions.Operand.{Operand}
 use Rattle.spv_base.specs.declared.values.Root.{Root}
@@ -16,11 +16,12 @@ use Rattle.spv_types.specs.declared.forms.Member.{Member}
 use Rattle.spv_types.specs.Cells.{cells_of, members_cells}
 use Rattle.spv_types.specs.Laws.{AreSound}
 use Rattle.spv_types.specs.Leaves.{element_part, leaf_of, member_part, part_of}
-use Rattle.spv_types.specs.Rules.{form_has_runtime, has_runtime, is_data, is_runtime, is_scalar, is_sized_data, keep_members, keeps_member, last_type}
+use Rattle.spv_types.specs.Rules.{form_has_runtime, has_runtime, is_runtime, is_scalar, is_sized_data, keep_members, keeps_member, last_type}
 use Rattle.spv_types.specs.Shapes.{HasShape, part_type, reached_type, shape_step}
 use Rattle.spv_types.specs.Types.{Types, form_of}
 use Rattle.spv_types.proofs.Exports.{many_is, shapes_are_by_forms, cells_by_form}
 use Rattle.spv_mem.proofs.Exports.{part_cons}
+use Rattle.spv_plans.proofs.Exports.{scalar_plain, sized_plain}
 use Rattle.spv_bodies.specs.Composites.{named_type, part}
 use Rattle.spv_bodies.specs.Context.{Known}
 use Rattle.spv_results.specs.Results.{numbers}
@@ -184,21 +185,6 @@ module _ (ts : Types) (roots : Root → Option ℕ) (sound : AreSound ts) (count
 
   -- ---- parts of types without runtime arrays
 
-  sized_plain : (id : ℕ) → is_sized_data ts id ≡ true → has_runtime ts id ≡ false
-  sized_plain id h = not-true (has_runtime ts id) (and_parts (is_data (form_of ts id)) (not (has_runtime ts id)) h).1
-
-  scalar_plain : (o : Option Form) → is_scalar o ≡ true → form_has_runtime ts o ≡ false
-  scalar_plain None h = cc
-  scalar_plain (Some Void) h = cc
-  scalar_plain (Some Boolean) h = refl
-  scalar_plain (Some (Int width sign)) h = refl
-  scalar_plain (Some (Vector component count)) h = cc
-  scalar_plain (Some (Array element n stride)) h = cc
-  scalar_plain (Some (Runtime element stride)) h = cc
-  scalar_plain (Some (Struct members block)) h = cc
-  scalar_plain (Some (Pointer class target)) h = cc
-  scalar_plain (Some (Function returns parameters)) h = cc
-
   -- a last member that is no runtime array is sized
   last_sized : (block : Bool) (m : Member) → is_runtime (form_of ts m.ty) ≡ false → keeps_member ts block true m.ty ≡ true → is_sized_data ts m.ty ≡ true
   last_sized block m plain h = go (is_sized_data ts m.ty) block (is_runtime (form_of ts m.ty)) refl plain h
@@ -229,12 +215,12 @@ module _ (ts : Types) (roots : Root → Option ℕ) (sound : AreSound ts) (count
   part_plain (Int width sign) id i t is plain h = cc
   part_plain (Vector component count) id i t is plain h =
       subst (λ (k : ℕ). has_runtime ts k ≡ false) (below_there i count component t h).1
-      (scalar_plain (form_of ts component) (and_parts (is_scalar (form_of ts component)) _ (sound.kept id (Vector component count) is)).0)
+      (scalar_plain ts (form_of ts component) (and_parts (is_scalar (form_of ts component)) _ (sound.kept id (Vector component count) is)).0)
   part_plain (Array element None stride) id i t is plain h = cc
   part_plain (Array element (Some count) stride) id i t is plain h =
-      subst (λ (k : ℕ). has_runtime ts k ≡ false) (below_there i count element t h).1 (sized_plain element (sound.kept id (Array element (Some count) stride) is))
+      subst (λ (k : ℕ). has_runtime ts k ≡ false) (below_there i count element t h).1 (sized_plain ts element (sound.kept id (Array element (Some count) stride) is))
   part_plain (Runtime element stride) id i t is plain h = cc
-  part_plain (Struct members block) id i t is plain h = sized_plain t (members_sized block members i t (sound.kept id (Struct members block) is) plain h)
+  part_plain (Struct members block) id i t is plain h = sized_plain ts t (members_sized block members i t (sound.kept id (Struct members block) is) plain h)
   part_plain (Pointer class target) id i t is plain h = cc
   part_plain (Function returns parameters) id i t is plain h = cc
 

@@ -1,5 +1,5 @@
 -- What the calls on vectors ask and give, where an instruction of a valid module keeps its rule.
-use Rattle.std.proofs.Common.{◌≡◌, ◌∙◌, ℕ, ◌<◌, ◌≤◌, false, List, drop, length, Some, refl, sym, ap, subst}
+use Rattle.std.proofs.Common.{◌≡◌, ◌∙◌, ℕ, ◌<◌, ◌≤◌, false, List, drop, length, Some, sym, ap, subst, arith}
 use Rattle.std.proofs.Math.Logic.{∥∥₁_elim}
 use Rattle.std.proofs.Math.ListN.{length-map}
 use Rattle.std.proofs.Props.{props}
@@ -9,7 +9,7 @@ use Rattle.spv_base.specs.declared.instructions.Operand.{Operand}
 use Rattle.spv_base.specs.declared.values.Value.{Value}
 use Rattle.spv_index.specs.Operands.{literal_in}
 use Rattle.spv_types.specs.declared.forms.Form.{Form}
-use Rattle.spv_types.specs.declared.forms.Form.TheVariants.{Void, Bool as Boolean, Int, Vector, Array, Runtime, Struct, Pointer, Function}
+use Rattle.spv_types.specs.declared.forms.Form.TheVariants.{Int, Vector}
 use Rattle.spv_types.specs.declared.queries.Components.{Components}
 use Rattle.spv_types.specs.Rows.{leaves, no_roots}
 use Rattle.spv_types.specs.Rules.{form_has_runtime, has_runtime}
@@ -35,15 +35,7 @@ lanes_sized : (ts : Types) (id w n : ℕ) → HasLaneType ts id w n → has_runt
 lanes_sized ts id w n t = ap (form_has_runtime ts) t.is ∙ go t.form t.lanes
   where
     go : (f : Form) → IsLaneForm ts f w n → form_has_runtime ts (Some f) ≡ false
-    go Void l = absurd l
-    go Boolean l = refl
-    go (Int width sign) l = refl
-    go (Vector component count) l = refl
-    go (Array element k stride) l = absurd l
-    go (Runtime element stride) l = absurd l
-    go (Struct members block) l = absurd l
-    go (Pointer class target) l = absurd l
-    go (Function returns parameters) l = absurd l
+    go f l = grind arith
 
 -- an operand of an integer type is one lane
 one_integer : (a : Accepted) (i : Inst) (n : ℕ) (v : Value) → IsValid a → IsInteger (form_at (known a) i n) → IsOperand a i n v → length (leaves v) ≡ 1

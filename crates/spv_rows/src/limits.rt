@@ -1,7 +1,9 @@
 //! How much input is taken, and in which pieces output is offered.
 use crate::calls::{DEBUG, TEN_ROUNDS, call, files, sum, words};
 use spv_app::Status;
-use spv_base::{Failed, MemoryFiles, MemorySink, MemorySource, NoMemory, Sink, Source};
+use spv_base::{
+    Failed, FailingSink, MemoryFiles, MemorySink, MemorySource, NoMemory, Sink, Source,
+};
 use std::alloc::Global;
 use std::test::Fail;
 
@@ -22,33 +24,34 @@ impl Source for Watched {
 
     ghost faults = { λ s. 0 };
 
+    ghost ends = { λ s. s.held.ends.value };
+
     fn read(&mut self, buf: &mut [u8]) -> Result<usize, Failed> {
         self.longest = self.longest.max(buf.len());
         self.held.read(buf)
     }
 }
 
-/// Output that takes at most so many bytes at a call, and keeps how long each piece was that was offered.
+/// Output in memory, and how long each piece was that was offered.
 #[derive(Drop)]
-struct Offers {
-    most: usize,
+struct Lengths {
+    held: FailingSink,
     lengths: Vec<usize>,
-    faults: u64,
 }
 
-impl Sink for Offers {
-    ghost use Rattle.std.specs.Prelude.{None};
+impl Sink for Lengths {
+    ghost use Rattle.std.specs.Prelude.{Some};
 
-    ghost taken = { λ s. None };
+    ghost taken = { λ s. Some s.held.held.bytes.items };
 
-    ghost faults = { λ s. s.faults };
+    ghost faults = { λ s. s.held.held.faults };
+
+    ghost offers = { λ s. s.held.held.offers.value };
 
     fn write(&mut self, bytes: &[u8]) -> Result<usize, Failed> {
-        if self.most == 0 || self.lengths.push(bytes.len()).is_err() {
-            self.faults += 1;
-            return Err(Failed);
-        }
-        Ok(bytes.len().min(self.most))
+        // Where memory runs out a length is missing.
+        let _ = self.lengths.push(bytes.len());
+        self.held.write(bytes)
     }
 }
 
@@ -124,10 +127,9 @@ fn replies_are_offered_whole(rt: HostRuntime) -> Result<(), Fail> {
         let mut held = MemoryFiles::new(alloc, files(alloc, sum(alloc)?, TEN_ROUNDS)?);
         let commands = b"\nregs\ngoto 3\n  \nregs\ngoto 9\nquit\n";
         let mut input = MemorySource::new(commands.to_vec(alloc)?);
-        let mut out = Offers {
-            most,
+        let mut out = Lengths {
+            held: FailingSink::new(alloc, most.max(1), Vec::new(alloc)),
             lengths: Vec::new(alloc),
-            faults: 0,
         };
         assert_eq!(rt;
             call(alloc, &words, &mut held, &mut input, &mut out),

@@ -4,6 +4,7 @@ use Rattle.std.proofs.lemmas.Bool.{and_from, and_parts, both_ways, cases_eq, eqb
 use Rattle.std.specs.Prelude.{nat_lt, ◌||◌}
 use Rattle.std.specs.List.{AllByRecursion, find}
 use Rattle.std.specs.Option.{is_some}
+use Rattle.spv_base.proofs.Exports.{both_each, each_weaker}
 use Rattle.spv_base.specs.declared.instructions.Inst.{Inst}
 use Rattle.spv_ops.specs.Module.{Decoded, IsDecoded}
 use Rattle.spv_index.specs.Classes.{sets_of}
@@ -19,7 +20,7 @@ use Rattle.spv_types.specs.declared.forms.Form.{Form}
 use Rattle.spv_sections.specs.Definitions.{is_id}
 use Rattle.spv_sections.specs.Ids.{has_result, head_of, ids_of, is_result}
 use Rattle.spv_sections.proofs.InOrder.{in_order}
-use Rattle.spv_sections.proofs.Results.{all_found, both, distinct, each, has_id, results_in}
+use Rattle.spv_sections.proofs.Results.{all_found, distinct, has_id, results_in}
 use Rattle.spv_sections.proofs.TypesFirst.{constant_has_type, typed_has_result, types_first}
 
 -- ---- the opcodes of types
@@ -72,7 +73,7 @@ named decoded is passed =
     let results = results_in decoded (sets_of insts) outside insts order in
     record {
       distinct = distinct decoded is.ascend results;
-      results = each (λ (i : Inst). is_result decoded i ≡ true) (HasResult insts) (λ i. has_results decoded insts i is.limit) insts results;
+      results = each_weaker (λ (i : Inst). is_result decoded i ≡ true) (HasResult insts) (λ i. has_results decoded insts i is.limit) insts results;
       types_first = types_first decoded (sets_of insts) outside 0 [] insts refl is.ascend refl order;
     }
 
@@ -98,6 +99,6 @@ pub defined_once : (decoded : Decoded) → IsDecoded decoded → ids_of decoded 
 defined_once decoded is passed =
     let insts = decoded.insts in
     let results = results_in decoded (sets_of insts) outside insts (in_order decoded passed) in
-    both (λ (i : Inst). is_result decoded i ≡ true) (λ (i : Inst). (i.id ≡ 0) ⊎ (find (is_result_of i.id) insts ≡ Some i))
+    both_each (λ (i : Inst). is_result decoded i ≡ true) (λ (i : Inst). (i.id ≡ 0) ⊎ (find (is_result_of i.id) insts ≡ Some i))
     (λ (i : Inst). (i.id ≡ 0) ⊎ (defining insts i.id ≡ Some i)) (λ i. found_defines decoded insts i is.limit) insts results
     (all_found insts (distinct decoded is.ascend results))

@@ -3,6 +3,7 @@ use Rattle.std.proofs.Common.{◌≡◌, ◌≢◌, ◌⊎◌, inl, inr, ◌∙�
 use Rattle.std.proofs.lemmas.Bool.{and_parts, cases_eq, eq-eqb, ltb-false, ne_eqb, not-true}
 use Rattle.std.specs.Prelude.{nat_lt, not}
 use Rattle.std.specs.List.{AllByRecursion, find}
+use Rattle.spv_base.proofs.Exports.{both_each, each_weaker}
 use Rattle.spv_base.specs.Entries.{reads}
 use Rattle.spv_base.specs.Order.{AreDistinct, Ascend}
 use Rattle.spv_base.specs.declared.instructions.Inst.{Inst}
@@ -16,21 +17,11 @@ use Rattle.spv_sections.specs.Definitions.{definition_at, definitions_from, defi
 use Rattle.spv_sections.specs.Ids.{is_before, is_result}
 use Rattle.spv_sections.specs.Laws.{IsInOrder}
 
--- ---- one by one
-
-pub each : (P Q : Inst → Type 0) → ((i : Inst) → P i → Q i) → (insts : List Inst) → AllByRecursion P insts → AllByRecursion Q insts
-each P Q f [] p = tt
-each P Q f (i ∷ is) (p, ps) = (f i p, each P Q f is ps)
-
-pub both : (P Q R : Inst → Type 0) → ((i : Inst) → P i → Q i → R i) → (insts : List Inst) → AllByRecursion P insts → AllByRecursion Q insts → AllByRecursion R insts
-both P Q R f [] p q = tt
-both P Q R f (i ∷ is) (p, ps) (q, qs) = (f i p q, both P Q R f is ps qs)
-
 -- words that ascend are no lower than the one that they ascend from
 above : (from : ℕ) (insts : List Inst) → Ascend from insts → AllByRecursion (λ (i : Inst). from ≤ i.word) insts
 above from [] ascend = tt
 above from (i ∷ is) (first, rest) =
-    (first, each (λ (j : Inst). suc i.word ≤ j.word) (λ (j : Inst). from ≤ j.word) (λ j le. omega arith) is (above (suc i.word) is rest))
+    (first, each_weaker (λ (j : Inst). suc i.word ≤ j.word) (λ (j : Inst). from ≤ j.word) (λ j le. omega arith) is (above (suc i.word) is rest))
 
 -- ---- the first definitions
 
@@ -58,7 +49,7 @@ all_defined sets position from (i ∷ is) (first, rest) =
     let after : Position = position_after position (class_of sets i) i in
     let behind : List (ℕ × Definition) = definitions_from sets after is in (
       defined_here behind (definition_at position i) i.id,
-      both (λ (j : Inst). suc i.word ≤ j.word) (λ (j : Inst). IsDefinedBy behind j.word j.id) (λ (j : Inst). IsDefinedBy ((i.id, definition_at position i) ∷ behind) j.word j.id)
+      both_each (λ (j : Inst). suc i.word ≤ j.word) (λ (j : Inst). IsDefinedBy behind j.word j.id) (λ (j : Inst). IsDefinedBy ((i.id, definition_at position i) ∷ behind) j.word j.id)
           (λ j le by. let lower : i.word ≤ j.word = omega arith in defined_more behind (definition_at position i) i.id j.word j.id lower by)
           is (above (suc i.word) is rest) (all_defined sets after (suc i.word) is rest),
     )
@@ -94,7 +85,7 @@ are_distinct decoded from (i ∷ is) (first, rest) (result, results) (by, define
 
     here : (i.id ≡ 0) ⊎ (i.id ≡ 0 → ⊥) → (i.id ≡ 0) ⊎ AllByRecursion (λ (later : Inst). later.id ≢ i.id) is
     here (inl none) = inl none
-    here (inr some) = inr (both (λ (j : Inst). suc i.word ≤ j.word) (λ (j : Inst). is_result decoded j ≡ true) (λ (j : Inst). j.id ≢ i.id) (λ j. other j some) is (above (suc i.word) is rest) results)
+    here (inr some) = inr (both_each (λ (j : Inst). suc i.word ≤ j.word) (λ (j : Inst). is_result decoded j ≡ true) (λ (j : Inst). j.id ≢ i.id) (λ j. other j some) is (above (suc i.word) is rest) results)
 
 pub distinct : (decoded : Decoded) → Ascend 0 decoded.insts → AllByRecursion (λ (i : Inst). is_result decoded i ≡ true) decoded.insts → AreDistinct decoded.insts
 unfolding definitions_of
@@ -122,5 +113,5 @@ all_found (i ∷ is) (here, rest) = (inr (rw (eq-eqb i.id i.id refl) refl), behi
     Found list j = (j.id ≡ 0) ⊎ (find (is_result_of j.id) list ≡ Some j)
 
     behind : (i.id ≡ 0) ⊎ AllByRecursion (λ (later : Inst). later.id ≢ i.id) is → AllByRecursion (Found is) is → AllByRecursion (Found (i ∷ is)) is
-    behind (inl none) found = each (Found is) (Found (i ∷ is)) (λ j. found_behind is i j none) is found
-    behind (inr others) found = both (λ (j : Inst). j.id ≢ i.id) (Found is) (Found (i ∷ is)) (λ j. found_more is i j) is others found
+    behind (inl none) found = each_weaker (Found is) (Found (i ∷ is)) (λ j. found_behind is i j none) is found
+    behind (inr others) found = both_each (λ (j : Inst). j.id ≢ i.id) (Found is) (Found (i ∷ is)) (λ j. found_more is i j) is others found

@@ -6,6 +6,7 @@ use Rattle.std.proofs.lemmas.Grind.{common_steps}
 use Rattle.std.proofs.lemmas.List.Elements.{Contains-append_right}
 use Rattle.std.specs.Prelude.{not, ◌||◌}
 use Rattle.std.specs.List.{AllByRecursion, Contains}
+use Rattle.spv_base.proofs.Exports.{second_false}
 use Rattle.spv_base.specs.Entries.{reads}
 use Rattle.spv_base.specs.Order.{Ascend}
 use Rattle.spv_base.specs.declared.instructions.Inst.{Inst}
@@ -37,10 +38,6 @@ use Rattle.spv_sections.specs.Laws.{IsInOrder}
 
 pub constant_low : (op : ℕ) → is_constant op ≡ true → op < 53
 constant_low op h = grind (arith, nat_tests)
-
-second_false : (p q : Bool) → p ≡ true → p && q ≡ false → q ≡ false
-second_false true q e h = h
-second_false false q e h = absurd (cc)
 
 pub constant_has_type : (op : ℕ) → is_constant op ≡ true → has_type (head_of op) ≡ true
 unfolding head_of row_of table

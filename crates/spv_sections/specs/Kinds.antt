@@ -45,79 +45,39 @@ wanted (Turns one other) number = if number % 2 == 0 then one else other
 -- a type
 abbrev pub is_type : Kind → Bool
 is_type DeclaredType = true
-is_type Constant = false
-is_type ModuleVariable = false
-is_type Function = false
-is_type Label = false
-is_type Computed = false
-is_type String = false
-is_type Import = false
+is_type _ = false
 
 -- a constant, a variable, a parameter or another result
 abbrev pub is_value : Kind → Bool
-is_value DeclaredType = false
 is_value Constant = true
 is_value ModuleVariable = true
-is_value Function = false
-is_value Label = false
 is_value Computed = true
-is_value String = false
-is_value Import = false
+is_value _ = false
 
 -- a variable of the module
 abbrev pub is_module_variable : Kind → Bool
-is_module_variable DeclaredType = false
-is_module_variable Constant = false
 is_module_variable ModuleVariable = true
-is_module_variable Function = false
-is_module_variable Label = false
-is_module_variable Computed = false
-is_module_variable String = false
-is_module_variable Import = false
+is_module_variable _ = false
 
 -- a function
 abbrev pub is_function : Kind → Bool
-is_function DeclaredType = false
-is_function Constant = false
-is_function ModuleVariable = false
 is_function Function = true
-is_function Label = false
-is_function Computed = false
-is_function String = false
-is_function Import = false
+is_function _ = false
 
 -- a label
 abbrev pub is_label : Kind → Bool
-is_label DeclaredType = false
-is_label Constant = false
-is_label ModuleVariable = false
-is_label Function = false
 is_label Label = true
-is_label Computed = false
-is_label String = false
-is_label Import = false
+is_label _ = false
 
 -- a string
 abbrev pub is_string : Kind → Bool
-is_string DeclaredType = false
-is_string Constant = false
-is_string ModuleVariable = false
-is_string Function = false
-is_string Label = false
-is_string Computed = false
 is_string String = true
-is_string Import = false
+is_string _ = false
 
 -- an imported set
 abbrev pub is_import : Kind → Bool
-is_import DeclaredType = false
-is_import Constant = false
-is_import ModuleVariable = false
-is_import Function = false
-is_import Label = false
-is_import Computed = false
-is_import String = false
 is_import Import = true
+is_import _ = false
 
 -- an id of some kind stands for what is wanted
 abbrev pub fits : Wanted → Kind → Bool
@@ -132,11 +92,5 @@ fits Anything kind = true
 
 -- such an id may be one that nothing defines
 abbrev pub is_anything : Wanted → Bool
-is_anything WantedType = false
-is_anything Value = false
-is_anything WantedFunction = false
-is_anything WantedLabel = false
-is_anything Set = false
-is_anything File = false
-is_anything Interface = false
 is_anything Anything = true
+is_anything _ = false

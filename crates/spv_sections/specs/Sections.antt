@@ -30,16 +30,8 @@ parts =
 
 -- a line, or an instruction of a set with no meaning at run time
 abbrev pub is_line : Class → Bool
-is_line Beginning = false
-is_line Parameter = false
-is_line End = false
-is_line Label = false
 is_line Passing = true
-is_line Phi = false
-is_line Variable = false
-is_line Terminator = false
-is_line Passed = false
-is_line Executable = false
+is_line _ = false
 
 abbrev pub part_by : ℕ → Part
 part_by op = unwrap_or (reads op parts) Body

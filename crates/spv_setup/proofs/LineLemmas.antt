@@ -5,7 +5,7 @@ use Rattle.std.specs.List.{position, position_or_len, slice_split}
 use Rattle.std.proofs.lemmas.List.Splits.{slice_split_first, slice_split_none, length-slice_split}
 use Rattle.std.proofs.lemmas.List.Sums.{fails_before_first}
 use Rattle.spv_setup.specs.Lines.{is_line_feed, without_return, ended, lines_of, HasFirstLine}
-use Rattle.spv_line.proofs.Exports.{at_place}
+use Rattle.spv_base.proofs.Exports.{some_place}
 use Rattle.spv_base.proofs.Exports.{no_place}
 
 ended_more : (line : List ℕ) (lines : List (List ℕ)) → 0 < length lines → ended (line ∷ lines) ≡ without_return line ∷ ended lines
@@ -20,7 +20,7 @@ only_line text h = record {
 
 pub first_line : (text line rest back : List ℕ) (end : ℕ) → Some end ≡ position is_line_feed text → line ≡ without_return (take end text) → back ≡ drop end text → rest ≡ drop 1 back → HasFirstLine text line (Some rest)
 first_line text line rest back end h front e skip =
-    let at = at_place end (position_or_len is_line_feed text) (length text) h in
+    let at = some_place (position_or_len is_line_feed text) (length text) end h in
     let n = position_or_len is_line_feed text in
     let more : 0 < length (slice_split is_line_feed (drop (n + 1) text)) = omega (arith, length-slice_split is_line_feed (drop (n + 1) text)) in
     let cut : lines_of text ≡ without_return (take n text) ∷ lines_of (drop (n + 1) text) = ap ended (slice_split_first is_line_feed text 0 at.1) ∙ ended_more (take n text) (slice_split is_line_feed (drop (n + 1) text)) more in

@@ -1,5 +1,5 @@
 //! The values that variables of blocks begin with, as rows.
-ghost use Rattle.std.specs.Prelude.{◌≡◌, ◌++◌, ◌<◌, ◌*◌, ◌+◌, ◌^◌, IfOk, OnOk, length};
+ghost use Rattle.std.specs.Prelude.{◌≡◌, ◌++◌, ◌<◌, ◌≤◌, ◌*◌, ◌+◌, ◌^◌, IfOk, OnOk, length};
 ghost use Rattle.std.specs.List.{flat_map};
 ghost use Rattle.spv_types.specs.Rows.{leaves};
 ghost use Rattle.spv_start.specs.Blocks.{read_among, read_members, read_row, read_step, value_in};
@@ -145,16 +145,20 @@ fn members_room(types: &TypeTable, size: u64, members: &[Member]) -> u64 {
     room
 }
 
-/// How many cells a block of so many bytes has: what is to be reserved for its row.
-fn room(types: &TypeTable, size: u64, ty: u32) -> u64 {
-    match types.form(ty) {
+/// How many cells are reserved for the row of a block of so many bytes: as many as it has, and no more than there are bytes, of
+/// which each cell has one or more.
+fn room(types: &TypeTable, size: u64, ty: u32) -> u64
+    ensures { result ≤ size }
+{
+    let cells = match types.form(ty) {
         Some(Form::Struct { members, .. }) => members_room(types, size, members.as_slice()),
         _ => types.cells(ty).unwrap_or(0),
-    }
+    };
+    cells.min(size)
 }
 
 /// The row of a type that a block of so many bytes is, of which those behind the ones written out are 0. Integers lie with the lowest
-/// byte first, members at their offsets and elements a stride apart; a runtime array has as many elements as fit. The row has no room for more.
+/// byte first, members at their offsets and elements a stride apart; a runtime array has as many elements as fit.
 #[tactic(auto, unfolding(crate::specs::Blocks::value_in))]
 pub fn read(
     alloc: Global,

@@ -9,9 +9,9 @@ use Rattle.spv_base.specs.declared.instructions.Inst.{Inst}
 use Rattle.spv_base.specs.declared.values.PassedEvent.{PassedEvent}
 use Rattle.spv_base.specs.Options.{holds}
 use Rattle.spv_index.specs.Classes.{is_label}
+use Rattle.spv_index.specs.DebugSet.{set_number}
 use Rattle.spv_index.specs.Operands.{id_operand}
 use Rattle.spv_index.specs.Positions.{Stand, stands_of}
-use Rattle.spv_dbg.specs.Marks.{set_number}
 use Rattle.spv_frame.specs.Frames.{Held as Frame}
 use Rattle.spv_plans.specs.Members.{is_stop}
 use Rattle.spv_plans.specs.Registered.{IsOfFunction}

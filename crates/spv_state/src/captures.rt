@@ -5,10 +5,9 @@ ghost use Rattle.spv_index.specs.Positions.{stands_of};
 ghost use Rattle.spv_state.specs.Events as spec;
 
 use spv_base::{Inst, NoMemory};
-use spv_dbg::number::{DECLARE, VALUE};
-use spv_dbg::{Keyed, set_number};
 use spv_index::stands::Stand;
-use spv_index::{Index, id_operand};
+use spv_index::{Index, Keyed, id_operand, set_number};
+use spv_ops::debug_info::{DECLARE, VALUE};
 use spv_valid::Module;
 use std::alloc::Global;
 use std::mem;

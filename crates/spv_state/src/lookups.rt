@@ -8,7 +8,7 @@ use crate::captures::{Capture, captures_of};
 use crate::predecoded::{Predecoded, predecode};
 use crate::variables::by_function;
 use spv_base::NoMemory;
-use spv_dbg::Keyed;
+use spv_index::Keyed;
 use spv_initial::Declared;
 use spv_valid::Module;
 use std::alloc::Global;

@@ -1,7 +1,8 @@
 -- What the statuses of a workgroup's invocations tell together.
-use Rattle.std.specs.Prelude.{◌≡◌, ◌&&◌, ℕ, not, Bool, List, slice_index_or}
+use Rattle.std.specs.Prelude.{◌≡◌, ◌&&◌, ℕ, not, Bool, List, length, replicate, slice_index_or, slice_set}
 use Rattle.std.specs.List.{count_by, list_all, list_any}
 use Rattle.spv_statuses.specs.declared.invocations.Status.{Status}
+use Rattle.spv_statuses.specs.declared.invocations.Status.TheVariants.{Arrived, Passed}
 use Rattle.spv_statuses.specs.Invocations.{is_finished, moves, waits, waits_at}
 
 -- the statuses of the invocations, by their numbers, and how many words the module has
@@ -19,6 +20,20 @@ all_finished statuses = list_all is_finished statuses
 -- no invocation is Ready or Passed, and one is Arrived
 abbrev pub is_stuck : List Status → Bool
 is_stuck statuses = not (list_any moves statuses) && list_any waits statuses
+
+-- ---- what changes
+
+-- the statuses once an invocation has another one
+abbrev pub with_status : ℕ → Status → List Status → List Status
+with_status inv status statuses = slice_set statuses inv status
+
+-- the statuses once a barrier has opened: all have passed it
+abbrev pub opened : List Status → List Status
+opened statuses = replicate (length statuses) Passed
+
+-- the statuses once the barrier at a word is closed again: all wait at it
+abbrev pub closed : ℕ → List Status → List Status
+closed word statuses = replicate (length statuses) (Arrived word)
 
 -- ---- what is counted
 

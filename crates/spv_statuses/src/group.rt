@@ -1,5 +1,5 @@
 //! The statuses of the invocations of a workgroup.
-ghost use Rattle.std.specs.Prelude.{◌≡◌, ◌<◌, IfOk, Some, true, length, replicate, slice_get, slice_set};
+ghost use Rattle.std.specs.Prelude.{◌≡◌, ◌<◌, IfOk, Some, true, length, replicate, slice_get};
 ghost use Rattle.std.specs.List.{list_all};
 ghost use Rattle.spv_statuses.specs.Group as spec;
 ghost use Rattle.spv_statuses.specs.Invocations.{IsWithin, is_passed, waits_at};
@@ -11,8 +11,8 @@ use std::alloc::Global;
 use std::marker::Model;
 use std::mem;
 
-/// The statuses of the invocations of a workgroup, by their numbers, with counts that answer in constant time what they tell
-/// together. Contracts see the list, and how many words the module has.
+/// The statuses of the invocations of a workgroup, by their numbers, with counts of what they tell together, so that no test goes over
+/// all of them (which is measured, and said by no clause). Contracts see the list, and how many words the module has.
 #[derive(Drop)]
 pub struct Statuses {
     list: Vec<Status>,
@@ -75,7 +75,7 @@ impl Statuses {
         self.list[inv as usize]
     }
 
-    /// Whether all invocations wait at the barrier at a word. In constant time.
+    /// Whether all invocations wait at the barrier at a word.
     #[tactic(auto, using(crate::proofs::CountLemmas::all_counted))]
     pub fn all_wait_at(&self, word: u32) -> bool
         ensures { result ≡ spec.all_wait_at word self.now.list }
@@ -83,16 +83,16 @@ impl Statuses {
         self.waiting.at(word) == self.list.len()
     }
 
-    /// Whether all invocations wait at the barrier at a word once an invocation does. In constant time.
+    /// Whether all invocations wait at the barrier at a word once an invocation does.
     pub fn all_wait_with(&self, inv: u32, word: u32) -> bool
         requires { inv < length self.now.list }
-        ensures { result ≡ spec.all_wait_at word (slice_set self.now.list inv (Status.Arrived word)) }
+        ensures { result ≡ spec.all_wait_at word (spec.with_status inv (Status.Arrived word) self.now.list) }
     {
         let more = !self.get(inv).waits_at(word);
         self.waiting.at(word) + usize::from(more) == self.list.len()
     }
 
-    /// Whether all invocations are finished. In constant time.
+    /// Whether all invocations are finished.
     #[tactic(auto, using(crate::proofs::CountLemmas::all_counted))]
     pub fn all_finished(&self) -> bool
         ensures { result ≡ spec.all_finished self.now.list }
@@ -100,7 +100,7 @@ impl Statuses {
         self.finished == self.list.len()
     }
 
-    /// Whether no invocation is Ready or Passed, and one is Arrived. In constant time.
+    /// Whether no invocation is Ready or Passed, and one is Arrived.
     #[tactic(auto, using(crate::proofs::CountLemmas::stuck_counted, crate::proofs::CountLemmas::moving_counted))]
     pub fn is_stuck(&self) -> bool
         ensures { result ≡ spec.is_stuck self.now.list }
@@ -108,13 +108,12 @@ impl Statuses {
         self.moving == 0 && self.finished < self.list.len()
     }
 
-    /// Gives an invocation another status, and hands back the one that it had. In constant time; it takes no memory, and the same
-    /// call undoes it.
+    /// Gives an invocation another status, and hands back the one that it had. It takes no memory, and the same call undoes it.
     #[tactic(auto, using(crate::proofs::CountLemmas::count_set, crate::proofs::CountLemmas::count_has, crate::proofs::CountLemmas::within_counted))]
     pub fn exchange(&mut self, inv: u32, status: Status) -> Status
         requires inside { inv < length self.old.list }
         requires within { IsWithin self.old.words status }
-        ensures after { self.new ≡ record self.old { list = slice_set self.old.list inv status } }
+        ensures after { self.new ≡ record self.old { list = spec.with_status inv status self.old.list } }
         ensures handed { slice_get self.old.list inv ≡ Some result }
         ensures within { IsWithin self.old.words result }
     {
@@ -132,7 +131,7 @@ impl Statuses {
     pub fn open(&mut self, word: u32)
         requires waiting { spec.all_wait_at word self.old.list ≡ true }
         requires within { word < self.old.words }
-        ensures { self.new ≡ record self.old { list = replicate (length self.old.list) Status.Passed } }
+        ensures { self.new ≡ record self.old { list = spec.opened self.old.list } }
     {
         let count = self.list.len();
         fill(&mut self.list, Status::Passed);
@@ -146,7 +145,7 @@ impl Statuses {
     pub fn close(&mut self, word: u32)
         requires passed { list_all is_passed self.old.list ≡ true }
         requires within { word < self.old.words }
-        ensures { self.new ≡ record self.old { list = replicate (length self.old.list) (Status.Arrived word) } }
+        ensures { self.new ≡ record self.old { list = spec.closed word self.old.list } }
     {
         let count = self.list.len();
         fill(&mut self.list, Status::Arrived(word));

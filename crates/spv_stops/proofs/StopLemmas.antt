@@ -4,7 +4,7 @@ use Rattle.std.specs.Prelude.{filter, remove}
 use Rattle.std.specs.List.{list_any, position, position_or_len}
 use Rattle.std.proofs.lemmas.List.{map-append, length-append}
 use Rattle.std.proofs.lemmas.Bool.Decides.{nat_tests}
-use Rattle.spv_base.proofs.Exports.{no_place}
+use Rattle.spv_base.proofs.Exports.{no_place, some_place}
 use Rattle.spv_stops.specs.Stops.{Stops, number_of, has_number, with_stop, without_stop, Ascend, AreStops}
 
 -- ---- one stop more
@@ -46,9 +46,6 @@ remove_at : {T : Type 0} (k low high : ℕ) (ss : List (ℕ × T)) → Ascend lo
 remove_at k low high [] a l = absurd (omega (arith, l))
 remove_at k low high (s ∷ ss) a l =
     remove_by (has_number k s) k low high s ss refl a (λ within. remove_at k s.0 high ss a.1 within) l
-
-some_place : (n m i : ℕ) → Some i ≡ cond (nat_lt n m) (Some n) None → (i ≡ n) × (n < m)
-some_place n m i h = (grind arith, grind arith)
 
 -- what is removed at the place of a number
 pub removed_is : {T : Type 0} (k limit i : ℕ) (stops : Stops T) → AreStops limit stops → Some i ≡ position (has_number k) stops.0 → remove stops.0 i ≡ filter (λ (t : ℕ × T). not (has_number k t)) stops.0

@@ -15,7 +15,7 @@ use Rattle.spv_base.specs.Saturation.{saturated}
 use Rattle.spv_types.specs.Counted.{AreBefore, AreCounted, HasFirsts, IsCounted, PartsAreBefore, members_of}
 use Rattle.spv_types.specs.Laws.{IsAmong}
 use Rattle.spv_types.specs.Shapes.{part_type}
-use Rattle.spv_base.proofs.Exports.{saturated-add}
+use Rattle.spv_base.proofs.Exports.{holds_is, saturated-add}
 use Rattle.spv_base.specs.Options.{holds}
 use Rattle.spv_types.proofs.CellLemmas.{members_cells_more}
 use Rattle.spv_types.proofs.TypeLemmas.{in_first-found, number_form, number_lt, number_push}
@@ -141,10 +141,6 @@ pub record Agree (ts us : Types) (n : ℕ) : Type 0 where
   pub forms : (k q : ℕ) → k < n → number_of ts q ≡ Some k → form_of us q ≡ form_of ts q
   pub at : (k : ℕ) → k < n → form_at us k ≡ form_at ts k
 
-is_some_number : (k : ℕ) (o : Option ℕ) → holds k o ≡ true → o ≡ Some k
-is_some_number k None h = cc
-is_some_number k (Some m) h = let e : m ≡ k = grind arith in ap Some e
-
 cells_agree : (ts us : Types) (n m : ℕ) → Agree ts us n → m ≤ n → cells_among us m ≡ cells_among ts m
 unfolding cells_among in_first
 cells_agree ts us n zero a l = refl
@@ -153,7 +149,7 @@ cells_agree ts us n (suc m) a l = fun_ext (λ q. here (cells_agree ts us n m a (
     here : cells_among us m ≡ cells_among ts m → (q : ℕ) (b : Bool) → holds m (number_of ts q) ≡ b
         → (if holds m (number_of us q) then option_map_or (cells_step (cells_among us m)) (form_of us q) None else cells_among us m q)
         ≡ (if holds m (number_of ts q) then option_map_or (cells_step (cells_among ts m)) (form_of ts q) None else cells_among ts m q)
-    here below q true e = rw (a.numbers m q (omega arith), e, a.forms m q (omega arith) (is_some_number m (number_of ts q) e), below) refl
+    here below q true e = rw (a.numbers m q (omega arith), e, a.forms m q (omega arith) (holds_is m (number_of ts q) e), below) refl
     here below q false e = rw (a.numbers m q (omega arith), e, below) refl
 
 counted_agrees : (ts us : Types) (n : ℕ) (c : Count) → Agree ts us (suc n) → IsCounted ts n c → IsCounted us n c

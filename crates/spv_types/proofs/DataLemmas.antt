@@ -7,28 +7,10 @@ use Rattle.spv_types.specs.Types.{Types, form_of}
 use Rattle.spv_types.specs.Rules.{has_runtime, is_data, is_runtime, is_scalar, is_sized_data, is_width, keeps_member}
 
 pub scalar_data : (f : Option Form) → is_scalar f ≡ true → is_data f ≡ true
-scalar_data None h = absurd (cc)
-scalar_data (Some Void) h = absurd (cc)
-scalar_data (Some Boolean) h = refl
-scalar_data (Some (Int width sign)) h = refl
-scalar_data (Some (Vector component count)) h = absurd (cc)
-scalar_data (Some (Array element n stride)) h = absurd (cc)
-scalar_data (Some (Runtime element stride)) h = absurd (cc)
-scalar_data (Some (Struct members block)) h = absurd (cc)
-scalar_data (Some (Pointer class target)) h = absurd (cc)
-scalar_data (Some (Function returns parameters)) h = absurd (cc)
+scalar_data f h = grind arith
 
 pub runtime_data : (f : Option Form) → is_runtime f ≡ true → is_data f ≡ true
-runtime_data None h = absurd (cc)
-runtime_data (Some Void) h = absurd (cc)
-runtime_data (Some Boolean) h = absurd (cc)
-runtime_data (Some (Int width sign)) h = absurd (cc)
-runtime_data (Some (Vector component count)) h = absurd (cc)
-runtime_data (Some (Array element n stride)) h = absurd (cc)
-runtime_data (Some (Runtime element stride)) h = refl
-runtime_data (Some (Struct members block)) h = absurd (cc)
-runtime_data (Some (Pointer class target)) h = absurd (cc)
-runtime_data (Some (Function returns parameters)) h = absurd (cc)
+runtime_data f h = grind arith
 
 pub sized_data : (ts : Types) (id : ℕ) → is_sized_data ts id ≡ true → is_data (form_of ts id) ≡ true
 sized_data ts id h = (and_parts (is_data (form_of ts id)) (not (has_runtime ts id)) h).0

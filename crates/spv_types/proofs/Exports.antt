@@ -5,13 +5,10 @@ pub use Rattle.spv_types.proofs.TypeLemmas.{number_lt, number_form, number_none,
 pub use Rattle.spv_types.proofs.CellLemmas.{added_is}
 -- A type added at the end, and a form written under an id.
 pub use Rattle.spv_types.proofs.TableLemmas.{on_ok}
--- The rules of members, one after another.
 -- What a test of a type tells of its form.
 pub use Rattle.spv_types.proofs.DataLemmas.{scalar_data, sized_data, member_data, width_narrow, data_form}
 -- The types and the refusals, one instruction after another.
 pub use Rattle.spv_types.proofs.BuildLemmas.{types_push}
--- Sizes, spans and what is laid out, one type or member after another.
-pub use Rattle.spv_types.proofs.LayoutLemmas.{tail_is}
 -- What types count as, one type or member after another.
 pub use Rattle.spv_types.proofs.LimitLemmas.{limit_unknown}
 -- Shapes at a type: by its number, by its form, and by what its parts have.

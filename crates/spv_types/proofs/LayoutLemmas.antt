@@ -1,5 +1,5 @@
 -- Sizes, spans and what is laid out, one type or member after another.
-use Rattle.std.proofs.Common.{◌≡◌, ◌∙◌, ℕ, zero, suc, ◌+◌, ◌<◌, ◌≤◌, ◌-◌, Bool, true, false, List, [], ◌∷◌, ◌++◌, length, length-drop, map, get_or, take, drop, drop-cons, add-one, Some, None, refl, sym, arith}
+use Rattle.std.proofs.Common.{◌≡◌, ◌∙◌, ℕ, zero, suc, ◌+◌, ◌<◌, ◌≤◌, Bool, true, false, List, [], ◌∷◌, ◌++◌, length, map, get_or, take, drop, drop-cons, add-one, Some, None, refl, sym, arith}
 use Rattle.std.specs.Prelude.{◌&&◌, max, unwrap_or}
 use Rattle.std.specs.Option.{is_some}
 use Rattle.spv_types.specs.declared.forms.Form.{Form}
@@ -11,7 +11,6 @@ use Rattle.spv_base.specs.Saturation.{saturated}
 use Rattle.spv_types.specs.Layout.{greatest_end, laid_among, laid_step, are_members_laid, size_among, size_step}
 use Rattle.spv_types.specs.Measured.{AreLaid, AreSizes}
 use Rattle.spv_types.proofs.TypeLemmas.{in_first-found, in_first-missing, in_first-unknown, number_form}
-use Rattle.std.proofs.lemmas.List.{take_all}
 
 -- what the first types give for an id of one of them, by its number
 module _ {A : Type 0} (none : A) (step : (ℕ → A) → Form → A) where
@@ -61,9 +60,6 @@ no_members_laid laid = refl
 pub members_laid_at : (laid : ℕ → Bool) (ms : List Member) (n : ℕ) (d : Member) → n < length ms → are_members_laid laid (drop n ms) ≡ ((is_some (get_or ms n d).offset && laid (get_or ms n d).ty) && are_members_laid laid (drop (n + 1) ms))
 unfolding are_members_laid
 members_laid_at laid ms n d l = rw (drop-cons ms n d l, add-one) refl
-
-pub tail_is : {A : Type 0} (ss : List A) (k : ℕ) → take (length ss - k) (drop k ss) ≡ drop k ss
-tail_is ss k = take_all (length ss - k) (drop k ss) (omega (arith, length-drop k ss))
 
 pub map_next : (f : Member → Span) (ms : List Member) (k : ℕ) (d : Member) → k < length ms → map f (take (k + 1) ms) ≡ map f (take k ms) ++ f (get_or ms k d) ∷ []
 map_next f [] k d l = absurd (omega arith)

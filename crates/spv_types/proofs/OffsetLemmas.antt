@@ -1,5 +1,6 @@
 -- The place of a leaf of a part is the part's Offset and its place in the part.
 use Rattle.std.proofs.Common.{◌≡◌, ◌∙◌, ℕ, zero, suc, ◌+◌, ◌-◌, ◌*◌, ◌/◌, ◌%◌, ◌<◌, ◌≤◌, Bool, true, false, List, [], ◌∷◌, Option, Some, None, length, refl, sym, ap, subst, arith, slice_get, take, drop, nat_lt}
+use Rattle.spv_base.proofs.Exports.{guarded}
 use Rattle.std.specs.Option.{option_map, option_map_or, option_and_then}
 use Rattle.std.specs.Prelude.{if◌then◌else◌, unwrap_or}
 use Rattle.std.proofs.Math.Nat.{mul-le-mul_left}
@@ -22,10 +23,6 @@ use Rattle.spv_types.proofs.CountedLemmas.{cells_at, cells_whole}
 use Rattle.spv_types.proofs.RowShapes.{reached_by}
 use Rattle.spv_types.proofs.ShapeLemmas.{form_number}
 use Rattle.spv_types.proofs.TypeLemmas.{found_is, number_form, number_lt}
-
-guarded : {A : Type 0} (b : Bool) (o : Option A) (x : A) → (if b then o else None) ≡ Some x → (b ≡ true) × (o ≡ Some x)
-guarded true o x h = (refl, h)
-guarded false o x h = cc
 
 -- ---- leaves of a part are leaves of the whole
 
@@ -340,15 +337,7 @@ places_add ts sound (i ∷ path) id n o target m h g r inside =
 
 -- a scalar has one leaf, at its first byte
 scalar_place : (ts : Types) (place : ℕ → ℕ → Option ℕ) (f : Form) → is_scalar (Some f) ≡ true → (place_step ts place f 0 ≡ Some 0) × (cells_step (cells_of ts) f ≡ Some 1)
-scalar_place ts place Void h = cc
-scalar_place ts place Boolean h = (refl, refl)
-scalar_place ts place (Int width sign) h = (refl, refl)
-scalar_place ts place (Vector component count) h = cc
-scalar_place ts place (Array element n stride) h = cc
-scalar_place ts place (Runtime element stride) h = cc
-scalar_place ts place (Struct members block) h = cc
-scalar_place ts place (Pointer class target) h = cc
-scalar_place ts place (Function returns parameters) h = cc
+scalar_place ts place f h = grind arith
 
 pub scalars_lie : (ts : Types) → AreSound ts → (path : List ℕ) (id n o target : ℕ) → leaf_of ts id path ≡ Some n → offset_of ts id path ≡ Some o → reached_type ts id path ≡ Some target → is_scalar (form_of ts target) ≡ true
     → place_of ts id n ≡ Some o

@@ -12,7 +12,7 @@ use Rattle.spv_types.specs.Places.{BeginsBy, place_among, place_step, place_by, 
 use Rattle.spv_types.specs.Cells.{cells_of, members_cells}
 use Rattle.spv_types.proofs.CellLemmas.{added_is, members_cells_more}
 use Rattle.spv_types.proofs.TypeLemmas.{in_first-is}
-use Rattle.spv_base.proofs.Exports.{not_below}
+use Rattle.spv_base.proofs.Exports.{not_below, some_with}
 
 -- the place of a leaf in a type that is found, or none
 abbrev pub found_place : Types → Option (ℕ × Form) → ℕ → Option ℕ
@@ -104,10 +104,6 @@ elements_at ts place element count stride leaf k w l h e = row (cells_of ts elem
 
 -- ---- the member in which a leaf lies
 
-pub some_and : {A : Type 0} (o : Option A) (P : A → Type 0) → IsSomeAnd o P → (x : A) × (o ≡ Some x) × P x
-some_and None P h = absurd h
-some_and (Some x) P h = (x, refl, h)
-
 pub begins_first : (cells : ℕ → Option ℕ) (ms : List Member) (leaf : ℕ) → BeginsBy cells ms 0 leaf
 unfolding members_cells
 begins_first cells ms leaf = omega arith
@@ -146,7 +142,7 @@ module _ (cells : ℕ → Option ℕ) (place : ℕ → ℕ → Option ℕ) where
       → here ≡ option_map saturated (place_in_member place (get_or ms i d) (leaf - first))
       → (option_map saturated (cells (get_or ms i d).ty) ≡ None) ⊎ ((k : ℕ) × (option_map saturated (cells (get_or ms i d).ty) ≡ Some k) × (leaf - first < k)) → here ≡ option_map saturated (place_in_members cells place ms leaf)
   in_member ms i first leaf d here near l begins is e cases =
-      let b = some_and (members_cells cells (take i ms)) (λ n. n ≤ leaf) begins in
+      let b = some_with (members_cells cells (take i ms)) (λ n. n ≤ leaf) begins in
       let cuts : Some first ≡ Some (saturated b.0) = is ∙ ap (option_map saturated) b.1 in
       let at : first ≡ saturated b.0 = cc in
       let same : leaf - first ≡ leaf - b.0 = omega (arith, b.2) in
@@ -160,7 +156,7 @@ module _ (cells : ℕ → Option ℕ) (place : ℕ → ℕ → Option ℕ) where
   pub in_no_member : (ms : List Member) (i first leaf k : ℕ) (d : Member) → leaf < 67108864 → i < length ms → BeginsBy cells ms i leaf → Some first ≡ option_map saturated (members_cells cells (take i ms))
       → option_map saturated (cells (get_or ms i d).ty) ≡ Some k → k ≤ leaf - first → (i + 1 < length ms → BeginsBy cells ms (i + 1) leaf → ⊥) → place_in_members cells place ms leaf ≡ None
   in_no_member ms i first leaf k d near l begins is size past last =
-      let b = some_and (members_cells cells (take i ms)) (λ n. n ≤ leaf) begins in
+      let b = some_with (members_cells cells (take i ms)) (λ n. n ≤ leaf) begins in
       let cuts : Some first ≡ Some (saturated b.0) = is ∙ ap (option_map saturated) b.1 in
       let at : first ≡ saturated b.0 = cc in
       let same : leaf - first ≡ leaf - b.0 = omega (arith, b.2) in

@@ -3,7 +3,7 @@ use Rattle.std.specs.List.{flat_map}
 use Rattle.std.proofs.Common.{◌≡◌, ◌∙◌, ℕ, zero, suc, List, [], ◌∷◌, Some, length, refl, sym, ap, set-set, slice_get, slice_set, take, drop}
 use Rattle.spv_base.specs.Parts.{part_at, with_part}
 use Rattle.spv_base.specs.declared.values.Value.{Value, List as Many}
-use Rattle.spv_base.proofs.Exports.{out_many, slice_get-set_same}
+use Rattle.spv_base.proofs.Exports.{out_many, set_same, slice_get-set_same}
 use Rattle.spv_types.specs.Rows.{HasRow, leaves, Lies}
 use Rattle.spv_types.proofs.RowLemmas.{leaves_many, many_by, row_changed, row_split}
 use Rattle.spv_types.proofs.RowPlaces.{changed, has_part}
@@ -27,18 +27,13 @@ put_twice (i ∷ path) v w u x h =
     ∙ ap Many (set-set p.values i y (with_part p.part path x))
     ∙ sym (changed v i path p.values p.part x p.is p.at)
 
-same_set : (vs : List Value) (i : ℕ) (u : Value) → slice_get vs i ≡ Some u → slice_set vs i u ≡ vs
-same_set [] i u h = cc
-same_set (v ∷ vs) zero u h = let e : v ≡ u = cc in ap (λ (t : Value). t ∷ vs) (sym e)
-same_set (v ∷ vs) (suc i) u h = ap (λ (ts : List Value). v ∷ ts) (same_set vs i u h)
-
 pub put_back : (path : List ℕ) (v w : Value) → part_at v path ≡ Some w → with_part v path w ≡ v
 put_back [] v w h = cc
 put_back (i ∷ path) v w h =
     let p = has_part v i path w h in
     changed v i path p.values p.part w p.is p.at
     ∙ ap (λ (t : Value). Many (slice_set p.values i t)) (put_back path p.part w p.rest)
-    ∙ ap Many (same_set p.values i p.part p.at)
+    ∙ ap Many (set_same p.values i p.part p.at)
     ∙ sym (many_by v p.values p.is)
 
 -- the row of what was put lies where the row of the part lay

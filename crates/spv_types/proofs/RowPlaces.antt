@@ -9,6 +9,7 @@ use Rattle.spv_base.specs.Parts.{part_at, parts_in, with_part}
 use Rattle.spv_base.specs.declared.values.Root.{Root}
 use Rattle.spv_base.specs.declared.values.Value.{Value, List as Many, out-Value}
 use Rattle.spv_base.specs.declared.values.Value.TheOpen.{Value-F}
+use Rattle.spv_base.proofs.Exports.{guarded}
 use Rattle.spv_types.specs.declared.forms.Form.{Form}
 use Rattle.spv_types.specs.declared.forms.Form.TheVariants.{Void, Bool as Boolean, Int, Vector, Array, Runtime, Struct, Pointer, Function}
 use Rattle.spv_types.specs.declared.forms.Member.{Member}
@@ -79,10 +80,6 @@ element_is (Some c) element i before part h =
     let same : (c * i, element) ≡ (before, part) = cc in
     (c, refl, ap (λ (p : ℕ × ℕ). p.0) same, ap (λ (p : ℕ × ℕ). p.1) same)
 
-if_is : {A : Type 0} (b : Bool) (o : Option A) (x : A) → (if b then o else None) ≡ Some x → o ≡ Some x
-if_is true o x h = h
-if_is false o x h = cc
-
 elements_step : (shape : ℕ → Value → Type 0) (cells : ℕ → Option ℕ) (element i before part : ℕ) (vs : List Value) (u : Value) → Counts shape cells
     → All (shape element) vs → element_part cells element i ≡ Some (before, part) → slice_get vs i ≡ Some u
     → shape part u × (length (flat_map leaves (take i vs)) ≡ before)
@@ -100,11 +97,11 @@ part_step ts roots shape cells Boolean v i before part vs u count s h e g = cc
 part_step ts roots shape cells (Int width sign) v i before part vs u count s h e g = cc
 part_step ts roots shape cells (Vector component size) v i before part vs u count s h e g =
     let has = rw e at s in
-    elements_step shape cells component i before part vs u count has.1 (if_is (nat_lt i size) (element_part cells component i) (before, part) h) g
+    elements_step shape cells component i before part vs u count has.1 (guarded (nat_lt i size) (element_part cells component i) (before, part) h).1 g
 part_step ts roots shape cells (Array element None stride) v i before part vs u count s h e g = cc
 part_step ts roots shape cells (Array element (Some size) stride) v i before part vs u count s h e g =
     let has = rw e at s in
-    elements_step shape cells element i before part vs u count has.1 (if_is (nat_lt i size) (element_part cells element i) (before, part) h) g
+    elements_step shape cells element i before part vs u count has.1 (guarded (nat_lt i size) (element_part cells element i) (before, part) h).1 g
 part_step ts roots shape cells (Runtime element stride) v i before part vs u count s h e g =
     let has = rw e at s in
     elements_step shape cells element i before part vs u count has h g

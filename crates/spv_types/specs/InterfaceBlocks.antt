@@ -13,6 +13,7 @@ use Rattle.spv_index.specs.Definitions.{decoration, defining}
 use Rattle.spv_index.specs.Operands.{id_operand, literal_operand}
 use Rattle.spv_types.specs.Build.{unless_refused}
 use Rattle.spv_types.specs.Layout.{is_laid}
+use Rattle.spv_types.specs.Rules.{is_block}
 
 -- the code of the rules of layout
 abbrev pub layout_code : ℕ
@@ -48,14 +49,15 @@ keeps_pair all before None binding = false
 keeps_pair all before (Some set) None = false
 keeps_pair all before (Some set) (Some binding) = not (is_taken all before set binding)
 
--- a pointer type whose target is laid out
-abbrev pub points_to_laid : Types → Option Form → Bool
-points_to_laid ts (Some (Pointer class target)) = is_laid ts target
-points_to_laid ts _ = false
+-- a pointer type whose target is a Block struct that isn't laid out
+abbrev pub points_to_unlaid : Types → Option Form → Bool
+points_to_unlaid ts (Some (Pointer class target)) = is_block (form_of ts target) && not (is_laid ts target)
+points_to_unlaid ts _ = false
 
--- a variable of a block class points to a block that is laid out, and a buffer has a place of its own
+-- The block that a variable of a block class points to is laid out, and a buffer has a place of its own. A variable inside a function may point
+-- to no block: the rules of bodies refuse it.
 abbrev pub keeps_block : List Inst → Types → List Inst → Inst → Bool
-keeps_block all ts before i = points_to_laid ts (form_of ts i.ty) && (holds 9 (literal_operand i 0) || keeps_pair all before (decoration all i.id 34) (decoration all i.id 33))
+keeps_block all ts before i = not (points_to_unlaid ts (form_of ts i.ty)) && (holds 9 (literal_operand i 0) || keeps_pair all before (decoration all i.id 34) (decoration all i.id 33))
 
 -- the decoration BufferBlock stands on no id that is defined
 abbrev pub keeps_decoration : List Inst → Inst → Option ℕ → Bool

@@ -9,7 +9,7 @@ ghost use Rattle.spv_index.specs.Keys.{pair_cmp};
 ghost use Rattle.spv_types.specs.Types.{form_of};
 ghost use Rattle.spv_types.specs.Build.{unless_refused};
 ghost use Rattle.spv_types.specs.Measured.{AreLaid};
-ghost use Rattle.spv_types.specs.InterfaceBlocks.{ArePlaces, is_at, is_block_class, is_block_variable, is_buffer_class, keeps_block, keeps_decoration, keeps_layout, keeps_pair, module_breaches, layout_of, points_to_laid};
+ghost use Rattle.spv_types.specs.InterfaceBlocks.{ArePlaces, is_at, is_block_class, is_block_variable, is_buffer_class, keeps_block, keeps_decoration, keeps_layout, keeps_pair, module_breaches, layout_of, points_to_unlaid};
 
 use crate::forms::Form;
 use crate::layout::{are_laid, is_laid, sizes};
@@ -122,19 +122,21 @@ fn note_place(index: &Index, places: &mut Places, inst: &Inst) -> Result<(), NoM
     add_place(places, set, binding)
 }
 
-/// Whether a type is a pointer type whose target is laid out.
-fn points_to_laid(types: &TypeTable, laid: &[bool], ty: u32) -> bool
+/// Whether a type is a pointer type whose target is a Block struct that isn't laid out.
+fn points_to_unlaid(types: &TypeTable, laid: &[bool], ty: u32) -> bool
     requires laid { AreLaid types.now laid.now }
     requires all { length laid.now ≡ length types.now }
-    ensures { result ≡ points_to_laid types.now (form_of types.now ty) }
+    ensures { result ≡ points_to_unlaid types.now (form_of types.now ty) }
 {
     match types.form(ty) {
-        Some(Form::Pointer { target, .. }) => is_laid(types, laid, *target),
+        Some(Form::Pointer { target, .. }) => {
+            types.is_block(*target) && !is_laid(types, laid, *target)
+        }
         _ => false,
     }
 }
 
-/// Whether a variable of a block class points to a block that is laid out, and a buffer has a place of its own.
+/// Whether the block that a variable of a block class points to is laid out, and a buffer has a place of its own.
 fn keeps_block(
     types: &TypeTable,
     index: &Index,
@@ -146,7 +148,7 @@ fn keeps_block(
     requires all { length laid.now ≡ length types.now }
     ensures { (before : List Instruction) → ArePlaces index.now.insts before (λ a b. contains pair_cmp places.now (a, b)) → result ≡ keeps_block index.now.insts types.now before inst.now }
 {
-    if !points_to_laid(types, laid, inst.ty) {
+    if points_to_unlaid(types, laid, inst.ty) {
         return false;
     }
     let set = index.decoration(inst.id, decoration::DESCRIPTOR_SET);

@@ -291,8 +291,8 @@ impl TypeTable {
         Ok(true)
     }
 
-    /// Counts the types before the first array without a length. What a type is stays as it was: where it was counted, its
-    /// leaves are found without a walk over its parts.
+    /// Counts the types before the first array without a length. What a type is stays as it was, which is all that the clause
+    /// says: where it was counted, its leaves are found without a walk over its parts, and how much quicker is measured.
     pub fn count(&mut self, alloc: Global) -> Result<(), NoMemory>
         ensures { self.new ≡ self.old }
     {

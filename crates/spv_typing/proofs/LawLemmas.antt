@@ -8,7 +8,7 @@ use Rattle.spv_types.specs.declared.forms.Member.{Member}
 use Rattle.spv_types.specs.Types.{Types, form_of}
 use Rattle.spv_types.proofs.Exports.{impossible}
 use Rattle.std.proofs.lemmas.Bool.{and_from, leb-true, eqb-true, and_parts, or_right, le-leb, eq-eqb, or_cases}
-use Rattle.spv_base.proofs.Exports.{same_number}
+use Rattle.spv_base.proofs.Exports.{same_number, holds_is}
 use Rattle.spv_base.specs.Options.{holds as is_held}
 use Rattle.spv_typing.specs.declared.lanes.Element.{Element}
 use Rattle.spv_typing.specs.declared.lanes.Element.TheVariants.{Bool as Boolean, Int}
@@ -208,10 +208,6 @@ pair_says ty (Some (Struct (a ∷ b ∷ c ∷ ms) block)) h = impossible h
 pair_says ty (Some (Pointer class target)) h = impossible h
 pair_says ty (Some (Function returns parameters)) h = impossible h
 
-held : (t : ℕ) (o : Option ℕ) → is_held t o ≡ true → o ≡ Some t
-held t None h = impossible h
-held t (Some n) h = ap Some (eqb-true n t h)
-
 holding : (t : ℕ) (o : Option ℕ) → o ≡ Some t → is_held t o ≡ true
 holding t o e = rw e (same_number t)
 
@@ -223,7 +219,7 @@ extended_says ts r (Some t) y h =
     let k = and_parts (are_integers (lanes_of ts t)) (is_held t y) p.0 in
     let q = are_ints (lanes_of ts t) k.0 in
     let s = pair_says t (form_of ts r) p.1 in
-    (t, q.0, q.1, s.0, s.1, s.2, refl, q.2, held t y k.1, s.3, s.4, s.5)
+    (t, q.0, q.1, s.0, s.1, s.2, refl, q.2, holds_is t y k.1, s.3, s.4, s.5)
 
 -- ---- what gives each test
 
@@ -288,7 +284,7 @@ says ts Select r ty h =
     let p = and_parts (is_selectable (form_of ts r) && (is_held r (ty 1) && is_held r (ty 2))) (is_condition (lanes_of ts r) (lanes_at ts (ty 0))) h in
     let k = and_parts (is_selectable (form_of ts r)) (is_held r (ty 1) && is_held r (ty 2)) p.0 in
     let q = and_parts (is_held r (ty 1)) (is_held r (ty 2)) k.1 in
-    (k.0, held r (ty 1) q.0, held r (ty 2) q.1, condition_says (lanes_of ts r) (lanes_at ts (ty 0)) p.1)
+    (k.0, holds_is r (ty 1) q.0, holds_is r (ty 2) q.1, condition_says (lanes_of ts r) (lanes_at ts (ty 0)) p.1)
 says ts InsertField r ty h =
     let p = and_parts (fits_integers (lanes_of ts r) (lanes_at ts (ty 0)) (lanes_at ts (ty 1))) (is_field (lanes_at ts (ty 2)) (lanes_at ts (ty 3))) h in
     let q = integers_say (lanes_of ts r) (lanes_at ts (ty 0)) (lanes_at ts (ty 1)) p.0 in
@@ -348,7 +344,7 @@ glsl_rule_is ts number count r ty = (found (glsl_rule number), back)
     found None h = impossible h
     found (Some rule) h =
         let p = and_parts (is_held count (rule_count rule)) (fits_rule ts rule r ty) h in
-        (rule, refl, held count (rule_count rule) p.0, says ts rule r ty p.1)
+        (rule, refl, holds_is count (rule_count rule) p.0, says ts rule r ty p.1)
 
     back : (rule : Rule) × (glsl_rule number ≡ Some rule) × (rule_count rule ≡ Some count) × IsTyped ts rule r ty → fits_glsl ts number count r ty ≡ true
     back t = rw t.1 (and_from (is_held count (rule_count t.0)) (fits_rule ts t.0 r ty) (holding count (rule_count t.0) t.2) (holds ts t.0 r ty t.3))
@@ -376,20 +372,7 @@ constants_have_operands op h = counted (rule_of op) (and_parts (option_map_or is
 -- ---- only the first four operands are asked for
 
 rule_by : (ts : Types) (rule : Rule) (r : ℕ) (ty : ℕ → Option ℕ) → fits_rule ts rule r (operand_type (types_by ty)) ≡ fits_rule ts rule r ty
-rule_by ts Convert r ty = refl
-rule_by ts Bitcast r ty = refl
-rule_by ts Integer r ty = refl
-rule_by ts Integers r ty = refl
-rule_by ts Clamp r ty = refl
-rule_by ts Shift r ty = refl
-rule_by ts OneBoolean r ty = refl
-rule_by ts Booleans r ty = refl
-rule_by ts Reduce r ty = refl
-rule_by ts Compare r ty = refl
-rule_by ts Extended r ty = refl
-rule_by ts Select r ty = refl
-rule_by ts InsertField r ty = refl
-rule_by ts ExtractField r ty = refl
+rule_by ts rule r ty = grind arith
 
 pub fits_by : (ts : Types) (op r : ℕ) (ty : ℕ → Option ℕ) → fits ts op r (operand_type (types_by ty)) ≡ fits ts op r ty
 fits_by ts op r ty = found (rule_of op)

@@ -38,16 +38,8 @@ is_pair ty (m ∷ n ∷ []) = m.ty == ty && n.ty == ty
 is_pair ty (m ∷ n ∷ o ∷ ms) = false
 
 abbrev pub is_pair_of : ℕ → Option Form → Bool
-is_pair_of ty None = false
-is_pair_of ty (Some Void) = false
-is_pair_of ty (Some FormBool) = false
-is_pair_of ty (Some (Int width sign)) = false
-is_pair_of ty (Some (Vector component count)) = false
-is_pair_of ty (Some (Array element length stride)) = false
-is_pair_of ty (Some (Runtime element stride)) = false
 is_pair_of ty (Some (Struct members block)) = is_pair ty members
-is_pair_of ty (Some (Pointer class target)) = false
-is_pair_of ty (Some (Function returns parameters)) = false
+is_pair_of ty _ = false
 
 -- what Select chooses: a value of any type but a pointer type. Of void and of a function type too, as for other copies
 abbrev pub is_selectable : Option Form → Bool

@@ -11,32 +11,19 @@ use Rattle.spv_typing.specs.declared.lanes.Lanes.{Lanes}
 
 -- what a scalar type is
 abbrev pub element_of : Option Form → Option Element
-element_of None = None
-element_of (Some Void) = None
 element_of (Some FormBool) = Some Boolean
 element_of (Some (FormInt width sign)) = Some (Int width)
-element_of (Some (Vector component count)) = None
-element_of (Some (Array element length stride)) = None
-element_of (Some (Runtime element stride)) = None
-element_of (Some (Struct members block)) = None
-element_of (Some (Pointer class target)) = None
-element_of (Some (Function returns parameters)) = None
+element_of _ = None
 
 abbrev pub repeated : ℕ → Element → Lanes
 repeated count element = record { count = count; element = element }
 
 -- a scalar has one lane, and a vector has as many as components
 abbrev pub form_lanes : Types → Option Form → Option Lanes
-form_lanes ts None = None
-form_lanes ts (Some Void) = None
 form_lanes ts (Some FormBool) = Some (repeated 1 Boolean)
 form_lanes ts (Some (FormInt width sign)) = Some (repeated 1 (Int width))
 form_lanes ts (Some (Vector component count)) = option_map (repeated count) (element_of (form_of ts component))
-form_lanes ts (Some (Array element length stride)) = None
-form_lanes ts (Some (Runtime element stride)) = None
-form_lanes ts (Some (Struct members block)) = None
-form_lanes ts (Some (Pointer class target)) = None
-form_lanes ts (Some (Function returns parameters)) = None
+form_lanes ts _ = None
 
 -- the lanes of the type with an id; none where it is no scalar and no vector
 unfoldable pub lanes_of : Types → ℕ → Option Lanes

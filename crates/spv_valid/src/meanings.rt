@@ -85,7 +85,7 @@ fn meaning_at(standing: Standing, inst: &Inst) -> Meaning
     }
 }
 
-/// What an id stands for, where an instruction defines it. In constant time.
+/// What an id stands for, where an instruction defines it.
 #[tactic(auto, using(crate::proofs::MeaningLemmas::unplaced, crate::proofs::MeaningLemmas::undefined, crate::proofs::MeaningLemmas::meant))]
 pub fn meaning_of(index: &Index, id: u32) -> Option<Meaning>
     ensures { result ≡ spec.meaning_of index.now.insts id }

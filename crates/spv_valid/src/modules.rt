@@ -72,28 +72,28 @@ impl Module {
         self.index.bound()
     }
 
-    /// The instruction that defines an id. In constant time.
+    /// The instruction that defines an id.
     pub fn defining(&self, id: u32) -> Option<&Inst>
         ensures { option_copied result ≡ definitions.defining self.now.insts id }
     {
         self.index.defining(id)
     }
 
-    /// The type of the result with an id, where it has one. In constant time.
+    /// The type of the result with an id, where it has one.
     pub fn type_of_id(&self, id: u32) -> Option<u32>
         ensures { result ≡ definitions.result_type self.now.insts id }
     {
         self.index.result_type(id)
     }
 
-    /// The instruction that begins at a word. In constant time.
+    /// The instruction that begins at a word.
     pub fn at(&self, word: u32) -> Option<&Inst>
         ensures { option_copied result ≡ definitions.at self.now.insts word }
     {
         self.index.at(word)
     }
 
-    /// What an id stands for, where an instruction defines it. In constant time.
+    /// What an id stands for, where an instruction defines it.
     pub fn meaning(&self, id: u32) -> Option<Meaning>
         ensures { result ≡ meaning_of self.now.insts id }
     {
@@ -114,14 +114,14 @@ impl Module {
         &self.consts
     }
 
-    /// The row of the constant with an id: its type, and its cells in order. In constant time.
+    /// The row of the constant with an id: its type, and its cells in order.
     pub fn constant(&self, id: u32) -> Option<Row<'_>>
         ensures { option_map (λ r. record { ty = r.ty; cells = r.cells.now }) result ≡ reads id self.now.constants }
     {
         self.consts.value(id)
     }
 
-    /// The executable behind the one at a word, in its block; none where it is the block's last. In constant time.
+    /// The executable behind the one at a word, in its block; none where it is the block's last.
     pub fn next(&self, pc: u32) -> Option<u32>
         requires { IsSome (reads pc self.now.flow.nexts) }
         ensures { reads pc self.now.flow.nexts ≡ Some result }
@@ -129,7 +129,7 @@ impl Module {
         self.flow.next(pc)
     }
 
-    /// The first executable of the block with a label. In constant time.
+    /// The first executable of the block with a label.
     pub fn first(&self, label: u32) -> u32
         requires { IsSome (reads label self.now.flow.blocks) }
         ensures { reads label self.now.flow.blocks ≡ Some result }

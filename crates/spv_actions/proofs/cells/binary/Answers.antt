@@ -4,11 +4,10 @@ use Rattle.spv_valid.specs.Acceptance.{Accepted}
 use Rattle.spv_results.specs.Operands.{known}
 use Rattle.spv_results.specs.declared.computations.Computation.TheVariants as computation
 use Rattle.spv_results.proofs.Exports.{sound_types}
-use Rattle.spv_actions.specs.declared.effects.Gain.TheVariants.{Row}
+use Rattle.spv_sites.specs.declared.effects.Gain.TheVariants.{Row}
 use Rattle.spv_actions.proofs.CellLemmas.{gives_cell}
-use Rattle.spv_actions.proofs.DataLemmas.{binary_has, lane_operands}
-use Rattle.spv_actions.proofs.EffectLemmas.{computed_due, gain_fits, gain_taken}
-use Rattle.spv_actions.proofs.RootedLemmas.{gain_rooted}
+use Rattle.spv_computing.proofs.Exports.{binary_has, lane_operands}
+use Rattle.spv_sites.proofs.Exports.{computed_due, gain_fits, gain_taken, gain_rooted}
 use Rattle.spv_actions.proofs.cells.binary.Goals as goal
 
 pub read-requires-clause-data : goal.read-requires-clause-data

@@ -4,7 +4,7 @@ use Rattle.std.proofs.Props.{props}
 use Rattle.std.specs.Coded.{codes}
 use Rattle.spv_state.specs.Predecoded.{IsShort}
 use Rattle.spv_state.specs.declared.predecoded.Short.{Short}
-use Rattle.spv_actions.specs.Sites.{accepted}
+use Rattle.spv_sites.specs.Sites.{accepted}
 use Rattle.spv_actions.proofs.cells.cell_effect.Goals as goal
 
 pub binary-requires-clause-computes : goal.binary-requires-clause-computes

@@ -8,12 +8,11 @@ use Rattle.spv_operands.specs.Values.{pointer_to}
 use Rattle.spv_results.specs.Operands.{IsResult}
 use Rattle.spv_results.proofs.Exports.{sound_types}
 use Rattle.spv_state.specs.State.{frames_of}
-use Rattle.spv_actions.specs.Effects.{gives}
-use Rattle.spv_actions.specs.Sites.{accepted, part_of}
-use Rattle.spv_actions.proofs.AccessLemmas.{load_gives, load_shape}
+use Rattle.spv_sites.specs.Effects.{gives}
+use Rattle.spv_sites.specs.Sites.{accepted, part_of}
+use Rattle.spv_accesses.proofs.Exports.{load_gives, load_shape}
 use Rattle.spv_actions.proofs.CellLemmas.{gives_cell, whole_there}
-use Rattle.spv_actions.proofs.EffectLemmas.{loading, result_fits, result_plain}
-use Rattle.spv_actions.proofs.RootedLemmas.{result_rooted}
+use Rattle.spv_sites.proofs.Exports.{loading, result_fits, result_plain, result_rooted}
 use Rattle.spv_actions.proofs.cells.load.Goals as goal
 
 pub load_is_kept-requires : goal.load_is_kept-requires

@@ -8,11 +8,11 @@ use Rattle.spv_operands.specs.Values.{pointer_to}
 use Rattle.spv_results.specs.Operands.{IsOperand}
 use Rattle.spv_results.proofs.Exports.{sound_types}
 use Rattle.spv_actions.specs.Cells.{whole}
-use Rattle.spv_actions.specs.Effects.{pointer}
-use Rattle.spv_actions.specs.Sites.{accepted, part_of}
-use Rattle.spv_actions.proofs.AccessLemmas.{store_fits, store_gives, stores}
+use Rattle.spv_sites.specs.Effects.{pointer}
+use Rattle.spv_sites.specs.Sites.{accepted, part_of}
+use Rattle.spv_accesses.proofs.Exports.{store_fits, store_gives, stores}
 use Rattle.spv_actions.proofs.CellLemmas.{sets_cell, variable_is, whole_there}
-use Rattle.spv_actions.proofs.EffectLemmas.{storing}
+use Rattle.spv_sites.proofs.Exports.{storing}
 use Rattle.spv_actions.proofs.cells.store.Goals as goal
 
 pub store_is_kept-requires : goal.store_is_kept-requires

@@ -1,8 +1,8 @@
 use Rattle.std.proofs.Common.{IfOk, subst, sym}
 use Rattle.spv_state.specs.declared.actions.Action.TheVariants.{Unreachable, Return}
-use Rattle.spv_actions.specs.Planned.{IsDue, IsTaken, PlannedFits}
-use Rattle.spv_actions.specs.Sites.{Site, due}
-use Rattle.spv_actions.proofs.EffectLemmas.{due_by}
+use Rattle.spv_sites.specs.Planned.{IsDue, IsTaken, PlannedFits}
+use Rattle.spv_sites.specs.Sites.{Site, due}
+use Rattle.spv_sites.proofs.Exports.{due_by}
 use Rattle.spv_actions.proofs.effects.effect_at.Goals as goal
 
 pub returns-in-Return-clause-due : goal.returns-in-Return-clause-due

@@ -1,7 +1,7 @@
 use Rattle.std.proofs.Common.{refl, inr, Ok, Err}
 use Rattle.std.proofs.KnownBytes.{Keeps-refl}
 use Rattle.spv_app.specs.Checking.{Unread, Read, checking, check_line, check_status}
-use Rattle.spv_app.specs.FileStatus.{status_of_file}
+use Rattle.spv_loop.specs.FileStatus.{status_of_file}
 use Rattle.spv_app.proofs.Checks.{says_unread, says_due}
 use Rattle.spv_app.proofs.debug.check.Goals as goal
 

@@ -1,7 +1,7 @@
 use Rattle.std.proofs.Common.{refl, inr}
 use Rattle.std.proofs.KnownBytes.{Keeps-refl}
 use Rattle.spv_app.specs.Debug.{Unopened, Refused, Opened}
-use Rattle.spv_app.specs.FileStatus.{status_of_file}
+use Rattle.spv_loop.specs.FileStatus.{status_of_file}
 use Rattle.spv_app.specs.Opening.{opening, with_journal}
 use Rattle.spv_session.specs.View.{first_viewing}
 use Rattle.spv_app.proofs.Openings.{viewed_is, refused_is, ran_as}

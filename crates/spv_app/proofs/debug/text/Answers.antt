@@ -3,8 +3,8 @@ use Rattle.std.proofs.KnownBytes.{Keeps-refl}
 use Rattle.spv_app.specs.Checking.{Unread, Read}
 use Rattle.spv_app.specs.Texting.{texting, text_line, text_status}
 use Rattle.spv_app.specs.Debug.{SaysLine}
-use Rattle.spv_app.specs.declared.status.Status.TheVariants.{Done}
-use Rattle.spv_app.specs.FileStatus.{status_of_file}
+use Rattle.spv_loop.specs.declared.status.Status.TheVariants.{Done}
+use Rattle.spv_loop.specs.FileStatus.{status_of_file}
 use Rattle.spv_app.proofs.Checks.{says_unread, says_due}
 use Rattle.spv_app.proofs.debug.text.Goals as goal
 

@@ -1,6 +1,5 @@
 use Rattle.std.proofs.Common.{◌≡◌, ℕ, List, take}
-use Rattle.spv_dbg.specs.Names.{number_under}
-use Rattle.spv_dbg.specs.Places.{number_from}
+use Rattle.spv_dbg.specs.Names.{number_from, number_under}
 use Rattle.spv_dbg.specs.Sources.{has_name}
 use Rattle.spv_dbg.proofs.names.numbers_by_name.Given as goal
 

@@ -6,7 +6,7 @@ use Rattle.spv_types.specs.Rows.{leaves}
 use Rattle.spv_mem.specs.Memory.{load_of}
 use Rattle.spv_mem.specs.Singles.{NamesRow}
 use Rattle.spv_mem.proofs.Exports.{whole_row}
-use Rattle.spv_journal.proofs.StoreLemmas.{may_at, there_at, undoes_at}
+use Rattle.spv_undo.proofs.Exports.{may_at, there_at, undoes_at}
 use Rattle.spv_journal.proofs.changes.exchange_leaf.Goals as goal
 
 pub exchange_single-requires-clause-there : goal.exchange_single-requires-clause-there

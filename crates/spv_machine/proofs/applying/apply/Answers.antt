@@ -1,9 +1,9 @@
 use Rattle.std.proofs.Common.{◌∙◌, ◌+◌, Option, arith, sym, subst}
 use Rattle.std.proofs.lemmas.Result.{on_ok_weaker}
 use Rattle.spv_base.specs.declared.values.Value.{Value}
-use Rattle.spv_actions.specs.Effects.{Control}
-use Rattle.spv_actions.specs.Fits.{ControlFits, ResultFits, ResultRooted}
-use Rattle.spv_actions.specs.Planned.{gained, gone, shown}
+use Rattle.spv_sites.specs.Effects.{Control}
+use Rattle.spv_sites.specs.Fits.{ControlFits, ResultFits, ResultRooted}
+use Rattle.spv_sites.specs.Planned.{gained, gone, shown}
 use Rattle.spv_journal.specs.Held.{Records}
 use Rattle.spv_state.specs.State.{State, frames_of}
 use Rattle.spv_machine.specs.Reached.{IsReached}

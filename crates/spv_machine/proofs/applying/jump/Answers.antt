@@ -1,9 +1,9 @@
 use Rattle.std.proofs.Common.{◌≡◌, ◌∙◌, ◌+◌, List, Some, ℕ, ap, length, map, refl, rules, subst, sym}
 use Rattle.std.proofs.lemmas.Result.{on_ok_weaker}
 use Rattle.spv_base.specs.Entries.{reads}
-use Rattle.spv_actions.specs.Planned.{phi_value}
+use Rattle.spv_sites.specs.Planned.{phi_value}
 use Rattle.spv_valid.specs.Acceptance.{Accepted}
-use Rattle.spv_actions.specs.declared.effects.PhiValue.{PhiValue}
+use Rattle.spv_sites.specs.declared.effects.PhiValue.{PhiValue}
 use Rattle.spv_journal.specs.Held.{Records}
 use Rattle.spv_state.specs.Events.{pass}
 use Rattle.spv_state.specs.State.{State, on_frame, with_pc, with_registers}

@@ -4,7 +4,7 @@ use Rattle.std.proofs.lemmas.Result.{on_ok_weaker}
 use Rattle.std.specs.Option.{option_and_then}
 use Rattle.spv_index.specs.Definitions.{at}
 use Rattle.spv_frame.specs.Frames.{Held as Frame}
-use Rattle.spv_actions.specs.Planned.{gained}
+use Rattle.spv_sites.specs.Planned.{gained}
 use Rattle.spv_journal.specs.Held.{Records}
 use Rattle.spv_state.specs.State.{State, frames_of, set_status, top_of, without_top}
 use Rattle.spv_statuses.specs.declared.invocations.Status.TheVariants.{Finished, Ready}

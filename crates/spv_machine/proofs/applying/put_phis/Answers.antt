@@ -1,7 +1,7 @@
 use Rattle.std.proofs.Common.{◌≡◌, ◌+◌, ◌<◌, suc, Some, get_or, length, map, slice_get, arith}
 use Rattle.std.proofs.lemmas.Option.{slice_get-get_or}
-use Rattle.spv_actions.specs.Planned.{phi_value}
-use Rattle.spv_actions.specs.declared.effects.PhiValue.{PhiValue}
+use Rattle.spv_sites.specs.Planned.{phi_value}
+use Rattle.spv_sites.specs.declared.effects.PhiValue.{PhiValue}
 use Rattle.spv_state.specs.State.{on_frame, with_registers}
 use Rattle.spv_machine.proofs.Phis.{phis_begin, phis_end, phis_next}
 use Rattle.spv_machine.proofs.Recording.{making_on, records_more, records_on, records_still}

@@ -1,5 +1,5 @@
 use Rattle.std.proofs.Common.{map}
-use Rattle.spv_actions.specs.Planned.{phi_value}
+use Rattle.spv_sites.specs.Planned.{phi_value}
 use Rattle.spv_journal.specs.Held.{Records}
 use Rattle.spv_state.specs.State.{on_frame, with_registers}
 use Rattle.spv_machine.proofs.Phis.{PhisGoing}

@@ -1,6 +1,6 @@
 use Rattle.std.proofs.Common.{◌≡◌, Some, subst, sym}
 use Rattle.spv_base.specs.declared.values.Value.{Value, Scalar}
-use Rattle.spv_actions.specs.Fits.{ResultFits}
+use Rattle.spv_sites.specs.Fits.{ResultFits}
 use Rattle.spv_state.proofs.Exports.{IsKnown, known_as}
 use Rattle.spv_machine.proofs.StatusSteps.{reached_frame, reached_inside}
 use Rattle.spv_machine.proofs.ReachedLemmas.{result_shape, scalar_plain}

@@ -1,6 +1,6 @@
 use Rattle.std.proofs.Common.{◌∙◌, ◌+◌, ap, arith, subst, sym}
 use Rattle.std.proofs.lemmas.Result.{on_ok_weaker}
-use Rattle.spv_actions.specs.Planned.{gained}
+use Rattle.spv_sites.specs.Planned.{gained}
 use Rattle.spv_journal.specs.Held.{Records}
 use Rattle.spv_state.specs.State.{State}
 use Rattle.spv_machine.specs.Reached.{IsReached}

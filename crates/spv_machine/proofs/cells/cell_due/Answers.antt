@@ -4,7 +4,7 @@ use Rattle.std.proofs.Props.{props}
 use Rattle.std.specs.Coded.{codes}
 use Rattle.spv_index.specs.Definitions.{at}
 use Rattle.spv_actions.specs.Cells.{IsCellEffect}
-use Rattle.spv_actions.specs.Sites.{Site}
+use Rattle.spv_sites.specs.Sites.{Site}
 use Rattle.spv_state.specs.Predecoded.{IsPredecoded, IsShort}
 use Rattle.spv_machine.proofs.CellLemmas.{stands_at, word_at}
 use Rattle.spv_machine.proofs.cells.cell_due.Goals as goal

@@ -5,8 +5,8 @@ use Rattle.spv_mem.specs.Memory.{MayStore, load_of}
 use Rattle.spv_frame.specs.Registers.{IsSlotOf}
 use Rattle.spv_valid.specs.Acceptance.{Accepted}
 use Rattle.spv_actions.specs.Cells.{GivesCell, SetsCell, full, whole}
-use Rattle.spv_actions.specs.Fits.{StoreFits}
-use Rattle.spv_actions.specs.Sites.{Site}
+use Rattle.spv_sites.specs.Fits.{StoreFits}
+use Rattle.spv_sites.specs.Sites.{Site}
 use Rattle.spv_actions.specs.declared.cells.CellEffect.{CellEffect}
 use Rattle.spv_state.specs.Sources.{slot_of}
 use Rattle.spv_state.specs.State.{on_frame, with_pc, with_register}

@@ -3,8 +3,8 @@ use Rattle.std.proofs.lemmas.Option.{slice_get_within}
 use Rattle.std.proofs.lemmas.Result.{on_ok_weaker}
 use Rattle.spv_base.specs.declared.happenings.Happening.{Happening}
 use Rattle.spv_valid.specs.Acceptance.{Accepted}
-use Rattle.spv_actions.specs.Fits.{Fits}
-use Rattle.spv_actions.specs.Planned.{IsTaken, shown}
+use Rattle.spv_sites.specs.Fits.{Fits}
+use Rattle.spv_sites.specs.Planned.{IsTaken, shown}
 use Rattle.spv_journal.specs.Held.{Held as Recorded, IsMaking, Records}
 use Rattle.spv_state.specs.State.{State}
 use Rattle.spv_statuses.specs.declared.invocations.Status.TheVariants.{Ready}

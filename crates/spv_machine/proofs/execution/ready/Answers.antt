@@ -1,7 +1,7 @@
 use Rattle.std.proofs.Common.{◌≡◌, ℕ, Ok, length, refl, sym, subst}
 use Rattle.spv_actions.specs.Cells.{full}
-use Rattle.spv_actions.specs.Fits.{Fits}
-use Rattle.spv_actions.specs.Planned.{IsTaken, shown}
+use Rattle.spv_sites.specs.Fits.{Fits}
+use Rattle.spv_sites.specs.Planned.{IsTaken, shown}
 use Rattle.spv_state.specs.Sound.{IsSound}
 use Rattle.spv_state.specs.State.{State}
 use Rattle.spv_machine.specs.Cells.{IsCellStep}

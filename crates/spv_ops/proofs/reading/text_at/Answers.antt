@@ -1,7 +1,8 @@
 use Rattle.std.proofs.Common.{◌≡◌, ℕ, ◌++◌, get_or, sym, ◌∙◌, take}
 use Rattle.std.specs.Int.{w32, to_le_bytes}
 use Rattle.spv_ops.specs.Strings.{text_len, text_bytes}
-use Rattle.spv_ops.proofs.StringLoop.{text_more, text_ends, text_unpadded, text_endless, rest_of}
+use Rattle.spv_ops.proofs.StringLoop.{text_more, text_ends, text_unpadded, text_endless}
+use Rattle.spv_base.proofs.Exports.{rest_of}
 use Rattle.spv_ops.proofs.reading.text_at.Goals as goal
 
 pub returns-then-not-is_padded : goal.returns-then-not-is_padded

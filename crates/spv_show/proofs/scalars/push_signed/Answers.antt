@@ -10,4 +10,4 @@ returns-then-not-is_width c =
     let cell = c.args.cell.now in
     let e : signed_decimal (signed cell.width cell.bits) ≡ decimal c.cell.inside.bits =
     without_bits cell c.cell.inside.width c.is_width.result (subst IsCell c.cell.view_is c.cell.invariant) (ap (λ (l : Cell). l.width) c.cell.view_is) c.is_width.ensures c.if-not-is_width.true ∙ ap (λ (l : Cell). decimal l.bits) (sym c.cell.view_is) in
-    rw e c.push_number.ensures
+    rw e c.push_number.ensures.ok

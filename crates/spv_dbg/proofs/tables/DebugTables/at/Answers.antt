@@ -1,7 +1,7 @@
 use Rattle.std.proofs.Common.{◌∙◌, ap}
 use Rattle.spv_dbg.specs.declared.insts.DebugInst.{DebugInst}
 use Rattle.spv_dbg.specs.Tables.{Tables}
-use Rattle.spv_dbg.proofs.PlaceLemmas.{item_led}
+use Rattle.spv_index.proofs.Exports.{item_led}
 use Rattle.spv_dbg.proofs.tables.DebugTables.at.Goals as goal
 
 pub returns : goal.returns

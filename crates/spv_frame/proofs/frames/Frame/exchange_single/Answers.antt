@@ -26,18 +26,18 @@ invariant_of-self c =
     let x = exchanged c.args.self.now c.self.inside.plan.value c.self.inside.pc c.self.inside.row c.self.inside.has.items c.self.inside.pointers.items c.self.inside.events.items (slot_at c.args.self.now.plan.values c.args.number 1) c.args.value.now c.swap.new.x c.exchange_single.new.self c.self.view_is c.self.invariant l.opened long (c.exchange_single.ensures.after ∙ ap (λ (w : List ℕ). with_part c.self.inside.row w c.args.value.now) l.way) in
     x.fits
 
-pub returns-clause-after : goal.returns-clause-after
-returns-clause-after c =
+pub returns : goal.returns
+returns c =
     let l = placed c.args.self.now c.self.inside.plan.value c.deref.result.now c.self.inside.pc c.self.inside.row c.self.inside.has.items c.self.inside.pointers.items c.self.inside.events.items c.args.number 1 c.found-place.result.path.value c.found-place.result.start c.self.view_is c.self.invariant c.deref.ensures c.requires c.found-place.ensures.path c.found-place.ensures.start c.found-place.ensures.named in
-    let long : length (leaves c.args.value.now) ≡ 1 = ap length c.cell-cell.ensures in
-    let x = exchanged c.args.self.now c.self.inside.plan.value c.self.inside.pc c.self.inside.row c.self.inside.has.items c.self.inside.pointers.items c.self.inside.events.items (slot_at c.args.self.now.plan.values c.args.number 1) c.args.value.now c.swap.new.x c.exchange_single.new.self c.self.view_is c.self.invariant l.opened long (c.exchange_single.ensures.after ∙ ap (λ (w : List ℕ). with_part c.self.inside.row w c.args.value.now) l.way) in
-    x.shows ∙ ap (λ (b : Bool). with_value c.args.number (marked c.args.value.now b) c.args.self.now) c.swap.ensures.x_after
-
-pub returns-clause-handed : goal.returns-clause-handed
-returns-clause-handed c =
-    let l = placed c.args.self.now c.self.inside.plan.value c.deref.result.now c.self.inside.pc c.self.inside.row c.self.inside.has.items c.self.inside.pointers.items c.self.inside.events.items c.args.number 1 c.found-place.result.path.value c.found-place.result.start c.self.view_is c.self.invariant c.deref.ensures c.requires c.found-place.ensures.path c.found-place.ensures.start c.found-place.ensures.named in
-    let o = l.opened in
-    let same : o.lies.tree ≡ c.exchange_single.new.other = let h = o.lies.part in let g = c.exchange_single.ensures.handed in let w = l.way in cc in
-    let mark : slice_get c.self.inside.has.items c.args.number ≡ Some c.swap.new.y =
-    slice_get-get_or c.self.inside.has.items c.args.number c.index_mut.result.now o.within ∙ ap Some (sym c.index_mut.ensures.value) ∙ ap Some (sym c.swap.ensures.y_after) in
-    value_is c.args.self.now c.self.inside.plan.value c.self.inside.pc c.self.inside.row c.self.inside.has.items c.self.inside.pointers.items c.self.inside.events.items (slot_at c.args.self.now.plan.values c.args.number 1) c.swap.new.y c.self.view_is o mark ∙ ap (λ (v : Value). Some (marked v c.swap.new.y)) same
+    record {
+      after =
+          let long : length (leaves c.args.value.now) ≡ 1 = ap length c.cell-cell.ensures in
+          let x = exchanged c.args.self.now c.self.inside.plan.value c.self.inside.pc c.self.inside.row c.self.inside.has.items c.self.inside.pointers.items c.self.inside.events.items (slot_at c.args.self.now.plan.values c.args.number 1) c.args.value.now c.swap.new.x c.exchange_single.new.self c.self.view_is c.self.invariant l.opened long (c.exchange_single.ensures.after ∙ ap (λ (w : List ℕ). with_part c.self.inside.row w c.args.value.now) l.way) in
+          x.shows ∙ ap (λ (b : Bool). with_value c.args.number (marked c.args.value.now b) c.args.self.now) c.swap.ensures.x_after;
+      handed =
+          let o = l.opened in
+          let same : o.lies.tree ≡ c.exchange_single.new.other = let h = o.lies.part in let g = c.exchange_single.ensures.handed in let w = l.way in cc in
+          let mark : slice_get c.self.inside.has.items c.args.number ≡ Some c.swap.new.y =
+          slice_get-get_or c.self.inside.has.items c.args.number c.index_mut.result.now o.within ∙ ap Some (sym c.index_mut.ensures.value) ∙ ap Some (sym c.swap.ensures.y_after) in
+          value_is c.args.self.now c.self.inside.plan.value c.self.inside.pc c.self.inside.row c.self.inside.has.items c.self.inside.pointers.items c.self.inside.events.items (slot_at c.args.self.now.plan.values c.args.number 1) c.swap.new.y c.self.view_is o mark ∙ ap (λ (v : Value). Some (marked v c.swap.new.y)) same;
+    }

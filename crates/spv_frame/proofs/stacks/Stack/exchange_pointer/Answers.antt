@@ -1,24 +1,19 @@
 use Rattle.std.proofs.Common.{◌≡◌, ◌-◌, ◌<◌, ◌≤◌, Some, length, ap, arith}
-use Rattle.spv_base.specs.Entries.{reads, writes}
+use Rattle.spv_base.specs.Entries.{reads}
+use Rattle.spv_frame.specs.Frames.{with_pointer_under}
 use Rattle.spv_frame.specs.Registers.{IsPointerSlotOf}
 use Rattle.spv_frame.specs.Stacks.{Stacked}
 use Rattle.spv_frame.proofs.StackLemmas.{after_is, handed_is, some_frame}
 use Rattle.spv_frame.proofs.stacks.Stack.exchange_pointer.Goals as goal
 
-pub returns-clause-after : goal.returns-clause-after
-returns-clause-after c =
+pub returns : goal.returns
+returns c =
     let some : 1 ≤ length c.args.self.now.frames = some_frame c.args.self.now.frames (λ f. IsPointerSlotOf f.plan.pointers c.args.slot) c.requires in
     let same : length c.self.inside.frames.items ≡ length c.args.self.now.frames = ap (λ (s : Stacked). length s.frames) c.self.view_is in
     let count = c.len-top.ensures in
     let last : c.len-top.result - 1 ≡ length c.self.inside.frames.items - 1 = omega arith in
     let within : c.len-top.result - 1 < length c.self.inside.frames.items = omega arith in
-    after_is c.args.self.now c.self.inside.frames.items c.self.inside.room (c.len-top.result - 1) (λ f. record f { pointers = writes c.args.slot.id c.args.pointer.now f.pointers }) c.index_mut.result.now c.exchange_pointer.new.self c.self.view_is last within c.index_mut.ensures.value c.exchange_pointer.ensures.after
-
-pub returns-clause-handed : goal.returns-clause-handed
-returns-clause-handed c =
-    let some : 1 ≤ length c.args.self.now.frames = some_frame c.args.self.now.frames (λ f. IsPointerSlotOf f.plan.pointers c.args.slot) c.requires in
-    let same : length c.self.inside.frames.items ≡ length c.args.self.now.frames = ap (λ (s : Stacked). length s.frames) c.self.view_is in
-    let count = c.len-top.ensures in
-    let last : c.len-top.result - 1 ≡ length c.self.inside.frames.items - 1 = omega arith in
-    let within : c.len-top.result - 1 < length c.self.inside.frames.items = omega arith in
-    handed_is c.args.self.now c.self.inside.frames.items c.self.inside.room (c.len-top.result - 1) c.index_mut.result.now (λ f. reads c.args.slot.id f.pointers ≡ Some c.exchange_pointer.new.pointer) c.self.view_is last within c.index_mut.ensures.value c.exchange_pointer.ensures.handed
+    record {
+      after = after_is c.args.self.now c.self.inside.frames.items c.self.inside.room (c.len-top.result - 1) (with_pointer_under c.args.slot.id c.args.pointer.now) c.index_mut.result.now c.exchange_pointer.new.self c.self.view_is last within c.index_mut.ensures.value c.exchange_pointer.ensures.after;
+      handed = handed_is c.args.self.now c.self.inside.frames.items c.self.inside.room (c.len-top.result - 1) c.index_mut.result.now (λ f. reads c.args.slot.id f.pointers ≡ Some c.exchange_pointer.new.pointer) c.self.view_is last within c.index_mut.ensures.value c.exchange_pointer.ensures.handed;
+    }

@@ -1,5 +1,5 @@
 use Rattle.std.proofs.Common.{◌≡◌, ◌-◌, ◌<◌, ◌≤◌, map, length, ap, arith}
-use Rattle.spv_frame.specs.Contents.{AllSuit, content, puts}
+use Rattle.spv_frame.specs.Contents.{AllSuit, content, with_contents}
 use Rattle.spv_frame.specs.Stacks.{Stacked}
 use Rattle.spv_frame.proofs.StackLemmas.{after_is, some_frame}
 use Rattle.spv_frame.proofs.stacks.Stack.put_back_phis.Goals as goal
@@ -11,4 +11,4 @@ returns c =
     let count = c.len-top.ensures in
     let last : c.len-top.result - 1 ≡ length c.self.inside.frames.items - 1 = omega arith in
     let within : c.len-top.result - 1 < length c.self.inside.frames.items = omega arith in
-    after_is c.args.self.now c.self.inside.frames.items c.self.inside.room (c.len-top.result - 1) (λ f. record f { values = puts c.args.slots.now (map content c.args.olds.items) f.values }) c.index_mut.result.now c.put_back_phis.new.self c.self.view_is last within c.index_mut.ensures.value c.put_back_phis.ensures
+    after_is c.args.self.now c.self.inside.frames.items c.self.inside.room (c.len-top.result - 1) (with_contents c.args.slots.now (map content c.args.olds.items)) c.index_mut.result.now c.put_back_phis.new.self c.self.view_is last within c.index_mut.ensures.value c.put_back_phis.ensures

@@ -2,8 +2,10 @@ use Rattle.std.proofs.Common.{◌∙◌, Option, ap, subst, sym}
 use Rattle.std.specs.Option.{option_map_or}
 use Rattle.spv_base.specs.declared.happenings.Happening.{Happening}
 use Rattle.spv_journal.specs.Events.{Event, Kept, newest, opened}
-use Rattle.spv_journal.specs.Undo.{CanUndoAll, before, undo_all}
-use Rattle.spv_journal.proofs.UndoLemmas.{front_undoes, making, undo_both}
+use Rattle.spv_undo.specs.Undo.{CanUndoAll, undo_all}
+use Rattle.spv_journal.specs.Undo.{before}
+use Rattle.spv_undo.proofs.Exports.{front_undoes, undo_both}
+use Rattle.spv_journal.proofs.UndoLemmas.{making}
 use Rattle.spv_journal.proofs.journal.Journal.unwind.Goals as goal
 
 pub undo-requires : goal.undo-requires

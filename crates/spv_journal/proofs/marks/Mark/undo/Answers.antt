@@ -1,7 +1,7 @@
 use Rattle.std.proofs.Common.{◌≡◌, ◌∙◌, Bool, ap, subst, sym}
 use Rattle.spv_state.specs.State.{on_frame, with_pc}
 use Rattle.spv_journal.specs.Marks.{Marked, moved}
-use Rattle.spv_journal.specs.Undo.{CanUndoAll, undo_all}
+use Rattle.spv_undo.specs.Undo.{CanUndoAll, undo_all}
 use Rattle.spv_journal.proofs.UndoLemmas.{variable_first}
 use Rattle.spv_journal.proofs.marks.Mark.undo.Goals as goal
 use Rattle.spv_journal.proofs.marks.Mark.undo.Goals.{in-Status, in_default, then-self, else-self}

@@ -1,76 +1,52 @@
-use Rattle.std.proofs.Common.{◌∙◌, ◌<◌, IsSome, length, arith, subst, sym}
-use Rattle.spv_journal.specs.declared.entries.Entry.TheVariants.{EventAppended}
-use Rattle.spv_state.specs.State.{top_of}
-use Rattle.spv_journal.proofs.LawLemmas.{event_undone}
-use Rattle.spv_journal.proofs.RecordLemmas.{extended, same_held, still, still_unwinds}
+use Rattle.std.proofs.Common.{◌≡◌, ◌∙◌, ◌<◌, ℕ, IsSome, length, arith, rules, subst, sym}
+use Rattle.spv_base.specs.declared.values.PassedEvent.{PassedEvent}
+use Rattle.spv_state.specs.State.{State, append_event, on_frame, top_of}
+use Rattle.spv_journal.specs.Events.{Kept}
 use Rattle.spv_journal.specs.Held.{Held}
-use Rattle.spv_journal.specs.Undo.{Undoes}
+use Rattle.spv_undo.specs.Undo.{Undoes}
+use Rattle.spv_undo.specs.declared.entries.Entry.TheVariants.{EventAppended}
+use Rattle.spv_undo.proofs.Exports.{event_undone}
+use Rattle.spv_journal.proofs.RecordLemmas.{extended, held_of, same_held, still, still_unwinds}
 use Rattle.spv_journal.proofs.recorded.Recorded.append.Goals as goal
+
+-- the event's entry leads back
+passed : (i : ℕ) (e : PassedEvent) (s t : State) (j : Kept) (w : Held) → held_of s j ≡ w → i < length w.state.stacks → IsSome (top_of w.state i) → t ≡ on_frame i (append_event e) s → Undoes i EventAppended s t
+passed i e s t j w is inside some after =
+    subst (Undoes i EventAppended s) (sym after)
+    (event_undone i e s (subst (λ (h : Held). i < length h.state.stacks) (sym is) inside) (subst (λ (h : Held). IsSome (top_of h.state i)) (sym is) some))
 
 pub invariant_of-self-in-Ok : goal.invariant_of-self-in-Ok
 invariant_of-self-in-Ok c =
     let s = c.self.inside.whole in
-    let inside = (subst (λ (h : Held). c.args.i < length h.state.stacks) (sym c.self.view_is) c.requires.inside) in
-    let some = (subst (λ (h : Held). IsSome (top_of h.state c.args.i)) (sym c.self.view_is) c.requires.frames) in
-    let u : Undoes c.args.i EventAppended s c.append.new.self =
-    subst (Undoes c.args.i EventAppended s) (sym c.in_ok-append.ensures.ok) (event_undone c.args.i c.args.event s inside some) in
-    let x = extended 1 c.args.i EventAppended c.self.inside.whole c.append.new.self c.self.inside.journal c.add.new.self c.args.self.now c.self.view_is c.requires.making c.in-Ok.ensures.ok u c.self.invariant (omega arith) in
-    x.unwinds
-
-pub drop_event-requires-clause-inv : goal.drop_event-requires-clause-inv
-drop_event-requires-clause-inv c =
-    let s = c.self.inside.whole in
-    let inside = (subst (λ (h : Held). c.args.i < length h.state.stacks) (sym c.self.view_is) c.requires.inside) in
-    let some = (subst (λ (h : Held). IsSome (top_of h.state c.args.i)) (sym c.self.view_is) c.requires.frames) in
-    let u : Undoes c.args.i EventAppended s c.append.new.self =
-    subst (Undoes c.args.i EventAppended s) (sym c.in_ok-append.ensures.ok) (event_undone c.args.i c.args.event s inside some) in
-    u.can.0
-
-pub drop_event-requires-clause-events : goal.drop_event-requires-clause-events
-drop_event-requires-clause-events c =
-    let s = c.self.inside.whole in
-    let inside = (subst (λ (h : Held). c.args.i < length h.state.stacks) (sym c.self.view_is) c.requires.inside) in
-    let some = (subst (λ (h : Held). IsSome (top_of h.state c.args.i)) (sym c.self.view_is) c.requires.frames) in
-    let u : Undoes c.args.i EventAppended s c.append.new.self =
-    subst (Undoes c.args.i EventAppended s) (sym c.in_ok-append.ensures.ok) (event_undone c.args.i c.args.event s inside some) in
-    u.can.1
-
-pub invariant_of-self-in-Err : goal.invariant_of-self-in-Err
-invariant_of-self-in-Err c =
-    let s = c.self.inside.whole in
-    let inside = (subst (λ (h : Held). c.args.i < length h.state.stacks) (sym c.self.view_is) c.requires.inside) in
-    let some = (subst (λ (h : Held). IsSome (top_of h.state c.args.i)) (sym c.self.view_is) c.requires.frames) in
-    let u : Undoes c.args.i EventAppended s c.append.new.self =
-    subst (Undoes c.args.i EventAppended s) (sym c.in_ok-append.ensures.ok) (event_undone c.args.i c.args.event s inside some) in
-    let back = c.drop_event.ensures ∙ u.back in
-    still_unwinds s c.drop_event.new.self c.self.inside.journal c.add.new.self c.in-Err.ensures.err back c.self.invariant
+    let t = c.append.new.self in
+    let j = c.self.inside.journal in
+    let u = passed c.args.i c.args.event s t j c.args.self.now c.self.view_is c.requires.inside c.requires.frames c.in_ok-append.ensures.ok in
+    (extended 1 c.args.i EventAppended s t j c.add.new.self c.args.self.now c.self.view_is c.requires.making c.in-Ok.ensures.ok u c.self.invariant (omega arith)).unwinds
 
 pub returns-in-Ok-clause-recorded : goal.returns-in-Ok-clause-recorded
 returns-in-Ok-clause-recorded c =
     let s = c.self.inside.whole in
-    let inside = (subst (λ (h : Held). c.args.i < length h.state.stacks) (sym c.self.view_is) c.requires.inside) in
-    let some = (subst (λ (h : Held). IsSome (top_of h.state c.args.i)) (sym c.self.view_is) c.requires.frames) in
-    let u : Undoes c.args.i EventAppended s c.append.new.self =
-    subst (Undoes c.args.i EventAppended s) (sym c.in_ok-append.ensures.ok) (event_undone c.args.i c.args.event s inside some) in
-    let x = extended 1 c.args.i EventAppended c.self.inside.whole c.append.new.self c.self.inside.journal c.add.new.self c.args.self.now c.self.view_is c.requires.making c.in-Ok.ensures.ok u c.self.invariant (omega arith) in
-    x.records
+    let t = c.append.new.self in
+    let j = c.self.inside.journal in
+    let u = passed c.args.i c.args.event s t j c.args.self.now c.self.view_is c.requires.inside c.requires.frames c.in_ok-append.ensures.ok in
+    (extended 1 c.args.i EventAppended s t j c.add.new.self c.args.self.now c.self.view_is c.requires.making c.in-Ok.ensures.ok u c.self.invariant (omega arith)).records
 
-pub returns-in-Err-clause-recorded : goal.returns-in-Err-clause-recorded
-returns-in-Err-clause-recorded c =
-    let s = c.self.inside.whole in
-    let inside = (subst (λ (h : Held). c.args.i < length h.state.stacks) (sym c.self.view_is) c.requires.inside) in
-    let some = (subst (λ (h : Held). IsSome (top_of h.state c.args.i)) (sym c.self.view_is) c.requires.frames) in
-    let u : Undoes c.args.i EventAppended s c.append.new.self =
-    subst (Undoes c.args.i EventAppended s) (sym c.in_ok-append.ensures.ok) (event_undone c.args.i c.args.event s inside some) in
-    let back = c.drop_event.ensures ∙ u.back in
-    still 1 c.args.self.now _ (same_held s c.drop_event.new.self c.self.inside.journal c.add.new.self c.args.self.now c.self.view_is c.in-Err.ensures.err back)
+pub drop_event-requires : goal.drop_event-requires
+drop_event-requires c =
+    let u = passed c.args.i c.args.event c.self.inside.whole c.append.new.self c.self.inside.journal c.args.self.now c.self.view_is c.requires.inside c.requires.frames c.in_ok-append.ensures.ok in
+    record { inv = u.can.0; events = u.can.1 }
 
-pub returns-in-Err-clause-err : goal.returns-in-Err-clause-err
-returns-in-Err-clause-err c =
+pub invariant_of-self-in-Err : goal.invariant_of-self-in-Err
+invariant_of-self-in-Err c =
     let s = c.self.inside.whole in
-    let inside = (subst (λ (h : Held). c.args.i < length h.state.stacks) (sym c.self.view_is) c.requires.inside) in
-    let some = (subst (λ (h : Held). IsSome (top_of h.state c.args.i)) (sym c.self.view_is) c.requires.frames) in
-    let u : Undoes c.args.i EventAppended s c.append.new.self =
-    subst (Undoes c.args.i EventAppended s) (sym c.in_ok-append.ensures.ok) (event_undone c.args.i c.args.event s inside some) in
-    let back = c.drop_event.ensures ∙ u.back in
-    same_held s c.drop_event.new.self c.self.inside.journal c.add.new.self c.args.self.now c.self.view_is c.in-Err.ensures.err back
+    let j = c.self.inside.journal in
+    let u = passed c.args.i c.args.event s c.append.new.self j c.args.self.now c.self.view_is c.requires.inside c.requires.frames c.in_ok-append.ensures.ok in
+    still_unwinds s c.drop_event.new.self j c.add.new.self c.in-Err.ensures.err (c.drop_event.ensures ∙ u.back) c.self.invariant
+
+pub returns-in-Err : goal.returns-in-Err
+returns-in-Err c =
+    let s = c.self.inside.whole in
+    let j = c.self.inside.journal in
+    let u = passed c.args.i c.args.event s c.append.new.self j c.args.self.now c.self.view_is c.requires.inside c.requires.frames c.in_ok-append.ensures.ok in
+    let same = same_held s c.drop_event.new.self j c.add.new.self c.args.self.now c.self.view_is c.in-Err.ensures.err (c.drop_event.ensures ∙ u.back) in
+    record { ok = search rules; recorded = still 1 c.args.self.now _ same; err = same }

@@ -1,10 +1,10 @@
 use Rattle.std.proofs.Common.{◌<◌, length, arith, subst, sym}
-use Rattle.spv_journal.specs.declared.entries.Entry.TheVariants.{FramePushed}
+use Rattle.spv_undo.specs.declared.entries.Entry.TheVariants.{FramePushed}
 use Rattle.spv_mem.specs.Memory.{AreVariables}
-use Rattle.spv_journal.proofs.LawLemmas.{frame_undone}
+use Rattle.spv_undo.proofs.Exports.{frame_undone}
 use Rattle.spv_journal.proofs.RecordLemmas.{extended}
 use Rattle.spv_journal.specs.Held.{Held}
-use Rattle.spv_journal.specs.Undo.{Undoes}
+use Rattle.spv_undo.specs.Undo.{Undoes}
 use Rattle.spv_journal.proofs.recorded.Recorded.enter.Goals as goal
 
 pub enter-requires-clause-variables : goal.enter-requires-clause-variables

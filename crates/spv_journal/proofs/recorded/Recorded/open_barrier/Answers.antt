@@ -1,10 +1,10 @@
 use Rattle.std.proofs.Common.{◌≡◌, ◌<◌, arith, subst, sym, true}
-use Rattle.spv_journal.specs.declared.entries.Entry.TheVariants.{BarrierOpened}
+use Rattle.spv_undo.specs.declared.entries.Entry.TheVariants.{BarrierOpened}
 use Rattle.spv_statuses.specs.Group.{all_wait_at}
-use Rattle.spv_journal.proofs.LawLemmas.{barrier_undone}
+use Rattle.spv_undo.proofs.Exports.{barrier_undone}
 use Rattle.spv_journal.proofs.RecordLemmas.{extended, making_of}
 use Rattle.spv_journal.specs.Held.{Held}
-use Rattle.spv_journal.specs.Undo.{Undoes}
+use Rattle.spv_undo.specs.Undo.{Undoes}
 use Rattle.spv_journal.proofs.recorded.Recorded.open_barrier.Goals as goal
 
 pub invariant_of-self-2 : goal.invariant_of-self-2

@@ -5,8 +5,8 @@ use Rattle.spv_frame.specs.Registers.{number_of}
 use Rattle.spv_state.specs.Slots.{IsHeldPointer}
 use Rattle.spv_state.specs.State.{on_frame, top_of, with_register}
 use Rattle.spv_journal.specs.Held.{Held}
-use Rattle.spv_journal.specs.Undo.{Undoes}
-use Rattle.spv_journal.proofs.EntryLemmas.{no_pointer_register, pointer_register_is, pointer_undone}
+use Rattle.spv_undo.specs.Undo.{Undoes}
+use Rattle.spv_undo.proofs.Exports.{no_pointer_register, pointer_counts, pointer_register_is, pointer_undone}
 use Rattle.spv_journal.proofs.RecordLemmas.{extended}
 use Rattle.spv_journal.proofs.recorded.Recorded.set_pointer.Goals as goal
 
@@ -20,7 +20,7 @@ invariant_of-self-in-Some c =
     let e = c.in_ok-entry-in-Some.entry in
     let u : Undoes c.args.i e s c.put_pointer.new.whole =
     subst (Undoes c.args.i e s) (sym c.put_pointer.ensures) (pointer_undone c.args.i c.args.id n o e c.args.pointer s low held c.in_ok-entry-in-Some.ensures) in
-    let x = extended 1 c.args.i e s c.put_pointer.new.whole c.self.inside.journal c.add.new.self c.args.self.now c.self.view_is c.requires.making c.in_ok-add-in-Some.ensures.ok u c.self.invariant (omega arith) in
+    let x = extended 1 c.args.i e s c.put_pointer.new.whole c.self.inside.journal c.add.new.self c.args.self.now c.self.view_is c.requires.making c.in_ok-add-in-Some.ensures.ok u c.self.invariant (pointer_counts n o e c.in_ok-entry-in-Some.ensures) in
     x.unwinds
 
 pub returns-in_ok-add-in-Some-clause-ok : goal.returns-in_ok-add-in-Some-clause-ok
@@ -42,7 +42,7 @@ returns-in_ok-add-in-Some-clause-recorded c =
     let e = c.in_ok-entry-in-Some.entry in
     let u : Undoes c.args.i e s c.put_pointer.new.whole =
     subst (Undoes c.args.i e s) (sym c.put_pointer.ensures) (pointer_undone c.args.i c.args.id n o e c.args.pointer s low held c.in_ok-entry-in-Some.ensures) in
-    let x = extended 1 c.args.i e s c.put_pointer.new.whole c.self.inside.journal c.add.new.self c.args.self.now c.self.view_is c.requires.making c.in_ok-add-in-Some.ensures.ok u c.self.invariant (omega arith) in
+    let x = extended 1 c.args.i e s c.put_pointer.new.whole c.self.inside.journal c.add.new.self c.args.self.now c.self.view_is c.requires.making c.in_ok-add-in-Some.ensures.ok u c.self.invariant (pointer_counts n o e c.in_ok-entry-in-Some.ensures) in
     x.records
 
 pub returns-in-None-clause-ok : goal.returns-in-None-clause-ok

@@ -1,8 +1,13 @@
 use Rattle.std.proofs.Common.{subst, sym}
 use Rattle.spv_journal.specs.Events.{Kept, older, opened}
 use Rattle.spv_journal.specs.Undo.{CanUnwind}
-use Rattle.spv_journal.proofs.UndoLemmas.{older_unwind}
+use Rattle.spv_journal.proofs.UndoLemmas.{newest_undoes, older_unwind}
 use Rattle.spv_journal.proofs.recorded.Recorded.unwind.Goals as goal
+
+pub unwind-requires : goal.unwind-requires
+unwind-requires c =
+    let j = c.self.inside.journal in
+    newest_undoes (opened j.gathered j.ring) c.self.inside.whole c.self.invariant
 
 pub invariant_of-self : goal.invariant_of-self
 invariant_of-self c =

@@ -1,10 +1,10 @@
-use Rattle.std.proofs.Common.{◌≡◌, ◌∙◌, ◌+◌, ◌-◌, ◌≤◌, ℕ, List, [], ◌∷◌, ap, arith, refl}
+use Rattle.std.proofs.Common.{◌≡◌, ◌∙◌, ◌+◌, ◌-◌, ◌≤◌, ℕ, List, [], ◌∷◌, ap, arith, refl, sym}
 use Rattle.std.proofs.lemmas.List.{take_all}
 use Rattle.circular_buffer.specs.Buffer.{Buffer}
-use Rattle.spv_journal.specs.Events.{Event, fitting, size}
+use Rattle.spv_journal.specs.Events.{Event, fitting, size, size_of}
 use Rattle.spv_journal.specs.Rings.{Ringed, event_of, events}
 use Rattle.spv_journal.specs.Marks.{Marked}
-use Rattle.spv_journal.proofs.RingLemmas.{event_put, event_size, has_room, kept_size, one_fits, ring_put}
+use Rattle.spv_journal.proofs.RingLemmas.{event_put, event_size, has_room, one_fits, ring_put}
 use Rattle.spv_journal.proofs.rings.Ring.keep.Goals as goal
 
 pub invariant_of-self : goal.invariant_of-self
@@ -22,9 +22,10 @@ invariant_of-self c =
     let held = c.self-else-need-limit.invariant.1.entries in
     let mark = c.size-need.ensures.size in
     let whole = c.requires in
-    let is : need ≡ kept_size k = omega (arith, mark, whole) in
+    let one = event_size k [] in
+    let is : need ≡ size_of (event_of k []) = omega (arith, mark, one) in
     let fits : r.held + need ≤ r.entries.capacity = omega (arith, sizes, limit, was, same, capacity, room, less, held) in
-    let both = has_room r.marks.items r.entries.items r.entries.capacity r.held need k c.self-else-need-limit.invariant.1 is fits in
+    let both = has_room r.marks.items r.entries.items [] r.entries.capacity r.held need k c.self-else-need-limit.invariant.1 is fits in
     let alike = c.self-else-need-limit.invariant.0 in
     let marks = both.0 in
     let put : c.push_front.new.self.items ≡ k ∷ r.marks.items =
@@ -49,9 +50,9 @@ returns-else-need-limit-clause-events c =
     let mark = c.size-need.ensures.size in
     let whole = c.requires in
     let one = event_size k [] in
-    let is : need ≡ kept_size k = omega (arith, mark, whole) in
+    let is : need ≡ size_of (event_of k []) = omega (arith, mark, one) in
     let fits : r.held + need ≤ r.entries.capacity = omega (arith, sizes, limit, was, same, capacity, room, less, held) in
-    let both = has_room r.marks.items r.entries.items r.entries.capacity r.held need k c.self-else-need-limit.invariant.1 is fits in
+    let both = has_room r.marks.items r.entries.items [] r.entries.capacity r.held need k c.self-else-need-limit.invariant.1 is fits in
     let alike = c.self-else-need-limit.invariant.0 in
     let marks = both.0 in
     let put : c.push_front.new.self.items ≡ k ∷ r.marks.items =
@@ -60,4 +61,4 @@ returns-else-need-limit-clause-events c =
     ∙ ap (λ (x : Ringed). v ∷ x.events) c.self-else-need-limit.view_is
     ∙ ap (λ (vs : List Event). v ∷ vs) c.make_room.ensures.events
     ∙ ap (λ (n : ℕ). v ∷ fitting (n - need) c.args.self.now.events) (capacity ∙ was)
-    ∙ one_fits c.args.self.now.limit need v c.args.self.now.events (omega (arith, one, mark)) (omega (arith, less, capacity, was))
+    ∙ one_fits c.args.self.now.limit need v c.args.self.now.events (sym is) (omega (arith, less, capacity, was))

@@ -23,19 +23,8 @@ returns-in_err-ty-clause-width c =
     let e = c.reached_type.ensures in let h = c.in_err-ty.was in let p = c.as_slice.ensures in cc in
     c.from_residual-in_err-ty.ensures ∙ width_unreached c.args.self.now c.args.p.now c.in_ok-target.target.ty named none
 
-pub returns-clause-width : goal.returns-clause-width
-returns-clause-width c =
-    let types : c.as_ref-types.result.now ≡ c.args.self.now.types = c.as_ref-types.ensures ∙ ap (λ (m : Held). m.types) c.self.view_is in
-    let named : reads (root_id c.args.p.now.root) c.args.self.now.targets ≡ Some c.in_ok-target.target.ty =
-    let e = c.in_ok-target.ensures in let i = c.id-id.ensures in let v = ap (λ (m : Held). m.targets) c.self.view_is in cc in
-    let found : reached_type c.args.self.now.types c.in_ok-target.target.ty c.args.p.now.path ≡ Some c.in_ok-ty.ty =
-    let e = c.reached_type.ensures in let h = c.in_ok-ty.was in let p = c.as_slice.ensures in cc in
-    let is : c.integer_width.result ≡ width_at c.args.self.now c.args.p.now =
-    c.integer_width.ensures ∙ ap integer_width (c.form.ensures ∙ ap (λ (ts : Types). form_of ts c.in_ok-ty.ty) types) ∙ width_reached c.args.self.now c.args.p.now c.in_ok-target.target.ty c.in_ok-ty.ty named found in
-    is
-
-pub returns-clause-scalar : goal.returns-clause-scalar
-returns-clause-scalar c =
+pub returns : goal.returns
+returns c =
     let memory : ∥ IsMemory c.args.self.now ∥₁ = subst (λ (m : Held). ∥ IsMemory m ∥₁) c.self.view_is c.self.invariant in
     let types : c.as_ref-types.result.now ≡ c.args.self.now.types = c.as_ref-types.ensures ∙ ap (λ (m : Held). m.types) c.self.view_is in
     let named : reads (root_id c.args.p.now.root) c.args.self.now.targets ≡ Some c.in_ok-target.target.ty =
@@ -44,16 +33,8 @@ returns-clause-scalar c =
     let e = c.reached_type.ensures in let h = c.in_ok-ty.was in let p = c.as_slice.ensures in cc in
     let is : c.integer_width.result ≡ width_at c.args.self.now c.args.p.now =
     c.integer_width.ensures ∙ ap integer_width (c.form.ensures ∙ ap (λ (ts : Types). form_of ts c.in_ok-ty.ty) types) ∙ width_reached c.args.self.now c.args.p.now c.in_ok-target.target.ty c.in_ok-ty.ty named found in
-    scalar_if c.args.self.now c.args.p.now c.integer_width.result memory is
-
-pub returns-clause-may : goal.returns-clause-may
-returns-clause-may c =
-    let memory : ∥ IsMemory c.args.self.now ∥₁ = subst (λ (m : Held). ∥ IsMemory m ∥₁) c.self.view_is c.self.invariant in
-    let types : c.as_ref-types.result.now ≡ c.args.self.now.types = c.as_ref-types.ensures ∙ ap (λ (m : Held). m.types) c.self.view_is in
-    let named : reads (root_id c.args.p.now.root) c.args.self.now.targets ≡ Some c.in_ok-target.target.ty =
-    let e = c.in_ok-target.ensures in let i = c.id-id.ensures in let v = ap (λ (m : Held). m.targets) c.self.view_is in cc in
-    let found : reached_type c.args.self.now.types c.in_ok-target.target.ty c.args.p.now.path ≡ Some c.in_ok-ty.ty =
-    let e = c.reached_type.ensures in let h = c.in_ok-ty.was in let p = c.as_slice.ensures in cc in
-    let is : c.integer_width.result ≡ width_at c.args.self.now c.args.p.now =
-    c.integer_width.ensures ∙ ap integer_width (c.form.ensures ∙ ap (λ (ts : Types). form_of ts c.in_ok-ty.ty) types) ∙ width_reached c.args.self.now c.args.p.now c.in_ok-target.target.ty c.in_ok-ty.ty named found in
-    may_if c.args.self.now c.args.p.now c.integer_width.result memory is
+    record {
+      width = is;
+      scalar = scalar_if c.args.self.now c.args.p.now c.integer_width.result memory is;
+      may = may_if c.args.self.now c.args.p.now c.integer_width.result memory is;
+    }

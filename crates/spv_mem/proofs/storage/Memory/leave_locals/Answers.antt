@@ -10,14 +10,11 @@ invariant_of-self c =
     let at = slice_get_read c.self.inside.locals.items (length c.self.inside.locals.items) c.args.inv c.index_mut.result.now refl inside c.index_mut.ensures.value in
     left_kept _ c.args.inv c.index_mut.result.now c.pop.new.self c.pop.result at c.self.invariant (c.pop.ensures.room, c.pop.ensures.list)
 
-pub returns-clause-left : goal.returns-clause-left
-returns-clause-left c =
+pub returns : goal.returns
+returns c =
     let inside : c.args.inv < length c.self.inside.locals.items = subst (λ (m : Held). c.args.inv < length m.locals) (sym c.self.view_is) c.requires in
     let at = slice_get_read c.self.inside.locals.items (length c.self.inside.locals.items) c.args.inv c.index_mut.result.now refl inside c.index_mut.ensures.value in
-    leaves_is _ c.args.self.now c.args.inv c.index_mut.result.now c.pop.new.self c.pop.result c.self.view_is at (c.pop.ensures.room, c.pop.ensures.list)
-
-pub returns-clause-variables : goal.returns-clause-variables
-returns-clause-variables c =
-    let inside : c.args.inv < length c.self.inside.locals.items = subst (λ (m : Held). c.args.inv < length m.locals) (sym c.self.view_is) c.requires in
-    let at = slice_get_read c.self.inside.locals.items (length c.self.inside.locals.items) c.args.inv c.index_mut.result.now refl inside c.index_mut.ensures.value in
-    left_variables _ c.args.self.now c.args.inv c.index_mut.result.now c.pop.new.self c.pop.result c.self.view_is at c.self.invariant (c.pop.ensures.room, c.pop.ensures.list)
+    record {
+      left = leaves_is _ c.args.self.now c.args.inv c.index_mut.result.now c.pop.new.self c.pop.result c.self.view_is at (c.pop.ensures.room, c.pop.ensures.list);
+      variables = left_variables _ c.args.self.now c.args.inv c.index_mut.result.now c.pop.new.self c.pop.result c.self.view_is at c.self.invariant (c.pop.ensures.room, c.pop.ensures.list);
+    }

@@ -1,6 +1,0 @@
-use Rattle.spv_actions.proofs.PassingLemmas.{Begins}
-use Rattle.spv_actions.proofs.calls.frame_of.Given as goal
-
--- the parameters so far have their arguments
-abbrev pub invariant-loop-number : goal.invariant-loop-number
-invariant-loop-number l = Begins l.site l.function l.number l.frame

@@ -1,5 +1,0 @@
-use Rattle.spv_actions.proofs.ConstituentLemmas.{Gathers}
-use Rattle.spv_actions.proofs.computing_composites.constituents.Given as goal
-
-abbrev pub invariant-loop-n : goal.invariant-loop-n
-invariant-loop-n l = Gathers l.site l.values.items l.n

@@ -1,7 +1,0 @@
-use Rattle.spv_results.specs.Operands.{known}
-use Rattle.spv_actions.proofs.CompositeLemmas.{logical_data}
-use Rattle.spv_actions.proofs.PointerLemmas.{logical_rule}
-use Rattle.spv_actions.proofs.computing_composites.copy_logical.Goals as goal
-
-pub value-requires : goal.value-requires
-value-requires c = logical_data (known c.args.site.now.program.accepted) c.args.site.now.inst (logical_rule c.args.site.now.program.accepted c.args.site.now.inst c.requires.rule c.requires.operation)

@@ -1,5 +1,0 @@
-use Rattle.std.proofs.Common.{◌≡◌, take}
-use Rattle.spv_actions.proofs.computing_composites.parts.Given as goal
-
-abbrev pub invariant-loop-datum : goal.invariant-loop-datum
-invariant-loop-datum l = l.parts.items ≡ take l.datum-index l.values

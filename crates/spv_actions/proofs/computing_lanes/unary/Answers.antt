@@ -1,6 +1,0 @@
-use Rattle.spv_results.specs.Operands.{known}
-use Rattle.spv_actions.proofs.DataLemmas.{lane_operands, unary_has}
-use Rattle.spv_actions.proofs.computing_lanes.unary.Goals as goal
-
-pub value-requires : goal.value-requires
-value-requires c = (lane_operands (known c.args.site.now.program.accepted) c.args.site.now.inst 1 (unary_has c.args.site.now.inst.op c.args.operation c.requires.0) c.requires.1).1

@@ -1,5 +1,0 @@
-use Rattle.spv_actions.proofs.BarrierLemmas.{fence_next}
-use Rattle.spv_actions.proofs.kept.fence_is_kept.Goals as goal
-
-pub returns : goal.returns
-returns c = fence_next c.instructions_keep_their_rules.ensures.each c.args.site.now c.accepted.result.now c.accepted.ensures c.insts-insts.ensures.accepted c.insts-insts.ensures.valid c.is_reached.ensures c.requires

@@ -1,0 +1,5 @@
+mod DataLemmas
+mod CompositeLemmas
+mod ConstituentLemmas
+mod ActionLemmas
+pub mod Exports

@@ -1,0 +1,15 @@
+use Rattle.spv_results.specs.Operands.{known}
+use Rattle.spv_computing.proofs.DataLemmas.{insert_has, lane_operands}
+use Rattle.spv_computing.proofs.computing_lanes.insert_field.Goals as goal
+
+pub value-requires : goal.value-requires
+value-requires c = (lane_operands (known c.args.site.now.program.accepted) c.args.site.now.inst 4 (insert_has c.args.site.now.inst.op c.requires.0) c.requires.1).0.0.0.1
+
+pub value-requires-2 : goal.value-requires-2
+value-requires-2 c = (lane_operands (known c.args.site.now.program.accepted) c.args.site.now.inst 4 (insert_has c.args.site.now.inst.op c.requires.0) c.requires.1).0.0.1
+
+pub value-requires-3 : goal.value-requires-3
+value-requires-3 c = (lane_operands (known c.args.site.now.program.accepted) c.args.site.now.inst 4 (insert_has c.args.site.now.inst.op c.requires.0) c.requires.1).0.1
+
+pub value-requires-4 : goal.value-requires-4
+value-requires-4 c = (lane_operands (known c.args.site.now.program.accepted) c.args.site.now.inst 4 (insert_has c.args.site.now.inst.op c.requires.0) c.requires.1).1

@@ -1,0 +1,11 @@
+mod ParameterLemmas
+mod WithinLemmas
+mod CallLemmas
+mod PassingLemmas
+mod EnterLemmas
+mod ControlCodes
+mod TargetLemmas
+mod PhiLemmas
+mod SwitchLemmas
+mod BranchLemmas
+mod BarrierLemmas

@@ -1,5 +1,0 @@
-use Rattle.std.specs.Prelude.{[]}
-use Rattle.spv_journal.proofs.marks.no_path.Given as goal
-
-abbrev pub ghost-of : goal.ghost-of
-ghost-of a = []

@@ -1,0 +1,7 @@
+mod Spending
+mod Transcripts
+mod Pieces
+mod Cuts
+mod Runs
+mod Splits
+mod Offerings

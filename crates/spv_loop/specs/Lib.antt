@@ -1,0 +1,9 @@
+pub mod Limits
+pub mod Lines
+pub mod Streams
+pub mod Offers
+pub mod Transcript
+pub mod CommandLoop
+pub mod Stops
+pub mod FileStatus
+pub mod StatusNumbers

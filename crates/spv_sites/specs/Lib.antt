@@ -1,0 +1,15 @@
+pub mod Effects
+pub mod Accesses
+pub mod Calls
+pub mod Chains
+pub mod Lengths
+pub mod Phis
+pub mod Branches
+pub mod Atomics
+pub mod Barriers
+pub mod Instructions
+pub mod Fits
+pub mod Kept
+pub mod Planned
+pub mod Targets
+pub mod Sites

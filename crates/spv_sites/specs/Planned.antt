@@ -1,0 +1,73 @@
+-- An effect that was worked out, with the row in which its value lies.
+use Rattle.std.specs.Prelude.{◌≡◌, ℕ, map, Option, Some, None, Result, Ok, Err, ⊤}
+use Rattle.std.specs.Option.{option_map}
+use Rattle.spv_base.specs.declared.causes.Fail.{Fail}
+use Rattle.spv_base.specs.declared.causes.Fail.TheVariants.{Refused, NoMemory}
+use Rattle.spv_base.specs.declared.instructions.Inst.{Inst}
+use Rattle.spv_base.specs.declared.values.Pointer.{Pointer as Reference}
+use Rattle.spv_base.specs.declared.values.Value.{Value, Ptr, Scalar, out-Value}
+use Rattle.spv_types.specs.Shapes.{pointer_in}
+use Rattle.spv_mem.specs.Memory.{load_of}
+use Rattle.spv_state.specs.Program.{Program}
+use Rattle.spv_state.specs.State.{State}
+use Rattle.spv_sites.specs.Effects as spec
+use Rattle.spv_sites.specs.Fits.{Fits}
+use Rattle.spv_sites.specs.declared.causes.Cause.{Cause}
+use Rattle.spv_sites.specs.declared.effects.Control.{Control}
+use Rattle.spv_sites.specs.declared.effects.Control.TheVariants.{Next, Jump, Enter, Leave, Give, Wait}
+use Rattle.spv_sites.specs.declared.effects.Effect.{Effect}
+use Rattle.spv_sites.specs.declared.effects.Gain.{Gain}
+use Rattle.spv_sites.specs.declared.effects.Gain.TheVariants.{Nothing, Row, Pointer, Handed}
+use Rattle.spv_sites.specs.declared.effects.PhiValue.{PhiValue}
+
+abbrev pub gained : Gain → Value → Option Value
+gained Nothing v = None
+gained Row v = Some v
+gained (Pointer b) v = Some (Ptr b.value)
+gained (Handed c) v = Some (Scalar c)
+
+abbrev pub phi_value : PhiValue → ℕ × Value
+phi_value p = (p.id, p.row)
+
+abbrev pub gone : Control → Value → spec.Control
+gone Next v = spec.Next
+gone (Jump block phis) v = spec.Jump block (map phi_value phis.items)
+gone (Enter b) v = spec.Enter b.value.frame b.value.locals
+gone Leave v = spec.Leave None
+gone Give v = spec.Leave (Some v)
+gone Wait v = spec.Wait
+
+abbrev pub shown : Effect → Value → spec.Effect
+shown e v = record { store = option_map (λ q. (q, v)) e.store; result = gained e.gain v; control = gone e.control v }
+
+-- the effect that is due, or why it faults; or memory ran out
+abbrev pub IsDue : Result spec.Effect Cause → Value → Result Effect (Fail Cause) → Type 0
+IsDue due v (Ok e) = due ≡ Ok (shown e v)
+IsDue due v (Err (Refused cause)) = due ≡ Err cause
+IsDue due v (Err NoMemory) = ⊤
+
+abbrev pub PlannedFits : Program → State → ℕ → Inst → Value → Result Effect (Fail Cause) → Type 0
+PlannedFits p s i d v (Ok e) = Fits p s i d (shown e v)
+PlannedFits p s i d v (Err error) = ⊤
+
+-- What a register takes from the row is no pointer, and the store hasn't changed the row before; or it takes the scalar that was there.
+abbrev pub IsGained : State → ℕ → Option Reference → Gain → Value → Type 0
+IsGained s i store Nothing v = ⊤
+IsGained s i None Row v = pointer_in (out-Value v) ≡ None
+IsGained s i (Some q) Row v = ⊥
+IsGained s i store (Pointer b) v = ⊤
+IsGained s i None (Handed c) v = ⊥
+IsGained s i (Some q) (Handed c) v = load_of s.memory i q ≡ Some (Scalar c)
+
+-- what a function gives lies in the row alone
+abbrev pub IsGiven : Control → Option Reference → Gain → Type 0
+IsGiven Next store gain = ⊤
+IsGiven (Jump block phis) store gain = ⊤
+IsGiven (Enter b) store gain = ⊤
+IsGiven Leave store gain = ⊤
+IsGiven Give store gain = (store ≡ None) × (gain ≡ Nothing)
+IsGiven Wait store gain = ⊤
+
+-- the row is taken once
+abbrev pub IsTaken : State → ℕ → Effect → Value → Type 0
+IsTaken s i e v = IsGained s i e.store e.gain v × IsGiven e.control e.store e.gain

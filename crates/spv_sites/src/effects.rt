@@ -1,0 +1,62 @@
+//! What an instruction does to a world, before any of it is done.
+
+use crate::targets::Target;
+use spv_base::{Cell, Pointer};
+use spv_frame::Frame;
+use spv_mem::Locals;
+use spv_values::Row;
+
+/// The value that a phi takes.
+#[derive(Drop)]
+pub struct PhiValue {
+    pub id: u32,
+    pub row: Row,
+}
+
+/// A frame that a call makes, with its variables.
+#[derive(Drop)]
+pub struct Entered {
+    pub frame: Frame,
+    pub locals: Locals,
+}
+
+/// Where control goes.
+#[derive(Drop)]
+pub enum Control {
+    /// To the next executable of the block.
+    Next,
+    /// To a block of the function, whose phis all take their values at once.
+    Jump { block: u32, phis: Vec<PhiValue> },
+    /// Into a function: a frame with its variables, above the one that calls. It is boxed, so that an effect is small.
+    Enter(Box<Entered>),
+    /// Out of the function, which gives nothing.
+    Leave,
+    /// Out of the function, which gives the value in the row at hand.
+    Give,
+    /// Nowhere: the invocation waits at the barrier.
+    Wait,
+}
+
+/// What the register of the instruction takes.
+#[derive(Drop)]
+pub enum Gain {
+    Nothing,
+    /// The value in the row at hand.
+    Row,
+    /// A pointer, boxed as a new frame is.
+    Pointer(Box<Pointer>),
+    /// The scalar that the store hands back.
+    Handed(Cell),
+}
+
+/// What an instruction does. A value that it stores, that its register takes or that it gives lies in a row beside it.
+#[derive(Drop)]
+pub struct Effect {
+    /// Where memory is set.
+    pub store: Option<Target>,
+    pub gain: Gain,
+    pub control: Control,
+}
+
+/// An effect is moved twice an event.
+const _: () = prove!(size_of::<Effect>() <= 96);

@@ -1,0 +1,7 @@
+mod LawLemmas
+mod EntryLemmas
+mod StoreLemmas
+mod ReachLemmas
+mod CellLemmas
+mod UndoLemmas
+pub mod Exports

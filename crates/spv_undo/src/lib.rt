@@ -1,0 +1,7 @@
+//! What undoes the primitive changes of a state.
+#![tactic(auto)]
+
+pub mod entries;
+pub mod undoing;
+
+pub use entries::Entry;
