@@ -7,5 +7,7 @@ mod PlaceLemmas
 mod GrammarLemmas
 mod RowLemmas
 mod KeywordLemmas
+mod CutLemmas
+mod CommandLemmas
 mod DueLemmas
 mod LineLemmas

@@ -20,9 +20,9 @@ use Rattle.spv_cmd.specs.declared.command.Command.TheVariants as command
 use Rattle.spv_line.specs.Words.{is_space, is_other, words_in}
 use Rattle.spv_cmd.specs.Paths.{is_name, is_name_byte, is_part, is_path, part_text, parts_text, path_text}
 use Rattle.spv_cmd.specs.Places.{is_place, place_text}
-use Rattle.spv_cmd.specs.Grammar.{row, spelling, Means, AreWords, IsLine}
-use Rattle.spv_cmd.specs.Grammar.Arguments.{none, number, count, path, place}
-use Rattle.spv_cmd.specs.Lines.{written, HasForm, line_of}
+use Rattle.spv_cmd.specs.Grammar.{Arguments, row, spelling, Means, AreWords, IsLine}
+use Rattle.spv_cmd.specs.Grammar.Arguments.{none, number, positive, count, path, place}
+use Rattle.spv_cmd.specs.Lines.{Written, blank, alone, with_number, with_count, with_path, with_place, written, text_of, HasForm, line_of}
 use Rattle.spv_cmd.proofs.BoolLemmas.{all_also}
 use Rattle.spv_line.proofs.Exports.{some_word, decimal_digits, decimal_some}
 use Rattle.spv_line.specs.Numbers.{is_digit}
@@ -123,40 +123,103 @@ number_line k make n e h = argument_line k (make n) (decimal n) (decimal_whole n
 count_line : (k : Keyword) (make : ℕ → Command) (n : ℕ) → (row k).1 ≡ count make → (1 ≤ n) × (n ≤ 4294967295) → IsLine (spelling k ++ 32 ∷ decimal n) (make n)
 count_line k make n e h = argument_line k (make n) (decimal n) (decimal_whole n h.1) (decimal_some n h.1) (short_number k n h.1) (subst (λ a. Means a (decimal n ∷ []) (make n)) (sym e) (n, refl, inr (h.0, (decimal n, refl, number_decimal n h.1))))
 
+positive_line : (k : Keyword) (make : ℕ → Command) (n : ℕ) → (row k).1 ≡ positive make → (1 ≤ n) × (n ≤ 4294967295) → IsLine (spelling k ++ 32 ∷ decimal n) (make n)
+positive_line k make n e h = argument_line k (make n) (decimal n) (decimal_whole n h.1) (decimal_some n h.1) (short_number k n h.1) (subst (λ a. Means a (decimal n ∷ []) (make n)) (sym e) (n, refl, (h.0, (decimal n, refl, number_decimal n h.1))))
+
 path_line : (k : Keyword) (make : PathText → Command) (p : PathText) → (row k).1 ≡ path make → length (spelling k) ≤ 5 → (is_path p ≡ true) × (length (path_text p) ≤ 4090) → IsLine (spelling k ++ 32 ∷ path_text p) (make p)
 path_line k make p e five h = argument_line k (make p) (path_text p) (path_whole p h.0).0 (path_whole p h.0).1 (omega (arith, five, h.1)) (subst (λ a. Means a (path_text p ∷ []) (make p)) (sym e) (p, refl, (path_text p, refl, path_again p h.0)))
 
 place_line : (k : Keyword) (make : Option (List ℕ) × ℕ → Command) (p : Option (List ℕ) × ℕ) → (row k).1 ≡ place make → length (spelling k) ≤ 5 → (is_place p ≡ true) × (length (place_text p) ≤ 4090) → IsLine (spelling k ++ 32 ∷ place_text p) (make p)
 place_line k make p e five h = argument_line k (make p) (place_text p) (place_whole p h.0).0 (place_whole p h.0).1 (omega (arith, five, h.1)) (subst (λ a. Means a (place_text p ∷ []) (make p)) (sym e) (p, refl, (place_text p, refl, place_again p h.0)))
 
+-- ---- what is written of a command, by the row of its keyword
+
+abbrev alone_made : Arguments → Option Command
+alone_made (none it) = Some it
+alone_made _ = None
+
+abbrev number_made : ℕ → Arguments → Option Command
+number_made n (number make) = Some (make n)
+number_made n _ = None
+
+abbrev count_made : ℕ → Arguments → Option Command
+count_made n (positive make) = Some (make n)
+count_made n (count make) = Some (make n)
+count_made n _ = None
+
+abbrev path_made : PathText → Arguments → Option Command
+path_made p (path make) = Some (make p)
+path_made p _ = None
+
+abbrev place_made : Option (List ℕ) × ℕ → Arguments → Option Command
+place_made p (place make) = Some (make p)
+place_made p _ = None
+
+abbrev made : Written → Option Command
+made blank = Some command.Empty
+made (alone k) = alone_made (row k).1
+made (with_number k n) = number_made n (row k).1
+made (with_count k n) = count_made n (row k).1
+made (with_path k p) = path_made p (row k).1
+made (with_place k p) = place_made p (row k).1
+
+made_again : (it : Command) → made (written it) ≡ Some it
+made_again = grind arith
+
+-- a path or a place stands behind a word of at most 5 bytes
+path_short : (k : Keyword) (p : PathText) (it : Command) → path_made p (row k).1 ≡ Some it → length (spelling k) ≤ 5
+path_short = grind arith
+
+place_short : (k : Keyword) (p : Option (List ℕ) × ℕ) (it : Command) → place_made p (row k).1 ≡ Some it → length (spelling k) ≤ 5
+place_short = grind arith
+
+alone_again : (k : Keyword) (a : Arguments) (it : Command) → (row k).1 ≡ a → alone_made a ≡ Some it → IsLine (spelling k) it
+alone_again k (none that) it e h = let same : that ≡ it = cc in alone_line k it (e ∙ ap none same)
+alone_again k (number make) it e h = absurd (cc)
+alone_again k (positive make) it e h = absurd (cc)
+alone_again k (count make) it e h = absurd (cc)
+alone_again k (path make) it e h = absurd (cc)
+alone_again k (place make) it e h = absurd (cc)
+
+number_again : (k : Keyword) (n : ℕ) (a : Arguments) (it : Command) → (row k).1 ≡ a → number_made n a ≡ Some it → n ≤ 4294967295 → IsLine (spelling k ++ 32 ∷ decimal n) it
+number_again k n (number make) it e h l = let same : make n ≡ it = cc in subst (IsLine (spelling k ++ 32 ∷ decimal n)) same (number_line k make n e l)
+number_again k n (none that) it e h l = absurd (cc)
+number_again k n (positive make) it e h l = absurd (cc)
+number_again k n (count make) it e h l = absurd (cc)
+number_again k n (path make) it e h l = absurd (cc)
+number_again k n (place make) it e h l = absurd (cc)
+
+count_again : (k : Keyword) (n : ℕ) (a : Arguments) (it : Command) → (row k).1 ≡ a → count_made n a ≡ Some it → (1 ≤ n) × (n ≤ 4294967295) → IsLine (spelling k ++ 32 ∷ decimal n) it
+count_again k n (positive make) it e h l = let same : make n ≡ it = cc in subst (IsLine (spelling k ++ 32 ∷ decimal n)) same (positive_line k make n e l)
+count_again k n (count make) it e h l = let same : make n ≡ it = cc in subst (IsLine (spelling k ++ 32 ∷ decimal n)) same (count_line k make n e l)
+count_again k n (none that) it e h l = absurd (cc)
+count_again k n (number make) it e h l = absurd (cc)
+count_again k n (path make) it e h l = absurd (cc)
+count_again k n (place make) it e h l = absurd (cc)
+
+text_again : (k : Keyword) (p : PathText) (a : Arguments) (it : Command) → (row k).1 ≡ a → path_made p a ≡ Some it → length (spelling k) ≤ 5 → (is_path p ≡ true) × (length (path_text p) ≤ 4090) → IsLine (spelling k ++ 32 ∷ path_text p) it
+text_again k p (path make) it e h five l = let same : make p ≡ it = cc in subst (IsLine (spelling k ++ 32 ∷ path_text p)) same (path_line k make p e five l)
+text_again k p (none that) it e h five l = absurd (cc)
+text_again k p (number make) it e h five l = absurd (cc)
+text_again k p (positive make) it e h five l = absurd (cc)
+text_again k p (count make) it e h five l = absurd (cc)
+text_again k p (place make) it e h five l = absurd (cc)
+
+source_again : (k : Keyword) (p : Option (List ℕ) × ℕ) (a : Arguments) (it : Command) → (row k).1 ≡ a → place_made p a ≡ Some it → length (spelling k) ≤ 5 → (is_place p ≡ true) × (length (place_text p) ≤ 4090) → IsLine (spelling k ++ 32 ∷ place_text p) it
+source_again k p (place make) it e h five l = let same : make p ≡ it = cc in subst (IsLine (spelling k ++ 32 ∷ place_text p)) same (place_line k make p e five l)
+source_again k p (none that) it e h five l = absurd (cc)
+source_again k p (number make) it e h five l = absurd (cc)
+source_again k p (positive make) it e h five l = absurd (cc)
+source_again k p (count make) it e h five l = absurd (cc)
+source_again k p (path make) it e h five l = absurd (cc)
+
+written_line : (w : Written) (it : Command) → made w ≡ Some it → HasForm w → IsLine (text_of w) it
+written_line blank it e h = let same : it ≡ command.Empty = cc in (omega arith, same)
+written_line (alone k) it e h = alone_again k (row k).1 it refl e
+written_line (with_number k n) it e h = number_again k n (row k).1 it refl e h
+written_line (with_count k n) it e h = count_again k n (row k).1 it refl e h
+written_line (with_path k p) it e h = text_again k p (row k).1 it refl e (path_short k p it e) h
+written_line (with_place k p) it e h = source_again k p (row k).1 it refl e (place_short k p it e) h
+
 pub line_again : (it : Command) → HasForm (written it) → IsLine (line_of it) it
-line_again command.Empty h = (omega arith, refl)
-line_again (command.Goto n) h = number_line the.Goto command.Goto n refl h
-line_again (command.Fwd n) h = count_line the.Fwd command.Fwd n refl h
-line_again (command.Back n) h = count_line the.Back command.Back n refl h
-line_again (command.Stepi n) h = count_line the.Stepi command.Stepi n refl h
-line_again (command.Rstepi n) h = count_line the.Rstepi command.Rstepi n refl h
-line_again command.Step h = alone_line the.Step command.Step refl
-line_again command.Next h = alone_line the.Next command.Next refl
-line_again command.Finish h = alone_line the.Finish command.Finish refl
-line_again command.Rstep h = alone_line the.Rstep command.Rstep refl
-line_again command.Rnext h = alone_line the.Rnext command.Rnext refl
-line_again command.Rfinish h = alone_line the.Rfinish command.Rfinish refl
-line_again command.Continue h = alone_line the.Continue command.Continue refl
-line_again command.Rcontinue h = alone_line the.Rcontinue command.Rcontinue refl
-line_again command.Place h = alone_line the.Where command.Place refl
-line_again command.Group h = alone_line the.Group command.Group refl
-line_again (command.Focus n) h = number_line the.Focus command.Focus n refl h
-line_again command.Bt h = alone_line the.Bt command.Bt refl
-line_again (command.Frame n) h = number_line the.Frame command.Frame n refl h
-line_again command.Locals h = alone_line the.Locals command.Locals refl
-line_again command.Globals h = alone_line the.Globals command.Globals refl
-line_again (command.Print p) h = path_line the.Print command.Print p refl (lit≤ tt) h
-line_again command.Regs h = alone_line the.Regs command.Regs refl
-line_again command.List h = alone_line the.List command.List refl
-line_again (command.Break p) h = place_line the.Break command.Break p refl (lit≤ tt) h
-line_again (command.Delete n) h = number_line the.Delete command.Delete n refl h
-line_again (command.Watch p) h = path_line the.Watch command.Watch p refl (lit≤ tt) h
-line_again (command.Unwatch n) h = number_line the.Unwatch command.Unwatch n refl h
-line_again command.Info h = alone_line the.Info command.Info refl
-line_again command.Quit h = alone_line the.Quit command.Quit refl
+line_again it h = written_line (written it) it (made_again it) h

@@ -19,10 +19,10 @@ use Rattle.spv_line.specs.Numbers.{is_digit}
 
 -- ---- bytes that begin no part
 
-abbrev unmarked : ℕ → Bool
+abbrev pub unmarked : ℕ → Bool
 unmarked b = not (is_mark b)
 
-name_unmarked : (b : ℕ) → is_name_byte b ≡ true → unmarked b ≡ true
+pub name_unmarked : (b : ℕ) → is_name_byte b ≡ true → unmarked b ≡ true
 name_unmarked b h =
     let one = and_parts _ _ h in
     let two = and_parts _ _ one.1 in
@@ -58,10 +58,10 @@ mark_place (x ∷ front) rest h begins =
     ap (λ b. cond b (1 + position_or_len is_mark (front ++ rest)) 0) both.0 ∙ more
 
 -- a part is a mark, and bytes that begin no part
-IsMarked : List ℕ → Type 0
+unfoldable pub IsMarked : List ℕ → Type 0
 IsMarked text = (b : ℕ) × (tail : List ℕ) × (text ≡ b ∷ tail) × (is_mark b ≡ true) × (list_all unmarked tail ≡ true)
 
-part_marked : (part : PathPart) (text : List ℕ) → IsPart part text → IsMarked text
+pub part_marked : (part : PathPart) (text : List ℕ) → IsPart part text → IsMarked text
 unfolding IsMarked
 part_marked (Member name) text h = (46, name, h.0, refl, all_also is_name_byte unmarked name_unmarked name (name_parts name h.1).1)
 part_marked (Index n) text h =
@@ -209,7 +209,3 @@ part_complete text rest first after done part n some k front back h complete ps 
         let here : IsPart other first = subst (IsPart other) (sym (front ∙ cut.0)) h'.3 in
         let same : other ≡ part = one_part other part first here h in
         (qs, subst (AreParts qs) (sym (back ∙ cut.1)) h'.4, e ∙ ap (λ p. done ++ p ∷ qs) same ∙ sym (append_assoc done (part ∷ []) qs))
-
--- a part has a byte
-pub part_some : (part : PathPart) (text : List ℕ) → IsPart part text → ¬ (text ≡ [])
-part_some part text h e = no_part_empty text e part h

@@ -1,5 +1,6 @@
 -- What is due to a line: its command, or a refusal with its cause.
-use Rattle.std.specs.Prelude.{◌≡◌, ◌≢◌, ℕ, ◌+◌, ◌<◌, ◌≤◌, ◌⊎◌, List, [], ◌∷◌, length, Option, Some, None, Result, Ok, Err}
+use Rattle.std.specs.Prelude.{◌≡◌, ◌≢◌, ℕ, ◌+◌, ◌<◌, ◌≤◌, ◌⊎◌, List, [], ◌∷◌, length, Bool, Option, find, Result, Ok, Err}
+use Rattle.std.specs.Str.{bytes_eq}
 use Rattle.spv_base.specs.declared.causes.Fail.{Fail}
 use Rattle.spv_base.specs.declared.causes.Fail.TheVariants.{Refused, NoMemory}
 use Rattle.spv_base.specs.declared.causes.CmdRefusal.{CmdRefusal}
@@ -42,6 +43,15 @@ IsAnswer line (Ok command) = IsLine line command
 IsAnswer line (Err (Refused refusal)) = IsRefused line refusal.code
 IsAnswer line (Err NoMemory) = Unit {0}
 
+-- ---- the table of keywords
+
+-- a row: a keyword, how it is written, and whether its command is built
+abbrev pub Row : Type 0
+Row = Keyword × List ℕ × Bool
+
+abbrev pub row_with : List ℕ → List Row → Option Row
+row_with word rows = find (λ r. bytes_eq r.1 word) rows
+
 -- ---- what a line begins with
 
 -- why the first word is refused: the line is too long (C11), or the word is no keyword (C1)
@@ -50,14 +60,9 @@ IsFirstRefused line code =
     ((code ≡ 11) × (4096 < length line))
     ⊎ ((code ≡ 1) × (length line ≤ 4096) × (word : List ℕ) × (words : List (List ℕ)) × (words_in line ≡ word ∷ words) × IsNoKeyword word)
 
--- a line begins with a keyword, or has no word
-abbrev pub BeginsWith : List ℕ → Option Keyword → Type 0
-BeginsWith line None = (length line ≤ 4096) × (words_in line ≡ [])
-BeginsWith line (Some keyword) = (length line ≤ 4096) × (words : List (List ℕ)) × (words_in line ≡ spelling keyword ∷ words)
-
-abbrev pub Begins : List ℕ → Result (Option Keyword) CmdRefusal → Type 0
-Begins line (Ok first) = BeginsWith line first
-Begins line (Err refusal) = IsFirstRefused line refusal.code
+-- the line has no word
+abbrev pub IsBlank : List ℕ → Type 0
+IsBlank line = (length line ≤ 4096) × (words_in line ≡ [])
 
 -- a line is split in its keyword and what stands behind it
 pub record IsSplit (line : List ℕ) (keyword : Keyword) (rest : List ℕ) : Type 0 where

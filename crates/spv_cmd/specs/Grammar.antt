@@ -1,5 +1,6 @@
 -- The grammar of command lines, by rows: a command's word, what its arguments are, and what it means.
-use Rattle.std.specs.Prelude.{◌≡◌, ℕ, ◌≤◌, ◌⊎◌, List, [], ◌∷◌, length, codes, Option, Some}
+use Rattle.std.specs.Prelude.{◌≡◌, ℕ, ◌≤◌, ◌⊎◌, Bool, List, [], ◌∷◌, length, find, codes, Option, Some, is_some}
+use Rattle.std.specs.Str.{bytes_eq}
 use Rattle.spv_cmd.specs.declared.keywords.Keyword.{Keyword}
 use Rattle.spv_cmd.specs.declared.keywords.Keyword.TheVariants as the
 use Rattle.spv_cmd.specs.declared.command.PathText.{PathText}
@@ -14,7 +15,9 @@ use Rattle.spv_cmd.specs.Places.{IsPlace}
 pub data Arguments : Type 0 where
   none : Command → Arguments
   number : (ℕ → Command) → Arguments
-  -- a number of at least 1, or nothing, which means 1
+  -- a number of at least 1
+  positive : (ℕ → Command) → Arguments
+  -- the same, or nothing, which means 1
   count : (ℕ → Command) → Arguments
   path : (PathText → Command) → Arguments
   -- a line of a source file
@@ -24,8 +27,8 @@ pub data Arguments : Type 0 where
 
 abbrev pub row : Keyword → List ℕ × Arguments
 row the.Goto = (codes "goto", number command.Goto)
-row the.Fwd = (codes "fwd", count command.Fwd)
-row the.Back = (codes "back", count command.Back)
+row the.Fwd = (codes "fwd", positive command.Fwd)
+row the.Back = (codes "back", positive command.Back)
 row the.Stepi = (codes "stepi", count command.Stepi)
 row the.Rstepi = (codes "rstepi", count command.Rstepi)
 row the.Step = (codes "step", none command.Step)
@@ -56,6 +59,19 @@ row the.Quit = (codes "quit", none command.Quit)
 abbrev pub spelling : Keyword → List ℕ
 spelling keyword = (row keyword).0
 
+-- ---- the commands that are built
+
+-- their keywords; the word of another is no command so far
+abbrev pub built : List Keyword
+built = the.Goto ∷ the.Fwd ∷ the.Back ∷ the.Group ∷ the.Focus ∷ the.Regs ∷ the.Quit ∷ []
+
+-- the keyword among these that a word is
+abbrev pub keyword_in : List Keyword → List ℕ → Option Keyword
+keyword_in keywords word = find (λ keyword. bytes_eq word (spelling keyword)) keywords
+
+abbrev pub is_built : List ℕ → Bool
+is_built word = is_some (keyword_in built word)
+
 -- ---- what a line means
 
 -- the words are one, and it is so
@@ -65,13 +81,17 @@ IsOne P words = (word : List ℕ) × (words ≡ word ∷ []) × P word
 abbrev pub IsNumber : List (List ℕ) → ℕ → Type 0
 IsNumber words n = IsOne (λ word. number_of word ≡ Some n) words
 
+abbrev pub IsPositive : List (List ℕ) → ℕ → Type 0
+IsPositive words n = (1 ≤ n) × IsNumber words n
+
 abbrev pub IsCount : List (List ℕ) → ℕ → Type 0
-IsCount words n = ((words ≡ []) × (n ≡ 1)) ⊎ ((1 ≤ n) × IsNumber words n)
+IsCount words n = ((words ≡ []) × (n ≡ 1)) ⊎ IsPositive words n
 
 -- with these arguments, the words after the command's own mean this command
 abbrev pub Means : Arguments → List (List ℕ) → Command → Type 0
 Means (none it) words that = (words ≡ []) × (that ≡ it)
 Means (number make) words that = (n : ℕ) × (that ≡ make n) × IsNumber words n
+Means (positive make) words that = (n : ℕ) × (that ≡ make n) × IsPositive words n
 Means (count make) words that = (n : ℕ) × (that ≡ make n) × IsCount words n
 Means (path make) words that = (p : PathText) × (that ≡ make p) × IsOne (IsPath p) words
 Means (place make) words that = (p : Option (List ℕ) × ℕ) × (that ≡ make p) × IsOne (IsPlace p) words

@@ -4,3 +4,4 @@ pub mod Places
 pub mod Grammar
 pub mod Answers
 pub mod Lines
+pub mod Commands

@@ -3,7 +3,7 @@ ghost use Rattle.std.specs.Prelude.{◌≤◌, length};
 ghost use Rattle.spv_line.specs.Words.{words_in};
 ghost use Rattle.spv_cmd.specs.Paths.{IsPath};
 ghost use Rattle.spv_cmd.specs.Places.{IsPlace};
-ghost use Rattle.spv_cmd.specs.Grammar.{IsOne, IsNumber, IsCount, Means};
+ghost use Rattle.spv_cmd.specs.Grammar.{IsOne, IsNumber, IsPositive, IsCount, Means};
 ghost use Rattle.spv_cmd.specs.Grammar.Arguments.{none};
 ghost use Rattle.spv_cmd.specs.Answers.{Reads};
 
@@ -37,6 +37,17 @@ pub fn number(arguments: &[u8]) -> Result<u32, Fail<CmdRefusal>>
     }
 }
 
+/// A number of at least 1.
+pub fn positive(arguments: &[u8]) -> Result<Count, Fail<CmdRefusal>>
+    ensures { Reads (IsPositive (words_in arguments.now)) result }
+{
+    let number = number(arguments)?;
+    if number == 0 {
+        return Err(WRONG_ARGUMENTS);
+    }
+    Ok(Count::new(number))
+}
+
 /// A number of at least 1, or nothing, which means 1.
 pub fn count(arguments: &[u8]) -> Result<Count, Fail<CmdRefusal>>
     ensures { Reads (IsCount (words_in arguments.now)) result }
@@ -44,11 +55,7 @@ pub fn count(arguments: &[u8]) -> Result<Count, Fail<CmdRefusal>>
     if next_word(arguments).is_none() {
         return Ok(Count::new(1));
     }
-    let number = number(arguments)?;
-    if number == 0 {
-        return Err(WRONG_ARGUMENTS);
-    }
-    Ok(Count::new(number))
+    positive(arguments)
 }
 
 /// A path.

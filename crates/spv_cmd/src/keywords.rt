@@ -1,7 +1,9 @@
 //! The words that commands begin with.
-ghost use Rattle.std.specs.Prelude.{◌≡◌, ◌≢◌, MatchOption};
+ghost use Rattle.std.specs.Prelude.{◌≡◌, ◌≢◌, MatchOption, map};
+ghost use Rattle.std.specs.Option.{option_map};
 ghost use Rattle.spv_cmd.specs.declared.keywords.Keyword.{Keyword as AnyKeyword};
-ghost use Rattle.spv_cmd.specs.Grammar.{spelling};
+ghost use Rattle.spv_cmd.specs.Answers.{row_with};
+ghost use Rattle.spv_cmd.specs.Grammar.{spelling, is_built};
 
 /// The word that a command begins with: the variant's name in small letters.
 #[derive(Clone, Copy)]
@@ -66,86 +68,70 @@ pub enum Keyword {
     Quit,
 }
 
-/// All of them, in this order.
-const KEYWORDS: [Keyword; 29] = [
-    Keyword::Goto,
-    Keyword::Fwd,
-    Keyword::Back,
-    Keyword::Stepi,
-    Keyword::Rstepi,
-    Keyword::Step,
-    Keyword::Next,
-    Keyword::Finish,
-    Keyword::Rstep,
-    Keyword::Rnext,
-    Keyword::Rfinish,
-    Keyword::Continue,
-    Keyword::Rcontinue,
-    Keyword::Where,
-    Keyword::Group,
-    Keyword::Focus,
-    Keyword::Bt,
-    Keyword::Frame,
-    Keyword::Locals,
-    Keyword::Globals,
-    Keyword::Print,
-    Keyword::Regs,
-    Keyword::List,
-    Keyword::Break,
-    Keyword::Delete,
-    Keyword::Watch,
-    Keyword::Unwatch,
-    Keyword::Info,
-    Keyword::Quit,
+/// A keyword, how it is written, and whether its command is built.
+type Row = (Keyword, &'static [u8], bool);
+
+/// All of them, in the order above.
+const ROWS: [Row; 29] = [
+    (Keyword::Goto, b"goto", true),
+    (Keyword::Fwd, b"fwd", true),
+    (Keyword::Back, b"back", true),
+    (Keyword::Stepi, b"stepi", false),
+    (Keyword::Rstepi, b"rstepi", false),
+    (Keyword::Step, b"step", false),
+    (Keyword::Next, b"next", false),
+    (Keyword::Finish, b"finish", false),
+    (Keyword::Rstep, b"rstep", false),
+    (Keyword::Rnext, b"rnext", false),
+    (Keyword::Rfinish, b"rfinish", false),
+    (Keyword::Continue, b"continue", false),
+    (Keyword::Rcontinue, b"rcontinue", false),
+    (Keyword::Where, b"where", false),
+    (Keyword::Group, b"group", true),
+    (Keyword::Focus, b"focus", true),
+    (Keyword::Bt, b"bt", false),
+    (Keyword::Frame, b"frame", false),
+    (Keyword::Locals, b"locals", false),
+    (Keyword::Globals, b"globals", false),
+    (Keyword::Print, b"print", false),
+    (Keyword::Regs, b"regs", true),
+    (Keyword::List, b"list", false),
+    (Keyword::Break, b"break", false),
+    (Keyword::Delete, b"delete", false),
+    (Keyword::Watch, b"watch", false),
+    (Keyword::Unwatch, b"unwatch", false),
+    (Keyword::Info, b"info", false),
+    (Keyword::Quit, b"quit", true),
 ];
 
 /// How a keyword is written.
 pub fn spelling(keyword: Keyword) -> &'static [u8]
     ensures { result.now ≡ spelling keyword }
 {
-    match keyword {
-        Keyword::Goto => b"goto",
-        Keyword::Fwd => b"fwd",
-        Keyword::Back => b"back",
-        Keyword::Stepi => b"stepi",
-        Keyword::Rstepi => b"rstepi",
-        Keyword::Step => b"step",
-        Keyword::Next => b"next",
-        Keyword::Finish => b"finish",
-        Keyword::Rstep => b"rstep",
-        Keyword::Rnext => b"rnext",
-        Keyword::Rfinish => b"rfinish",
-        Keyword::Continue => b"continue",
-        Keyword::Rcontinue => b"rcontinue",
-        Keyword::Where => b"where",
-        Keyword::Group => b"group",
-        Keyword::Focus => b"focus",
-        Keyword::Bt => b"bt",
-        Keyword::Frame => b"frame",
-        Keyword::Locals => b"locals",
-        Keyword::Globals => b"globals",
-        Keyword::Print => b"print",
-        Keyword::Regs => b"regs",
-        Keyword::List => b"list",
-        Keyword::Break => b"break",
-        Keyword::Delete => b"delete",
-        Keyword::Watch => b"watch",
-        Keyword::Unwatch => b"unwatch",
-        Keyword::Info => b"info",
-        Keyword::Quit => b"quit",
-    }
+    ROWS[keyword as usize].1
 }
 
-/// The keyword that a word is.
-pub fn find_keyword(word: &[u8]) -> Option<Keyword>
-    ensures { MatchOption result ((keyword : AnyKeyword) → word.now ≢ spelling keyword) (λ keyword. word.now ≡ spelling keyword) }
+fn row_in(mut table: &'static [Row], word: &[u8]) -> Option<Row>
+    ensures { option_map (λ r. (r.0, r.1.now, r.2)) result ≡ row_with word.now (map (λ r. (r.0, r.1.now, r.2)) table.entry.now) }
 {
-    for keyword in KEYWORDS {
-        if spelling(keyword) == word {
-            return Some(keyword);
+    while let [row, more @ ..] = table {
+        if row.1 == word {
+            return Some(*row);
         }
+        table = more;
     }
     None
+}
+
+/// The keyword that a word is, and whether its command is built.
+pub fn find_keyword(word: &[u8]) -> Option<(Keyword, bool)>
+    ensures { MatchOption result ((keyword : AnyKeyword) → word.now ≢ spelling keyword)
+        (λ found. (word.now ≡ spelling found.0) × (found.1 ≡ is_built word.now)) }
+{
+    match row_in(&ROWS, word) {
+        None => None,
+        Some(row) => Some((row.0, row.2)),
+    }
 }
 
 /// No two keywords are written alike.

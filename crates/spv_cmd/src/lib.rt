@@ -13,5 +13,5 @@ mod printing;
 pub use command::{BreakPlace, Command, Count, PathPart, PathParts, PathText, ValuePath};
 pub use keywords::{Keyword, keywords_differ};
 pub use numbers::number;
-pub use parsing::{first_keyword, parse};
+pub use parsing::{built_commands_are_commands, parse, parse_built};
 pub use printing::{print, read_again};

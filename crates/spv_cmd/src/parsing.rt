@@ -1,13 +1,14 @@
 //! The command that a line is.
-ghost use Rattle.std.specs.Prelude.{◌<◌, ◌+◌, List, length, Result, None, MatchOption, MatchResult};
+ghost use Rattle.std.specs.Prelude.{◌≡◌, ◌<◌, ◌+◌, ◌⊎◌, ℕ, List, length, Result, Ok, MatchOption, MatchResult};
 ghost use Rattle.spv_base.specs.Answers.{Answers};
 ghost use Rattle.spv_base.specs.declared.causes.CmdRefusal.{CmdRefusal};
-ghost use Rattle.spv_cmd.specs.declared.command.Command.{Command};
+ghost use Rattle.spv_cmd.specs.declared.command.Command.{Command as AnyCommand};
 ghost use Rattle.spv_line.specs.Words.{words_in};
-ghost use Rattle.spv_cmd.specs.Grammar.{row, spelling, Means};
-ghost use Rattle.spv_cmd.specs.Answers.{Reads, IsDue, IsAnswer, IsFirstRefused, BeginsWith, Begins, IsSplit};
+ghost use Rattle.spv_cmd.specs.Commands.{command_of, refused, IsUnknown};
+ghost use Rattle.spv_cmd.specs.Grammar.{row, spelling, is_built, Means, IsLine};
+ghost use Rattle.spv_cmd.specs.Answers.{Reads, IsDue, IsAnswer, IsRefused, IsFirstRefused, IsBlank, IsSplit};
 
-use crate::arguments::{count, none, number, path, place};
+use crate::arguments::{count, none, number, path, place, positive};
 use crate::command::Command;
 use crate::keywords::{Keyword, find_keyword};
 use spv_base::{CmdRefusal, Fail};
@@ -23,10 +24,11 @@ const LONGEST_LINE: usize = 4096;
 /// The line has more than 4,096 bytes.
 const LINE_TOO_LONG: CmdRefusal = CmdRefusal { code: 11 };
 
-/// What a line begins with: the keyword that its first word is, and what stands behind it. A line without words has none.
-fn split(line: &[u8]) -> Result<Option<(Keyword, &[u8])>, CmdRefusal>
+/// What a line begins with: the keyword that its first word is, whether its command is built, and what stands behind it. A line
+/// without words has none.
+fn split(line: &[u8]) -> Result<Option<(Keyword, bool, &[u8])>, CmdRefusal>
     ensures { MatchResult result
-        (λ first. MatchOption first (BeginsWith line.now None) (λ parts. IsSplit line.now parts.0 parts.1.now))
+        (λ first. MatchOption first (IsBlank line.now) (λ parts. IsSplit line.now parts.0 parts.2.now × (parts.1 ≡ is_built (spelling parts.0))))
         (λ refusal. IsFirstRefused line.now refusal.code) }
 {
     if line.len() > LONGEST_LINE {
@@ -36,30 +38,46 @@ fn split(line: &[u8]) -> Result<Option<(Keyword, &[u8])>, CmdRefusal>
         None => Ok(None),
         Some((word, arguments)) => match find_keyword(word) {
             None => Err(UNKNOWN_COMMAND),
-            Some(keyword) => Ok(Some((keyword, arguments))),
+            Some((keyword, built)) => Ok(Some((keyword, built, arguments))),
         },
     }
 }
 
-/// The keyword that a line begins with, or none where it has no words. A line is refused that has more than 4,096 bytes
-/// (C11), or whose first word is no command's (C1): these are the refusals that `parse` looks for first.
-pub fn first_keyword(line: &[u8]) -> Result<Option<Keyword>, CmdRefusal>
-    ensures { Begins line.now result }
-{
-    Ok(split(line)?.map(|(keyword, _)| keyword))
-}
-
-/// The command that a line is. A line is refused that has more than 4,096 bytes (C11), whose first word is no command's
-/// (C1), or whose other words aren't the command's arguments (C2).
+/// The command that a line is, of all that the grammar has. A line is refused that has more than 4,096 bytes (C11), whose first
+/// word is no command's (C1), or whose other words aren't the command's arguments (C2).
 pub fn parse(alloc: Global, line: &[u8]) -> Result<Command, Fail<CmdRefusal>>
     ensures due { IsAnswer line.now result }
-    ensures answered { (due : Result Command CmdRefusal) → IsDue line.now due → Answers due result }
+    ensures answered { (due : Result AnyCommand CmdRefusal) → IsDue line.now due → Answers due result }
 {
     match split(line)? {
         None => Ok(Command::Empty),
-        Some((keyword, arguments)) => command(alloc, keyword, arguments),
+        Some((keyword, _, arguments)) => command(alloc, keyword, arguments),
     }
 }
+
+/// The command that a line is, of those that are built: the first word of another is refused (C1), whatever follows it.
+pub fn parse_built(alloc: Global, line: &[u8]) -> Result<Command, Fail<CmdRefusal>>
+    ensures { Answers (command_of line.now) result }
+{
+    match split(line)? {
+        None => Ok(Command::Empty),
+        Some((keyword, built, arguments)) => {
+            if !built {
+                return Err(Fail::Refused(UNKNOWN_COMMAND));
+            }
+            command(alloc, keyword, arguments)
+        }
+    }
+}
+
+/// The commands that are built are those of the grammar. A line is refused as the grammar refuses it, but that its first word is
+/// unknown (C1) where its command isn't built, whatever follows it.
+pub fn built_commands_are_commands()
+    ensures command { (line : List ℕ) (command : AnyCommand) → command_of line ≡ Ok command → IsLine line command }
+    ensures line { (line : List ℕ) (command : AnyCommand) → IsLine line command → ¬ IsUnknown line → command_of line ≡ Ok command }
+    ensures refused { (line : List ℕ) (code : ℕ) → command_of line ≡ refused code → ((code ≡ 1) × IsUnknown line) ⊎ IsRefused line code }
+    ensures unknown { (line : List ℕ) → IsUnknown line → command_of line ≡ refused 1 }
+{}
 
 /// The command with this keyword and these arguments.
 fn command(alloc: Global, keyword: Keyword, arguments: &[u8]) -> Result<Command, Fail<CmdRefusal>>
@@ -68,8 +86,8 @@ fn command(alloc: Global, keyword: Keyword, arguments: &[u8]) -> Result<Command,
 {
     match keyword {
         Keyword::Goto => Ok(Command::Goto(number(arguments)?)),
-        Keyword::Fwd => Ok(Command::Fwd(count(arguments)?)),
-        Keyword::Back => Ok(Command::Back(count(arguments)?)),
+        Keyword::Fwd => Ok(Command::Fwd(positive(arguments)?)),
+        Keyword::Back => Ok(Command::Back(positive(arguments)?)),
         Keyword::Stepi => Ok(Command::Stepi(count(arguments)?)),
         Keyword::Rstepi => Ok(Command::Rstepi(count(arguments)?)),
         Keyword::Step => none(arguments, Command::Step),

@@ -4,10 +4,12 @@
 mod ends;
 mod group;
 mod motion;
+mod positions;
 mod run;
 mod windows;
 
 pub use ends::end_is_least;
 pub use group::{Group, LIMIT};
 pub use motion::{Back, Forth};
+pub use positions::positions_are_found;
 pub use windows::windows_are_least;

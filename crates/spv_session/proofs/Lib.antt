@@ -1,5 +1,4 @@
 mod CostLemmas
-mod RequestLemmas
 mod ReplyLemmas
 mod RegisterLemmas
 mod ShownLemmas

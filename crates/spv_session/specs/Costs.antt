@@ -1,32 +1,31 @@
 -- How many steps the commands take, at most. A step is a call of the machine's `step`; nothing else counts one.
-use Rattle.std.specs.Prelude.{ℕ, ◌+◌, ◌-◌, nat_lt, if◌then◌else◌, List, Result, Ok, Err}
-use Rattle.spv_base.specs.declared.causes.CmdRefusal.{CmdRefusal}
-use Rattle.spv_group.specs.Costs.{run_cost}
+use Rattle.std.specs.Prelude.{ℕ, ◌+◌, ◌-◌, min, nat_lt, nat_le, if◌then◌else◌, List}
+use Rattle.spv_cmd.specs.Commands.{command_of}
 use Rattle.spv_group.specs.Group.{Held as Group, end_in}
-use Rattle.spv_session.specs.declared.request.Request.{Request}
-use Rattle.spv_session.specs.declared.request.Request.TheVariants.{Nothing, Goto, Fwd, Back, Group as Each, Focus, Regs, Quit}
-use Rattle.spv_session.specs.Requests.{request_of}
 use Rattle.spv_session.specs.View.{View}
+use Rattle.spv_session.specs.Reply.{Motion, straight, forward, backward, Act, goes, act_of, hits, target}
 
--- Of a motion to a number. Forth as far as it goes, and one more where the end comes before. Back none where the events from there on are
--- kept, else as many as from the start on.
-abbrev pub back_cost : (kept n : ℕ) → ℕ
-back_cost kept n = if nat_lt n kept then n else 0
+-- of a motion to a later position, or to the same: one for each event, and one more
+abbrev pub forth_cost : (from to : ℕ) → ℕ
+forth_cost from to = (to - from) + 1
 
-abbrev pub goto_cost : (kept : ℕ) → Group → ℕ → ℕ
-goto_cost kept g n = if nat_lt n g.position then back_cost kept n else run_cost (end_in g) g.position n
+-- of a motion to a number: back none where the events from it on are kept, else as many as the old position's number
+abbrev pub straight_cost : (kept : ℕ) → Group → ℕ → ℕ
+straight_cost kept g n = if nat_lt n g.position then (if nat_lt n kept then g.position else 0) else forth_cost g.position (min n (end_in g))
 
--- of a request; only motions take any
-abbrev pub request_cost : (kept : ℕ) → View → Result Request CmdRefusal → ℕ
-request_cost kept v (Err refusal) = 0
-request_cost kept v (Ok Nothing) = 0
-request_cost kept v (Ok Quit) = 0
-request_cost kept v (Ok Regs) = 0
-request_cost kept v (Ok Each) = 0
-request_cost kept v (Ok (Focus i)) = 0
-request_cost kept v (Ok (Goto n)) = goto_cost kept v.group n
-request_cost kept v (Ok (Fwd n)) = goto_cost kept v.group (v.group.position + n)
-request_cost kept v (Ok (Back n)) = goto_cost kept v.group (v.group.position - n)
+-- Of a search back to a position: one where all events that were looked at are kept, else one more than the old position's number.
+abbrev pub search_cost : (kept from to : ℕ) → ℕ
+search_cost kept from to = if nat_le kept (to - 1) then 1 else from + 1
+
+abbrev pub motion_cost : (kept : ℕ) → View → Motion → ℕ
+motion_cost kept v (straight n done) = straight_cost kept v.group n
+motion_cost kept v (forward own) = forth_cost v.group.position (target hits v (forward own))
+motion_cost kept v (backward own) = search_cost kept v.group.position (target hits v (backward own))
+
+-- of a command; only motions take any
+abbrev pub act_cost : (kept : ℕ) → View → Act → ℕ
+act_cost kept v (goes motion) = motion_cost kept v (motion v)
+act_cost kept v _ = 0
 
 unfoldable pub line_cost : (kept : ℕ) → View → List ℕ → ℕ
-line_cost kept v line = request_cost kept v (request_of line)
+line_cost kept v line = act_cost kept v (act_of (command_of line))

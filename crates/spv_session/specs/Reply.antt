@@ -1,16 +1,16 @@
 -- The reply to a line, and the view after it. How a position was reached doesn't matter to it.
-use Rattle.std.specs.Prelude.{◌≡◌, ℕ, ◌==◌, ◌+◌, nat_lt, ◌&&◌, not, Bool, true, false, List, [], ◌++◌, Option, Some, None, is_some, if◌then◌else◌, Result, Ok, Err}
+use Rattle.std.specs.Prelude.{◌≡◌, ℕ, ◌==◌, ◌+◌, ◌-◌, min, nat_lt, ◌&&◌, ◌||◌, not, Bool, true, false, List, [], ◌++◌, Option, Some, None, if◌then◌else◌, Result, Ok, Err}
 use Rattle.std.specs.List.{flat_map, range_with_len}
 use Rattle.spv_base.specs.declared.causes.CmdRefusal.{CmdRefusal}
-use Rattle.spv_valid.specs.Acceptance.{Accepted}
+use Rattle.spv_cmd.specs.declared.command.Command.{Command}
+use Rattle.spv_cmd.specs.declared.command.Command.TheVariants as command
+use Rattle.spv_cmd.specs.Commands.{command_of}
 use Rattle.spv_frame.specs.Frames.{Held as Frame}
 use Rattle.spv_state.specs.State.{top_of}
-use Rattle.spv_group.specs.Group.{Held as Group, invocations_in, state_in, status_of, end_cause_in}
-use Rattle.spv_session.specs.declared.request.Request.{Request}
-use Rattle.spv_session.specs.declared.request.Request.TheVariants.{Nothing, Goto, Fwd, Back, Group as Each, Focus, Regs, Quit}
-use Rattle.spv_session.specs.Requests.{request_of}
+use Rattle.spv_group.specs.Group.{Held as Group, invocations_in, state_in, status_of, end_in, end_cause_in}
+use Rattle.spv_group.specs.Positions.{least_of, greatest_of}
 use Rattle.spv_session.specs.Texts.{refusal_line, registers_text, position_line, invocation_line, stop_line}
-use Rattle.spv_session.specs.View.{View, view_at, focus_on, focus_frame, goto_target, fwd_target, back_target}
+use Rattle.spv_session.specs.View.{View, moved_to, focus_on, focus_frame}
 
 -- ---- refusals
 
@@ -28,11 +28,6 @@ focus_finished = 12
 abbrev pub place_reply : View → List ℕ
 place_reply v = position_line v.group.position v.focus (focus_frame v)
 
--- a finished invocation has no registers
-abbrev pub registers_reply : Accepted → Option Frame → List ℕ
-registers_reply a None = refusal_line focus_finished
-registers_reply a (Some f) = registers_text a f
-
 -- how far an invocation is, and where it stands
 abbrev pub invocation_reply : Group → ℕ → List ℕ
 invocation_reply g i = invocation_line i (status_of (state_in g) i) (top_of (state_in g) i)
@@ -41,80 +36,127 @@ invocation_reply g i = invocation_line i (status_of (state_in g) i) (top_of (sta
 abbrev pub group_reply : Group → List ℕ
 group_reply g = flat_map (invocation_reply g) (range_with_len 0 (invocations_in g))
 
--- ---- motions
-
 -- why a motion stopped at the view's position, and where the focus stands there
 abbrev pub stop_reply : Bool → View → List ℕ
 stop_reply done v = stop_line done (v.group.position == 0) (end_cause_in v.group) ++ place_reply v
 
--- a motion from a view stops at a position, and what it was asked for is done there or not
-abbrev pub stopped : View → ℕ → Bool → List ℕ × View
-stopped v m done = (stop_reply done (view_at m v), view_at m v)
+-- ---- the table of commands
+
+-- what a view is told at: a text, and the view after it, or a refusal by its number
+pub data Told : Type 0 where
+  tells : List ℕ → View → Told
+  refuses : ℕ → Told
+
+-- a motion, and at which positions what it was asked for is done
+pub data Motion : Type 0 where
+  -- to the position that a number names, whatever hits before
+  straight : (number : ℕ) → (done : ℕ → Bool) → Motion
+  -- to the first position behind the view's with a hit or where this holds, else to the end
+  forward : (ℕ → Bool) → Motion
+  -- to the last position before the view's with a hit or where this holds, else to the start
+  backward : (ℕ → Bool) → Motion
+
+-- what a command does
+pub data Act : Type 0 where
+  nothing : Act
+  quits : Act
+  shows : (View → Told) → Act
+  goes : (View → Motion) → Act
+
+-- a finished invocation has no registers
+abbrev pub registers_told : View → Option Frame → Told
+registers_told v None = refuses focus_finished
+registers_told v (Some f) = tells (registers_text v.group.program.accepted f) v
+
+-- the focus becomes an invocation that exists
+abbrev pub focus_told : ℕ → View → Told
+focus_told i v = if nat_lt i (invocations_in v.group) then tells (place_reply (focus_on i v)) (focus_on i v) else refuses no_such_invocation
 
 -- the position is another than the view's
 abbrev pub has_moved : View → ℕ → Bool
 has_moved v m = not (m == v.group.position)
 
 -- Done is what met its number exactly: the position asked for, or so many events forward or back. Where nothing moved, only `goto` is.
-abbrev pub goto_reply : View → ℕ → ℕ → List ℕ × View
-goto_reply v n m = stopped v m (m == n)
+abbrev pub goto_motion : ℕ → View → Motion
+goto_motion n v = straight n (λ m. m == n)
 
-abbrev pub fwd_reply : View → ℕ → ℕ → List ℕ × View
-fwd_reply v n m = stopped v m (has_moved v m && m == v.group.position + n)
+abbrev pub fwd_motion : ℕ → View → Motion
+fwd_motion n v = straight (v.group.position + n) (λ m. has_moved v m && m == v.group.position + n)
 
-abbrev pub back_reply : View → ℕ → ℕ → List ℕ × View
-back_reply v n m = stopped v m (has_moved v m && m + n == v.group.position)
+abbrev pub back_motion : ℕ → View → Motion
+back_motion n v = straight (v.group.position - n) (λ m. has_moved v m && m + n == v.group.position)
 
--- ---- the focus
+abbrev pub act : Command → Act
+act (command.Goto n) = goes (goto_motion n)
+act (command.Fwd n) = goes (fwd_motion n)
+act (command.Back n) = goes (back_motion n)
+act command.Group = shows (λ v. tells (group_reply v.group) v)
+act (command.Focus i) = shows (focus_told i)
+act command.Regs = shows (λ v. registers_told v (focus_frame v))
+act command.Quit = quits
+act _ = nothing
 
--- the focus becomes an invocation that exists
-abbrev pub focus_reply : View → ℕ → List ℕ × View
-focus_reply v i = if nat_lt i (invocations_in v.group) then (place_reply (focus_on i v), focus_on i v) else (refusal_line no_such_invocation, v)
+-- a line that is no command is refused
+abbrev pub act_of : Result Command CmdRefusal → Act
+act_of (Err refusal) = shows (λ v. refuses refusal.code)
+act_of (Ok it) = act it
 
--- ---- replies
+-- ---- where motions lead
 
-abbrev pub reply_to : View → Result Request CmdRefusal → List ℕ × View
-reply_to v (Err refusal) = (refusal_line refusal.code, v)
-reply_to v (Ok Nothing) = ([], v)
-reply_to v (Ok Quit) = ([], v)
-reply_to v (Ok Regs) = (registers_reply v.group.program.accepted (focus_frame v), v)
-reply_to v (Ok Each) = (group_reply v.group, v)
-reply_to v (Ok (Focus i)) = focus_reply v i
-reply_to v (Ok (Goto n)) = goto_reply v n (goto_target v n)
-reply_to v (Ok (Fwd n)) = fwd_reply v n (fwd_target v n)
-reply_to v (Ok (Back n)) = back_reply v n (back_target v n)
+-- whether a break, a watch or a halt hits at a position; there are none so far
+abbrev pub hits : View → ℕ → Bool
+hits v m = false
+
+-- the position that a motion leads to, where these hit
+abbrev pub target : (View → ℕ → Bool) → View → Motion → ℕ
+target hit v (straight n done) = min n (end_in v.group)
+target hit v (forward own) = least_of (λ m. hit v m || own m) (v.group.position + 1) (end_in v.group)
+target hit v (backward own) = greatest_of (λ m. hit v m || own m) 0 v.group.position
+
+abbrev pub is_done : View → Motion → ℕ → Bool
+is_done v (straight n done) m = done m
+is_done v (forward own) m = has_moved v m && own m
+is_done v (backward own) m = has_moved v m && own m
+
+-- ---- what is read from the table
+
+-- a motion stops at a position, and what it was asked for is done there or not
+abbrev pub stopped : View → ℕ → Bool → List ℕ × View
+stopped v m done = (stop_reply done (moved_to m v), moved_to m v)
+
+abbrev pub motion_reply : View → Motion → List ℕ × View
+motion_reply v motion = stopped v (target hits v motion) (is_done v motion (target hits v motion))
+
+abbrev pub told_reply : View → Told → List ℕ × View
+told_reply v (tells text w) = (text, w)
+told_reply v (refuses code) = (refusal_line code, v)
+
+abbrev pub reply_by : View → Act → List ℕ × View
+reply_by v (shows told) = told_reply v (told v)
+reply_by v (goes motion) = motion_reply v (motion v)
+reply_by v _ = ([], v)
 
 unfoldable pub reply : View → List ℕ → List ℕ × View
-reply v line = reply_to v (request_of line)
+reply v line = reply_by v (act_of (command_of line))
 
-abbrev pub is_quit_request : Result Request CmdRefusal → Bool
-is_quit_request (Err refusal) = false
-is_quit_request (Ok Nothing) = false
-is_quit_request (Ok Quit) = true
-is_quit_request (Ok Regs) = false
-is_quit_request (Ok Each) = false
-is_quit_request (Ok (Focus i)) = false
-is_quit_request (Ok (Goto n)) = false
-is_quit_request (Ok (Fwd n)) = false
-is_quit_request (Ok (Back n)) = false
+abbrev pub does_quit : Act → Bool
+does_quit quits = true
+does_quit _ = false
 
 unfoldable pub is_quit : List ℕ → Bool
-is_quit line = is_quit_request (request_of line)
+is_quit line = does_quit (act_of (command_of line))
 
 -- the refusal of a command, by its number: that of its line, of an invocation that doesn't exist, or of a finished focus
-abbrev pub refusal_by : View → Result Request CmdRefusal → Option ℕ
-refusal_by v (Err refusal) = Some refusal.code
-refusal_by v (Ok Nothing) = None
-refusal_by v (Ok Quit) = None
-refusal_by v (Ok Regs) = if is_some (focus_frame v) then None else Some focus_finished
-refusal_by v (Ok Each) = None
-refusal_by v (Ok (Focus i)) = if nat_lt i (invocations_in v.group) then None else Some no_such_invocation
-refusal_by v (Ok (Goto n)) = None
-refusal_by v (Ok (Fwd n)) = None
-refusal_by v (Ok (Back n)) = None
+abbrev pub told_refusal : Told → Option ℕ
+told_refusal (tells text w) = None
+told_refusal (refuses code) = Some code
+
+abbrev pub refusal_by : View → Act → Option ℕ
+refusal_by v (shows told) = told_refusal (told v)
+refusal_by v _ = None
 
 unfoldable pub refusal_of : View → List ℕ → Option ℕ
-refusal_of v line = refusal_by v (request_of line)
+refusal_of v line = refusal_by v (act_of (command_of line))
 
 -- the line's command is refused with this number
 abbrev pub IsRefused : View → List ℕ → ℕ → Type 0

@@ -1,24 +1,37 @@
--- A view: a group at a position of its run, and the invocation that replies speak of, which is the focus.
-use Rattle.std.specs.Prelude.{ℕ, ◌+◌, ◌-◌, min, Option}
+-- A view: all that replies depend on. A group at a position of its run, the invocation and the frame that replies speak of, and what
+-- motions stop at. No command changes the frame, the stops or the probes so far.
+use Rattle.std.specs.Prelude.{ℕ, List, [], Option}
 use Rattle.spv_frame.specs.Frames.{Held as Frame}
 use Rattle.spv_state.specs.State.{top_of}
-use Rattle.spv_group.specs.Group.{Held as Group, Undoing, group_at, state_in, end_in}
+use Rattle.spv_stops.specs.declared.breaks.Breakpoint.{Breakpoint}
+use Rattle.spv_stops.specs.declared.watches.WatchKey.{WatchKey}
+use Rattle.spv_stops.specs.Stops.{Stops}
+use Rattle.spv_group.specs.Group.{Held as Group, Undoing, group_at, state_in}
 
 pub record View : Type 0 where
   pub group : Group
   pub focus : ℕ
+  pub frame : ℕ  -- which of the focus's shown frames is selected, 0 for the innermost
+  pub breaks : Stops Breakpoint
+  pub watches : Stops WatchKey
+  pub halts : List (ℕ × ℕ)  -- a probe's number, and the multiples of its tally to stop at
+  pub dropped : List ℕ  -- the numbers of the probes that were dropped
 
 -- the view before the first command
 abbrev pub first_view : Group → View
-first_view g = record { group = g; focus = 0 }
+first_view g = record { group = g; focus = 0; frame = 0; breaks = ([], 0); watches = ([], 0); halts = []; dropped = [] }
 
 -- the same view of another position
 abbrev pub view_at : ℕ → View → View
 view_at n v = record v { group = group_at n v.group }
 
--- the same position, with another focus
+-- after a motion to a position; the innermost frame is selected then
+abbrev pub moved_to : ℕ → View → View
+moved_to n v = record v { group = group_at n v.group; frame = 0 }
+
+-- the same position, with another focus and its innermost frame
 abbrev pub focus_on : ℕ → View → View
-focus_on i v = record v { focus = i }
+focus_on i v = record v { focus = i; frame = 0 }
 
 -- the top frame of the focus; none where it is finished
 abbrev pub focus_frame : View → Option Frame
@@ -40,17 +53,3 @@ first_viewing u = record { view = first_view u.group; kept = u.kept; limit = u.l
 -- the group with what it can undo
 abbrev pub undoing_in : Viewing → Undoing
 undoing_in s = record { group = s.view.group; kept = s.kept; limit = s.limit }
-
--- ---- where motions lead
-
--- the position that a number names: the end where it is past it
-abbrev pub goto_target : View → ℕ → ℕ
-goto_target v n = min n (end_in v.group)
-
--- so many events forward: the end where that is past it
-abbrev pub fwd_target : View → ℕ → ℕ
-fwd_target v n = min (v.group.position + n) (end_in v.group)
-
--- so many events back: the start where fewer were made
-abbrev pub back_target : View → ℕ → ℕ
-back_target v n = v.group.position - n

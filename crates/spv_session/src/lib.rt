@@ -3,10 +3,8 @@
 
 mod motions;
 mod registers;
-mod request;
 mod session;
 mod texts;
 
 pub use registers::shown_registers_ascend;
-pub use request::{Request, requests_are_commands};
 pub use session::{Next, Session};

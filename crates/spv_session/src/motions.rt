@@ -2,7 +2,7 @@
 ghost use Rattle.std.specs.Prelude.{◌≡◌, ◌==◌, ◌≤◌, ◌+◌, ◌-◌, ◌&&◌, ℕ, OnOk, max, min, nat_lt, not, if◌then◌else◌};
 ghost use Rattle.spv_group.specs.Costs.{run_cost};
 ghost use Rattle.spv_group.specs.Group.{end_in, group_at, window_in};
-ghost use Rattle.spv_session.specs.Costs.{goto_cost};
+ghost use Rattle.spv_session.specs.Costs.{straight_cost};
 
 use spv_base::{NoMemory, Steps};
 use spv_group::{Forth, Group};
@@ -119,7 +119,7 @@ pub fn go_to<L: Ledger>(
     ensures within { group.new.group.position ≤ end_in group.old.group }
     ensures kept { group.new.kept ≤ max group.old.kept (window_in group.new) }
     ensures counted { steps.old ≤ steps.new }
-    ensures cost { steps.new ≤ steps.old + goto_cost group.old.kept group.old.group target }
+    ensures cost { steps.new ≤ steps.old + straight_cost group.old.kept group.old.group target }
 {
     go_back(group, target, steps)?;
     go_on(group, target, steps)

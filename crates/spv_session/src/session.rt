@@ -1,19 +1,18 @@
 //! A group and the replies to lines of input.
-ghost use Rattle.std.specs.Prelude.{◌≡◌, ℕ, ◌==◌, ◌<◌, ◌≤◌, ◌+◌, ◌++◌, ◌&&◌, ◌⊎◌, List, All, IfOk, Ok, Some, OnOk, OnErr, max, vec_len, if◌then◌else◌};
+ghost use Rattle.std.specs.Prelude.{◌≡◌, ℕ, ◌==◌, ◌<◌, ◌≤◌, ◌+◌, ◌++◌, ◌&&◌, ◌⊎◌, List, All, IfOk, Ok, Some, OnOk, OnErr, max, min, vec_len, if◌then◌else◌};
 ghost use Rattle.spv_base.specs.Prefix.{IsPrefixOf};
 ghost use Rattle.spv_group.specs.Group.{end_in, group_at, invocations_in, window_in};
-ghost use Rattle.spv_session.specs.Costs.{goto_cost, request_cost, line_cost};
-ghost use Rattle.spv_session.specs.Reply.{reply, reply_to, is_quit, is_quit_request, focus_reply, group_reply, invocation_reply, IsRefused, place_reply, refusal_by, registers_reply, stop_reply};
+ghost use Rattle.spv_session.specs.Costs.{act_cost, line_cost, straight_cost};
+ghost use Rattle.spv_session.specs.Reply.{act_of, does_quit, focus_told, group_reply, invocation_reply, is_quit, IsRefused, place_reply, refusal_by, registers_told, reply, reply_by, stop_reply, told_refusal, told_reply};
 ghost use Rattle.spv_session.specs.Texts.{refusal_line};
-ghost use Rattle.spv_session.specs.View.{first_viewing, focus_frame, focus_on, goto_target, undoing_in, view_at};
-ghost use Rattle.spv_session.specs.declared.request.Request.TheVariants as asked;
+ghost use Rattle.spv_session.specs.View.{first_viewing, focus_frame, focus_on, moved_to, undoing_in, view_at};
 ghost use Rattle.spv_session.specs.declared.session.Next.TheVariants as answers;
 
 use crate::motions::{Aim, go_to};
 use crate::registers::push_registers;
-use crate::request::Request;
 use crate::texts::{push_invocation, push_position, push_stop, refusal_line};
 use spv_base::{CmdRefusal, Fail, NoMemory, Probe, Steps};
+use spv_cmd::{Command, parse_built};
 use spv_group::Group;
 use spv_state::laws::top_frames_are_sound;
 use std::alloc::Global;
@@ -44,11 +43,11 @@ pub struct Session {
 impl Model for Session {
     ghost use Rattle.std.specs.Prelude.{◌≤◌, ◌<◌};
     ghost use Rattle.spv_group.specs.Group.{end_in, invocations_in};
-    ghost use Rattle.spv_session.specs.View.{Viewing};
+    ghost use Rattle.spv_session.specs.View.{Viewing, first_view};
 
     ghost Value = { Viewing };
 
-    ghost view = { λ s. record { view = record { group = s.group.group; focus = s.focus }; kept = s.group.kept; limit = s.group.limit } };
+    ghost view = { λ s. record { view = record (first_view s.group.group) { focus = s.focus }; kept = s.group.kept; limit = s.group.limit } };
 
     ghost invariant = { λ s. (s.group.group.position ≤ end_in s.group.group) × (s.focus < invocations_in s.group.group) };
 }
@@ -71,10 +70,10 @@ impl Session {
     }
 
     /// Answers a line: appends the reply. Only a motion takes steps: to a position before it none where the events from there on are
-    /// kept, else one for each event from the start on; to a later one as many as it goes forth, and one more where the end comes
-    /// first. After want of memory a front of the reply was appended, the group is at some position of its run, and the focus is the
-    /// old one or the reply's.
-    #[tactic(auto, unfolding(crate::specs::Reply::reply, crate::specs::Reply::is_quit, crate::specs::Reply::refusal_of, crate::specs::Costs::line_cost))]
+    /// kept, else at most as many as the old position's number; else as many as it goes forth, and at most one more. After want of
+    /// memory a front of the reply was appended, the group is at some position of its run, and all else of the view is the old one's or
+    /// the reply's.
+    #[tactic(auto, using(crate::proofs::ReplyLemmas::same_view), unfolding(crate::specs::Reply::reply, crate::specs::Reply::is_quit, crate::specs::Reply::refusal_of, crate::specs::Costs::line_cost))]
     pub fn command<L: Ledger>(
         &mut self,
         line: &[u8],
@@ -88,7 +87,8 @@ impl Session {
         ensures group { self.new.view.group ≡ group_at self.new.view.group.position self.old.view.group }
         ensures limit { self.new.limit ≡ self.old.limit }
         ensures kept { self.new.kept ≤ max self.old.kept (window_in (undoing_in self.new)) }
-        ensures focus { (self.new.view.focus ≡ self.old.view.focus) ⊎ (self.new.view.focus ≡ (reply self.old.view line.now).1.focus) }
+        ensures same { (self.new.view ≡ view_at self.new.view.group.position self.old.view)
+            ⊎ (self.new.view ≡ view_at self.new.view.group.position (reply self.old.view line.now).1) }
         ensures within { self.new.view.group.position ≤ end_in self.old.view.group }
         ensures refused { (code : ℕ) → IsRefused self.old.view line.now code
             → (self.new ≡ self.old) × OnOk result (out.new.items ≡ out.old.items ++ refusal_line code) }
@@ -96,46 +96,46 @@ impl Session {
         ensures cost { steps.new ≤ steps.old + line_cost self.old.kept self.old.view line.now }
     {
         let mut text = Vec::new(self.alloc);
-        let request = match Request::read(self.alloc, line) {
-            Ok(request) => Ok(request),
+        let command = match parse_built(self.alloc, line) {
+            Ok(command) => Ok(command),
             Err(Fail::Refused(refusal)) => Err(refusal),
             Err(Fail::NoMemory) => return Err(NoMemory),
         };
-        let next = self.answer(request, &mut text, steps)?;
+        let next = self.answer(&command, &mut text, steps)?;
         out.extend_from_slice(&text)?;
         Ok(next)
     }
 
-    /// Carries a request out, and makes the text of its reply.
+    /// Carries a command out, and makes the text of its reply.
     fn answer<L: Ledger>(
         &mut self,
-        request: Result<Request, CmdRefusal>,
+        command: &Result<Command, CmdRefusal>,
         text: &mut Vec<u8>,
         steps: &mut Steps<L>,
     ) -> Result<Next, NoMemory>
-        ensures text { OnOk result (text.new.items ≡ text.old.items ++ (reply_to self.old.view request).0) }
-        ensures view { OnOk result (self.new.view ≡ (reply_to self.old.view request).1) }
-        ensures next { IfOk result (λ next. next ≡ (if is_quit_request request then answers.Quit else answers.Go)) }
+        ensures text { OnOk result (text.new.items ≡ text.old.items ++ (reply_by self.old.view (act_of command.now)).0) }
+        ensures view { OnOk result (self.new.view ≡ (reply_by self.old.view (act_of command.now)).1) }
+        ensures next { IfOk result (λ next. next ≡ (if does_quit (act_of command.now) then answers.Quit else answers.Go)) }
         ensures group { self.new.view.group ≡ group_at self.new.view.group.position self.old.view.group }
         ensures limit { self.new.limit ≡ self.old.limit }
         ensures kept { self.new.kept ≤ max self.old.kept (window_in (undoing_in self.new)) }
-        ensures focus { OnErr result (self.new.view.focus ≡ self.old.view.focus) }
+        ensures same { OnErr result (self.new.view ≡ view_at self.new.view.group.position self.old.view) }
         ensures within { self.new.view.group.position ≤ end_in self.old.view.group }
-        ensures refused { (code : ℕ) → refusal_by self.old.view request ≡ Some code → self.new ≡ self.old }
+        ensures refused { (code : ℕ) → refusal_by self.old.view (act_of command.now) ≡ Some code → self.new ≡ self.old }
         ensures counted { steps.old ≤ steps.new }
-        ensures cost { steps.new ≤ steps.old + request_cost self.old.kept self.old.view request }
+        ensures cost { steps.new ≤ steps.old + act_cost self.old.kept self.old.view (act_of command.now) }
     {
         let from = self.group.position();
-        match request {
-            Err(refusal) => text.extend_from_slice(refusal_line(refusal))?,
-            Ok(Request::Nothing) => {}
-            Ok(Request::Quit) => return Ok(Next::Quit),
-            Ok(Request::Regs) => self.push_registers(text)?,
-            Ok(Request::Group) => self.push_group(text)?,
-            Ok(Request::Focus(inv)) => self.look_at(inv, text)?,
-            Ok(Request::Goto(position)) => self.go(Aim::at(position), text, steps)?,
-            Ok(Request::Fwd(count)) => self.go(Aim::forward(from, count), text, steps)?,
-            Ok(Request::Back(count)) => self.go(Aim::back(from, count), text, steps)?,
+        match command {
+            Err(refusal) => text.extend_from_slice(refusal_line(*refusal))?,
+            Ok(Command::Quit) => return Ok(Next::Quit),
+            Ok(Command::Regs) => self.push_registers(text)?,
+            Ok(Command::Group) => self.push_group(text)?,
+            Ok(Command::Focus(inv)) => self.look_at(*inv, text)?,
+            Ok(Command::Goto(position)) => self.go(Aim::at(*position), text, steps)?,
+            Ok(Command::Fwd(count)) => self.go(Aim::forward(from, count.get()), text, steps)?,
+            Ok(Command::Back(count)) => self.go(Aim::back(from, count.get()), text, steps)?,
+            Ok(_) => {}
         }
         Ok(Next::Go)
     }
@@ -148,13 +148,13 @@ impl Session {
         steps: &mut Steps<L>,
     ) -> Result<(), NoMemory>
         ensures text { OnOk result (text.new.items ≡ text.old.items ++ stop_reply (aim.exact && self.new.view.group.position == aim.position) self.new.view) }
-        ensures view { OnOk result (self.new.view ≡ view_at (goto_target self.old.view aim.position) self.old.view) }
+        ensures view { OnOk result (self.new.view ≡ moved_to (min aim.position (end_in self.old.view.group)) self.old.view) }
         ensures same { self.new.view ≡ view_at self.new.view.group.position self.old.view }
         ensures limit { self.new.limit ≡ self.old.limit }
         ensures kept { self.new.kept ≤ max self.old.kept (window_in (undoing_in self.new)) }
         ensures within { self.new.view.group.position ≤ end_in self.old.view.group }
         ensures counted { steps.old ≤ steps.new }
-        ensures cost { steps.new ≤ steps.old + goto_cost self.old.kept self.old.view.group aim.position }
+        ensures cost { steps.new ≤ steps.old + straight_cost self.old.kept self.old.view.group aim.position }
     {
         go_to(&mut self.group, aim.position, steps)?;
         let done = aim.exact && self.group.position() == aim.position;
@@ -163,13 +163,13 @@ impl Session {
 
     /// Makes an invocation the focus, and appends where it stands; or a refusal, where there is no such invocation.
     fn look_at(&mut self, inv: u32, text: &mut Vec<u8>) -> Result<(), NoMemory>
-        ensures text { OnOk result (text.new.items ≡ text.old.items ++ (focus_reply self.old.view inv).0) }
-        ensures view { OnOk result (self.new.view ≡ (focus_reply self.old.view inv).1) }
+        ensures text { OnOk result (text.new.items ≡ text.old.items ++ (told_reply self.old.view (focus_told inv self.old.view)).0) }
+        ensures view { OnOk result (self.new.view ≡ (told_reply self.old.view (focus_told inv self.old.view)).1) }
         ensures err { OnErr result (self.new ≡ self.old) }
         ensures group { self.new.view.group ≡ self.old.view.group }
         ensures kept { self.new.kept ≡ self.old.kept }
         ensures limit { self.new.limit ≡ self.old.limit }
-        ensures refused { (code : ℕ) → refusal_by self.old.view (Ok (asked.Focus inv)) ≡ Some code → self.new ≡ self.old }
+        ensures refused { (code : ℕ) → told_refusal (focus_told inv self.old.view) ≡ Some code → self.new ≡ self.old }
     {
         if inv >= self.group.invocations() {
             text.extend_from_slice(refusal_line(NO_SUCH_INVOCATION))?;
@@ -182,7 +182,7 @@ impl Session {
 
     /// Appends the registers of the focus.
     fn push_registers(&self, text: &mut Vec<u8>) -> Result<(), NoMemory>
-        ensures { OnOk result (text.new.items ≡ text.old.items ++ registers_reply self.now.view.group.program.accepted (focus_frame self.now.view)) }
+        ensures { OnOk result (text.new.items ≡ text.old.items ++ (told_reply self.now.view (registers_told self.now.view (focus_frame self.now.view))).0) }
     {
         top_frames_are_sound();
         match self.group.world().whole().top(self.focus) {

@@ -2,17 +2,17 @@ use Rattle.std.proofs.Common.{ap}
 use Rattle.spv_cmd.specs.declared.command.Command.TheVariants as command
 use Rattle.spv_line.specs.Words.{words_in}
 use Rattle.spv_cmd.specs.Grammar.{row}
-use Rattle.spv_cmd.proofs.RowLemmas.{number_err, count_err, path_err, place_err}
+use Rattle.spv_cmd.proofs.RowLemmas.{number_err, positive_err, count_err, path_err, place_err}
 use Rattle.spv_cmd.proofs.parsing.command.Goals as goal
 
 pub returns-in_err-number-in-Goto : goal.returns-in_err-number-in-Goto
 returns-in_err-number-in-Goto c = number_err (row c.args.keyword).1 command.Goto (words_in c.args.arguments.now) c.in_err-number-in-Goto.field-0.0 c.from_residual.result (ap (λ k. (row k).1) c.in-Goto.is) c.from_residual.ensures.1 c.in_err-number-in-Goto.ensures
 
-pub returns-in_err-count-in-Fwd : goal.returns-in_err-count-in-Fwd
-returns-in_err-count-in-Fwd c = count_err (row c.args.keyword).1 command.Fwd (words_in c.args.arguments.now) c.in_err-count-in-Fwd.field-0.0 c.from_residual-in_err-count-in-Fwd.result (ap (λ k. (row k).1) c.in-Fwd.is) c.from_residual-in_err-count-in-Fwd.ensures.1 c.in_err-count-in-Fwd.ensures
+pub returns-in_err-positive-in-Fwd : goal.returns-in_err-positive-in-Fwd
+returns-in_err-positive-in-Fwd c = positive_err (row c.args.keyword).1 command.Fwd (words_in c.args.arguments.now) c.in_err-positive-in-Fwd.field-0.0 c.from_residual-in_err-positive-in-Fwd.result (ap (λ k. (row k).1) c.in-Fwd.is) c.from_residual-in_err-positive-in-Fwd.ensures.1 c.in_err-positive-in-Fwd.ensures
 
-pub returns-in_err-count-in-Back : goal.returns-in_err-count-in-Back
-returns-in_err-count-in-Back c = count_err (row c.args.keyword).1 command.Back (words_in c.args.arguments.now) c.in_err-count-in-Back.field-0.0 c.from_residual-in_err-count-in-Back.result (ap (λ k. (row k).1) c.in-Back.is) c.from_residual-in_err-count-in-Back.ensures.1 c.in_err-count-in-Back.ensures
+pub returns-in_err-positive-in-Back : goal.returns-in_err-positive-in-Back
+returns-in_err-positive-in-Back c = positive_err (row c.args.keyword).1 command.Back (words_in c.args.arguments.now) c.in_err-positive-in-Back.field-0.0 c.from_residual-in_err-positive-in-Back.result (ap (λ k. (row k).1) c.in-Back.is) c.from_residual-in_err-positive-in-Back.ensures.1 c.in_err-positive-in-Back.ensures
 
 pub returns-in_err-count-in-Stepi : goal.returns-in_err-count-in-Stepi
 returns-in_err-count-in-Stepi c = count_err (row c.args.keyword).1 command.Stepi (words_in c.args.arguments.now) c.in_err-count-in-Stepi.field-0.0 c.from_residual-in_err-count-in-Stepi.result (ap (λ k. (row k).1) c.in-Stepi.is) c.from_residual-in_err-count-in-Stepi.ensures.1 c.in_err-count-in-Stepi.ensures
