@@ -4,11 +4,10 @@ use Rattle.spv_base.specs.Answers.{after}
 use Rattle.spv_base.specs.declared.causes.Refusal.{Refusal}
 use Rattle.spv_base.specs.declared.causes.SetupRefusal.{SetupRefusal}
 use Rattle.spv_words.specs.Words.{words_of}
-use Rattle.spv_valid.specs.Acceptance.{Accepted, invocations}
+use Rattle.spv_valid.specs.Acceptance.{Accepted}
 use Rattle.spv_setup.specs.declared.settings.Settings.{Settings}
 use Rattle.spv_setup.specs.Settings.{settings_of}
-use Rattle.spv_setup.specs.Schedule.{Entries}
-use Rattle.spv_fit.specs.Fit.{fitted}
+use Rattle.spv_state.specs.Program.{schedule_for}
 use Rattle.spv_group.specs.Group.{Held as Group, Undoing, first_group}
 use Rattle.spv_session.specs.View.{Viewing, first_viewing}
 use Rattle.spv_app.specs.declared.opening.OpeningRefusal.{OpeningRefusal}
@@ -18,10 +17,6 @@ use Rattle.spv_app.specs.Acceptance.{accepted_as}
 -- the accepted module of a module's bytes, for the entry point that the setup names, and with its numbers for SpecIds
 abbrev pub accepted_in : List ℕ → Settings → Result Accepted Refusal
 accepted_in bytes s = after (words_of bytes) (accepted_as s.entry s.overrides)
-
--- the schedule of a setup that fits the module
-abbrev pub schedule_for : Accepted → Settings → Result Entries SetupRefusal
-schedule_for a s = fitted a.insts a.types (invocations a) a.stack_cells s
 
 -- whose refusal it is
 abbrev pub of_setup : {A : Type 0} → Result A SetupRefusal → Result A OpeningRefusal

@@ -5,7 +5,8 @@ ghost use Rattle.spv_setup.specs.Settings.{settings_of};
 ghost use Rattle.spv_valid.specs.Validity.{IsValid};
 ghost use Rattle.spv_valid.specs.Acceptance.{invocations};
 ghost use Rattle.spv_app.specs.Limits.{setup_limit};
-ghost use Rattle.spv_app.specs.Opening.{opening, accepted_in, journaled, schedule_for, started, of_setup, of_module};
+ghost use Rattle.spv_app.specs.Opening.{opening, accepted_in, journaled, started, of_setup, of_module};
+ghost use Rattle.spv_state.specs.Program.{schedule_for};
 
 use crate::acceptance::accepted_as;
 use spv_base::{Fail, Refusal, SetupRefusal};

@@ -1,7 +1,7 @@
 //! A run of a module that goes forth and back along its schedule.
-ghost use Rattle.std.specs.Prelude.{◌≡◌, ◌≤◌, ◌<◌, ◌-◌, ◌+◌, Some, IfOk, IsOk, OnOk, OnErr, length};
-ghost use Rattle.spv_valid.specs.Acceptance.{invocations};
+ghost use Rattle.std.specs.Prelude.{◌≡◌, ◌≤◌, ◌<◌, ◌-◌, ◌+◌, Some, Ok, IfOk, IsOk, OnOk, OnErr, length};
 ghost use Rattle.spv_journal.specs.Events.{size};
+ghost use Rattle.spv_state.specs.Program.{schedule_for};
 ghost use Rattle.spv_state.specs.Sound.{IsSound};
 ghost use Rattle.spv_state.specs.Start.{start_of};
 ghost use Rattle.spv_group.specs.Costs.{ForthCounts, ForthKeeps, BackCounts, BackKeeps};
@@ -69,10 +69,10 @@ fn runs_of(
 }
 
 impl Group {
-    /// The run of a module by a schedule of as many invocations, at its start, with a journal that keeps at most 1,048,576 marks and
-    /// entries of events.
+    /// The run of a module by the schedule of its setup, at its start, with a journal that keeps at most 1,048,576 marks and entries of
+    /// events.
     pub fn open(alloc: Global, m: Runnable, schedule: Schedule) -> Result<Group, NoMemory>
-        requires { schedule.invocations ≡ invocations m.accepted }
+        requires { schedule_for m.accepted m.setup ≡ Ok schedule }
         ensures { IfOk result (λ g. g ≡ first_undoing m schedule 1048576) }
     {
         Group::open_limited(alloc, m, schedule, LIMIT)
@@ -85,7 +85,7 @@ impl Group {
         schedule: Schedule,
         limit: usize,
     ) -> Result<Group, NoMemory>
-        requires fits { schedule.invocations ≡ invocations m.accepted }
+        requires fits { schedule_for m.accepted m.setup ≡ Ok schedule }
         requires limit { 1 ≤ limit }
         ensures { IfOk result (λ g. g ≡ first_undoing m schedule limit) }
     {

@@ -13,6 +13,8 @@ pub use Rattle.spv_state.proofs.Entries.{keys_stay, reads_written, writes_nothin
 pub use Rattle.spv_state.proofs.ExecutableLemmas.{Standing, standing, stands_there, at_standing, next_stands, function_known}
 -- The entry function of an accepted module: it is one of its functions, some chain of calls begins with it, and it has a first executable.
 pub use Rattle.spv_state.proofs.EntryLemmas.{function_listed}
+-- The schedule of a setup that fits a module is for the module's invocations.
+pub use Rattle.spv_state.proofs.FitLemmas.{schedule_counts}
 -- The variables of a function, among those of the module.
 pub use Rattle.spv_state.proofs.VariableLemmas.{kept_targets}
 -- Roots of pointers: where the variable that one names is there.

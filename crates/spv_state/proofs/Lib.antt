@@ -5,6 +5,7 @@ mod Lists
 mod Entries
 mod ExecutableLemmas
 mod StartLemmas
+mod FitLemmas
 mod EntryLemmas
 mod VariableLemmas
 mod EnterLemmas
