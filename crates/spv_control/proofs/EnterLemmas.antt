@@ -74,8 +74,10 @@ module _ (x : Site) (is : action_of x.inst ≡ Call) (function : ℕ) (named : f
   call_faults v r NoMemory h same = subst (λ (s : Result Effect (Fail Cause)). IsDue (due x) v s) (sym same) tt
 
 -- the frame is as sound as it was, and of the same function
-pub begun_sound : (x : Site) (f g : Frame) → g ≡ begun x f → IsSoundFrame (accepted x) f → IsSoundFrame (accepted x) g
-begun_sound x f g made sound = subst (IsSoundFrame (accepted x)) (sym made) (passed_sound (accepted x) (length (frames_of x.state x.inv)) f sound)
+pub begun_sound : (x : Site) (m : Accepted) (f g : Frame) → m ≡ accepted x → ∥ IsAccepted m ∥₁ → ∥ IsValid m ∥₁ → g ≡ begun x f → IsSoundFrame (accepted x) f → IsSoundFrame (accepted x) g
+begun_sound x m f g same accepts valid made sound =
+    subst (IsSoundFrame (accepted x)) (sym made)
+    (passed_sound (accepted x) (subst (λ (n : Accepted). ∥ IsAccepted n ∥₁) same accepts) (subst (λ (n : Accepted). ∥ IsValid n ∥₁) same valid) (length (frames_of x.state x.inv)) f sound)
 
 -- and the pointers that are kept in it name variables that are there
 pub begun_rooted : (x : Site) (m : Accepted) (f g : Frame) → m ≡ accepted x → ∥ IsAccepted m ∥₁ → ∥ IsValid m ∥₁ → g ≡ begun x f → IsSoundFrame (accepted x) f

@@ -86,7 +86,7 @@ module _ (p : Program) (known : Facts p.accepted) where
   pub applied_sound : (s : State) (i : ℕ) (d : Inst) (e : Effect) → IsReached p s i d → Fits p s i d e → IsSound p (apply p.accepted i d e s)
   applied_sound s i d e r fits =
       let first = put_store i e.store s in
-      let one = stored_reached p s i d e.store r in
+      let one = stored_reached p s i d e.store fits.store r in
       let frames = sym (stored_frames s i e.store) in
       let two = set_reached p known.known first i d e.result one fits.result (subst (λ (fs : List Frame). ResultRooted p.accepted fs e.result) frames fits.rooted) in
       gone_sound (put_result i d.id e.result first) i d e.control two fits.control

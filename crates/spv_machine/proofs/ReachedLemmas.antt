@@ -20,7 +20,7 @@ use Rattle.spv_frame.specs.Stacks.{Stacked, on_top, top}
 use Rattle.spv_statuses.specs.declared.invocations.Status.{Status}
 use Rattle.spv_statuses.specs.declared.invocations.Status.TheVariants.{Ready}
 use Rattle.spv_sites.specs.Effects.{Leave}
-use Rattle.spv_sites.specs.Fits.{LevelFits, ResultFits, ResultRooted}
+use Rattle.spv_sites.specs.Fits.{LevelFits, ResultFits, ResultRooted, StoreFits}
 use Rattle.spv_sites.specs.Planned.{IsGained, IsGiven, gained, gone}
 use Rattle.spv_sites.specs.declared.effects.Control.{Control as CodeControl}
 use Rattle.spv_sites.specs.declared.effects.Control.TheVariants.{Next as CodeNext, Jump as CodeJump, Enter as CodeEnter, Leave as CodeLeave, Give as CodeGive, Wait as CodeWait}
@@ -40,9 +40,9 @@ use Rattle.spv_machine.proofs.SoundStores.{store_kept}
 
 -- ---- the store
 
-pub stored_reached : (p : Program) (s : State) (i : ℕ) (d : Inst) (o : Option (Pointer × Value)) → IsReached p s i d → IsReached p (put_store i o s) i d
-stored_reached p s i d None r = r
-stored_reached p s i d (Some e) r = record { sound = store_kept p s i (Some e) r.sound; ready = r.ready; frame = r.frame; top = r.top; at = r.at }
+pub stored_reached : (p : Program) (s : State) (i : ℕ) (d : Inst) (o : Option (Pointer × Value)) → StoreFits s i o → IsReached p s i d → IsReached p (put_store i o s) i d
+stored_reached p s i d None fits r = r
+stored_reached p s i d (Some e) fits r = record { sound = store_kept p s i (Some e) fits r.sound; ready = r.ready; frame = r.frame; top = r.top; at = r.at }
 
 -- the instruction that is reached is one of the module, and stands where the frame does
 pub reached_stood : (p : Program) (s : State) (i : ℕ) (d : Inst) (r : IsReached p s i d) → Stood p.accepted.insts r.frame.pc d

@@ -7,7 +7,10 @@ use Rattle.spv_base.specs.Entries.{change}
 use Rattle.spv_base.specs.Variables.{Roots}
 use Rattle.spv_base.specs.declared.instructions.Inst.{Inst}
 use Rattle.spv_base.proofs.Exports.{length_change, changed_at}
-use Rattle.spv_mem.specs.Memory.{Levels}
+use Rattle.spv_base.specs.declared.values.Root.TheVariants.{Local}
+use Rattle.spv_types.specs.Types.{Types}
+use Rattle.spv_mem.specs.Memory.{AreVariables, IsMemory, Levels}
+use Rattle.spv_mem.proofs.Exports.{levels_kept}
 use Rattle.spv_frame.specs.Frames.{Held as Frame}
 use Rattle.spv_frame.specs.Stacks.{Stacked, top}
 use Rattle.spv_statuses.specs.declared.invocations.Status.{Status}
@@ -212,6 +215,7 @@ module _ (p : Program) (s : State) (i : ℕ) (sound : IsSound p s) (ready : slic
     plans = sound.plans;
     types = sound.types;
     targets = sound.targets;
+    memory = levels_kept s.memory i (λ (l : Levels). record l { list = l.list ++ es ∷ [] }) more sound.memory;
     words = sound.words;
     stacks = length_change i (with_top f) s.stacks ∙ sound.stacks;
     levels = length_change i (λ (l : Levels). record l { list = l.list ++ es ∷ [] }) s.memory.locals ∙ sound.levels;
@@ -222,6 +226,14 @@ module _ (p : Program) (s : State) (i : ℕ) (sound : IsSound p s) (ready : slic
         (one_changed p.accepted i (λ t. t) (with_top f) (λ (l : Levels). record l { list = l.list ++ es ∷ [] }) s.statuses.list s.stacks s.memory.locals sound.each
         (λ t k l status stack level kept. pushed t k l (let own_status = ready in cc) stack kept));
   } where
+    more : (l : Levels) → IsMemory s.memory → slice_get s.memory.locals i ≡ Some l → (depth : ℕ) (xs : Roots) → slice_get (l.list ++ es ∷ []) depth ≡ Some xs → AreVariables s.memory.types s.memory.targets xs
+    more l was level depth xs at =
+        elim (last_or l.list es depth xs at) [
+          | inl old ↦ was.variables i (Local depth 0) xs (rw level old)
+          | inr last ↦ subst (AreVariables s.memory.types s.memory.targets) (sym last.1)
+              (subst (λ (ts : Types). AreVariables ts s.memory.targets es) (sym sound.types) (subst (λ (targets : List (ℕ × ℕ)). AreVariables p.accepted.types targets es) (sym sound.targets) fits.values))
+        ]
+
     pushed : (t : Status) (k : Stacked) (l : Levels) → t ≡ Ready → slice_get s.stacks i ≡ Some k → IsSoundStack p.accepted t k l → IsSoundStack p.accepted t (with_top f k) (record l { list = l.list ++ es ∷ [] })
     pushed t k l same stack kept =
         let a = p.accepted in
@@ -231,12 +243,17 @@ module _ (p : Program) (s : State) (i : ℕ) (sound : IsSound p s) (ready : slic
         subst (λ (u : Status). IsSoundStack a u (with_top f k) (record l { list = l.list ++ es ∷ [] })) (sym same) (pushed_stack a k l mine f own es top_is fits.sound call fits.locals
         (subst (λ (fs : List Frame). IsRooted a (fs ++ f ∷ []) (length fs) f) (ap (λ (o : Option Stacked). option_map_or (λ (x : Stacked). x.frames) o []) stack) passed))
 
+  -- the variables that stay are as they were
+  fewer_sound : ∥ IsMemory (pop_frame i s).memory ∥₁
+  fewer_sound = levels_kept s.memory i without_locals (λ l was level depth xs at. was.variables i (Local depth 0) xs (rw level (taken_at (length l.list - 1) depth l.list xs at))) sound.memory
+
   -- a frame that is left, where one stays
   pub popped_sound : (f : Frame) → top_of (pop_frame i s) i ≡ Some f → IsSound p (pop_frame i s)
   popped_sound f is = record {
     plans = sound.plans;
     types = sound.types;
     targets = sound.targets;
+    memory = fewer_sound;
     words = sound.words;
     stacks = length_change i without_top s.stacks ∙ sound.stacks;
     levels = length_change i without_locals s.memory.locals ∙ sound.levels;
@@ -261,6 +278,7 @@ module _ (p : Program) (s : State) (i : ℕ) (sound : IsSound p s) (ready : slic
     plans = sound.plans;
     types = sound.types;
     targets = sound.targets;
+    memory = fewer_sound;
     words = sound.words;
     stacks = length_change i without_top s.stacks ∙ sound.stacks ∙ sym (length-set s.statuses.list i Finished);
     levels = length_change i without_locals s.memory.locals ∙ sound.levels ∙ sym (length-set s.statuses.list i Finished);

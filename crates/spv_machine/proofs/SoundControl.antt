@@ -32,6 +32,7 @@ status_kept p s i u g sound changed = record {
   plans = sound.plans;
   types = sound.types;
   targets = sound.targets;
+  memory = sound.memory;
   words = sound.words;
   stacks = length_change i (on_frames g) s.stacks ∙ sound.stacks ∙ sym (length-set s.statuses.list i u);
   levels = sound.levels ∙ sym (length-set s.statuses.list i u);
@@ -51,6 +52,7 @@ frame_kept p s i g sound changed = record {
   plans = sound.plans;
   types = sound.types;
   targets = sound.targets;
+  memory = sound.memory;
   words = sound.words;
   stacks = length_change i (on_frames g) s.stacks ∙ sound.stacks;
   levels = sound.levels;
@@ -77,7 +79,7 @@ pass_kept p s i known sound =
     let depth : ℕ = depth_of s i in
     let g : Frame → Frame = passed a depth in
     frame_kept p s i g sound (λ t k l status stack level kept.
-    top_kept a t t k l g (λ f. refl) kept (λ e. e, λ e. e) (λ f here sf. passed_sound a depth f sf) (λ f here rooted. passes k f stack here (kept.frames (length k.frames - 1) f here) rooted)
+    top_kept a t t k l g (λ f. refl) kept (λ e. e, λ e. e) (λ f here sf. passed_sound a known.accepted known.valid depth f sf) (λ f here rooted. passes k f stack here (kept.frames (length k.frames - 1) f here) rooted)
     (λ f here stands. passed_stands a t depth f stands))
   where
     passes : (k : Stacked) (f : Frame) → slice_get s.stacks i ≡ Some k → top k.frames ≡ Some f → IsSoundFrame p.accepted f → IsRooted p.accepted k.frames (length k.frames - 1) f

@@ -11,12 +11,14 @@ use Rattle.spv_base.specs.declared.values.Root.{Root}
 use Rattle.spv_base.specs.declared.values.Root.TheVariants.{Shared, Private, Local}
 use Rattle.spv_base.specs.declared.values.Value.{Value}
 use Rattle.spv_base.proofs.Exports.{length_change, change_here}
-use Rattle.spv_mem.specs.Memory.{Held as Memory, Levels, roots_in, stored, with_level, with_roots}
+use Rattle.spv_mem.specs.Memory.{Held as Memory, IsMemory, Levels, roots_in, stored, with_level, with_roots}
 use Rattle.spv_mem.specs.Roots.{put_in}
+use Rattle.spv_mem.proofs.Exports.{stored_kept}
 use Rattle.spv_frame.specs.Frames.{Held as Frame}
 use Rattle.spv_frame.specs.Stacks.{Stacked}
 use Rattle.spv_statuses.specs.declared.invocations.Status.{Status}
 use Rattle.spv_valid.specs.Acceptance.{Accepted}
+use Rattle.spv_sites.specs.Fits.{StoreFits}
 use Rattle.spv_state.specs.Program.{Program}
 use Rattle.spv_state.specs.Roots.{ids_in as keys}
 use Rattle.spv_state.specs.Sound.{HasVariables, IsSound, IsSoundStack}
@@ -153,11 +155,12 @@ stack_kept a t k old new room same s = record {
   rooted = s.rooted;
 }
 
-pub memory_kept : (p : Program) (s : State) (new : Memory) → SameVariables s.memory new → IsSound p s → IsSound p (record s { memory = new })
-memory_kept p s new same sound = record {
+memory_kept : (p : Program) (s : State) (new : Memory) → SameVariables s.memory new → ∥ IsMemory new ∥₁ → IsSound p s → IsSound p (record s { memory = new })
+memory_kept p s new same memory sound = record {
   plans = sound.plans;
   types = same.types ∙ sound.types;
   targets = same.targets ∙ sound.targets;
+  memory = memory;
   words = sound.words;
   stacks = sound.stacks;
   levels = same.locals ∙ sound.levels;
@@ -169,6 +172,6 @@ memory_kept p s new same sound = record {
       stack_kept p.accepted t k was.before l was.room was.keys (sound.each i t k was.before status stack was.at);
 }
 
-pub store_kept : (p : Program) (s : State) (i : ℕ) (o : Option (Pointer × Value)) → IsSound p s → IsSound p (put_store i o s)
-store_kept p s i None sound = sound
-store_kept p s i (Some e) sound = memory_kept p s (stored i e.0 e.1 s.memory) (stored_same s.memory i e.0 e.1) sound
+pub store_kept : (p : Program) (s : State) (i : ℕ) (o : Option (Pointer × Value)) → StoreFits s i o → IsSound p s → IsSound p (put_store i o s)
+store_kept p s i None fits sound = sound
+store_kept p s i (Some e) fits sound = memory_kept p s (stored i e.0 e.1 s.memory) (stored_same s.memory i e.0 e.1) (stored_kept s.memory i e.0 e.1 sound.memory fits.1 fits.0) sound

@@ -51,18 +51,21 @@ level_kept a f id v (Value-F.Scalar c) e fits s = record {
   places = record { values = keys_stay id (Some v) f.values ∙ s.places.values; pointers = s.places.pointers };
   stands = s.stands;
   shaped = shaped_value a f id v fits s.shaped;
+  captured = s.captured;
 }
 level_kept a f id v (Value-F.List vs) e fits s = record {
   plan = s.plan;
   places = record { values = keys_stay id (Some v) f.values ∙ s.places.values; pointers = s.places.pointers };
   stands = s.stands;
   shaped = shaped_value a f id v fits s.shaped;
+  captured = s.captured;
 }
 level_kept a f id v (Value-F.Ptr q) e fits s = record {
   plan = s.plan;
   places = record { values = s.places.values; pointers = keys_stay id (Some q) f.pointers ∙ s.places.pointers };
   stands = s.stands;
   shaped = shaped_pointer a f id q (λ ty typed. subst (HasShape a.types (target_in a) ty) (pointer_by v q e) (fits ty typed)) s.shaped;
+  captured = s.captured;
 }
 
 pub register_kept : (a : Accepted) (f : Frame) (id : ℕ) (v : Value) → RegisterFits a id v (out-Value v) → IsSoundFrame a f → IsSoundFrame a (with_register id v f)
@@ -85,4 +88,5 @@ moved_kept a f pc stands s = record {
   places = record { values = s.places.values; pointers = s.places.pointers };
   stands = stands;
   shaped = record { values = s.shaped.values; pointers = s.shaped.pointers };
+  captured = s.captured;
 }

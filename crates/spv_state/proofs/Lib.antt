@@ -13,8 +13,10 @@ mod SizeLemmas
 mod PlanLemmas
 mod RootLemmas
 mod VariableStart
+mod VariableShapes
 mod OperandRoots
 mod EventRoots
+mod EventShapes
 mod StartSound
 mod BegunLemmas
 mod ChangeLemmas

@@ -25,7 +25,7 @@ use Rattle.spv_frame.specs.Registers.{Planned}
 use Rattle.spv_frame.specs.Stacks.{Stacked}
 use Rattle.spv_state.specs.Program.{Program}
 use Rattle.spv_state.specs.Roots.{CapturesRoot, FindsVariable, IsRoot, IsRooted, ids_at, ids_in, local_ids, own_ids, shared_ids}
-use Rattle.spv_state.specs.Sound.{HasVariables, IsSound}
+use Rattle.spv_state.specs.Sound.{HasVariables, IsSound, IsSoundFrame}
 use Rattle.spv_state.specs.State.{State, frames_of, with_pc}
 
 -- ---- ids in lists
@@ -124,6 +124,13 @@ module _ (p : Program) (s : State) (sound : IsSound p s) (i depth : ℕ) (f : Fr
 
   inside : i < length s.statuses.list
   inside = let k = stack in let within = slice_get_within s.stacks i k.0 k.1 in let same = sound.stacks in omega arith
+
+  pub frame_sound : IsSoundFrame p.accepted f
+  frame_sound =
+      let k = stack in
+      let t = element_at s.statuses.list i inside in
+      let l = element_at s.memory.locals i (let within = inside in let same = sound.levels in omega arith) in
+      (sound.each i t.0 k.0 l.0 t.1 k.1 l.1).frames depth f (subst (λ (fs : List Frame). slice_get fs depth ≡ Some f) k.2 here)
 
   -- the pointers that are kept in it name variables that are there
   pub frame_rooted : IsRooted p.accepted (frames_of s i) depth f

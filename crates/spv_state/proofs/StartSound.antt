@@ -16,20 +16,21 @@ use Rattle.spv_valid.specs.Validity.{IsValid}
 use Rattle.spv_frame.specs.Frames.{Held as Frame, fresh, none}
 use Rattle.spv_frame.specs.Registers.{Planned, ids}
 use Rattle.spv_frame.specs.Stacks.{Stacked}
-use Rattle.spv_mem.specs.Memory.{Levels}
+use Rattle.spv_mem.specs.Memory.{IsMemory, Levels}
 use Rattle.spv_initial.specs.Start.{own_roots, starting, variables}
 use Rattle.spv_plans.specs.Members.{first_stop, is_stop, members}
 use Rattle.spv_plans.specs.Plans.{IsPlan, functions_in, plan_of}
 use Rattle.spv_operands.proofs.Exports.{fresh_shaped}
 use Rattle.spv_statuses.specs.declared.invocations.Status.{Status}
 use Rattle.spv_statuses.specs.declared.invocations.Status.TheVariants.{Ready}
-use Rattle.spv_state.specs.Events.{passed}
+use Rattle.spv_state.specs.Events.{IsShapedEvent, passed}
 use Rattle.spv_state.specs.Program.{IsFitting, Program}
 use Rattle.spv_state.specs.Roots.{CapturesRoot, IsRooted}
 use Rattle.spv_state.specs.Sound.{HasPlaces, IsSound, IsSoundFrame, IsSoundStack, StandsIn}
 use Rattle.spv_state.specs.Start.{frame_roots, start_of}
 use Rattle.spv_state.proofs.EntryLemmas.{entry_listed}
 use Rattle.spv_state.proofs.EventRoots.{above_rooted}
+use Rattle.spv_state.proofs.EventShapes.{passed_captured}
 use Rattle.spv_state.proofs.VariableStart.{own_begins, shared_begin}
 use Rattle.std.proofs.lemmas.List.{length-map}
 use Rattle.spv_base.proofs.Exports.{get_replicate}
@@ -105,18 +106,20 @@ function_frame has a function accepted known = record {
   places = fresh_places (plan_of a function);
   stands = stands_at a function (plan_of a function).first (first_there has a function accepted known);
   shaped = fresh_shaped a (plan_of a function);
+  captured = All-nil (IsShapedEvent a);
 }
 
 pub entry_frame : HavePlans → (a : Accepted) → ∥ IsAccepted a ∥₁ → ∥ IsValid a ∥₁ → IsSoundFrame a (fresh (plan_of a a.entry))
 entry_frame has a accepted valid = function_frame has a a.entry accepted (∥∥₁_map valid (λ (v : IsValid a). entry_listed a v))
 
 -- a frame that passes debug events goes on being sound
-pub passed_sound : (a : Accepted) (depth : ℕ) (f : Frame) → IsSoundFrame a f → IsSoundFrame a (passed a depth f)
-passed_sound a depth f s = record {
+pub passed_sound : (a : Accepted) → ∥ IsAccepted a ∥₁ → ∥ IsValid a ∥₁ → (depth : ℕ) (f : Frame) → IsSoundFrame a f → IsSoundFrame a (passed a depth f)
+passed_sound a accepted valid depth f s = record {
   plan = s.plan;
   places = record { values = s.places.values; pointers = s.places.pointers };
   stands = s.stands;
   shaped = record { values = s.shaped.values; pointers = s.shaped.pointers };
+  captured = passed_captured a accepted valid f s.shaped depth s.captured;
 }
 
 -- ---- the stack of each invocation
@@ -141,7 +144,7 @@ sound_stack has a accepted valid = record {
   room = refl;
   levels = refl;
   finished = (λ e. absurd (cc), λ e. absurd (cc));
-  frames = λ depth f at. subst (IsSoundFrame a) (sym (one_frame (passed a 0 (fresh (plan_of a a.entry))) f depth at)) (passed_sound a 0 (fresh (plan_of a a.entry)) (entry_frame has a accepted valid));
+  frames = λ depth f at. subst (IsSoundFrame a) (sym (one_frame (passed a 0 (fresh (plan_of a a.entry))) f depth at)) (passed_sound a accepted valid 0 (fresh (plan_of a a.entry)) (entry_frame has a accepted valid));
   variables = (refl, tt);
   first = λ f at. ap (λ (g : Frame). g.plan.function) (one_frame (passed a 0 (fresh (plan_of a a.entry))) f 0 at);
   calls = λ depth f g at above. absurd (cc);
@@ -151,15 +154,16 @@ sound_stack has a accepted valid = record {
 
 -- ---- the state
 
-pub start_sound : HavePlans → (p : Program) → ∥ IsAccepted p.accepted ∥₁ → ∥ IsValid p.accepted ∥₁ → IsFitting p.accepted p.setup → IsSound p (start_of p)
+pub start_sound : HavePlans → (p : Program) → ∥ IsAccepted p.accepted ∥₁ → ∥ IsValid p.accepted ∥₁ → IsFitting p.accepted p.setup → ∥ IsMemory (start_of p).memory ∥₁ → IsSound p (start_of p)
 unfolding start_of starting
-start_sound has p accepted valid fits =
+start_sound has p accepted valid fits memory =
     let a : Accepted = p.accepted in
     let count : ℕ = invocations a in
     record {
       plans = refl;
       types = refl;
       targets = refl;
+      memory = memory;
       words = refl;
       stacks = length_replicate count (entry_stack a) ∙ sym (length_replicate count Ready);
       levels = length-map _ _ ∙ length_replicate count (record { list = []; room = a.depth }) ∙ sym (length_replicate count Ready);

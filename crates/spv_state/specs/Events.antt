@@ -7,16 +7,22 @@ use Rattle.std.specs.declared.alloc.Global.{Global}
 use Rattle.spv_base.specs.Entries.{reads}
 use Rattle.spv_base.specs.declared.instructions.Inst.{Inst}
 use Rattle.spv_base.specs.declared.values.PassedEvent.{PassedEvent}
+use Rattle.spv_base.specs.declared.values.Value.{Value}
 use Rattle.spv_base.specs.Options.{holds}
 use Rattle.spv_index.specs.Classes.{is_label}
 use Rattle.spv_index.specs.DebugSet.{set_number}
+use Rattle.spv_index.specs.Definitions.{at, result_type}
 use Rattle.spv_index.specs.Operands.{id_operand}
 use Rattle.spv_index.specs.Positions.{Stand, stands_of}
 use Rattle.spv_frame.specs.Frames.{Held as Frame}
 use Rattle.spv_plans.specs.Members.{is_stop}
 use Rattle.spv_plans.specs.Registered.{IsOfFunction}
-use Rattle.spv_operands.specs.Shapes.{AreShaped}
+use Rattle.spv_operands.specs.Shapes.{AreShaped, target_in}
 use Rattle.spv_operands.specs.Values.{value_of}
+use Rattle.spv_types.specs.Queries.{is_pointer}
+use Rattle.spv_types.specs.Rows.{no_roots}
+use Rattle.spv_types.specs.Shapes.{HasShape}
+use Rattle.spv_types.specs.Types.{form_of}
 use Rattle.spv_valid.specs.Acceptance.{Accepted}
 use Rattle.spv_state.specs.State.{State, depth_of, on_frame, top_of}
 use Rattle.spv_state.specs.declared.captures.Capture.{Capture}
@@ -72,6 +78,17 @@ due a depth f = map (captured a f depth) (captures_before a f.pc)
 -- with them behind those that were passed before
 abbrev pub passed : Accepted → ℕ → Frame → Frame
 passed a depth f = record f { events = f.events ++ due a depth f }
+
+-- ---- what they have captured
+
+-- An event that was passed is one of a debug instruction of the module. The value that it captured has the shape of the type of the
+-- instruction's id: data has no pointer in it, and a pointer leads, along its path, to what its type points to.
+pub record IsShapedEvent (a : Accepted) (e : PassedEvent) : Type 0 where
+  pub inst : Inst
+  pub here : at a.insts e.word ≡ Some inst
+  pub debug : captures a.insts inst ≡ true
+  pub shaped : (id ty : ℕ) (v : Value) → id_operand inst 3 ≡ Some id → result_type a.insts id ≡ Some ty → e.value ≡ Some v
+      → HasShape a.types (if is_pointer (form_of a.types ty) then target_in a else no_roots) ty v
 
 -- ---- in a state
 

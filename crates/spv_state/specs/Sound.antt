@@ -1,6 +1,6 @@
 -- Sound states: what holds at every position of a run.
 use Rattle.std.specs.Prelude.{◌≡◌, ◌↔◌, ℕ, suc, true, [], length, map, Option, Some, slice_get, ⊤}
-use Rattle.std.specs.List.{AllZip, Contains}
+use Rattle.std.specs.List.{All, AllZip, Contains}
 use Rattle.spv_base.specs.Variables.{Roots}
 use Rattle.spv_base.specs.declared.instructions.Inst.{Inst}
 use Rattle.spv_base.specs.declared.values.Pointer.{Pointer}
@@ -9,7 +9,7 @@ use Rattle.spv_index.specs.Definitions.{at}
 use Rattle.spv_index.specs.Operands.{id_operand}
 use Rattle.spv_index.specs.Positions.{Stand}
 use Rattle.spv_valid.specs.Acceptance.{Accepted}
-use Rattle.spv_mem.specs.Memory.{Levels}
+use Rattle.spv_mem.specs.Memory.{IsMemory, Levels}
 use Rattle.spv_initial.specs.Start.{variables}
 use Rattle.spv_initial.specs.Variables.{targets_of}
 use Rattle.spv_frame.specs.Frames.{Held as Frame}
@@ -20,6 +20,7 @@ use Rattle.spv_plans.specs.Plans.{plan_of, plans_in}
 use Rattle.spv_operands.specs.Shapes.{AreShaped}
 use Rattle.spv_statuses.specs.declared.invocations.Status.{Status}
 use Rattle.spv_statuses.specs.declared.invocations.Status.TheVariants.{Ready, Arrived, Passed, Finished}
+use Rattle.spv_state.specs.Events.{IsShapedEvent}
 use Rattle.spv_state.specs.Program.{Program, words_of}
 use Rattle.spv_state.specs.State.{State}
 use Rattle.spv_state.specs.Roots.{IsRooted, ids_in, local_ids, own_ids, shared_ids}
@@ -39,12 +40,13 @@ pub record HasPlaces (f : Frame) : Type 0 where
   pub pointers : map (λ (e : ℕ × Option Pointer). e.0) f.pointers ≡ f.plan.pointers
 
 -- A frame has the registers of its function, each with a value of the shape of its type if it has one, and stands at an executable of the
--- function.
+-- function. The debug events that it has passed have values of the shapes of their types.
 pub record IsSoundFrame (a : Accepted) (f : Frame) : Type 0 where
   pub plan : f.plan ≡ plan_of a f.plan.function
   pub places : HasPlaces f
   pub stands : StandsIn a f.plan.function f.pc
   pub shaped : AreShaped a f
+  pub captured : All (IsShapedEvent a) f.events
 
 -- a frame has exactly the variables of its function
 abbrev pub HasVariables : Accepted → Frame → Roots → Type 0
@@ -83,11 +85,13 @@ pub record IsSoundStack (a : Accepted) (t : Status) (k : Stacked) (l : Levels) :
 
 -- ---- states
 
--- the plans and the variables are those of the module; the memory keeps the shapes of all variables by itself
+-- the plans and the variables are those of the module
 pub record IsSound (p : Program) (s : State) : Type 0 where
   pub plans : s.plans ≡ plans_in p.accepted
   pub types : s.memory.types ≡ p.accepted.types
   pub targets : s.memory.targets ≡ targets_of (variables p.accepted)
+  -- each variable has a value of the shape of its type
+  pub memory : ∥ IsMemory s.memory ∥₁
   pub words : s.statuses.words ≡ words_of p.accepted
   pub stacks : length s.stacks ≡ length s.statuses.list
   pub levels : length s.memory.locals ≡ length s.statuses.list

@@ -216,7 +216,9 @@ impl Whole {
         functions_have_their_plans();
         let _insts = m.accepted().insts();
         let _setup = m.setup();
-        whole(alloc, m)
+        let whole = whole(alloc, m)?;
+        whole.memory().keeps_types();
+        Ok(whole)
     }
 
     /// A row with room for the value of the largest register of any function.

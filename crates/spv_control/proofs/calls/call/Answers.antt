@@ -41,7 +41,7 @@ returns-clause-fits c v =
       store = tt;
       result = tt;
       control = enter_fits c.args.site.now.program.accepted c.args.site.now.inst c.callee-function.result c.in_ok-frame.frame c.in_ok-locals.locals c.callee-function.ensures c.call_is_kept.ensures.call
-          (begun_sound c.args.site.now c.in_ok-fresh.fresh c.in_ok-frame.frame c.in_ok-frame.ensures c.in_ok-fresh.ensures.sound)
+          (begun_sound c.args.site.now c.accepted.result.now c.in_ok-fresh.fresh c.in_ok-frame.frame c.accepted.ensures c.insts-insts.ensures.accepted c.insts-insts.ensures.valid c.in_ok-frame.ensures c.in_ok-fresh.ensures.sound)
           (begun_plan c.args.site.now c.in_ok-fresh.fresh c.in_ok-frame.frame _ c.in_ok-frame.ensures c.in_ok-fresh.ensures.plan) c.in_ok-locals.ensures.value c.in_ok-locals.ensures.are;
       rooted = tt;
       passed = begun_rooted c.args.site.now c.accepted.result.now c.in_ok-fresh.fresh c.in_ok-frame.frame c.accepted.ensures c.insts-insts.ensures.accepted c.insts-insts.ensures.valid c.in_ok-frame.ensures

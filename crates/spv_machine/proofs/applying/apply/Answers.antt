@@ -19,7 +19,7 @@ pub put_result-requires-clause-reached : goal.put_result-requires-clause-reached
 put_result-requires-clause-reached c =
     let p = c.args.m.now in
     let d = c.args.inst.now in
-    subst (λ (x : State). IsReached p x c.args.inv d) (sym c.in_ok-put_store.ensures.store) (stored_reached p c.args.recorded.now.state c.args.inv d (shown c.args.effect c.args.row.now).store c.requires.reached)
+    subst (λ (x : State). IsReached p x c.args.inv d) (sym c.in_ok-put_store.ensures.store) (stored_reached p c.args.recorded.now.state c.args.inv d (shown c.args.effect c.args.row.now).store c.requires.fits.store c.requires.reached)
 
 pub put_result-requires-clause-fits : goal.put_result-requires-clause-fits
 put_result-requires-clause-fits c =
@@ -38,7 +38,7 @@ go-requires-clause-reached c =
     let d = c.args.inst.now in
     let e = c.args.effect in
     let first : IsReached p c.put_store.new.recorded.state c.args.inv d
-    = subst (λ (x : State). IsReached p x c.args.inv d) (sym c.in_ok-put_store.ensures.store) (stored_reached p c.args.recorded.now.state c.args.inv d (shown e c.args.row.now).store c.requires.reached) in
+    = subst (λ (x : State). IsReached p x c.args.inv d) (sym c.in_ok-put_store.ensures.store) (stored_reached p c.args.recorded.now.state c.args.inv d (shown e c.args.row.now).store c.requires.fits.store c.requires.reached) in
     let held = held_behind c.args.recorded.now.state c.args.inv e.store e.gain c.args.row.now c.put_store.new.row c.requires.taken.0 c.put_store.ensures.row c.in_ok-put_store.ensures.handed in
     let known : Facts p.accepted = facts p.accepted c.accepted-accepted.result.now c.accepted-accepted.ensures.module c.insts-insts.ensures.accepted c.insts-insts.ensures.valid in
     subst (λ (x : State). IsReached p x c.args.inv d) (sym c.in_ok-put_result.ensures.result)
