@@ -1,13 +1,13 @@
 //! The state of a workgroup, how it begins, and its primitive changes. Each takes no memory and can't fail, but for the start, a
 //! copy and the appending of a debug event.
-ghost use Rattle.std.specs.Prelude.{◌≡◌, ◌<◌, IsSome, Some, length, slice_get, option_copied, option_map, true, [], ℕ, IfOk, OnOk, IfNone, None, ◌≢◌, OnErr};
+ghost use Rattle.std.specs.Prelude.{◌≡◌, ◌<◌, ◌≤◌, IsSome, Some, length, slice_get, option_copied, option_map, true, [], ℕ, IfOk, OnOk, IfNone, None, ◌≢◌, OnErr};
 ghost use Rattle.spv_frame.specs.Stacks.{Stacked, top};
 ghost use Rattle.spv_mem.specs.Memory.{AreVariables, HasRoom, MayStore, load_of};
 ghost use Rattle.spv_statuses.specs.Group.{all_wait_at};
 ghost use Rattle.spv_statuses.specs.Invocations.{IsWithin, is_passed};
 ghost use Rattle.spv_state.specs.Rooms.{HasLocals, IsBounded};
 ghost use Rattle.spv_state.specs.State as state;
-ghost use Rattle.spv_frame.specs.Registers.{ids, marked, number_of};
+ghost use Rattle.spv_frame.specs.Registers.{Planned, ids, marked, number_of};
 ghost use Rattle.spv_plans.specs.Plans.{plans_in};
 ghost use Rattle.spv_state.specs.Events.{passed};
 ghost use Rattle.spv_state.specs.Sound.{IsSound, IsSoundFrame};
@@ -27,7 +27,7 @@ use crate::runnable::Runnable;
 use crate::start::{most_cells_of, whole};
 use crate::undoing::{plans_copied, stacks_copied};
 use spv_base::{Ghost, NoMemory, Path, Pointer, Root};
-use spv_effects::reserved;
+use spv_effects::{reserved, resize};
 use spv_frame::{DebugEvent, Frame, Plans, Stack};
 use spv_mem::{Locals, Memory};
 use spv_plans::laws::functions_have_their_plans;
@@ -221,9 +221,14 @@ impl Whole {
         Ok(whole)
     }
 
-    /// A row with room for the value of the largest register of any function.
-    pub fn row(&self, alloc: Global) -> Result<Row, NoMemory> {
-        reserved(alloc, most_cells_of(&self.plans))
+    /// A row with as many cells as the largest register of any function has, so that it takes each register's value without memory.
+    pub fn row(&self, alloc: Global) -> Result<Row, NoMemory>
+        ensures { IfOk result (λ row. (n k : ℕ) (p : Planned) (r : ℕ × ℕ) → slice_get self.now.plans n ≡ Some p → slice_get p.values k ≡ Some r → r.1 ≤ length (leaves row)) }
+    {
+        let most = most_cells_of(&self.plans);
+        let mut row = reserved(alloc, most)?;
+        resize(&mut row, most)?;
+        Ok(row)
     }
 
     /// The function of the top frame of an invocation.
