@@ -12,6 +12,8 @@ mod LeaveLemmas
 mod Phis
 mod Applied
 mod StatusSteps
+mod DefaultLemmas
+mod SingleLemmas
 mod WeightLemmas
 mod EventLemmas
 mod Recording

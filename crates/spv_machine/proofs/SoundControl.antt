@@ -112,7 +112,7 @@ stands_before a function pc d known stands here ends =
     (next.0, subst (λ (n : ℕ). reads n a.flow.nexts ≡ Some (Some next.0)) s.here next.1)
 
 -- the word of the executable behind the one at a word, which is there
-next_is : (a : Accepted) (pc word : ℕ) → reads pc a.flow.nexts ≡ Some (Some word) → next_of a pc ≡ word
+pub next_is : (a : Accepted) (pc word : ℕ) → reads pc a.flow.nexts ≡ Some (Some word) → next_of a pc ≡ word
 next_is a pc word h = rw h refl
 
 module _ (p : Program) (known : IsKnown p.accepted) where

@@ -27,7 +27,8 @@ use Rattle.spv_sites.specs.declared.causes.Cause.{Cause}
 
 -- ---- an effect, done
 
--- the executable behind the one at a word, in its block
+-- The executable behind the one at a word, in its block. There is one: where a run goes on the instruction ends no block
+-- (steps_find_what_they_need: next).
 abbrev pub next_of : Accepted → ℕ → ℕ
 next_of a pc = unwrap_or (option_and_then (λ n. n) (reads pc a.flow.nexts)) 0
 
@@ -47,7 +48,8 @@ to_next a i s = on_frame i (λ (f : Frame). with_pc (next_of a f.pc) f) s
 abbrev pub go_on : Accepted → ℕ → State → State
 go_on a i s = pass a i (to_next a i s)
 
--- the first executable of the block with a label
+-- The first executable of the block with a label. Each block to which a branch of an accepted module may go has one (targets_are_entered of
+-- spv_cfg).
 abbrev pub first_of : Accepted → ℕ → ℕ
 first_of a label = unwrap_or (reads label a.flow.blocks) 0
 
@@ -59,7 +61,7 @@ to_block a i block phis s = on_frame i (λ (f : Frame). with_pc (first_of a bloc
 abbrev pub jump : Accepted → ℕ → ℕ → List (ℕ × Value) → State → State
 jump a i block phis s = pass a i (to_block a i block phis s)
 
--- the id of the instruction at a word
+-- The id of the instruction at a word. Where a frame is left, the one below stands at an OpFunctionCall (steps_find_what_they_need: caller).
 abbrev pub id_at : Accepted → ℕ → ℕ
 id_at a word = option_map_or (λ (d : Inst). d.id) (at a.insts word) 0
 
@@ -148,7 +150,8 @@ abbrev pub outcome : Program → State → ℕ → Inst → Result Effect Cause 
 outcome p s i d (Ok e) = Moves (happening_of p.accepted s i d.word e) (apply p.accepted i d e s)
 outcome p s i d (Err cause) = Faults (record { code = code_of cause; inv = i; word = d.word })
 
--- a Ready invocation does the effect of the instruction at which its top frame stands
+-- A Ready invocation does the effect of the instruction at which its top frame stands. It has a top frame, and this stands at an instruction
+-- (steps_find_what_they_need: frame, inst).
 abbrev pub at_inst : Program → State → ℕ → Frame → Option Inst → Outcome
 at_inst p s i f None = Idles
 at_inst p s i f (Some d) = outcome p s i d (effect_of p s i f d)
@@ -157,11 +160,12 @@ abbrev pub at_frame : Program → State → ℕ → Option Frame → Outcome
 at_frame p s i None = Idles
 at_frame p s i (Some f) = at_inst p s i f (at p.accepted.insts f.pc)
 
--- a Passed invocation moves past the barrier and is Ready
+-- A Passed invocation moves past the barrier and is Ready. It has a top frame (steps_find_what_they_need: frame).
 abbrev pub past_frame : Program → State → ℕ → Option Frame → Outcome
 past_frame p s i None = Idles
 past_frame p s i (Some f) = Moves (plain i f.pc) (set_status i Ready (go_on p.accepted i s))
 
+-- each invocation has a status; a number that is none's idles
 abbrev pub by_status : Program → State → ℕ → Option Status → Outcome
 by_status p s i (Some Ready) = at_frame p s i (top_of s i)
 by_status p s i (Some Passed) = past_frame p s i (top_of s i)

@@ -6,6 +6,7 @@ mod cells;
 pub mod execution;
 mod finishing;
 pub mod happenings;
+pub mod laws;
 mod passing;
 pub mod world;
 

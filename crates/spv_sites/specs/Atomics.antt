@@ -69,7 +69,8 @@ atomic_row Xor = updates (updating (λ w a b. pos (bit_xor a b)))
 abbrev pub first_of_three : Program → State → ℕ → Frame → Inst → Result Value Cause
 first_of_three p s i f d = operand p s i f d 0 >>= (λ v. operand p s i f d 1 >>= (λ _. operand p s i f d 2 >>= (λ _. Ok v)))
 
--- the scalar that an operand is
+-- The scalar that an operand is. A value of a scalar type has one lane, so the cell of width 0 that `lane_of` gives otherwise is never read
+-- (values_are_their_lanes of spv_effects).
 abbrev pub scalar : Program → State → ℕ → Frame → Inst → ℕ → Result Cell Cause
 scalar p s i f d n = operand p s i f d n >>= (λ v. Ok (lane_of v))
 

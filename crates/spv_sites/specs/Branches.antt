@@ -24,7 +24,7 @@ jump_to p s i f d block =
     ok_or (phi_values p.accepted f (depth_of s i) (block_at p.accepted.insts d.word) (phis_of p.accepted.insts block)) NoValue
     >>= (λ (phis : List (ℕ × Value)). Ok (goes (Jump block phis)))
 
--- to the block with a label that a branch names, which every branch of an accepted module does
+-- to the block with a label that a branch names, which every branch of an accepted module does (instructions_keep_their_rules of spv_bodies)
 abbrev pub jump_by : Program → State → ℕ → Frame → Inst → Option ℕ → Result Effect Cause
 jump_by p s i f d label = ok_or label NoValue >>= jump_to p s i f d
 
@@ -34,6 +34,8 @@ jump_by p s i f d label = ok_or label NoValue >>= jump_to p s i f d
 abbrev pub number_in : Cell → Result ℕ Cause
 number_in c = if c.defined then Ok c.bits else Err UndefinedBranch
 
+-- The number by which control goes. The condition of a branch is a Boolean and a selector an integer (instructions_keep_their_rules), and
+-- registers hold values of their types (IsSoundFrame of spv_state: shaped), so there is a scalar.
 abbrev pub deciding_number : Value → Result ℕ Cause
 deciding_number v = option_map_or number_in (scalar_in (out-Value v)) (Err UndefinedBranch)
 

@@ -15,7 +15,7 @@ use Rattle.spv_state.specs.State.{State, frames_of, with_registers}
 use Rattle.spv_sites.specs.Effects.{Effect, Enter, Leave, goes, operand}
 use Rattle.spv_sites.specs.declared.causes.Cause.{Cause}
 
--- the function that a call names
+-- the function that a call names, which every OpFunctionCall of an accepted module does (instructions_keep_their_rules of spv_bodies)
 abbrev pub callee : Inst → ℕ
 callee d = unwrap_or (id_operand d 0) 0
 

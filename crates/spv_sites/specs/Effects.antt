@@ -45,7 +45,8 @@ code_of Unreachable = 5
 abbrev pub operand : Program → State → ℕ → Frame → Inst → ℕ → Result Value Cause
 operand p s i f d n = ok_or (operand_value p.accepted f (depth_of s i) d n) NoValue
 
--- the pointer that a value is
+-- The pointer that a value is. Where an instruction of an accepted module reads one, its operand's type is a pointer type, so the value is one
+-- (operands_have_shapes of spv_operands: pointers).
 abbrev pub pointer : Value → Result Pointer Cause
 pointer v = ok_or (pointer_in (out-Value v)) OutOfBounds
 

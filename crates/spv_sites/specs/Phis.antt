@@ -48,7 +48,8 @@ phis_of insts label = filter is_phi (first_ones (sets_of insts) (behind_label in
 
 -- ---- what they take
 
--- the label of the block in which the instruction at a word stands
+-- The label of the block in which the instruction at a word stands. The one at which a sound frame stands is one of a block
+-- (steps_find_what_they_need of spv_machine: inst).
 abbrev pub block_at : List Inst → ℕ → ℕ
 block_at insts word = option_map_or (λ (s : Stand). s.position.label) (find (λ (s : Stand). stands_at word s.inst) (stands_of insts)) 0
 
@@ -62,7 +63,8 @@ pairs (id ∷ parent ∷ more) = (id, parent) ∷ pairs more
 abbrev pub source_among : List Operand → ℕ → Option ℕ
 source_among operands from = option_and_then (λ (p : Operand × Operand). id_in p.0) (find (λ (p : Operand × Operand). holds from (id_in p.1)) (pairs operands))
 
--- what a phi's id takes where control comes from a block, in a frame at a depth as it is
+-- What a phi's id takes where control comes from a block, in a frame at a depth as it is. In an accepted module a phi has a pair for each block
+-- from which control comes (phi_breaches of spv_cfg), so it takes nothing only where the pair's id has no value.
 abbrev pub phi_value : Accepted → Frame → ℕ → ℕ → Inst → Option (ℕ × Value)
 phi_value a f depth from phi = option_map (λ (v : Value). (phi.id, v)) (option_and_then (value_of a f depth) (source_among phi.operands from))
 

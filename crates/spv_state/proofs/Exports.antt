@@ -19,6 +19,8 @@ pub use Rattle.spv_state.proofs.FitLemmas.{schedule_counts}
 pub use Rattle.spv_state.proofs.VariableLemmas.{kept_targets}
 -- Roots of pointers: where the variable that one names is there.
 pub use Rattle.spv_state.proofs.RootLemmas.{root_prop, frame_rooted, rooted_stays, rooted_more, rooted_moved, ids_changed, ids_below, ids_taken}
+-- The top frame of an invocation in a sound state.
+pub use Rattle.spv_state.proofs.TopLemmas.{top_sound}
 -- A pointer that an operand stands for names a variable that is there.
 pub use Rattle.spv_state.proofs.OperandRoots.{pointer_own, frame_there, operand_root}
 -- The pointers that debug events capture name variables that are there.

@@ -25,6 +25,7 @@ atomics =
 unfoldable pub atomic_op : ℕ → Option AtomicOp
 atomic_op op = reads op atomics
 
--- An instruction at which a run stops and that is none of these computes a value.
+-- An instruction at which a run stops and that is none of these computes a value: in an accepted module each one does
+-- (executables_are_actions of spv_computing).
 unfoldable pub action_of : Inst → Action
 action_of i = unwrap_or (option_or (reads i.op action_rows) (option_map Atomic (atomic_op i.op))) Compute

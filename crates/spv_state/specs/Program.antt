@@ -21,6 +21,6 @@ schedule_for a s = fitted a.insts a.types (invocations a) a.stack_cells s
 abbrev pub IsFitting : Accepted → Settings → Type 0
 IsFitting a s = IsOk (schedule_for a s)
 
--- one more than the word of the last instruction
+-- one more than the word of the last instruction; an accepted module has a function, and so an instruction
 abbrev pub words_of : Accepted → ℕ
 words_of a = option_map_or (λ (i : Inst). suc i.word) (slice_get a.insts (length a.insts - 1)) 0
