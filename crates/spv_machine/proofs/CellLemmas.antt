@@ -1,5 +1,5 @@
 -- What a predecoded instruction does is what a step does.
-use Rattle.std.proofs.Common.{◌≡◌, ◌∙◌, ℕ, ◌<◌, [], Bool, true, false, if◌then◌else◌, Some, IsSome, Ok, length, refl, sym, ap, subst, arith}
+use Rattle.std.proofs.Common.{◌≡◌, ◌∙◌, ℕ, ◌<◌, ◌≤◌, [], Bool, true, false, if◌then◌else◌, Some, IsSome, Ok, length, refl, sym, ap, subst, arith}
 use Rattle.std.specs.Prelude.{unwrap_or, Option}
 use Rattle.std.specs.Option.{IsSomeAnd, option_and_then}
 use Rattle.spv_base.specs.Entries.{reads}
@@ -29,7 +29,6 @@ use Rattle.spv_machine.specs.Weights.{effect_weight, result_weight, weight_of}
 use Rattle.spv_machine.specs.declared.cells.CellStep.{CellStep}
 use Rattle.spv_machine.specs.declared.execution.Did.TheVariants.{Moved}
 use Rattle.spv_machine.proofs.EventLemmas.{happening_inv}
-use Rattle.spv_machine.proofs.Recording.{effect_fits}
 use Rattle.spv_machine.proofs.StatusSteps.{moved_is, reached_inside, reached_step}
 use Rattle.spv_machine.proofs.PassedLemmas.{none_due, none_passed}
 use Rattle.spv_machine.proofs.ReachedLemmas.{frame_changed, word_is}
@@ -76,7 +75,7 @@ module _ (p : Program) (s : State) (i : ℕ) (d : Inst) (step : CellStep) (r : I
   pub cell_moves : step_of p s i ≡ Moves (happening_of p.accepted s i d.word (full step.effect)) (apply p.accepted i d (full step.effect) s)
   cell_moves = reached_step p s i d r ∙ ap (λ (x : Frame). outcome p s i d (effect_of p s i x d)) frame_is ∙ ap (outcome p s i d) is.effect.due
 
-  pub cell_weighs : weight_of p s i ≡ effect_weight p.accepted i (full step.effect) (apply p.accepted i d (full step.effect) s)
+  pub cell_weighs : weight_of p s i ≡ effect_weight p s i d (full step.effect)
   cell_weighs = reached_weight p s i d r ∙ ap (λ (x : Frame). result_weight p s i d (effect_of p s i x d)) frame_is ∙ ap (result_weight p s i d) is.effect.due
 
   pub put_moved : (t : State) → t ≡ put i d.id (full step.effect) s → on_frame i (with_pc step.next) t ≡ apply p.accepted i d (full step.effect) s
@@ -126,7 +125,7 @@ of_top P s i j f same is holds = subst (λ (n : ℕ). IsSomeAnd (top_of s n) P) 
 
 pub cell_made : (p : Program) (old new : Recorded) (i : ℕ) (d : Inst) (step : CellStep) (h : Happening) → IsReached p old.state i d → IsCellStep p old.state i d step → h ≡ happening_of p.accepted old.state i step.word (full step.effect)
     → new.state ≡ on_frame h.inv (with_pc step.next) (put h.inv d.id (full step.effect) old.state) → KeepsEvent 2 h old new
-    → Made (happening_of p.accepted old.state i d.word (full step.effect)) (apply p.accepted i d (full step.effect) old.state) (effect_weight p.accepted i (full step.effect) (apply p.accepted i d (full step.effect) old.state)) (Ok (Moved h)) old new
+    → Made (happening_of p.accepted old.state i d.word (full step.effect)) (apply p.accepted i d (full step.effect) old.state) (effect_weight p old.state i d (full step.effect)) (Ok (Moved h)) old new
 cell_made p old new i d step h r is happens reaches kept =
     let a = p.accepted in
     let s = old.state in
@@ -134,7 +133,7 @@ cell_made p old new i d step h r is happens reaches kept =
     let inv = (stands_for p s i d step h r is happens).inv in
     let same : h ≡ happening_of a s i d.word e = happens ∙ ap (λ (n : ℕ). happening_of a s i n e) is.word in
     let few = kept.few in
-    let fits = effect_fits a i e (apply a i d e s) in (
+    let fits : 4 ≤ effect_weight p s i d e = omega arith in (
       same,
       reaches ∙ ap (λ (n : ℕ). on_frame n (with_pc step.next) (put n d.id e s)) inv ∙ put_moved p s i d step r is (put i d.id e s) refl,
       kept.gathered,

@@ -1,20 +1,21 @@
 -- An event that is being made, step by step, and what becomes of it.
-use Rattle.std.proofs.Common.{◌≡◌, ◌∙◌, ℕ, suc, ◌+◌, ◌≤◌, List, ◌∷◌, Option, Some, None, Result, Ok, Err, OnOk, OnErr, refl, sym, ap, subst, arith}
-use Rattle.std.specs.Prelude.{option_map}
+use Rattle.std.proofs.Common.{◌≡◌, ◌∙◌, ℕ, suc, ◌+◌, ◌≤◌, Bool, true, false, List, ◌∷◌, Option, Some, None, Result, Ok, Err, OnOk, OnErr, refl, sym, ap, subst, arith}
+use Rattle.std.specs.Prelude.{if◌then◌else◌, option_map}
 use Rattle.std.specs.Option.{option_map_or}
 use Rattle.spv_base.specs.declared.happenings.Happening.{Happening}
+use Rattle.spv_base.specs.declared.instructions.Inst.{Inst}
 use Rattle.spv_base.specs.declared.values.Pointer.{Pointer}
 use Rattle.spv_base.specs.declared.values.Value.{Value}
-use Rattle.spv_valid.specs.Acceptance.{Accepted}
-use Rattle.spv_sites.specs.Effects.{Effect}
+use Rattle.spv_sites.specs.Effects.{Control, Effect, Next, Jump, Enter, Leave, Wait}
 use Rattle.spv_journal.specs.Events.{Event, fitting, newest, older, opened, size_of}
 use Rattle.spv_journal.specs.Held.{Held as Recorded, IsMaking, Records, changes_in, marked, past_of, sealed, unwound}
 use Rattle.spv_journal.specs.Undo.{Moment, before, past}
+use Rattle.spv_state.specs.Program.{Program}
 use Rattle.spv_state.specs.State.{State}
 use Rattle.spv_machine.specs.Does.{Does}
-use Rattle.spv_machine.specs.Recording.{Made, effect_entries, store_entries}
-use Rattle.spv_machine.specs.Weights.{effect_weight, leaves_stored}
-use Rattle.spv_machine.specs.Step.{Outcome, Moves}
+use Rattle.spv_machine.specs.Recording.{IsSingleBack, Made, control_entries, effect_entries, store_entries, turns}
+use Rattle.spv_machine.specs.Weights.{effect_weight, events_appended, leaves_in, puts_back, registers_set, taking}
+use Rattle.spv_machine.specs.Step.{Outcome, Moves, apply}
 use Rattle.spv_machine.specs.World.{IsRecorded, seen}
 use Rattle.spv_machine.specs.declared.execution.Did.{Did}
 use Rattle.spv_machine.specs.declared.execution.Did.TheVariants.{Idle, Moved}
@@ -143,10 +144,33 @@ made_keeps P h next weight (Err NoMemory) old new before behind made = subst (λ
 
 -- ---- weights
 
-store_few : (o : Option (Pointer × Value)) → store_entries o ≤ 1 + leaves_stored o
+store_few : (o : Option (Pointer × Value)) → store_entries o ≤ 1 + leaves_in o
 store_few None = omega arith
 store_few (Some e) = omega arith
 
+turns_few : (c : Control) → turns c ≤ 2
+turns_few Next = omega arith
+turns_few (Jump block phis) = omega arith
+turns_few (Enter frame es) = omega arith
+turns_few (Leave v) = omega arith
+turns_few Wait = omega arith
+
 -- the entries of an effect with its mark are no more than its weight
-pub effect_fits : (a : Accepted) (i : ℕ) (e : Effect) (t : State) → suc (effect_entries a i e t) ≤ effect_weight a i e t
-effect_fits a i e t = let few = store_few e.store in omega (arith, few)
+pub effect_fits : (p : Program) (s : State) (i : ℕ) (d : Inst) (e : Effect) → IsSingleBack p s i d e → suc (effect_entries p.accepted i e (apply p.accepted i d e s)) ≤ effect_weight p s i d e
+effect_fits p s i d e single = by_back (puts_back p s i d e) refl
+  where
+    few : store_entries e.store ≤ 1 + leaves_in e.store
+    few = store_few e.store
+
+    more : turns e.control ≤ 2
+    more = turns_few e.control
+
+    by_back : (b : Bool) → puts_back p s i d e ≡ b
+        → suc (store_entries e.store + taking e.result + control_entries p.accepted i e.control (apply p.accepted i d e s))
+        ≤ 4 + (if b then 0 else leaves_in e.store) + taking e.result + registers_set e.control + events_appended p.accepted i e.control (apply p.accepted i d e s)
+    by_back false is = omega (arith, few, more)
+    by_back true is =
+        let one = single is in
+        let low : leaves_in e.store ≤ 1 = one.leaves in
+        let next : turns e.control ≡ 1 = ap turns one.next in
+        omega (arith, few, low, next)

@@ -12,7 +12,7 @@ use Rattle.spv_sites.specs.declared.effects.Effect.{Effect}
 use Rattle.spv_state.specs.Program.{Program}
 use Rattle.spv_state.specs.State.{State, top_of}
 use Rattle.spv_machine.specs.Reached.{IsReached}
-use Rattle.spv_machine.specs.Step.{apply, go_on}
+use Rattle.spv_machine.specs.Step.{go_on}
 use Rattle.spv_machine.specs.Weights.{effect_weight, events_before, frame_weight, inst_weight, result_weight, status_weight, weight_of}
 
 pub reached_weight : (p : Program) (s : State) (i : ℕ) (d : Inst) (r : IsReached p s i d) → weight_of p s i ≡ result_weight p s i d (effect_of p s i r.frame d)
@@ -20,7 +20,7 @@ unfolding weight_of
 reached_weight p s i d r = ap (status_weight p s i) r.ready ∙ ap (frame_weight p s i) r.top ∙ ap (inst_weight p s i r.frame) r.at
 
 pub weight_by : (p : Program) (s : State) (i : ℕ) (d : Inst) (f : Frame) (v : Value) (result : Result Effect (Fail Cause)) → IsReached p s i d → top_of s i ≡ Some f → IsDue (effect_of p s i f d) v result
-    → IfOk result (λ (e : Effect). weight_of p s i ≡ effect_weight p.accepted i (shown e v) (apply p.accepted i d (shown e v) s))
+    → IfOk result (λ (e : Effect). weight_of p s i ≡ effect_weight p s i d (shown e v))
 weight_by p s i d f v (Ok e) r is due =
     let same : r.frame ≡ f = let own = r.top in cc in
     reached_weight p s i d r ∙ ap (λ (x : Frame). result_weight p s i d (effect_of p s i x d)) same ∙ ap (result_weight p s i d) due

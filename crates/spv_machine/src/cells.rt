@@ -75,7 +75,7 @@ pub(crate) fn cell_event(
     requires none { recorded.old.gathered ≡ None }
     requires reached { IsReached m.now recorded.old.state inv inst.now }
     requires step { IsCellStep m.now recorded.old.state inv inst.now step }
-    ensures { Made (spec.happening_of m.now.accepted recorded.old.state inv inst.now.word (full step.effect)) (spec.apply m.now.accepted inv inst.now (full step.effect) recorded.old.state) (effect_weight m.now.accepted inv (full step.effect) (spec.apply m.now.accepted inv inst.now (full step.effect) recorded.old.state)) (Ok result) recorded.old recorded.new }
+    ensures { Made (spec.happening_of m.now.accepted recorded.old.state inv inst.now.word (full step.effect)) (spec.apply m.now.accepted inv inst.now (full step.effect) recorded.old.state) (effect_weight m.now recorded.old.state inv inst.now (full step.effect)) (Ok result) recorded.old recorded.new }
 {
     let happening = happening_of(m.accepted(), inv, step.word, &step.effect);
     let next = step.next;

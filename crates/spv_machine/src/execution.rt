@@ -7,7 +7,7 @@ ghost use Rattle.spv_sites.specs.Planned.{IsTaken, PlannedFits, shown};
 ghost use Rattle.spv_journal.specs.Events.{older};
 ghost use Rattle.spv_journal.specs.Held.{IsMaking, Records};
 ghost use Rattle.spv_machine.specs.Does.{Does};
-ghost use Rattle.spv_machine.specs.Recording.{Made};
+ghost use Rattle.spv_machine.specs.Recording.{IsSingleBack, Made};
 ghost use Rattle.spv_machine.specs.Reached.{IsReached, IsStepBy};
 ghost use Rattle.spv_machine.specs.Step as spec;
 ghost use Rattle.spv_machine.specs.Weights.{effect_weight, events_before, weight_of};
@@ -89,7 +89,8 @@ fn due(
     ensures due { IsStepBy m.now whole.now inv inst.now row.new result }
     ensures fits { PlannedFits m.now whole.now inv inst.now row.new result }
     ensures taken { IfOk result (λ e. IsTaken whole.now inv e row.new) }
-    ensures weight { IfOk result (λ e. weight_of m.now whole.now inv ≡ effect_weight m.now.accepted inv (shown e row.new) (spec.apply m.now.accepted inv inst.now (shown e row.new) whole.now)) }
+    ensures single { IfOk result (λ e. IsSingleBack m.now whole.now inv inst.now (shown e row.new)) }
+    ensures weight { IfOk result (λ e. weight_of m.now whole.now inv ≡ effect_weight m.now whole.now inv inst.now (shown e row.new)) }
 {
     match whole.top(inv) {
         Some(frame) => effect_at(alloc, m, whole, inv, frame, inst, row),
@@ -111,7 +112,8 @@ fn perform(
     requires reached { IsReached m.now recorded.old.state inv inst.now }
     requires fits { Fits m.now recorded.old.state inv inst.now (shown effect row.old) }
     requires taken { IsTaken recorded.old.state inv effect row.old }
-    ensures { Made (spec.happening_of m.now.accepted recorded.old.state inv inst.now.word (shown effect row.old)) (spec.apply m.now.accepted inv inst.now (shown effect row.old) recorded.old.state) (effect_weight m.now.accepted inv (shown effect row.old) (spec.apply m.now.accepted inv inst.now (shown effect row.old) recorded.old.state)) result recorded.old recorded.new }
+    requires single { IsSingleBack m.now recorded.old.state inv inst.now (shown effect row.old) }
+    ensures { Made (spec.happening_of m.now.accepted recorded.old.state inv inst.now.word (shown effect row.old)) (spec.apply m.now.accepted inv inst.now (shown effect row.old) recorded.old.state) (effect_weight m.now recorded.old.state inv inst.now (shown effect row.old)) result recorded.old recorded.new }
 {
     let happening = happening_of(m.accepted(), recorded.whole(), inv, inst.word, &effect);
     match recorded.mark(happening) {

@@ -48,6 +48,6 @@ returns-in-Ok c =
     let t = apply p.accepted i d e s in
     let few = subst (λ (x : Recorded). Records (effect_entries p.accepted i e (apply p.accepted i d e x.state)) c.mark.new.self c.apply-done.new.recorded) c.in-Ok.ensures.ok c.apply-done.ensures.recorded in
     let reaches = on_ok_weaker c.apply-done.result (λ done. done ∙ ap (λ (x : Recorded). apply p.accepted i d e x.state) c.in-Ok.ensures.ok) c.apply-done.ensures.ok in
-    subst (λ (g : Happening). Made g (apply p.accepted i d e s) (effect_weight p.accepted i e (apply p.accepted i d e s)) c.finished.result c.args.recorded.now c.finished.new.recorded) h
-    (made_is c.happening_of-happening.result (effect_entries p.accepted i e t) c.args.recorded.now c.mark.new.self c.apply-done.new.recorded c.requires.none c.in-Ok.ensures.ok few (effect_weight p.accepted i e t) t
-    c.apply-done.result c.finished.result c.finished.new.recorded (effect_fits p.accepted i e t) reaches c.finished.ensures.ok c.finished.ensures.err)
+    subst (λ (g : Happening). Made g (apply p.accepted i d e s) (effect_weight p s i d e) c.finished.result c.args.recorded.now c.finished.new.recorded) h
+    (made_is c.happening_of-happening.result (effect_entries p.accepted i e t) c.args.recorded.now c.mark.new.self c.apply-done.new.recorded c.requires.none c.in-Ok.ensures.ok few (effect_weight p s i d e) t
+    c.apply-done.result c.finished.result c.finished.new.recorded (effect_fits p s i d e c.requires.single) reaches c.finished.ensures.ok c.finished.ensures.err)
