@@ -52,20 +52,8 @@ go-requires-clause-fits c =
     let given = given_behind e.control e.store e.gain c.args.row.now c.put_store.new.row c.put_result.new.row c.requires.taken.1 c.put_store.ensures.row c.put_result.ensures.row in
     subst (ControlFits c.args.m.now.accepted c.args.inst.now) (sym given) c.requires.fits.control
 
-pub returns-clause-ok : goal.returns-clause-ok
-returns-clause-ok c =
-    let e = c.args.effect in
-    let v = c.args.row.now in
-    let s = c.args.recorded.now.state in
-    let held = held_behind s c.args.inv e.store e.gain v c.put_store.new.row c.requires.taken.0 c.put_store.ensures.row c.in_ok-put_store.ensures.handed in
-    let given = given_behind e.control e.store e.gain v c.put_store.new.row c.put_result.new.row c.requires.taken.1 c.put_store.ensures.row c.put_result.ensures.row in
-    on_ok_weaker c.go.result
-    (λ gone. gone
-    ∙ applied_is c.args.m.now.accepted c.args.inv c.args.inst.now e v c.put_store.new.row c.put_result.new.row s c.put_store.new.recorded.state c.put_result.new.recorded.state c.in_ok-put_store.ensures.store c.in_ok-put_result.ensures.result held.1 given)
-    c.go.ensures.ok
-
-pub returns-clause-recorded : goal.returns-clause-recorded
-returns-clause-recorded c =
+pub returns : goal.returns
+returns c =
     let a = c.args.m.now.accepted in
     let i = c.args.inv in
     let d = c.args.inst.now in
@@ -82,8 +70,11 @@ returns-clause-recorded c =
     let three = subst (λ (x : Control). Records (control_entries a i x (apply a i d (shown e v) s)) c.put_result.new.recorded c.go.new.recorded) given gone_as in
     let n = store_entries (shown e v).store in
     let m = taking (gained e.gain v) in
-    records_on (n + m) (control_entries a i (gone e.control v) (apply a i d (shown e v) s)) c.args.recorded.now c.put_result.new.recorded c.go.new.recorded
-    (records_on n m c.args.recorded.now c.put_store.new.recorded c.put_result.new.recorded one two) three
+    record {
+      ok = on_ok_weaker c.go.result (λ gone. gone ∙ applied) c.go.ensures.ok;
+      recorded = records_on (n + m) (control_entries a i (gone e.control v) (apply a i d (shown e v) s)) c.args.recorded.now c.put_result.new.recorded c.go.new.recorded
+          (records_on n m c.args.recorded.now c.put_store.new.recorded c.put_result.new.recorded one two) three;
+    }
 
 pub returns-in_err-put_store-clause-recorded : goal.returns-in_err-put_store-clause-recorded
 returns-in_err-put_store-clause-recorded c =

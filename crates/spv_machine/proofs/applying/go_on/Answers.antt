@@ -16,21 +16,16 @@ come_to-requires-clause-inside c = reached_inside c.args.m.now c.args.recorded.n
 pub come_to-requires-clause-frame : goal.come_to-requires-clause-frame
 come_to-requires-clause-frame c = reached_frame c.args.m.now c.args.recorded.now.state c.args.inv c.args.inst.now c.args.m.now.accepted refl c.requires.reached
 
-pub returns-clause-ok : goal.returns-clause-ok
-returns-clause-ok c =
+pub returns : goal.returns
+returns c =
     let a = c.args.m.now.accepted in
+    let i = c.args.inv in
     let s = c.args.recorded.now.state in
     let r = c.requires.reached in
-    let word = word_is c.args.m.now s c.args.inv c.args.inst.now r in
+    let word = word_is c.args.m.now s i c.args.inst.now r in
     let next = c.word_behind-word.ensures ∙ ap (λ (x : Accepted). next_of x c.args.inst.now.word) c.accepted.ensures.module ∙ ap (next_of a) word in
-    on_ok_weaker c.come_to.result (λ come. come ∙ ap (pass a c.args.inv) (moved_is a s c.args.inv c.word_behind-word.result r.frame r.top next)) c.come_to.ensures.ok
-
-pub returns-clause-recorded : goal.returns-clause-recorded
-returns-clause-recorded c =
-    let a = c.args.m.now.accepted in
-    let s = c.args.recorded.now.state in
-    let r = c.requires.reached in
-    let word = word_is c.args.m.now s c.args.inv c.args.inst.now r in
-    let next = c.word_behind-word.ensures ∙ ap (λ (x : Accepted). next_of x c.args.inst.now.word) c.accepted.ensures.module ∙ ap (next_of a) word in
-    let moved : on_frame c.args.inv (with_pc c.word_behind-word.result) s ≡ to_next a c.args.inv s = moved_is a s c.args.inv c.word_behind-word.result r.frame r.top next in
-    subst (λ (x : State). Records (events_before a (pass a c.args.inv x) c.args.inv + 1) c.args.recorded.now c.come_to.new.recorded) moved c.come_to.ensures.recorded
+    let moved : on_frame i (with_pc c.word_behind-word.result) s ≡ to_next a i s = moved_is a s i c.word_behind-word.result r.frame r.top next in
+    record {
+      ok = on_ok_weaker c.come_to.result (λ come. come ∙ ap (pass a i) moved) c.come_to.ensures.ok;
+      recorded = subst (λ (x : State). Records (events_before a (pass a i x) i + 1) c.args.recorded.now c.come_to.new.recorded) moved c.come_to.ensures.recorded;
+    }

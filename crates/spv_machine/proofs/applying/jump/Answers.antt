@@ -28,20 +28,8 @@ come_to-requires-clause-inside c = reached_inside c.args.m.now c.put_phis.new.re
 pub come_to-requires-clause-frame : goal.come_to-requires-clause-frame
 come_to-requires-clause-frame c = reached_frame c.args.m.now c.put_phis.new.recorded.state c.args.inv c.args.inst.now c.args.m.now.accepted refl c.in_ok-put_phis.ensures.reached
 
-pub returns-clause-ok : goal.returns-clause-ok
-returns-clause-ok c =
-    let a = c.args.m.now.accepted in
-    let i = c.args.inv in
-    let s = c.args.recorded.now.state in
-    let first = c.first_word.ensures ∙ ap (λ (x : Accepted). first_of x c.args.block) c.accepted-accepted.ensures.module in
-    let same : c.as_mut_slice.result.now ≡ c.args.phis.items = search rules in
-    let put = c.in_ok-put_phis.ensures.registers ∙ ap (λ (ps : List PhiValue). on_frame i (with_registers (map phi_value ps)) s) same in
-    on_ok_weaker c.come_to.result
-    (λ come. come ∙ ap (pass a i) (jump_is c.args.m.now i c.args.block c.first_word.result (map phi_value c.args.phis.items) s c.put_phis.new.recorded.state put first))
-    c.come_to.ensures.ok
-
-pub returns-clause-recorded : goal.returns-clause-recorded
-returns-clause-recorded c =
+pub returns : goal.returns
+returns c =
     let a = c.args.m.now.accepted in
     let i = c.args.inv in
     let s = c.args.recorded.now.state in
@@ -53,4 +41,7 @@ returns-clause-recorded c =
     let events = events_before a (jump a i c.args.block (map phi_value c.args.phis.items) s) i in
     let one = subst (λ (ps : List PhiValue). Records (length ps) c.args.recorded.now c.put_phis.new.recorded) same c.put_phis.ensures.recorded in
     let two = subst (λ (x : State). Records (events_before a (pass a i x) i + 1) c.put_phis.new.recorded c.come_to.new.recorded) moved c.come_to.ensures.recorded in
-    records_on (length c.args.phis.items) (events + 1) c.args.recorded.now c.put_phis.new.recorded c.come_to.new.recorded one two
+    record {
+      ok = on_ok_weaker c.come_to.result (λ come. come ∙ ap (pass a i) moved) c.come_to.ensures.ok;
+      recorded = records_on (length c.args.phis.items) (events + 1) c.args.recorded.now c.put_phis.new.recorded c.come_to.new.recorded one two;
+    }

@@ -75,18 +75,8 @@ resume-requires-clause-rooted c =
     let known : Facts p.accepted = facts p.accepted c.accepted-accepted.result.now c.accepted-accepted.ensures.module c.insts-insts.ensures.accepted c.insts-insts.ensures.valid in
     given_rooted p known c.args.recorded.now.state c.args.inv c.args.inst.now (gained c.args.gain c.args.row.now) c.requires.reached c.requires.fits (frames_of c.leave.new.self.state c.args.inv)
 
-pub returns-in-Some-clause-ok : goal.returns-in-Some-clause-ok
-returns-in-Some-clause-ok c =
-    let p = c.args.m.now in
-    let known : Facts p.accepted = facts p.accepted c.accepted-accepted.result.now c.accepted-accepted.ensures.module c.insts-insts.ensures.accepted c.insts-insts.ensures.valid in
-    let here : LeftAt p c.args.recorded.now.state c.args.inv ≡ Some c.in-Some.call.now
-    = ap (λ (x : State). option_and_then (λ (f : Frame). at p.accepted.insts f.pc) (top_of x c.args.inv)) (sym c.in_ok-leave.ensures.ok ∙ sym c.whole.ensures) ∙ sym c.in-Some.ensures in
-    let by : CalledBy p c.args.recorded.now.state c.args.inv c.args.inst.now c.in-Some.call.now = left_to p known c.args.recorded.now.state c.args.inv c.args.inst.now c.requires.reached c.in-Some.call.now here in
-    let o = gained c.args.gain c.args.row.now in
-    on_ok_weaker c.resume.result (λ gone. gone ∙ ap (λ (x : State). go_on p.accepted c.args.inv (put_result c.args.inv c.in-Some.call.now.id o x)) c.in_ok-leave.ensures.ok ∙ sym (by.leaves o)) c.resume.ensures.ok
-
-pub returns-in-Some-clause-recorded : goal.returns-in-Some-clause-recorded
-returns-in-Some-clause-recorded c =
+pub returns-in-Some : goal.returns-in-Some
+returns-in-Some c =
     let p = c.args.m.now in
     let a = p.accepted in
     let i = c.args.inv in
@@ -99,8 +89,11 @@ returns-in-Some-clause-recorded c =
     let left : go_on a i (put_result i c.in-Some.call.now.id o c.leave.new.self.state) ≡ leave a i o s
     = ap (λ (x : State). go_on a i (put_result i c.in-Some.call.now.id o x)) c.in_ok-leave.ensures.ok ∙ sym (by.leaves o) in
     let two = subst (λ (x : State). Records (taking o + (events_before a x i + 1)) c.leave.new.self c.resume.new.recorded) left c.resume.ensures.recorded in
-    records_more (1 + (taking o + (events_before a (leave a i o s) i + 1))) (taking o + (events_before a (leave a i o s) i + 2)) c.args.recorded.now c.resume.new.recorded (omega arith)
-    (records_on 1 (taking o + (events_before a (leave a i o s) i + 1)) c.args.recorded.now c.leave.new.self c.resume.new.recorded c.leave.ensures.recorded two)
+    record {
+      ok = on_ok_weaker c.resume.result (λ gone. gone ∙ left) c.resume.ensures.ok;
+      recorded = records_more (1 + (taking o + (events_before a (leave a i o s) i + 1))) (taking o + (events_before a (leave a i o s) i + 2)) c.args.recorded.now c.resume.new.recorded (omega arith)
+          (records_on 1 (taking o + (events_before a (leave a i o s) i + 1)) c.args.recorded.now c.leave.new.self c.resume.new.recorded c.leave.ensures.recorded two);
+    }
 
 pub returns-in-None-clause-ok : goal.returns-in-None-clause-ok
 returns-in-None-clause-ok c =

@@ -8,13 +8,20 @@ use Rattle.spv_valid.specs.Acceptance.{Accepted}
 use Rattle.spv_journal.specs.Held.{Records}
 use Rattle.spv_state.specs.Events.{pass}
 use Rattle.spv_state.specs.Sound.{IsSoundFrame}
-use Rattle.spv_state.specs.State.{State, set_status}
+use Rattle.spv_state.specs.Program.{Program}
+use Rattle.spv_state.specs.State.{State, on_frame, set_status, top_of, with_pc}
 use Rattle.spv_state.proofs.Exports.{IsKnown, known_as}
-use Rattle.spv_machine.specs.Step.{go_on, next_of}
+use Rattle.spv_machine.specs.Step.{go_on, next_of, to_next}
 use Rattle.spv_machine.specs.Weights.{events_before}
 use Rattle.spv_machine.proofs.StatusSteps.{HasTop, barrier_next, has_top, moved_is}
 use Rattle.spv_machine.proofs.Recording.{records_more, records_on}
 use Rattle.spv_machine.proofs.execution.move_past.Goals as goal
+
+-- the frame of a Passed invocation moves on from the barrier
+past : (p : Program) (s : State) (i pc word : ℕ) → HasTop p s i Passed → IsSomeAnd (top_of s i) (λ (f : Frame). f.pc ≡ pc) → word ≡ next_of p.accepted pc → on_frame i (with_pc word) s ≡ to_next p.accepted i s
+past p s i pc word h stands is =
+    let here : h.frame.pc ≡ pc = subst (λ (o : Option Frame). IsSomeAnd o (λ (f : Frame). f.pc ≡ pc)) h.top stands in
+    moved_is p.accepted s i word h.frame h.top (is ∙ ap (next_of p.accepted) (sym here))
 
 pub word_behind-requires : goal.word_behind-requires
 word_behind-requires c =
@@ -33,29 +40,19 @@ come_to-requires-clause-frame c =
     let h : HasTop p c.args.recorded.now.state c.args.inv Passed = has_top p c.args.recorded.now.state c.args.inv Passed c.requires.sound c.requires.inv c.requires.passed (λ e. cc) in
     subst (λ (o : Option Frame). IsSomeAnd o (IsSoundFrame p.accepted)) (sym h.top) h.sound
 
-pub returns-clause-ok : goal.returns-clause-ok
-returns-clause-ok c =
+pub returns : goal.returns
+returns c =
     let p = c.args.m.now in
     let a = p.accepted in
     let s = c.args.recorded.now.state in
     let i = c.args.inv in
     let h : HasTop p s i Passed = has_top p s i Passed c.requires.sound c.requires.inv c.requires.passed (λ e. cc) in
-    let here : h.frame.pc ≡ c.args.pc = subst (λ (o : Option Frame). IsSomeAnd o (λ (f : Frame). f.pc ≡ c.args.pc)) h.top c.requires.stands in
-    let next = c.word_behind.ensures ∙ ap (λ (x : Accepted). next_of x c.args.pc) c.accepted-accepted.ensures.module ∙ ap (next_of a) (sym here) in
-    let moved = c.in_ok-come_to.ensures.ok ∙ ap (pass a i) (moved_is a s i c.word_behind.result h.frame h.top next) in
-    on_ok_weaker c.set_status.result (λ set. set ∙ ap (set_status i Ready) moved) c.set_status.ensures.ok
-
-pub returns-clause-recorded : goal.returns-clause-recorded
-returns-clause-recorded c =
-    let p = c.args.m.now in
-    let a = p.accepted in
-    let s = c.args.recorded.now.state in
-    let i = c.args.inv in
-    let h : HasTop p s i Passed = has_top p s i Passed c.requires.sound c.requires.inv c.requires.passed (λ e. cc) in
-    let here : h.frame.pc ≡ c.args.pc = subst (λ (o : Option Frame). IsSomeAnd o (λ (f : Frame). f.pc ≡ c.args.pc)) h.top c.requires.stands in
-    let next = c.word_behind.ensures ∙ ap (λ (x : Accepted). next_of x c.args.pc) c.accepted-accepted.ensures.module ∙ ap (next_of a) (sym here) in
-    let one = subst (λ (x : State). Records (events_before a (pass a i x) i + 1) c.args.recorded.now c.come_to.new.recorded) (moved_is a s i c.word_behind.result h.frame h.top next) c.come_to.ensures.recorded in
-    records_on (events_before a (go_on a i s) i + 1) 1 c.args.recorded.now c.come_to.new.recorded c.set_status.new.self one c.set_status.ensures.recorded
+    let moved = past p s i c.args.pc c.word_behind.result h c.requires.stands (c.word_behind.ensures ∙ ap (λ (x : Accepted). next_of x c.args.pc) c.accepted-accepted.ensures.module) in
+    let one = subst (λ (x : State). Records (events_before a (pass a i x) i + 1) c.args.recorded.now c.come_to.new.recorded) moved c.come_to.ensures.recorded in
+    record {
+      ok = on_ok_weaker c.set_status.result (λ set. set ∙ ap (set_status i Ready) (c.in_ok-come_to.ensures.ok ∙ ap (pass a i) moved)) c.set_status.ensures.ok;
+      recorded = records_on (events_before a (go_on a i s) i + 1) 1 c.args.recorded.now c.come_to.new.recorded c.set_status.new.self one c.set_status.ensures.recorded;
+    }
 
 pub returns-in_err-come_to-clause-recorded : goal.returns-in_err-come_to-clause-recorded
 returns-in_err-come_to-clause-recorded c =
@@ -64,7 +61,6 @@ returns-in_err-come_to-clause-recorded c =
     let s = c.args.recorded.now.state in
     let i = c.args.inv in
     let h : HasTop p s i Passed = has_top p s i Passed c.requires.sound c.requires.inv c.requires.passed (λ e. cc) in
-    let here : h.frame.pc ≡ c.args.pc = subst (λ (o : Option Frame). IsSomeAnd o (λ (f : Frame). f.pc ≡ c.args.pc)) h.top c.requires.stands in
-    let next = c.word_behind.ensures ∙ ap (λ (x : Accepted). next_of x c.args.pc) c.accepted-accepted.ensures.module ∙ ap (next_of a) (sym here) in
-    let one = subst (λ (x : State). Records (events_before a (pass a i x) i + 1) c.args.recorded.now c.come_to.new.recorded) (moved_is a s i c.word_behind.result h.frame h.top next) c.come_to.ensures.recorded in
+    let moved = past p s i c.args.pc c.word_behind.result h c.requires.stands (c.word_behind.ensures ∙ ap (λ (x : Accepted). next_of x c.args.pc) c.accepted-accepted.ensures.module) in
+    let one = subst (λ (x : State). Records (events_before a (pass a i x) i + 1) c.args.recorded.now c.come_to.new.recorded) moved c.come_to.ensures.recorded in
     records_more (events_before a (go_on a i s) i + 1) (events_before a (go_on a i s) i + 1 + 1) c.args.recorded.now c.come_to.new.recorded (omega arith) one

@@ -32,17 +32,8 @@ append_all-requires-clause-frames c =
     subst (λ (x : State). IsSome (top_of x c.args.inv)) (sym c.in_ok-set_pc.ensures.ok)
     (frame_stays c.args.inv (with_pc c.args.pc) s (sound_some c.args.m.now.accepted (top_of s c.args.inv) c.requires.frame))
 
-pub returns-clause-ok : goal.returns-clause-ok
-returns-clause-ok c =
-    let a = c.args.m.now.accepted in
-    let i = c.args.inv in
-    let come = on_frame i (with_pc c.args.pc) c.args.recorded.now.state in
-    let es = c.in_ok-events.events.items in
-    let due : es ≡ due_at a come i = c.in_ok-events.ensures ∙ ap (λ (x : State). due_at a x i) (c.whole.ensures ∙ c.in_ok-set_pc.ensures.ok) in
-    on_ok_weaker c.append_all.result (λ done. done ∙ ap (on_frame i (with_events es)) c.in_ok-set_pc.ensures.ok ∙ passed_is a come i es due) c.append_all.ensures.ok
-
-pub returns-clause-recorded : goal.returns-clause-recorded
-returns-clause-recorded c =
+pub returns : goal.returns
+returns c =
     let a = c.args.m.now.accepted in
     let i = c.args.inv in
     let s = c.args.recorded.now.state in
@@ -52,8 +43,11 @@ returns-clause-recorded c =
     let some = frame_stays i (with_pc c.args.pc) s (sound_some a (top_of s i) c.requires.frame) in
     let count : length es ≡ events_before a (pass a i come) i = ap (λ (xs : List PassedEvent). length xs) due ∙ due_counted a come i some in
     let two = subst (λ (n : ℕ). Records n c.set_pc.new.self c.append_all.new.recorded) count c.append_all.ensures.recorded in
-    records_more (1 + events_before a (pass a i come) i) (events_before a (pass a i come) i + 1) c.args.recorded.now c.append_all.new.recorded (omega arith)
-    (records_on 1 (events_before a (pass a i come) i) c.args.recorded.now c.set_pc.new.self c.append_all.new.recorded c.set_pc.ensures.recorded two)
+    record {
+      ok = on_ok_weaker c.append_all.result (λ done. done ∙ ap (on_frame i (with_events es)) c.in_ok-set_pc.ensures.ok ∙ passed_is a come i es due) c.append_all.ensures.ok;
+      recorded = records_more (1 + events_before a (pass a i come) i) (events_before a (pass a i come) i + 1) c.args.recorded.now c.append_all.new.recorded (omega arith)
+          (records_on 1 (events_before a (pass a i come) i) c.args.recorded.now c.set_pc.new.self c.append_all.new.recorded c.set_pc.ensures.recorded two);
+    }
 
 pub returns-then-is_empty-clause-ok : goal.returns-then-is_empty-clause-ok
 returns-then-is_empty-clause-ok c =
