@@ -48,7 +48,7 @@ use Rattle.spv_state.specs.Actions.{action_of, atomic_op, action_rows}
 use Rattle.spv_state.specs.declared.actions.Action.TheVariants.{Compute}
 use Rattle.spv_computing.specs.Laws.{StopsAreActions, is_action}
 use Rattle.spv_sites.specs.Sites.{IsSite, Site, accepted}
-use Rattle.spv_sites.proofs.Exports.{key_passes, acting, no_debug, IsKept, Runs, kept_each, site_runs, HasClass, InBlock, each_has_class, each_in_block, none_of}
+use Rattle.spv_sites.proofs.Exports.{key_passes, acting, no_debug, IsKept, Runs, kept_each, site_runs, HasClass, InBlock, each_has_class, each_in_block}
 
 -- ---- opcodes
 

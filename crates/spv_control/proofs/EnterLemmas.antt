@@ -38,7 +38,8 @@ use Rattle.spv_sites.specs.Sites.{Site, accepted, due, is_data_at, values}
 use Rattle.spv_sites.specs.declared.causes.Cause.{Cause}
 use Rattle.spv_sites.specs.declared.causes.Cause.TheVariants.{NoValue}
 use Rattle.spv_sites.specs.declared.effects.Effect.{Effect}
-use Rattle.spv_sites.proofs.Exports.{due_by, data_type, plain_none}
+use Rattle.spv_base.proofs.Exports.{none_of}
+use Rattle.spv_sites.proofs.Exports.{due_by, data_type}
 use Rattle.spv_plans.proofs.Exports.{function_is}
 
 -- ---- OpFunctionCall
@@ -116,4 +117,4 @@ return_missing x is none = return_due x is ∙ ap (λ (o : Option Value). ok_or 
 pub operand_plain : (a : Accepted) (d : Inst) (n : ℕ) (v : Value) → AreSound a.types → is_data_at a d n ≡ true → IsOperand a d n v → pointer_of v ≡ None
 operand_plain a d n v sound typed own =
     let found = data_type a.types (type_at (known a) d n) typed in
-    plain_none (pointer_of v) (data_plain a.types sound found.0 v (own found.0 found.1))
+    none_of (pointer_of v) (data_plain a.types sound found.0 v (own found.0 found.1))

@@ -55,9 +55,9 @@ use Rattle.spv_control.specs.Passing.{IsParameter, Passes, Suits, frame_due, par
 use Rattle.spv_sites.specs.Sites.{Finds, IsShaped, Site, accepted, values}
 use Rattle.spv_sites.specs.declared.causes.Cause.{Cause}
 use Rattle.spv_sites.specs.declared.causes.Cause.TheVariants.{NoValue}
-use Rattle.spv_sites.proofs.Exports.{RegisterFits, register_kept, register_stays, plain_none, recovered, pointed, pointer_form, IsOwnRoot, register_rooted}
+use Rattle.spv_sites.proofs.Exports.{RegisterFits, register_kept, register_stays, recovered, pointed, pointer_form, IsOwnRoot, register_rooted}
 use Rattle.std.proofs.lemmas.List.{length-map, drop_all}
-use Rattle.spv_base.proofs.Exports.{drop_here}
+use Rattle.spv_base.proofs.Exports.{drop_here, none_of}
 
 -- ---- registers, by the laws of plans
 
@@ -137,7 +137,7 @@ module _ (with_values : ValuesHaveRegisters) (with_pointers : PointersHaveRegist
     value_passed : (v : Whole) → is_pointer (form_of a.types i.ty) ≡ false → HasShape a.types no_roots i.ty v → IsPassed a (plan_of a function) i (place_of (plan_of a function) i.id) v
     value_passed v plain_type shape =
         let p : Planned = plan_of a function in
-        let plain : pointer_of v ≡ None = plain_none (pointer_of v) (data_plain a.types sound i.ty v shape) in
+        let plain : pointer_of v ≡ None = none_of (pointer_of v) (data_plain a.types sound i.ty v shape) in
         let is_data : has_cells a.types i ≡ true = rw plain_type refl in
         let number = with_values a function own.stand member own.register (ap (λ (j : Inst). has_cells a.types j) own.is ∙ is_data) in
         let some : number_of i.id (ids p.values) ≡ Some number.0 = ap (λ (j : Inst). number_of j.id (ids p.values)) (sym own.is) ∙ number.1 in

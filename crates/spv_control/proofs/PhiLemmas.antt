@@ -44,8 +44,8 @@ use Rattle.spv_sites.specs.Sites.{Finds, IsSite, Site, accepted, is_data}
 use Rattle.spv_sites.specs.declared.causes.Cause.{Cause}
 use Rattle.spv_control.proofs.BranchLemmas.{joined}
 use Rattle.spv_control.proofs.ControlCodes.{phi_kept}
-use Rattle.spv_sites.proofs.Exports.{ValuesHaveShapes, IsKept, kept_each, InBlock, each_in_block, none_of, shape_there}
-use Rattle.spv_base.proofs.Exports.{each_at}
+use Rattle.spv_sites.proofs.Exports.{ValuesHaveShapes, IsKept, kept_each, InBlock, each_in_block, shape_there}
+use Rattle.spv_base.proofs.Exports.{each_at, none_of}
 use Rattle.spv_base.specs.Options.{holds}
 
 -- ---- where the first instructions of a block stand

@@ -6,7 +6,7 @@ use Rattle.std.proofs.lemmas.Bool.{and_parts, eqb-true}
 use Rattle.std.specs.Prelude.{find, if◌then◌else◌}
 use Rattle.std.specs.List.{AllByRecursion, flat_map, list_all}
 use Rattle.std.specs.Coded.{codes}
-use Rattle.std.specs.Option.{IsSomeAnd, is_some, option_map, option_or, option_to_list}
+use Rattle.std.specs.Option.{is_some, option_map, option_or, option_to_list}
 use Rattle.spv_base.specs.Entries.{reads}
 use Rattle.spv_base.specs.declared.instructions.Inst.{Inst}
 use Rattle.spv_base.specs.declared.values.Value.{Value, out-Value}
@@ -37,7 +37,7 @@ use Rattle.spv_sites.specs.Branches.{chosen_label, switch_label}
 use Rattle.spv_sites.specs.Sites.{IsSite, Site, accepted, is_data_at}
 use Rattle.spv_control.proofs.ControlCodes.{branch_ends, condition_ends, condition_kept, selector_kept, switch_ends}
 use Rattle.spv_sites.proofs.Exports.{typed_data, Runs, frame_sound, site_runs}
-use Rattle.spv_base.proofs.Exports.{some_at, each_at, both_empty}
+use Rattle.spv_base.proofs.Exports.{and_some, both_empty, each_at, each_left, each_right, some_at}
 
 -- ---- the labels of each opcode
 
@@ -46,16 +46,12 @@ of_one : (P : ℕ → Type 0) (o : Option ℕ) (label : ℕ) → AllByRecursion 
 of_one P None label all is = absurd (cc)
 of_one P (Some x) label all is = let same : x ≡ label = cc in subst P same all.0
 
-front : (P : ℕ → Type 0) (o : Option ℕ) (rest : List ℕ) → AllByRecursion P (option_to_list o ++ rest) → AllByRecursion P (option_to_list o) × AllByRecursion P rest
-front P None rest all = (tt, all)
-front P (Some x) rest all = ((all.0, tt), all.1)
-
 of_two : (P : ℕ → Type 0) (one other : Option ℕ) (n label : ℕ) → AllByRecursion P (option_to_list one ++ option_to_list other) → (if n == 0 then other else one) ≡ Some label → P label
 of_two P one other n label all is = by_number (n == 0) is
   where
     by_number : (b : Bool) → (if b then other else one) ≡ Some label → P label
-    by_number true e = of_one P other label (front P one (option_to_list other) all).1 e
-    by_number false e = of_one P one label (front P one (option_to_list other) all).0 e
+    by_number true e = of_one P other label (each_right P (option_to_list one) (option_to_list other) all) e
+    by_number false e = of_one P one label (each_left P (option_to_list one) (option_to_list other) all) e
 
 of_case : (P : ℕ → Type 0) (test : ℕ × ℕ → Bool) (cs : List (ℕ × ℕ)) (c : ℕ × ℕ) → AllByRecursion P (map (λ (x : ℕ × ℕ). x.1) cs) → find test cs ≡ Some c → P c.1
 of_case P test [] c all is = absurd (cc)
@@ -70,8 +66,8 @@ of_cases : (P : ℕ → Type 0) (test : ℕ × ℕ → Bool) (default : Option �
 of_cases P test default cs label all is = by_case (find test cs) refl is
   where
     by_case : (o : Option (ℕ × ℕ)) → find test cs ≡ o → option_or (option_map (λ (c : ℕ × ℕ). c.1) o) default ≡ Some label → P label
-    by_case None e g = of_one P default label (front P default (map (λ (c : ℕ × ℕ). c.1) cs) all).0 g
-    by_case (Some c) e g = let same : c.1 ≡ label = cc in subst P same (of_case P test cs c (front P default (map (λ (x : ℕ × ℕ). x.1) cs) all).1 e)
+    by_case None e g = of_one P default label (each_left P (option_to_list default) (map (λ (c : ℕ × ℕ). c.1) cs) all) g
+    by_case (Some c) e g = let same : c.1 ≡ label = cc in subst P same (of_case P test cs c (each_right P (option_to_list default) (map (λ (x : ℕ × ℕ). x.1) cs) all) e)
 
 -- the labels of a terminator by its opcode
 labels_by : ℕ → ℕ → Inst → List ℕ
@@ -184,10 +180,6 @@ switch_words a accepts valid d here function stands op last =
 -- ---- at a site
 
 -- the condition and the selector
-some_and : {A : Type 0} (P : A → Type 0) (o : Option A) → IsSomeAnd o P → is_some o ≡ true
-some_and P None h = absurd h
-some_and P (Some x) h = refl
-
 module _ (a : Accepted) (d : Inst) (f : Form) (is : form_at (known_in a) d 0 ≡ Some f) where
   formed : HasForm a.types (type_at (known_in a) d 0) f
   formed = form_has_type a.types (type_at (known_in a) d 0) f is
@@ -246,7 +238,7 @@ module _ (x : Site) (m : Accepted) (same : m ≡ accepted x) (accepts : ∥ IsAc
 
   pub condition_scalar : x.inst.op ≡ 250 → (v : Value) → IsOperand (accepted x) x.inst 0 v → is_some (scalar_in (out-Value v)) ≡ true
   condition_scalar op v shaped = ∥∥₁_elim runs_here (hlevel props) (λ (r : Runs (accepted x) x.inst).
-      some_and _ (scalar_in (out-Value v)) (form_step (accepted x) x.inst Boolean (condition_kept (known_in (accepted x)) x.inst r.kept op) (sound_types (accepted x) valid_here) v shaped))
+      and_some (scalar_in (out-Value v)) _ (form_step (accepted x) x.inst Boolean (condition_kept (known_in (accepted x)) x.inst r.kept op) (sound_types (accepted x) valid_here) v shaped))
 
   pub selector_data : x.inst.op ≡ 251 → is_data_at (accepted x) x.inst 0 ≡ true
   selector_data op = ∥∥₁_elim runs_here (hlevel props) (λ (r : Runs (accepted x) x.inst).
@@ -256,4 +248,4 @@ module _ (x : Site) (m : Accepted) (same : m ≡ accepted x) (accepts : ∥ IsAc
   pub selector_scalar : x.inst.op ≡ 251 → (v : Value) → IsOperand (accepted x) x.inst 0 v → is_some (scalar_in (out-Value v)) ≡ true
   selector_scalar op v shaped = ∥∥₁_elim runs_here (hlevel props) (λ (r : Runs (accepted x) x.inst).
       let kept = selector_kept (known_in (accepted x)) x.inst r.kept op in
-      some_and _ (scalar_in (out-Value v)) (form_step (accepted x) x.inst (Int kept.0 kept.1) kept.2 (sound_types (accepted x) valid_here) v shaped))
+      and_some (scalar_in (out-Value v)) _ (form_step (accepted x) x.inst (Int kept.0 kept.1) kept.2 (sound_types (accepted x) valid_here) v shaped))

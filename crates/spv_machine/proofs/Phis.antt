@@ -4,7 +4,7 @@ use Rattle.std.specs.List.{AllByRecursion}
 use Rattle.spv_base.specs.Entries.{change, reads}
 use Rattle.spv_base.specs.declared.instructions.Inst.{Inst}
 use Rattle.spv_base.specs.declared.values.Value.{Value}
-use Rattle.spv_base.proofs.Exports.{length_change, change_twice, drop_here}
+use Rattle.spv_base.proofs.Exports.{length_change, change_still, change_twice, drop_here}
 use Rattle.spv_index.specs.Definitions.{result_type}
 use Rattle.spv_types.specs.Rows.{no_roots}
 use Rattle.spv_types.specs.Shapes.{HasShape}
@@ -18,7 +18,7 @@ use Rattle.spv_sites.proofs.Exports.{plain_rooted}
 use Rattle.spv_state.specs.Program.{Program}
 use Rattle.spv_state.specs.Sound.{StandsIn}
 use Rattle.spv_state.specs.State.{State, frames_of, on_frame, on_frames, with_pc, with_register, with_registers}
-use Rattle.spv_state.proofs.Exports.{change_none, change_same, change_still}
+use Rattle.spv_state.proofs.Exports.{change_none, change_same}
 use Rattle.spv_machine.specs.Reached.{IsReached}
 use Rattle.spv_machine.specs.Step.{first_of, to_block}
 use Rattle.spv_machine.proofs.SoundJumps.{type_fits}

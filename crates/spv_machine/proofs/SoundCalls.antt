@@ -1,12 +1,13 @@
 -- Calls and returns leave a sound state.
-use Rattle.std.proofs.Common.{◌≡◌, ◌≢◌, ◌⊎◌, ◌∙◌, inl, inr, ℕ, zero, suc, ◌-◌, ◌<◌, ◌≤◌, List, [], ◌∷◌, ◌++◌, Option, Some, None, length, length-append, length-set, slice_get, take, refl, sym, ap, subst, arith}
+use Rattle.std.proofs.Common.{◌≡◌, ◌≢◌, ◌⊎◌, ◌∙◌, inl, inr, ℕ, zero, suc, ◌-◌, ◌<◌, List, [], ◌∷◌, ◌++◌, Option, Some, None, length, length-append, length-set, slice_get, take, refl, sym, ap, subst, arith}
+use Rattle.std.proofs.lemmas.List.{length-take-le}
 use Rattle.std.proofs.lemmas.Option.{slice_get_within}
 use Rattle.std.specs.List.{AllZip}
 use Rattle.std.specs.Option.{option_map_or}
 use Rattle.spv_base.specs.Entries.{change}
 use Rattle.spv_base.specs.Variables.{Roots}
 use Rattle.spv_base.specs.declared.instructions.Inst.{Inst}
-use Rattle.spv_base.proofs.Exports.{length_change, changed_at}
+use Rattle.spv_base.proofs.Exports.{length_change, changed_at, snoc_get}
 use Rattle.spv_base.specs.declared.values.Root.TheVariants.{Local}
 use Rattle.spv_types.specs.Types.{Types}
 use Rattle.spv_mem.specs.Memory.{AreVariables, IsMemory, Levels}
@@ -29,16 +30,6 @@ use Rattle.std.proofs.lemmas.Slice.Zip.{AllZip-long}
 
 -- ---- lists with one more
 
-last_or : {A : Type 0} (xs : List A) (y : A) (n : ℕ) (z : A) → slice_get (xs ++ y ∷ []) n ≡ Some z → (slice_get xs n ≡ Some z) ⊎ ((n ≡ length xs) × (z ≡ y))
-last_or [] y zero z h = let same : y ≡ z = cc in inr (refl, sym same)
-last_or [] y (suc n) z h = absurd (cc)
-last_or (x ∷ xs) y zero z h = inl h
-last_or (x ∷ xs) y (suc n) z h =
-    elim (last_or xs y n z h) [
-      | inl old ↦ inl old
-      | inr is ↦ inr (ap suc is.0, is.1)
-    ]
-
 zip_one : {A B : Type 0} (P : A → B → Type 0) (xs : List A) (ys : List B) (x : A) (y : B) → AllZip P xs ys → P x y → AllZip P (xs ++ x ∷ []) (ys ++ y ∷ [])
 zip_one P [] [] x y all one = (one, tt)
 zip_one P [] (b ∷ ys) x y all one = absurd all
@@ -59,11 +50,6 @@ taken_at zero k xs x h = absurd (cc)
 taken_at (suc n) k [] x h = absurd (cc)
 taken_at (suc n) zero (y ∷ xs) x h = h
 taken_at (suc n) (suc k) (y ∷ xs) x h = taken_at n k xs x h
-
-length_taken : {A : Type 0} (n : ℕ) (xs : List A) → n ≤ length xs → length (take n xs) ≡ n
-length_taken zero xs h = refl
-length_taken (suc n) [] h = absurd (omega (arith, h))
-length_taken (suc n) (x ∷ xs) h = ap suc (length_taken n xs (omega (arith, h)))
 
 empty_top : (fs : List Frame) → top fs ≡ None → fs ≡ []
 empty_top [] h = refl
@@ -86,13 +72,13 @@ module _ (a : Accepted) (k : Stacked) (l : Levels) (s : IsSoundStack a Ready k l
 
   pushed_frames : AreSoundFrames a (k.frames ++ f ∷ [])
   pushed_frames depth g at =
-      elim (last_or k.frames f depth g at) [
+      elim (snoc_get k.frames f g depth at) [
         | inl old ↦ s.frames depth g old
         | inr last ↦ subst (IsSoundFrame a) (sym last.1) sound
       ]
 
   pushed_calls : AreCalls a (k.frames ++ f ∷ [])
-  pushed_calls depth g h at above = by_place (last_or k.frames f depth g at) (last_or k.frames f (suc depth) h above)
+  pushed_calls depth g h at above = by_place (snoc_get k.frames f g depth at) (snoc_get k.frames f h (suc depth) above)
     where
       by_place : (slice_get k.frames depth ≡ Some g) ⊎ ((depth ≡ length k.frames) × (g ≡ f)) → (slice_get k.frames (suc depth) ≡ Some h) ⊎ ((suc depth ≡ length k.frames) × (h ≡ f))
           → IsCallOf a g.pc h.plan.function
@@ -107,7 +93,7 @@ module _ (a : Accepted) (k : Stacked) (l : Levels) (s : IsSoundStack a Ready k l
 
   pushed_first : (g : Frame) → slice_get (k.frames ++ f ∷ []) 0 ≡ Some g → g.plan.function ≡ a.entry
   pushed_first g at =
-      elim (last_or k.frames f 0 g at) [
+      elim (snoc_get k.frames f g 0 at) [
         | inl old ↦ s.first g old
         | inr last ↦ let some = some_frames in let e = last.0 in absurd (omega arith)
       ]
@@ -130,7 +116,7 @@ module _ (a : Accepted) (k : Stacked) (l : Levels) (s : IsSoundStack a Ready k l
 
   -- what is kept in the frames is there, and in that of the function
   pushed_rooted : IsRooted a (k.frames ++ f ∷ []) (length k.frames) f → (depth : ℕ) (g : Frame) → slice_get (k.frames ++ f ∷ []) depth ≡ Some g → IsRooted a (k.frames ++ f ∷ []) depth g
-  pushed_rooted passed depth g at = by_place (last_or k.frames f depth g at)
+  pushed_rooted passed depth g at = by_place (snoc_get k.frames f g depth at)
     where
       by_place : (slice_get k.frames depth ≡ Some g) ⊎ ((depth ≡ length k.frames) × (g ≡ f)) → IsRooted a (k.frames ++ f ∷ []) depth g
       by_place (inl old) = rooted_more a k.frames (f ∷ []) depth depth g (omega arith) (s.rooted depth g old)
@@ -159,7 +145,7 @@ without_same a k l all =
 popped_rooted : (a : Accepted) (t : Status) (k : Stacked) (l : Levels) → IsSoundStack a t k l → (depth : ℕ) (f : Frame) → slice_get (without_last k.frames) depth ≡ Some f → IsRooted a (without_last k.frames) depth f
 popped_rooted a t k l s depth f at =
     let within = slice_get_within (without_last k.frames) depth f at in
-    let count : length (without_last k.frames) ≡ length k.frames - 1 = length_taken (length k.frames - 1) k.frames (omega arith) in
+    let count : length (without_last k.frames) ≡ length k.frames - 1 = length-take-le (length k.frames - 1) k.frames (omega arith) in
     rooted_stays a k.frames (without_last k.frames) depth f (λ n le. ids_taken a (length k.frames - 1) n k.frames (omega arith)) (s.rooted depth f (taken_at (length k.frames - 1) depth k.frames f at))
 
 pub popped_stack : (a : Accepted) (k : Stacked) (l : Levels) → IsSoundStack a Ready k l → without_last k.frames ≢ [] → IsSoundStack a Ready (without_top k) (without_locals l)
@@ -196,7 +182,7 @@ pub record Below (a : Accepted) (called : ℕ) (f : Frame) : Type 0 where
 pub below : (a : Accepted) (k : Stacked) (l : Levels) (own f : Frame) → IsSoundStack a Ready k l → top k.frames ≡ Some own → top (without_last k.frames) ≡ Some f → Below a own.plan.function f
 below a k l own f s is here =
     let fs = k.frames in
-    let count : length (without_last fs) ≡ length fs - 1 = length_taken (length fs - 1) fs (omega arith) in
+    let count : length (without_last fs) ≡ length fs - 1 = length-take-le (length fs - 1) fs (omega arith) in
     let within = slice_get_within (without_last fs) (length (without_last fs) - 1) f here in
     let at : slice_get fs (length (without_last fs) - 1) ≡ Some f = taken_at (length fs - 1) (length (without_last fs) - 1) fs f here in
     let place : suc (length (without_last fs) - 1) ≡ length fs - 1 = omega arith in
@@ -228,7 +214,7 @@ module _ (p : Program) (s : State) (i : ℕ) (sound : IsSound p s) (ready : slic
   } where
     more : (l : Levels) → IsMemory s.memory → slice_get s.memory.locals i ≡ Some l → (depth : ℕ) (xs : Roots) → slice_get (l.list ++ es ∷ []) depth ≡ Some xs → AreVariables s.memory.types s.memory.targets xs
     more l was level depth xs at =
-        elim (last_or l.list es depth xs at) [
+        elim (snoc_get l.list es xs depth at) [
           | inl old ↦ was.variables i (Local depth 0) xs (rw level old)
           | inr last ↦ subst (AreVariables s.memory.types s.memory.targets) (sym last.1)
               (subst (λ (ts : Types). AreVariables ts s.memory.targets es) (sym sound.types) (subst (λ (targets : List (ℕ × ℕ)). AreVariables p.accepted.types targets es) (sym sound.targets) fits.values))

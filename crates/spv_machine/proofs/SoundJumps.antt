@@ -1,5 +1,5 @@
 -- A branch leaves a sound state: the block is one of the function, and the values of its phis have their types.
-use Rattle.std.proofs.Common.{◌≡◌, ◌∙◌, ℕ, suc, ◌==◌, ◌&&◌, Bool, true, false, cond, List, [], ◌∷◌, ◌-◌, length, Option, Some, None, slice_get, refl, sym, ap, subst}
+use Rattle.std.proofs.Common.{◌≡◌, ◌∙◌, ℕ, suc, ◌==◌, ◌&&◌, Bool, true, false, cond, List, [], ◌∷◌, ◌-◌, length, Option, Some, None, refl, sym, ap, subst}
 use Rattle.std.proofs.Math.Logic.{∥∥₁_elim}
 use Rattle.std.proofs.Props.{props}
 use Rattle.std.proofs.lemmas.Bool.{and_parts, eq-eqb, eqb-true}
@@ -28,6 +28,7 @@ use Rattle.spv_valid.specs.Acceptance.{Accepted, IsAccepted, Passes}
 use Rattle.spv_valid.proofs.Exports.{accepted_passes, flow_is}
 use Rattle.spv_sites.specs.Fits.{IsOfType, JumpFits, LevelFits}
 use Rattle.spv_sites.proofs.Exports.{RegisterFits, moved_kept, register_kept, register_stays, register_rooted}
+use Rattle.spv_base.proofs.Exports.{entry_at}
 use Rattle.spv_state.specs.Program.{Program}
 use Rattle.spv_state.specs.Roots.{IsRooted}
 use Rattle.spv_state.specs.Sound.{IsSound, IsSoundFrame, StandsAs, StandsIn}
@@ -46,17 +47,6 @@ blocks_are a accepted =
     ∥∥₁_elim accepted (hlevel (props, codes)) (λ (is : IsAccepted a).
     let passes : Passes a is.name is.over = accepted_passes a is.name is.over is.is in
     ap (λ (f : Flow). f.blocks) (flow_is a.insts a.flow passes.flow))
-
-entry_at : (es : List (ℕ × ℕ)) (label word : ℕ) → reads label es ≡ Some word → (k : ℕ) × (slice_get es k ≡ Some (label, word))
-entry_at [] label word h = absurd (cc)
-entry_at (e ∷ es) label word h = by_key (e.0 == label) refl h (entry_at es label word)
-  where
-    by_key : (b : Bool) → (e.0 == label) ≡ b → cond b (Some e.1) (reads label es) ≡ Some word → (reads label es ≡ Some word → (k : ℕ) × (slice_get es k ≡ Some (label, word)))
-        → (k : ℕ) × (slice_get (e ∷ es) k ≡ Some (label, word))
-    by_key true same g rest =
-        let value : e.1 ≡ word = cc in
-        (0, ap (λ (n : ℕ). Some (n, e.1)) (eqb-true e.0 label same) ∙ ap (λ (n : ℕ). Some (label, n)) value)
-    by_key false same g rest = let there = rest g in (suc there.0, there.1)
 
 found_one : (id : ℕ) (ss : List Stand) (t : Stand) → find (λ (s : Stand). has_result id s.inst) ss ≡ Some t → IsOne ss t × (t.inst.id ≡ id)
 found_one id [] t h = absurd (cc)
@@ -99,7 +89,7 @@ target_at insts function label h = by_stand (stand_of insts label) refl h
 pub target_stands : (a : Accepted) (function label : ℕ) → ∥ IsAccepted a ∥₁ → IsKnown a → IsEntered a.insts a.flow function label → StandsIn a function (first_of a label)
 target_stands a function label accepted known entered =
     let read : reads label (executables_of a.insts) ≡ Some entered.1.0 = ap (reads label) (sym (blocks_are a accepted)) ∙ entered.1.1 in
-    let entry = entry_at (executables_of a.insts) label entered.1.0 read in
+    let entry = entry_at label entered.1.0 (executables_of a.insts) read in
     let there : Listed (stands_of a.insts) label entered.1.0 = listed (stands_of a.insts) entry.0 label entered.1.0 entry.1 in
     let inside = (and_parts (is_executable there.stand.class) (in_block there.stand.position.stage) there.stops).1 in
     let own : Entered (stands_of a.insts) there.stand.position.function there.stand.position.label = (rooted a.insts there.stand there.one).block inside in

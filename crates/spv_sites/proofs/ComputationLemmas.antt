@@ -4,7 +4,7 @@ use Rattle.std.specs.Prelude.{◌==◌}
 use Rattle.std.specs.List.{AllByRecursion, list_all}
 use Rattle.std.specs.Option.{option_and_then, option_map, option_or}
 use Rattle.std.proofs.lemmas.Bool.{and_parts, eqb-true}
-use Rattle.spv_base.proofs.Exports.{reads_each}
+use Rattle.spv_base.proofs.Exports.{mapped_from, reads_each}
 use Rattle.spv_base.specs.Entries.{reads}
 use Rattle.spv_base.specs.declared.instructions.Inst.{Inst}
 use Rattle.spv_alu.specs.Binary.{binary_op}
@@ -96,13 +96,9 @@ or_cases : {A : Type 0} (o p : Option A) (x : A) → option_or o p ≡ Some x �
 or_cases None p x h = inr h
 or_cases (Some y) p x h = inl h
 
-mapped : {A B : Type 0} (f : A → B) (o : Option A) (y : B) → option_map f o ≡ Some y → (x : A) × (o ≡ Some x) × (f x ≡ y)
-mapped f None y h = absurd (cc)
-mapped f (Some x) y h = (x, refl, cc)
-
 module _ (i : Inst) (c : Computation) where
   by_table : {A : Type 0} (f : A → Computation) (o : Option A) → ((x : A) → o ≡ Some x → IsComputed i (f x)) → option_map f o ≡ Some c → IsComputed i c
-  by_table f o each h = let found = mapped f o c h in subst (IsComputed i) found.2 (each found.0 found.1)
+  by_table f o each h = let found = mapped_from f o c h in subst (IsComputed i) found.2 (each found.0 found.1)
 
   by_code : by_opcode i.op ≡ Some c → IsComputed i c
   by_code h = elim (or_cases (reads i.op others) _ c h) [

@@ -1,12 +1,11 @@
 -- What instructions that compute do, by what their computations give.
-use Rattle.std.proofs.Common.{◌≡◌, ◌⊎◌, ◌∙◌, inl, inr, ℕ, false, Option, Some, None, Result, Ok, Err, ok_or, refl, sym, ap, subst}
+use Rattle.std.proofs.Common.{◌≡◌, ◌⊎◌, ◌∙◌, inl, inr, ℕ, Option, Some, None, Result, Ok, Err, ok_or, refl, sym, ap, subst}
 use Rattle.std.specs.List.{AllByRecursion}
-use Rattle.std.specs.Option.{is_some, option_and_then, option_map, option_or, unwrap_or}
+use Rattle.std.specs.Option.{option_and_then, option_map, option_or, unwrap_or}
 use Rattle.spv_base.specs.Entries.{reads}
 use Rattle.spv_base.specs.declared.causes.Fail.{Fail}
 use Rattle.spv_base.specs.declared.causes.Fail.TheVariants.{Refused, NoMemory}
 use Rattle.spv_base.specs.declared.instructions.Inst.{Inst}
-use Rattle.spv_base.specs.declared.values.Pointer.{Pointer as Reference}
 use Rattle.spv_base.specs.declared.values.Value.{Value, Ptr, out-Value}
 use Rattle.spv_base.specs.declared.values.Value.TheOpen.{Value-F}
 use Rattle.spv_ops.specs.Steps.{◌>>=◌}
@@ -14,7 +13,7 @@ use Rattle.spv_types.specs.Laws.{AreSound}
 use Rattle.spv_types.specs.Shapes.{pointer_in}
 use Rattle.spv_valid.specs.Acceptance.{Accepted}
 use Rattle.spv_operands.proofs.Exports.{data_plain}
-use Rattle.spv_base.proofs.Exports.{reads_each, out_pointer}
+use Rattle.spv_base.proofs.Exports.{none_of, out_pointer, reads_each}
 use Rattle.spv_results.specs.Computations.{computation_of}
 use Rattle.spv_results.specs.Operands.{IsResult}
 use Rattle.spv_results.specs.Results.{result_by, result_of}
@@ -147,10 +146,6 @@ computed_fault x c v r (Refused cause) is has h same =
 computed_fault x c v r NoMemory is has h same = subst (λ (s : Result Effect (Fail Cause)). IsDue (due x) v s) (sym same) tt
 
 -- ---- what it fits
-
-pub none_of : (o : Option Reference) → is_some o ≡ false → o ≡ None
-none_of None h = refl
-none_of (Some q) h = absurd (cc)
 
 -- a result is no pointer, and has the instruction's type
 pub result_plain : (a : Accepted) (d : Inst) (v : Value) → AreSound a.types → IsResult a d v → pointer_in (out-Value v) ≡ None

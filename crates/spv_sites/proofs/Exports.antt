@@ -7,7 +7,7 @@ pub use Rattle.spv_sites.proofs.RunLemmas.{IsKept, each_kept, alone, Runs, kept_
 -- What holds of each key of a table holds of a key that is found.
 pub use Rattle.spv_sites.proofs.ComputationLemmas.{key_passes}
 -- What operands stand for, by their types.
-pub use Rattle.spv_sites.proofs.OperandLemmas.{recovered, of_function, ValuesHaveShapes, PointersHaveShapes, operand_shape, plain_none, data_type}
+pub use Rattle.spv_sites.proofs.OperandLemmas.{recovered, of_function, ValuesHaveShapes, PointersHaveShapes, operand_shape, data_type}
 -- What ids stand for that are data, and that are constants.
 pub use Rattle.spv_sites.proofs.ValueLemmas.{typed_data, shape_there, ConstantsAreMeant}
 -- Pointers and other values, by the types of their operands.
@@ -17,7 +17,7 @@ pub use Rattle.spv_sites.proofs.SiteLemmas.{frame_sound, site_runs, body, plain_
 -- Opcodes that are executables wherever they stand, by the rule that they keep.
 pub use Rattle.spv_sites.proofs.ComputationRules.{is_plain_code, one_plain, no_debug, kept_by}
 -- What an instruction is by its action, and what its register takes.
-pub use Rattle.spv_sites.proofs.EffectLemmas.{IsActing, acts, acting, loading, storing, due_by, computed_due, computed_fault, none_of, result_plain, result_fits, gain_fits, gain_taken}
+pub use Rattle.spv_sites.proofs.EffectLemmas.{IsActing, acts, acting, loading, storing, due_by, computed_due, computed_fault, result_plain, result_fits, gain_fits, gain_taken}
 -- The pointers that an instruction gives, or passes on to a function, name variables that are there.
 pub use Rattle.spv_sites.proofs.RootedLemmas.{IsOwnRoot, site_root, plain_rooted, result_rooted, pointer_rooted, gain_rooted, register_rooted}
 -- A frame stays sound where a register takes a value of its type, and where it goes on to the next executable.

@@ -12,6 +12,7 @@ use Rattle.spv_base.specs.declared.instructions.Inst.{Inst}
 use Rattle.spv_base.specs.declared.values.Pointer.{Pointer as Reference}
 use Rattle.spv_base.specs.declared.values.Root.{Root}
 use Rattle.spv_base.specs.declared.values.Value.{Value as Whole}
+use Rattle.spv_base.proofs.Exports.{none_of}
 use Rattle.spv_index.specs.Definitions.{result_type}
 use Rattle.spv_index.specs.Operands.{id_operand}
 use Rattle.spv_types.specs.Laws.{AreSound}
@@ -100,10 +101,6 @@ module _ (plains : ValuesHaveShapes) (pointers : PointersHaveShapes) (x : Site) 
 
 -- ---- data
 
-pub plain_none : (o : Option Reference) → is_some o ≡ false → o ≡ None
-plain_none None h = refl
-plain_none (Some p) h = absurd (cc)
-
 -- an operand of a type that is no pointer type is no pointer
 pub data_type : (ts : Types) (o : Option ℕ) → is_data ts o ≡ true → (ty : ℕ) × (o ≡ Some ty) × (is_pointer (form_of ts ty) ≡ false)
 data_type ts None h = absurd (cc)
@@ -121,7 +118,7 @@ datum_shape a d n v typed shaped ty type =
 pub datum_plain : (a : Accepted) (d : Inst) (n : ℕ) (v : Whole) → AreSound a.types → is_data_at a d n ≡ true → IsShaped a d n v → pointer_of v ≡ None
 datum_plain a d n v sound typed shaped =
     let found = data_type a.types (type_at (known a) d n) typed in
-    plain_none (pointer_of v) (data_plain a.types sound found.0 v (plain_shape a d n found.0 v shaped found.1 found.2))
+    none_of (pointer_of v) (data_plain a.types sound found.0 v (plain_shape a d n found.0 v shaped found.1 found.2))
 
 -- the value that is lent
 module _ (o : Operand) (h : ∥ IsPlain o × (pointer_of (shown o) ≡ None) ∥₁) (r : Option Whole) (lent : IsPlain o → r ≡ data_of (shown o)) where

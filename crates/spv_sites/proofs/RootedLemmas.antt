@@ -20,7 +20,8 @@ use Rattle.spv_operands.specs.Values.{value_of}
 use Rattle.spv_results.specs.Operands.{IsResult, known}
 use Rattle.spv_state.specs.Roots.{IsRoot, IsRooted}
 use Rattle.spv_state.specs.State.{depth_of, frames_of, with_level, with_register}
-use Rattle.spv_state.proofs.Exports.{reads_written, operand_root, pointer_own, frame_rooted, root_prop}
+use Rattle.spv_base.proofs.Exports.{reads_written}
+use Rattle.spv_state.proofs.Exports.{operand_root, pointer_own, frame_rooted, root_prop}
 use Rattle.spv_sites.specs.Fits.{ResultRooted}
 use Rattle.spv_sites.specs.Planned.{gained}
 use Rattle.spv_sites.specs.Sites.{IsGain, IsSite, Site, accepted, values}

@@ -13,7 +13,8 @@ use Rattle.spv_valid.specs.Acceptance.{Accepted}
 use Rattle.spv_sites.specs.Fits.{LevelFits}
 use Rattle.spv_state.specs.Sound.{IsSoundFrame, StandsIn}
 use Rattle.spv_state.specs.State.{with_level, with_pc, with_register}
-use Rattle.spv_state.proofs.Exports.{keys_stay, reads_written}
+use Rattle.spv_base.proofs.Exports.{reads_written}
+use Rattle.spv_state.proofs.Exports.{keys_stay}
 use Rattle.spv_types.proofs.Exports.{pointer_by}
 
 -- ---- a register takes a value or a pointer

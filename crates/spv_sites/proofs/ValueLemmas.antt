@@ -21,7 +21,7 @@ use Rattle.spv_operands.proofs.Exports.{constant_value, data_plain}
 use Rattle.spv_results.proofs.Exports.{shape_prop, sound_types}
 use Rattle.spv_state.specs.State.{depth_of}
 use Rattle.spv_sites.specs.Sites.{IsSite, Site, accepted, is_data, values}
-use Rattle.spv_sites.proofs.EffectLemmas.{none_of}
+use Rattle.spv_base.proofs.Exports.{none_of}
 use Rattle.spv_sites.proofs.OperandLemmas.{ValuesHaveShapes}
 use Rattle.spv_sites.proofs.SiteLemmas.{frame_sound}
 

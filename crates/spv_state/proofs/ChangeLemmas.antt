@@ -8,7 +8,7 @@ use Rattle.spv_base.specs.declared.causes.MemErr.{MemErr}
 use Rattle.spv_base.specs.declared.causes.MemErr.TheVariants.{OutOfBounds}
 use Rattle.spv_base.specs.declared.values.Pointer.{Pointer}
 use Rattle.spv_base.specs.declared.values.Value.{Value}
-use Rattle.spv_base.proofs.Exports.{length_change}
+use Rattle.spv_base.proofs.Exports.{length_change, change_still}
 use Rattle.spv_frame.specs.Frames.{Held as Frame}
 use Rattle.spv_frame.specs.Registers.{Planned}
 use Rattle.spv_frame.specs.Stacks.{Stacked, top}
@@ -122,14 +122,9 @@ without_entered i es [] = refl
 without_entered zero es (l ∷ ls) = ap (λ (xs : List Roots). record l { list = xs } ∷ ls) (without_is l.list es)
 without_entered (suc i) es (l ∷ ls) = ap (λ (xs : List Levels). l ∷ xs) (without_entered i es ls)
 
-change_same : {A : Type 0} (i : ℕ) (f : A → A) (xs : List A) → ((x : A) → slice_get xs i ≡ Some x → f x ≡ x) → change i f xs ≡ xs
-change_same i f [] same = refl
-change_same zero f (x ∷ xs) same = ap (λ y. y ∷ xs) (same x refl)
-change_same (suc i) f (x ∷ xs) same = ap (λ ys. x ∷ ys) (change_same i f xs same)
-
 pub locals_left : (m new : Memory) (i : ℕ) (o : Option Roots) → Leaves m i new o → new ≡ record m { locals = change i without_locals m.locals }
 locals_left m new i None both =
-    let none : change i without_locals m.locals ≡ m.locals = change_same i without_locals m.locals
+    let none : change i without_locals m.locals ≡ m.locals = change_still i without_locals m.locals
     (λ l at. ap (λ (xs : List Roots). record l { list = without_last xs }) (both.1 l at) ∙ ap (λ (xs : List Roots). record l { list = xs }) (sym (both.1 l at))) in
     both.0 ∙ ap (λ (ls : List Levels). record m { locals = ls }) (sym none)
 locals_left m new i (Some es) is =

@@ -1,8 +1,7 @@
--- Entries that are written: their keys stay, and no value changes but the one that was written.
-use Rattle.std.proofs.Common.{◌≡◌, ◌⊎◌, ◌∙◌, ℕ, suc, ◌==◌, Bool, true, false, cond, List, [], ◌∷◌, Option, Some, None, map, inl, inr, refl, ap, sym}
-use Rattle.std.proofs.lemmas.Bool.{eqb-true}
+-- Entries that are written: their keys stay, and an id without an entry is not written.
+use Rattle.std.proofs.Common.{◌≡◌, ℕ, suc, ◌==◌, Bool, true, false, cond, List, [], ◌∷◌, Option, Some, None, map, refl, ap}
 use Rattle.std.specs.Option.{option_map}
-use Rattle.spv_base.specs.Entries.{reads, writes}
+use Rattle.spv_base.specs.Entries.{writes}
 use Rattle.spv_frame.specs.Registers.{number_of}
 
 pub keys_stay : {X : Type 0} (id : ℕ) (v : X) (es : List (ℕ × X)) → map (λ (e : ℕ × X). e.0) (writes id v es) ≡ map (λ (e : ℕ × X). e.0) es
@@ -13,24 +12,6 @@ keys_stay {X} id v (e ∷ es) = by_key (e.0 == id) (keys_stay id v es)
         → map (λ (e : ℕ × X). e.0) (cond b ((e.0, v) ∷ es) (e ∷ writes id v es)) ≡ e.0 ∷ map (λ (e : ℕ × X). e.0) es
     by_key true rest = refl
     by_key false rest = ap (λ (ks : List ℕ). e.0 ∷ ks) rest
-
-pub reads_written : {X : Type 0} (id k : ℕ) (v w : X) (es : List (ℕ × X)) → reads k (writes id v es) ≡ Some w → ((id ≡ k) × (v ≡ w)) ⊎ (reads k es ≡ Some w)
-reads_written id k v w [] h = inr h
-reads_written {X} id k v w (e ∷ es) h = by_id (e.0 == id) refl h (reads_written id k v w es)
-  where
-    by_key : (b : Bool) → (e.0 == k) ≡ b → (e.0 == id) ≡ true → cond b (Some v) (reads k es) ≡ Some w → ((id ≡ k) × (v ≡ w)) ⊎ (cond b (Some e.1) (reads k es) ≡ Some w)
-    by_key true same here g = let is : v ≡ w = cc in inl (sym (eqb-true e.0 id here) ∙ eqb-true e.0 k same, is)
-    by_key false same here g = inr g
-
-    by_other : (b : Bool) → cond b (Some e.1) (reads k (writes id v es)) ≡ Some w → (reads k (writes id v es) ≡ Some w → ((id ≡ k) × (v ≡ w)) ⊎ (reads k es ≡ Some w))
-        → ((id ≡ k) × (v ≡ w)) ⊎ (cond b (Some e.1) (reads k es) ≡ Some w)
-    by_other true g rest = inr g
-    by_other false g rest = rest g
-
-    by_id : (b : Bool) → (e.0 == id) ≡ b → reads k (cond b ((e.0, v) ∷ es) (e ∷ writes id v es)) ≡ Some w → (reads k (writes id v es) ≡ Some w → ((id ≡ k) × (v ≡ w)) ⊎ (reads k es ≡ Some w))
-        → ((id ≡ k) × (v ≡ w)) ⊎ (cond (e.0 == k) (Some e.1) (reads k es) ≡ Some w)
-    by_id true here g rest = by_key (e.0 == k) refl here g
-    by_id false here g rest = by_other (e.0 == k) g rest
 
 -- an id without an entry is not written
 pub writes_nothing : {X : Type 0} (id : ℕ) (v : X) (es : List (ℕ × X)) → number_of id (map (λ (e : ℕ × X). e.0) es) ≡ None → writes id v es ≡ es

@@ -23,7 +23,7 @@ use Rattle.spv_valid.specs.Entry.{begins_plain, is_plain, is_plain_function}
 use Rattle.spv_valid.specs.Validity.{IsValid}
 use Rattle.spv_plans.specs.Plans.{functions_in}
 use Rattle.spv_plans.proofs.Exports.{function_class}
-use Rattle.spv_base.proofs.Exports.{each_at}
+use Rattle.spv_base.proofs.Exports.{contains_later, each_at}
 
 -- ---- lists
 
@@ -69,9 +69,6 @@ plain_at ts insts id h = by_id (is_id id) h
 
 -- ---- it is a function of the module
 
-next_contains : (k x : ℕ) (xs : List ℕ) → Contains xs x → Contains (k ∷ xs) x
-next_contains k x xs (n, inside, is) = (suc n, omega (arith, inside), is)
-
 pub function_listed : (id : ℕ) (insts : List Inst) (k : ℕ) (i : Inst) → slice_get insts k ≡ Some i → i.op ≡ 54 → i.id ≡ id → Contains (map (λ (f : ℕ × ℕ). f.0) (flat_map function_of insts)) id
 function_listed id [] k i at op is = absurd (cc)
 function_listed id (j ∷ js) zero i at op is =
@@ -81,7 +78,7 @@ function_listed id (j ∷ js) zero i at op is =
 function_listed id (j ∷ js) (suc k) i at op is = by_test (j.op == 54) (function_listed id js k i at op is)
   where
     by_test : (b : Bool) → Contains (map (λ (f : ℕ × ℕ). f.0) (flat_map function_of js)) id → Contains (map (λ (f : ℕ × ℕ). f.0) (cond b ((j.id, j.word) ∷ []) [] ++ flat_map function_of js)) id
-    by_test true h = next_contains j.id id _ h
+    by_test true h = contains_later j.id id _ h
     by_test false h = h
 
 pub entry_listed : (a : Accepted) → IsValid a → Contains (functions_in a) a.entry

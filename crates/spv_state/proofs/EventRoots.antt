@@ -1,8 +1,9 @@
 -- The pointers that debug events capture name variables that are there.
-use Rattle.std.proofs.Common.{◌≡◌, ◌∙◌, ℕ, suc, ◌-◌, ◌==◌, Bool, true, false, cond, List, [], ◌∷◌, ◌++◌, length, map, Option, Some, None, slice_get, slice_index_or, refl, sym, ap, subst, arith}
+use Rattle.std.proofs.Common.{◌≡◌, ◌∙◌, ℕ, ◌-◌, ◌==◌, false, List, [], ◌∷◌, ◌++◌, length, map, Option, Some, None, slice_get, slice_index_or, refl, sym, ap, subst, arith}
 use Rattle.std.proofs.Math.Logic.{∥∥₁_elim}
-use Rattle.std.proofs.lemmas.Bool.{eqb-true, ne_eqb}
+use Rattle.std.proofs.lemmas.Bool.{ne_eqb}
 use Rattle.std.proofs.lemmas.List.Elements.{All-append, All-map}
+use Rattle.std.proofs.lemmas.Option.{slice_get-map}
 use Rattle.std.specs.Prelude.{find}
 use Rattle.std.specs.Option.{is_some, option_and_then, option_map}
 use Rattle.spv_base.specs.Entries.{reads}
@@ -27,6 +28,7 @@ use Rattle.spv_state.specs.Events.{captured, captures_before, due, passed}
 use Rattle.spv_state.specs.Roots.{CapturesRoot, IsRoot, IsRooted}
 use Rattle.spv_state.specs.Sound.{IsSoundFrame}
 use Rattle.spv_state.specs.declared.captures.Capture.{Capture}
+use Rattle.spv_base.proofs.Exports.{entry_at}
 use Rattle.spv_state.proofs.AcceptedLemmas.{found_once}
 use Rattle.spv_state.proofs.OperandRoots.{HasFrame, value_root}
 use Rattle.spv_state.proofs.RootLemmas.{ids_last, root_prop, rooted_more}
@@ -37,13 +39,9 @@ use Rattle.spv_consts.proofs.Exports.{found_of_defining}
 
 -- an entry has a number
 read_number : {X : Type 0} (id : ℕ) (es : List (ℕ × X)) (x : X) → reads id es ≡ Some x → (n : ℕ) × (slice_get (map (λ (e : ℕ × X). e.0) es) n ≡ Some id)
-read_number id [] x h = absurd (cc)
-read_number {X} id (e ∷ es) x h = by_key (e.0 == id) refl h (read_number id es x)
-  where
-    by_key : (b : Bool) → (e.0 == id) ≡ b → cond b (Some e.1) (reads id es) ≡ Some x → (reads id es ≡ Some x → (n : ℕ) × (slice_get (map (λ (e : ℕ × X). e.0) es) n ≡ Some id))
-        → (n : ℕ) × (slice_get (e.0 ∷ map (λ (e : ℕ × X). e.0) es) n ≡ Some id)
-    by_key true same g rest = (0, ap (λ (k : ℕ). Some k) (eqb-true e.0 id same))
-    by_key false same g rest = let there = rest g in (suc there.0, there.1)
+read_number {X} id es x h =
+    let there = entry_at id x es h in
+    (there.0, slice_get-map (λ (e : ℕ × X). e.0) es there.0 ∙ ap (option_map (λ (e : ℕ × X). e.0)) there.1)
 
 -- an id that stands for something is defined
 meant_defined : (insts : List Inst) (id : ℕ) (m : Meaning) → meaning_of insts id ≡ Some m → (i : Inst) × (defining insts id ≡ Some i)

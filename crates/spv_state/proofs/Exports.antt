@@ -6,9 +6,9 @@ pub use Rattle.spv_state.proofs.Blocks.{Begun, Entered, rooted, Listed, listed}
 -- What an accepted module gives to a step: its instructions by their words and results, and where executables go on.
 pub use Rattle.spv_state.proofs.AcceptedLemmas.{goes_on, IsKnown, known, known_as}
 -- Changes of one element of a list.
-pub use Rattle.spv_state.proofs.Lists.{change_other, change_none, set_is_change, change_same, change_still, changed_from}
--- Entries that are written: their keys stay, and no value changes but the one that was written.
-pub use Rattle.spv_state.proofs.Entries.{keys_stay, reads_written, writes_nothing}
+pub use Rattle.spv_state.proofs.Lists.{change_other, change_none, set_is_change, change_same, changed_from}
+-- Entries that are written: their keys stay, and an id without an entry is not written.
+pub use Rattle.spv_state.proofs.Entries.{keys_stay, writes_nothing}
 -- The executable at which a frame stands, and the one behind it.
 pub use Rattle.spv_state.proofs.ExecutableLemmas.{Standing, standing, stands_there, at_standing, next_stands, function_known}
 -- The entry function of an accepted module: it is one of its functions, some chain of calls begins with it, and it has a first executable.

@@ -1,5 +1,5 @@
 -- Changes of one element of a list.
-use Rattle.std.proofs.Common.{◌≡◌, ◌≢◌, ◌∙◌, ℕ, zero, suc, List, [], ◌∷◌, Option, Some, None, slice_get, slice_set, refl, ap}
+use Rattle.std.proofs.Common.{◌≡◌, ◌≢◌, ℕ, zero, suc, List, [], ◌∷◌, Option, Some, None, slice_get, slice_set, refl, ap}
 use Rattle.std.specs.Option.{option_map}
 use Rattle.spv_base.specs.Entries.{change}
 
@@ -25,10 +25,6 @@ pub change_same : {A : Type 0} (i : ℕ) (f g : A → A) (xs : List A) → ((x :
 change_same i f g [] same = refl
 change_same zero f g (x ∷ xs) same = ap (λ y. y ∷ xs) (same x refl)
 change_same (suc i) f g (x ∷ xs) same = ap (λ l. x ∷ l) (change_same i f g xs same)
-
--- and one that does nothing to it
-pub change_still : {A : Type 0} (i : ℕ) (g : A → A) (xs : List A) → ((x : A) → slice_get xs i ≡ Some x → g x ≡ x) → change i g xs ≡ xs
-change_still i g xs still = change_same i g (λ x. x) xs still ∙ change_none i xs
 
 -- and the one that was there before
 pub record Changed {A : Type 0} (g : A → A) (o : Option A) (y : A) : Type 0 where

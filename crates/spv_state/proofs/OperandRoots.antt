@@ -33,8 +33,8 @@ use Rattle.spv_operands.specs.Values.{is_own, module_root, pointer_to, storage_c
 use Rattle.spv_operands.proofs.Exports.{IsLocalVariable, IsModuleVariable, IsVariableAt, behind_variable, front_variable, local_meant, module_meant, Defines, defines, register_read, constant_plain, blank_plain, data_plain, IsTyped, variable_by, variable_typed}
 use Rattle.spv_state.specs.Roots.{IsRoot, IsRooted, ids_at, ids_with, is_shared, local_ids}
 use Rattle.spv_state.specs.Variables.{function_in, is_variable_of, variables_of}
-use Rattle.spv_state.proofs.RootLemmas.{contains_kept, contains_later, contains_mapped, ids_kept}
-use Rattle.spv_base.proofs.Exports.{out_pointer}
+use Rattle.spv_state.proofs.RootLemmas.{contains_kept, contains_mapped, ids_kept}
+use Rattle.spv_base.proofs.Exports.{contains_later, out_pointer}
 use Rattle.spv_base.specs.Options.{holds}
 
 -- ---- pointers

@@ -5,7 +5,7 @@ use Rattle.std.proofs.Props.{props}
 use Rattle.std.proofs.lemmas.Bool.{eq-eqb}
 use Rattle.std.proofs.lemmas.List.Elements.{All-weaker}
 use Rattle.std.proofs.lemmas.Option.{slice_get_within}
-use Rattle.spv_base.proofs.Exports.{element_at}
+use Rattle.spv_base.proofs.Exports.{contains_later, element_at}
 use Rattle.std.specs.Coded.{codes}
 use Rattle.std.specs.List.{AllByRecursion, AllZip, Contains, cons_option, filter, filter_map}
 use Rattle.std.specs.Option.{is_some, option_and_then, option_map_or}
@@ -29,9 +29,6 @@ use Rattle.spv_state.specs.Sound.{HasVariables, IsSound, IsSoundFrame}
 use Rattle.spv_state.specs.State.{State, frames_of, with_pc}
 
 -- ---- ids in lists
-
-pub contains_later : {X : Type 0} (y x : X) (xs : List X) → Contains xs x → Contains (y ∷ xs) x
-contains_later y x xs (k, lt, is) = (suc k, omega (arith, lt), is)
 
 pub contains_kept : {X : Type 0} (test : X → Bool) (xs : List X) (x : X) → Contains xs x → test x ≡ true → Contains (filter test xs) x
 contains_kept test [] x (k, lt, is) h = absurd (omega arith)

@@ -1,13 +1,13 @@
 -- What sources and names of variables stand for, and the table of predecoded instructions.
-use Rattle.std.proofs.lemmas.Bool.{cases_lt}
 use Rattle.std.proofs.lemmas.List.{length-append}
-use Rattle.std.proofs.Common.{◌≡◌, ◌∙◌, ◌==◌, ◌≤◌, ◌<◌, ◌+◌, ◌⊎◌, inl, inr, if◌then◌else◌, ℕ, zero, suc, List, [], ◌∷◌, ◌++◌, Option, Some, None, IfSome, arith, length, slice_get, refl, rules, sym, ap, subst}
+use Rattle.std.proofs.Common.{◌≡◌, ◌∙◌, ◌==◌, ◌+◌, ◌⊎◌, inl, inr, if◌then◌else◌, ℕ, List, [], ◌∷◌, ◌++◌, Option, Some, None, IfSome, length, slice_get, refl, rules, sym, ap, subst}
 use Rattle.std.specs.Option.{option_map}
 use Rattle.spv_base.specs.Entries.{reads}
 use Rattle.spv_base.specs.declared.instructions.Inst.{Inst}
 use Rattle.spv_base.specs.declared.values.Root.{Root}
 use Rattle.spv_base.specs.declared.values.Root.TheVariants as root
 use Rattle.spv_base.specs.declared.values.Value.{Value}
+use Rattle.spv_base.proofs.Exports.{snoc_get}
 use Rattle.spv_consts.specs.Trees.{tree_of}
 use Rattle.spv_frame.specs.Frames.{Held}
 use Rattle.spv_frame.specs.Registers.{IsSlotOf, Planned, ids, number_of}
@@ -87,24 +87,9 @@ pub record SoFar (a : Accepted) (ps : List (Option Predecoded)) (n : ℕ) : Type
   pub count : length ps ≡ n
   pub are : ArePredecoded a ps
 
-last_of : {X : Type 0} (xs : List X) (x : X) (n : ℕ) → slice_get (xs ++ x ∷ []) (length xs) ≡ Some x
-last_of [] x n = refl
-last_of (y ∷ xs) x n = last_of xs x n
-
-before_last : {X : Type 0} (xs : List X) (x y : X) (n : ℕ) → slice_get (xs ++ x ∷ []) n ≡ Some y → n < length xs → slice_get xs n ≡ Some y
-before_last [] x y n h below = absurd (omega (arith, below))
-before_last (z ∷ xs) x y zero h below = h
-before_last (z ∷ xs) x y (suc n) h below = before_last xs x y n h (omega arith)
-
-within : {X : Type 0} (xs : List X) (x y : X) (n : ℕ) → slice_get (xs ++ x ∷ []) n ≡ Some y → n ≤ length xs
-within [] x y zero h = omega arith
-within [] x y (suc n) h = absurd (cc)
-within (z ∷ xs) x y zero h = omega arith
-within (z ∷ xs) x y (suc n) h = let below : n ≤ length xs = within xs x y n h in omega arith
-
 pub one_more : (a : Accepted) (ps : List (Option Predecoded)) (n : ℕ) (i : Inst) (o : Option Predecoded) → SoFar a ps n → slice_get a.insts n ≡ Some i
     → IfSome o (IsPredecoded a i) → SoFar a (ps ++ o ∷ []) (n + 1)
-one_more a ps n i o far stands is = record { count = long ps o ∙ ap (λ k. k + 1) far.count; are = λ k d p at_k entry. by k d p at_k entry (cases_lt k (length ps)) }
+one_more a ps n i o far stands is = record { count = long ps o ∙ ap (λ k. k + 1) far.count; are = λ k d p at_k entry. by k d p at_k (snoc_get ps o (Some p) k entry) }
   where
     long : {X : Type 0} (xs : List X) (x : X) → length (xs ++ x ∷ []) ≡ length xs + 1
     long xs x = length-append xs (x ∷ [])
@@ -113,11 +98,8 @@ one_more a ps n i o far stands is = record { count = long ps o ∙ ap (λ k. k +
     here None p d same inst h = absurd (cc)
     here (Some q) p d same inst h = let is : q ≡ p = cc in subst (λ (x : Predecoded). IsPredecoded a d x) is (subst (λ (x : Inst). IsPredecoded a x q) inst h)
 
-    by : (k : ℕ) (d : Inst) (p : Predecoded) → slice_get a.insts k ≡ Some d → slice_get (ps ++ o ∷ []) k ≡ Some (Some p) → (k < length ps) ⊎ (length ps ≤ k) → ∥ IsPredecoded a d p ∥₁
-    by k d p at_k entry (inl below) = far.are k d p at_k (before_last ps o (Some p) k entry below)
-    by k d p at_k entry (inr above) =
-        let bound : k ≤ length ps = within ps o (Some p) k entry in
-        let last : k ≡ length ps = omega (arith, above, bound) in
-        let added : Some o ≡ Some (Some p) = sym (last_of ps o k) ∙ ap (λ (j : ℕ). slice_get (ps ++ o ∷ []) j) (sym last) ∙ entry in
-        let inst : Some i ≡ Some d = sym stands ∙ ap (λ (j : ℕ). slice_get a.insts j) (sym (last ∙ far.count)) ∙ at_k in
-        ∣ here o p d (cc) (cc) is ∣₁
+    by : (k : ℕ) (d : Inst) (p : Predecoded) → slice_get a.insts k ≡ Some d → (slice_get ps k ≡ Some (Some p)) ⊎ ((k ≡ length ps) × (Some p ≡ o)) → ∥ IsPredecoded a d p ∥₁
+    by k d p at_k (inl before) = far.are k d p at_k before
+    by k d p at_k (inr added) =
+        let inst : Some i ≡ Some d = sym stands ∙ ap (λ (j : ℕ). slice_get a.insts j) (sym (added.0 ∙ far.count)) ∙ at_k in
+        ∣ here o p d (sym added.1) (cc) is ∣₁

@@ -1,5 +1,5 @@
 -- The state at the start of a run is sound.
-use Rattle.std.proofs.Common.{◌≡◌, ◌∙◌, ℕ, zero, suc, ◌==◌, Bool, true, false, cond, List, [], ◌∷◌, length, map, replicate, Option, Some, None, refl, sym, ap, subst, arith, slice_get}
+use Rattle.std.proofs.Common.{◌≡◌, ◌∙◌, ℕ, zero, suc, ◌==◌, Bool, true, false, cond, List, [], ◌∷◌, map, replicate, Option, Some, None, refl, sym, ap, subst, arith, slice_get}
 use Rattle.std.proofs.Math.Logic.{∥∥₁_elim, ∥∥₁_map}
 use Rattle.std.proofs.Props.{props}
 use Rattle.std.proofs.lemmas.List.Elements.{All-nil}
@@ -32,15 +32,11 @@ use Rattle.spv_state.proofs.EntryLemmas.{entry_listed}
 use Rattle.spv_state.proofs.EventRoots.{above_rooted}
 use Rattle.spv_state.proofs.EventShapes.{passed_captured}
 use Rattle.spv_state.proofs.VariableStart.{own_begins, shared_begin}
-use Rattle.std.proofs.lemmas.List.{length-map}
+use Rattle.std.proofs.lemmas.List.{length-map, length-replicate}
 use Rattle.spv_base.proofs.Exports.{get_replicate}
 use Rattle.std.proofs.lemmas.List.FromFn.{length-range_with_len}
 
 -- ---- lists
-
-length_replicate : {A : Type 0} (n : ℕ) (x : A) → length (replicate n x) ≡ n
-length_replicate zero x = refl
-length_replicate (suc n) x = ap (λ (m : ℕ). suc m) (length_replicate n x)
 
 mapped : {A B : Type 0} (f : A → B) (n i : ℕ) (x : A) (y : B) → slice_get (map f (replicate n x)) i ≡ Some y → y ≡ f x
 mapped f zero i x y at = absurd (cc)
@@ -165,9 +161,9 @@ start_sound has p accepted valid fits memory =
       targets = refl;
       memory = memory;
       words = refl;
-      stacks = length_replicate count (entry_stack a) ∙ sym (length_replicate count Ready);
-      levels = length-map _ _ ∙ length_replicate count (record { list = []; room = a.depth }) ∙ sym (length_replicate count Ready);
-      privates = length-map (range_with_len 0 count) (own_roots a p.setup (variables a)) ∙ length-range_with_len 0 count ∙ sym (length_replicate count Ready);
+      stacks = length-replicate count (entry_stack a) ∙ sym (length-replicate count Ready);
+      levels = length-map _ _ ∙ length-replicate count (record { list = []; room = a.depth }) ∙ sym (length-replicate count Ready);
+      privates = length-map (range_with_len 0 count) (own_roots a p.setup (variables a)) ∙ length-range_with_len 0 count ∙ sym (length-replicate count Ready);
       shared = shared_begin a p.setup accepted valid fits;
       own = own_begins a p.setup accepted valid fits;
       each = λ i t k l status stack level.

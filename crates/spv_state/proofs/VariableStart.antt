@@ -43,7 +43,8 @@ use Rattle.spv_operands.specs.Values.{is_own}
 use Rattle.spv_operands.proofs.Exports.{IsLocalVariable, IsModuleVariable, behind_variable, variable_at, Stands, place_of}
 use Rattle.spv_state.specs.Program.{IsFitting}
 use Rattle.spv_state.specs.Roots.{ids_in, is_shared, own_ids, shared_ids}
-use Rattle.spv_state.proofs.RootLemmas.{contains_later, ids_kept}
+use Rattle.spv_base.proofs.Exports.{contains_later, each_weaker}
+use Rattle.spv_state.proofs.RootLemmas.{ids_kept}
 
 -- ---- the variables of a module are those of its instructions
 
@@ -269,10 +270,6 @@ module _ (a : Accepted) (s : Settings) (is : IsAccepted a) (valid : IsValid a) (
 
   all_begin : AllByRecursion Begins (variables a)
   all_begin = each_declared Begins a.types a.insts inst_begins
-
-each_weaker : (P Q : Declared → Type 0) → ((d : Declared) → P d → Q d) → (ds : List Declared) → AllByRecursion P ds → AllByRecursion Q ds
-each_weaker P Q weaker [] all = tt
-each_weaker P Q weaker (d ∷ ds) (first, rest) = (weaker d first, each_weaker P Q weaker ds rest)
 
 -- ---- the variables at the start
 

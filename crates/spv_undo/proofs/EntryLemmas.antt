@@ -1,7 +1,7 @@
 -- Registers, frames and parts whose entries lead back.
-use Rattle.std.proofs.Common.{◌≡◌, ◌∙◌, ℕ, ◌-◌, ◌<◌, ◌≤◌, ◌==◌, arith, Bool, true, false, cond, List, [], ◌∷◌, Option, Some, None, length, option_map, refl, sym, ap, subst}
+use Rattle.std.proofs.Common.{◌≡◌, ◌∙◌, ℕ, ◌-◌, ◌<◌, ◌≤◌, arith, Bool, true, false, List, [], Option, Some, None, length, option_map, refl, sym, ap, subst}
 use Rattle.std.specs.Option.{IsSomeAnd, option_map_or}
-use Rattle.spv_base.specs.Entries.{reads, writes}
+use Rattle.spv_base.specs.Entries.{writes}
 use Rattle.spv_base.specs.declared.values.Pointer.{Pointer}
 use Rattle.spv_base.specs.declared.values.Value.{Value, Ptr, out-Value}
 use Rattle.spv_base.specs.declared.values.Value.TheOpen.{Value-F}
@@ -17,14 +17,14 @@ use Rattle.spv_valid.specs.Acceptance.{Accepted}
 use Rattle.spv_state.specs.Slots.{IsExchanged, IsHeldPointer}
 use Rattle.spv_state.specs.Sound.{IsSoundFrame}
 use Rattle.spv_state.specs.State.{State, on_frame, on_frames, top_of, with_level, with_register}
-use Rattle.spv_state.proofs.Exports.{writes_nothing, change_same, change_still}
+use Rattle.spv_state.proofs.Exports.{writes_nothing, change_same}
 use Rattle.spv_undo.specs.OldValues.{KeepsPointer, KeepsValue}
 use Rattle.spv_undo.specs.Entries.{count_of}
 use Rattle.spv_undo.specs.Undo.{HasTop, Undoes}
 use Rattle.spv_undo.specs.declared.entries.Entry.{Entry}
 use Rattle.spv_undo.specs.declared.entries.Entry.TheVariants.{Leaf, Part, NoValue, CellRegister, RowRegister, PointerRegister, FramePushed, FramePopped, PcMoved, EventAppended, StatusChanged, BarrierOpened}
 use Rattle.spv_undo.proofs.LawLemmas.{frame_back, has_top, pointer_back, top_after, value_back}
-use Rattle.spv_base.proofs.Exports.{some_and, out_pointer}
+use Rattle.spv_base.proofs.Exports.{change_still, out_pointer, reads_put, some_and}
 
 -- ---- values
 
@@ -78,14 +78,6 @@ value_counts n k o (StatusChanged t) h = absurd h
 value_counts n k o (BarrierOpened w) h = absurd h
 
 -- ---- a value that is exchanged
-
-reads_put : {A : Type 0} (k : ℕ) (x y : A) (es : List (ℕ × A)) → reads k es ≡ Some y → reads k (writes k x es) ≡ Some x
-reads_put {A} k x y [] h = cc
-reads_put {A} k x y (e ∷ es) h = by_key (λ g. reads_put k x y es g) (e.0 == k) refl h
-  where
-    by_key : (reads k es ≡ Some y → reads k (writes k x es) ≡ Some x) → (b : Bool) → (e.0 == k) ≡ b → cond b (Some e.1) (reads k es) ≡ Some y → reads k (cond b ((e.0, x) ∷ es) (e ∷ writes k x es)) ≡ Some x
-    by_key ih true same g = rw same refl
-    by_key ih false same g = rw same (ih g)
 
 -- the value that was put is held
 pub held_after : (i n : ℕ) (o : Option Value) (v : Value) (s : State) → IsSomeAnd (top_of s i) (HoldsValue n o) → IsSomeAnd (top_of (on_frame i (with_value n (Some v)) s) i) (HoldsValue n (Some v))

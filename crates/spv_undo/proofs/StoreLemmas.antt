@@ -1,5 +1,5 @@
 -- A part of a variable that was stored, and the old one that is put back.
-use Rattle.std.proofs.Common.{◌≡◌, ◌∙◌, ℕ, ◌+◌, ◌≤◌, ◌==◌, Bool, true, false, cond, List, [], ◌∷◌, ◌++◌, Option, Some, None, IsSome, length, length-append, take, drop, slice_get, unwrap_or, refl, sym, ap, subst, arith}
+use Rattle.std.proofs.Common.{◌≡◌, ◌∙◌, ℕ, ◌+◌, ◌≤◌, true, List, ◌++◌, Option, Some, None, IsSome, length, length-append, take, drop, slice_get, unwrap_or, refl, sym, ap, subst, arith}
 use Rattle.std.specs.Option.{option_and_then, option_map}
 use Rattle.std.proofs.Math.Logic.{∥∥₁_elim, ∥∥₁_map}
 use Rattle.std.proofs.Props.{props}
@@ -13,7 +13,7 @@ use Rattle.spv_base.specs.declared.values.Pointer.{Pointer}
 use Rattle.spv_base.specs.declared.values.Root.{Root}
 use Rattle.spv_base.specs.declared.values.Root.TheVariants.{Shared, Private, Local}
 use Rattle.spv_base.specs.declared.values.Value.{Value}
-use Rattle.spv_base.proofs.Exports.{change_back, writes_back, change_here, slice_get-set_same, set_back, some_at}
+use Rattle.spv_base.proofs.Exports.{change_back, writes_back, change_here, slice_get-set_same, reads_put, set_back, some_at}
 use Rattle.spv_types.specs.Cells.{cells_of}
 use Rattle.spv_types.specs.Rows.{leaves, no_roots}
 use Rattle.spv_types.specs.Shapes.{HasShape, reached_type}
@@ -56,14 +56,6 @@ types_stay m i (Private id) es = (refl, refl)
 types_stay m i (Local depth id) es = (refl, refl)
 
 -- ---- the variable
-
-reads_put : (k : ℕ) (x y : Value) (es : Roots) → reads k es ≡ Some y → reads k (writes k x es) ≡ Some x
-reads_put k x y [] h = cc
-reads_put k x y (e ∷ es) h = by_key (λ g. reads_put k x y es g) (e.0 == k) refl h
-  where
-    by_key : (reads k es ≡ Some y → reads k (writes k x es) ≡ Some x) → (b : Bool) → (e.0 == k) ≡ b → cond b (Some e.1) (reads k es) ≡ Some y → reads k (cond b ((e.0, x) ∷ es) (e ∷ writes k x es)) ≡ Some x
-    by_key ih true same g = rw same refl
-    by_key ih false same g = rw same (ih g)
 
 -- the part that a pointer names, with its variable
 record Part (m : Memory) (i : ℕ) (p : Pointer) (w : Value) : Type 0 where

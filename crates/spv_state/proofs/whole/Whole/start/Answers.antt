@@ -1,4 +1,4 @@
-use Rattle.std.proofs.Common.{◌≡◌, ◌∙◌, ap, subst, sym}
+use Rattle.std.proofs.Common.{◌∙◌, ap, subst, sym}
 use Rattle.spv_valid.specs.Acceptance.{Accepted, IsAccepted}
 use Rattle.spv_valid.specs.Validity.{IsValid}
 use Rattle.spv_mem.specs.Memory.{Held as Memory, IsMemory}
