@@ -54,11 +54,11 @@ module _ (insts : List Inst) where
 
   since_from : (ss : List Stand) → Among ss → All (Captures insts) (since insts ss)
   since_from [] all = All-nil (Captures insts)
-  since_from (s ∷ ss) all = by_test (is_stop s || is_label s.class)
+  since_from (s ∷ ss) all = by_test (is_stop s || is_label s.class) (since_from ss all.1)
     where
-      by_test : (b : Bool) → All (Captures insts) (cond b [] (since insts ss ++ capture_in insts s.inst))
-      by_test true = All-nil (Captures insts)
-      by_test false = All-append (Captures insts) (since insts ss) (capture_in insts s.inst) (since_from ss all.1) (one_from s all.0)
+      by_test : (b : Bool) → All (Captures insts) (since insts ss) → All (Captures insts) (cond b [] (since insts ss ++ capture_in insts s.inst))
+      by_test true later = All-nil (Captures insts)
+      by_test false later = All-append (Captures insts) (since insts ss) (capture_in insts s.inst) later (one_from s all.0)
 
   abbrev AreFrom : List (ℕ × List Capture) → Type 0
   AreFrom es = AllByRecursion (λ (e : ℕ × List Capture). All (Captures insts) e.1) es
