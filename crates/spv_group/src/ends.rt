@@ -10,14 +10,14 @@ use spv_base::{EndCause, NoMemory};
 use spv_machine::{Runnable, World, fault_of};
 use std::alloc::Global;
 
-/// Whether all invocations are finished. In constant time.
+/// Whether all invocations are finished. In constant time (measured, and said by no clause).
 pub fn all_finished(world: &World) -> bool
     ensures { result ≡ all_finished world.now.state }
 {
     world.whole().statuses().all_finished()
 }
 
-/// Whether no invocation can go on, though one waits at a barrier. In constant time.
+/// Whether no invocation can go on, though one waits at a barrier. In constant time (measured, and said by no clause).
 pub fn is_stuck(world: &World) -> bool
     ensures { result ≡ is_stuck world.now.state }
 {

@@ -164,7 +164,7 @@ impl<'a> Site<'a> {
         self.m
     }
 
-    /// The plan of a function of the module. In constant time.
+    /// The plan of a function of the module. In constant time (measured, and said by no clause).
     pub fn plan(&self, function: u32) -> &'a Rc<Plan>
         requires { ∥ Contains (functions_in self.now.program.accepted) function ∥₁ }
         ensures { result.now.value ≡ plan_of self.now.program.accepted function }
@@ -238,7 +238,7 @@ impl<'a> Site<'a> {
         }
     }
 
-    /// True only where the operand with a number stands for something, as a constant does. In constant time.
+    /// True only where the operand with a number stands for something, as a constant does. In constant time (measured, and said by no clause).
     fn is_constant(&self, n: usize) -> bool
         ensures { result ≡ true → IsSome (spec.values self.now n) }
     {

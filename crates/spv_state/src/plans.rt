@@ -8,7 +8,7 @@ use spv_plans::laws::{functions_are_apart, plans_are_of_functions};
 use spv_valid::Module;
 use std::rc::Rc;
 
-/// The plan of a function of the module. In constant time.
+/// The plan of a function of the module. In constant time (measured, and said by no clause).
 pub fn plan_in<'a>(accepted: &Module, plans: &'a Plans, function: u32) -> &'a Rc<Plan>
     requires plans { plans.now ≡ plans_in accepted.now }
     requires function { ∥ Contains (functions_in accepted.now) function ∥₁ }

@@ -84,7 +84,8 @@ impl CellSlot {
     }
 }
 
-/// Where the register of a value with an id lies in the frames of a function, if they have it and it has one cell. In constant time.
+/// Where the register of a value with an id lies in the frames of a function, if they have it and it has one cell.
+/// In constant time (measured, and said by no clause).
 pub(crate) fn register_of(
     accepted: &Module,
     plans: &Plans,

@@ -72,7 +72,8 @@ impl Runnable {
         }
     }
 
-    /// The debug instructions that a frame passes as it comes to the executable at a word, in their order. In constant time.
+    /// The debug instructions that a frame passes as it comes to the executable at a word, in their order.
+    /// In constant time (measured, and said by no clause).
     pub fn captures(&self, pc: u32) -> &[Capture]
         ensures { result.now ≡ captures_before self.now.accepted pc }
     {
@@ -82,7 +83,8 @@ impl Runnable {
         }
     }
 
-    /// The instruction at a word, where it is one on values of one cell. In constant time. Inlined: it is called once an event.
+    /// The instruction at a word, where it is one on values of one cell.
+    /// In constant time (measured, and said by no clause). Inlined: it is called once an event.
     #[inline(always)]
     pub fn predecoded(&self, pc: u32) -> Option<&Predecoded>
         ensures { IfSome (option_copied result) (λ p. (d : Inst) → at self.now.accepted.insts pc ≡ Some d → ∥ IsPredecoded self.now.accepted d p ∥₁) }

@@ -245,7 +245,7 @@ impl Whole {
 
     /// Exchanges the value of the register with an id of the top frame of an invocation and its mark, if the frame has this register, and
     /// gives its number in the plan. A value of the id's type has as many cells as the register, so what comes back can be put back by the
-    /// number. In constant time.
+    /// number. In constant time (measured, and said by no clause).
     pub fn exchange_register(
         &mut self,
         accepted: &Module,
@@ -267,7 +267,8 @@ impl Whole {
         exchange_in(accepted, &self.plans, stack, function, id, row, has)
     }
 
-    /// What the register with an id of the top frame of an invocation holds, if it is one of a pointer there. In constant time.
+    /// What the register with an id of the top frame of an invocation holds, if it is one of a pointer there.
+    /// In constant time (measured, and said by no clause).
     pub fn held_pointer(&self, accepted: &Module, i: u32, id: u32) -> Option<HeldPointer<'_>>
         requires inv { i < length self.now.stacks }
         requires plans { self.now.plans ≡ plans_in accepted.now }
