@@ -4,7 +4,7 @@ use Rattle.std.specs.Prelude.{nat_lt, nat_le}
 use Rattle.std.proofs.lemmas.Bool.{ltb-true, ltb-false, leb-true, leb-false}
 use Rattle.spv_cmd.specs.Commands.{command_of}
 use Rattle.spv_group.specs.Group.{Held as Group, end_in}
-use Rattle.spv_session.specs.Costs.{forth_cost, straight_cost, search_cost, motion_cost, act_cost, line_cost}
+use Rattle.spv_session.specs.Costs.{forth_cost, straight_cost, motion_cost, act_cost, line_cost}
 use Rattle.spv_session.specs.Reply.{Motion, straight, forward, backward, Act, nothing, quits, shows, goes, act_of, hits, target}
 use Rattle.spv_session.specs.View.{View}
 

@@ -1,8 +1,14 @@
--- The texts of all invocations, one after the other, and a view of its own position.
-use Rattle.std.proofs.Common.{◌≡◌, ◌∙◌, ℕ, ◌+◌, List, [], ◌∷◌, ◌++◌, sym, ap, subst, refl, arith, add-one}
+-- The texts of all invocations, one after the other, a view of its own position, and the text of a refusal.
+use Rattle.std.proofs.Common.{◌≡◌, ◌∙◌, ℕ, ◌+◌, List, [], ◌∷◌, ◌++◌, Some, Result, Ok, Err, OnErr, sym, ap, subst, refl, arith, add-one, append-nil}
 use Rattle.std.specs.List.{flat_map, range_with_len}
 use Rattle.std.proofs.lemmas.List.{flat_map_more}
+use Rattle.spv_base.specs.declared.causes.CmdRefusal.{CmdRefusal}
+use Rattle.spv_base.specs.Prefix.{IsPrefixOf}
+use Rattle.spv_cmd.specs.declared.command.Command.{Command}
+use Rattle.spv_cmd.specs.Commands.{command_of}
 use Rattle.spv_group.proofs.Exports.{range_more}
+use Rattle.spv_session.specs.Reply.{Told, tells, refuses, Act, nothing, quits, shows, goes, act_of, reply_by, refusal_by, refusal_of, told_refusal, told_reply}
+use Rattle.spv_session.specs.Texts.{refusal_line}
 use Rattle.spv_session.specs.View.{View, view_at}
 
 pub text_more : {A : Type 0} (f : ℕ → List A) (before text : List A) (n : ℕ) → text ≡ before ++ flat_map f (range_with_len 0 n) → text ++ f n ≡ before ++ flat_map f (range_with_len 0 (n + 1))
@@ -15,3 +21,32 @@ text_more f before text n is = rw add-one (
 -- a view is that of its own position
 pub same_view : (v w : View) → v ≡ w → v ≡ view_at v.group.position w
 same_view v w e = subst (λ (u : View). v ≡ view_at v.group.position u) e refl
+
+-- ---- refusals
+
+refused_told : (v : View) (told : Told) (code : ℕ) → told_refusal told ≡ Some code → (told_reply v told).0 ≡ refusal_line code
+refused_told v (tells text w) code e = absurd (cc)
+refused_told v (refuses n) code e = let same : n ≡ code = cc in ap refusal_line same
+
+-- what is refused has its refusal's line
+pub refused_text : (v : View) (a : Act) (code : ℕ) → refusal_by v a ≡ Some code → (reply_by v a).0 ≡ refusal_line code
+refused_text v nothing code e = absurd (cc)
+refused_text v quits code e = absurd (cc)
+refused_text v (shows told) code e = refused_told v (told v) code e
+refused_text v (goes motion) code e = absurd (cc)
+
+-- a line that is refused, as the command that was read
+pub refused_as : (v : View) (line : List ℕ) (it : Result Command CmdRefusal) (code : ℕ) → it ≡ command_of line → refusal_of v line ≡ Some code → refusal_by v (act_of it) ≡ Some code
+unfolding refusal_of
+refused_as v line it code is e = ap (λ r. refusal_by v (act_of r)) is ∙ e
+
+-- ---- want of memory
+
+-- nothing was appended
+pub front_none : {T E : Type 0} (r : Result T E) (old new due : List ℕ) → new ≡ old → OnErr r ((text : List ℕ) × (new ≡ old ++ text) × IsPrefixOf text due)
+front_none (Ok x) old new due e = tt
+front_none (Err x) old new due e = ([], e ∙ sym (append-nil old), (due, refl))
+
+-- a text that was made from nothing is appended
+pub appended : (old other text start due line new : List ℕ) → new ≡ old ++ other → other ≡ text → text ≡ start ++ due → start ≡ [] → due ≡ line → new ≡ old ++ line
+appended old other text start due line new e f g h i = e ∙ ap (λ l. old ++ l) (f ∙ g ∙ ap (λ l. l ++ due) h ∙ i)

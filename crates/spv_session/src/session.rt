@@ -1,6 +1,7 @@
 //! A group and the replies to lines of input.
 ghost use Rattle.std.specs.Prelude.{◌≡◌, ℕ, ◌==◌, ◌<◌, ◌≤◌, ◌+◌, ◌++◌, ◌&&◌, ◌⊎◌, List, All, IfOk, Ok, Some, OnOk, OnErr, max, min, vec_len, if◌then◌else◌};
 ghost use Rattle.spv_base.specs.Prefix.{IsPrefixOf};
+ghost use Rattle.spv_cmd.specs.Commands.{command_of};
 ghost use Rattle.spv_group.specs.Group.{end_in, group_at, invocations_in, window_in};
 ghost use Rattle.spv_session.specs.Costs.{act_cost, line_cost, straight_cost};
 ghost use Rattle.spv_session.specs.Reply.{act_of, does_quit, focus_told, group_reply, invocation_reply, is_quit, IsRefused, place_reply, refusal_by, registers_told, reply, reply_by, stop_reply, told_refusal, told_reply};
@@ -30,6 +31,17 @@ const FOCUS_FINISHED: CmdRefusal = CmdRefusal { code: 12 };
 pub enum Next {
     Go,
     Quit,
+}
+
+/// The command that a line is, or why it is refused.
+fn read(alloc: Global, line: &[u8]) -> Result<Result<Command, CmdRefusal>, NoMemory>
+    ensures { IfOk result (λ read. read ≡ command_of line.now) }
+{
+    match parse_built(alloc, line) {
+        Ok(command) => Ok(Ok(command)),
+        Err(Fail::Refused(refusal)) => Ok(Err(refusal)),
+        Err(Fail::NoMemory) => Err(NoMemory),
+    }
 }
 
 /// A group, about which lines of input ask, and the invocation that replies speak of.
@@ -96,11 +108,7 @@ impl Session {
         ensures cost { steps.new ≤ steps.old + line_cost self.old.kept self.old.view line.now }
     {
         let mut text = Vec::new(self.alloc);
-        let command = match parse_built(self.alloc, line) {
-            Ok(command) => Ok(command),
-            Err(Fail::Refused(refusal)) => Err(refusal),
-            Err(Fail::NoMemory) => return Err(NoMemory),
-        };
+        let command = read(self.alloc, line)?;
         let next = self.answer(&command, &mut text, steps)?;
         out.extend_from_slice(&text)?;
         Ok(next)
