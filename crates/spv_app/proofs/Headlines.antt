@@ -6,11 +6,12 @@ use Rattle.std.specs.declared.alloc.Global.{Global}
 use Rattle.spv_base.specs.Outside.{Holds, HoldsMore}
 use Rattle.spv_group.specs.Group.{Held as Group}
 use Rattle.spv_session.specs.View.{View, first_view}
+use Rattle.spv_session.specs.Reply.{reply}
 use Rattle.spv_loop.specs.declared.status.Status.{Status}
 use Rattle.spv_loop.specs.declared.status.Status.TheVariants.{Done, Usage, ModuleRefused, SetupRefused, FileFault, ReadFault, WriteFault, NoMemory, InputTooLong, FileTooLong}
 use Rattle.spv_app.specs.declared.opening.OpeningRefusal.{OpeningRefusal}
 use Rattle.spv_loop.specs.Lines.{lines_of}
-use Rattle.spv_loop.specs.Transcript.{transcript}
+use Rattle.spv_loop.specs.Transcript.{Reply, transcript}
 use Rattle.spv_app.specs.CommandLine.{PairNames, debug_names}
 use Rattle.spv_loop.specs.CommandLoop.{Says, with_rest}
 use Rattle.spv_app.specs.Opening.{opening, refusal_line}
@@ -57,21 +58,21 @@ line_whole due status line put ok (inr (inl h)) = absurd (ok.write h.0)
 line_whole due status line put ok (inr (inr h)) = absurd (ok.memory h.0)
 
 -- the command loop answered all lines
-loop_whole : (view : View) (status : Status) (xs got put : List ℕ) (left : Option (List ℕ)) → NothingFails status → Consumes (Some xs) left got → length xs ≤ input_limit
-    → (status ≡ InputTooLong → length got ≡ input_limit + 1) → Says status view got (with_rest got left) put → (status ≡ Done) × (put ≡ transcript view (lines_of xs))
-loop_whole view Done xs got put left ok took few long says = (refl, says.0 ∙ ap (λ l. transcript view (lines_of l)) (all_of xs got left took))
-loop_whole view ReadFault xs got put left ok took few long says = absurd (ok.read refl)
-loop_whole view WriteFault xs got put left ok took few long says = absurd (ok.write refl)
-loop_whole view NoMemory xs got put left ok took few long says = absurd (ok.memory refl)
-loop_whole view InputTooLong xs got put left ok took few long says =
+loop_whole : (r : Reply) (view : View) (status : Status) (xs got put : List ℕ) (left : Option (List ℕ)) → NothingFails status → Consumes (Some xs) left got → length xs ≤ input_limit
+    → (status ≡ InputTooLong → length got ≡ input_limit + 1) → Says r status view got (with_rest got left) put → (status ≡ Done) × (put ≡ transcript r view (lines_of xs))
+loop_whole r view Done xs got put left ok took few long says = (refl, says.0 ∙ ap (λ l. transcript r view (lines_of l)) (all_of xs got left took))
+loop_whole r view ReadFault xs got put left ok took few long says = absurd (ok.read refl)
+loop_whole r view WriteFault xs got put left ok took few long says = absurd (ok.write refl)
+loop_whole r view NoMemory xs got put left ok took few long says = absurd (ok.memory refl)
+loop_whole r view InputTooLong xs got put left ok took few long says =
     let e : length got + length (unwrap_or left []) ≡ length xs = sym (length-append got (unwrap_or left [])) ∙ ap length (all_of xs got left took) in
     let n : length got ≡ 16777217 = long refl in
     absurd (omega arith)
-loop_whole view Usage xs got put left ok took few long says = absurd says
-loop_whole view ModuleRefused xs got put left ok took few long says = absurd says
-loop_whole view SetupRefused xs got put left ok took few long says = absurd says
-loop_whole view FileFault xs got put left ok took few long says = absurd says
-loop_whole view FileTooLong xs got put left ok took few long says = absurd says
+loop_whole r view Usage xs got put left ok took few long says = absurd says
+loop_whole r view ModuleRefused xs got put left ok took few long says = absurd says
+loop_whole r view SetupRefused xs got put left ok took few long says = absurd says
+loop_whole r view FileFault xs got put left ok took few long says = absurd says
+loop_whole r view FileTooLong xs got put left ok took few long says = absurd says
 
 module _ (m : List ℕ → Option (List ℕ)) (names : PairNames) (before after : Outside) (unread : Type 0) (xs held : List ℕ) (status : Status)
     (told : before.files.told ≡ Some m) (left_is : before.streams.left ≡ Some xs) (held_is : before.streams.held ≡ Some held)
@@ -101,7 +102,7 @@ module _ (m : List ℕ → Option (List ℕ)) (names : PairNames) (before after 
       let whole = line_whole (status_of_refusal refusal) status (refusal_line refusal) put ok says in
       subst Due (sym refused ∙ same_pair b s pair) (held_with put wrote ∙ ap (λ l. Some (held ++ l)) whole.1, whole.0)
   due_of (Opened status b s group asks pair opened ran) =
-      let whole = loop_whole (first_view group) status xs ran.got ran.put after.streams.left ok (subst (λ l. Consumes l after.streams.left ran.got) left_is ran.taken) few ran.too_long.0 ran.says in
+      let whole = loop_whole reply (first_view group) status xs ran.got ran.put after.streams.left ok (subst (λ l. Consumes l after.streams.left ran.got) left_is ran.taken) few ran.too_long.0 ran.says in
       subst Due (sym opened ∙ same_pair b s pair) (held_with ran.put ran.written ∙ ap (λ l. Some (held ++ l)) whole.1, whole.0)
 
 -- a status that tells faults isn't it where none was counted

@@ -4,6 +4,7 @@ use Rattle.spv_group.specs.Group.{Held as Group, Undoing}
 use Rattle.spv_app.specs.declared.opening.OpeningRefusal.{OpeningRefusal}
 use Rattle.spv_loop.specs.declared.status.Status.{Status}
 use Rattle.spv_loop.specs.CommandLoop.{Ran}
+use Rattle.spv_loop.specs.Transcript.{Reply, Cost}
 use Rattle.spv_app.specs.Opening.{journaled, viewed, with_journal}
 use Rattle.spv_loop.specs.Streams.{Streams}
 use Rattle.spv_session.specs.View.{Viewing, first_viewing}
@@ -27,5 +28,5 @@ refused_is n (Ok g) x e = absurd (cc)
 refused_is n (Err y) x e = let same : y ≡ x = cc in ap Err same
 
 -- a run of the command loop from what is the same
-pub ran_as : (start at : Viewing) (before after : Streams) (status : Status) → at ≡ start → Ran at before after status → Ran start before after status
-ran_as start at before after status e ran = subst (λ (s : Viewing). Ran s before after status) e ran
+pub ran_as : (reply : Reply) (cost : Cost) (start at : Viewing) (before after : Streams) (status : Status) → at ≡ start → Ran reply cost at before after status → Ran reply cost start before after status
+ran_as reply cost start at before after status e ran = subst (λ (s : Viewing). Ran reply cost s before after status) e ran

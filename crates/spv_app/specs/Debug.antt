@@ -5,6 +5,8 @@ use Rattle.spv_base.specs.Prefix.{IsProperPrefixOf}
 use Rattle.spv_base.specs.Outside.{Told, AsksFor, Holds, HoldsMore}
 use Rattle.spv_group.specs.Group.{Held as Group}
 use Rattle.spv_session.specs.View.{first_view, first_viewing}
+use Rattle.spv_session.specs.Reply.{reply}
+use Rattle.spv_session.specs.Costs.{line_cost}
 use Rattle.spv_loop.specs.declared.status.Status.{Status}
 use Rattle.spv_loop.specs.declared.status.Status.TheVariants.{Done, ModuleRefused, SetupRefused, FileFault, WriteFault, NoMemory, FileTooLong}
 use Rattle.spv_app.specs.declared.opening.OpeningRefusal.{OpeningRefusal}
@@ -90,14 +92,14 @@ pub data Debugged (names : PairNames) (before after : Outside) (unread : Type 0)
   -- the pair is opened: the command loop runs from the first view of its group, which keeps at most 1,048,576 marks and entries of events
   Opened : (status : Status) (binary setup : List ℕ) (group : Group) → AsksForBoth names before.files after.files
       → IsPair before.files.told names binary setup → opening binary setup ≡ Ok group
-      → Ran (first_viewing (with_journal 1048576 group)) before.streams after.streams status → Debugged names before after unread status
+      → Ran reply line_cost (first_viewing (with_journal 1048576 group)) before.streams after.streams status → Debugged names before after unread status
 
 -- ---- what is due where nothing fails
 
 -- the refusal's line, or the replies to the lines of the input
 abbrev pub due_text : Result Group OpeningRefusal → List ℕ → List ℕ
 due_text (Err refusal) input = refusal_line refusal
-due_text (Ok group) input = transcript (first_view group) (lines_of input)
+due_text (Ok group) input = transcript reply (first_view group) (lines_of input)
 
 abbrev pub due_status : Result Group OpeningRefusal → Status
 due_status (Err refusal) = status_of_refusal refusal

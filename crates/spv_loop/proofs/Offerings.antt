@@ -6,7 +6,7 @@ use Rattle.spv_base.specs.Offers.{IsOffered, AreOffered, Begin, Offers}
 use Rattle.spv_session.specs.View.{View}
 use Rattle.spv_loop.specs.Lines.{last_line}
 use Rattle.spv_loop.specs.Offers.{OffersAll, OffersFirst}
-use Rattle.spv_loop.specs.Transcript.{text_of, replies, view_after, has_quit}
+use Rattle.spv_loop.specs.Transcript.{Reply, text_of, replies, view_after, has_quit}
 use Rattle.spv_loop.proofs.Transcripts.{replies-append, replies_go, replies_quit, one_reply}
 
 -- a piece can be offered
@@ -77,73 +77,76 @@ all_then_first xs ys before between now h k = (
   (k.2.0, subst (AreOffered (xs ++ ys)) (sym (append_assoc h.0 k.0 k.2.0)) (offered_both xs ys h.0 (k.0 ++ k.2.0) h.2 k.2.1)),
 )
 
--- ---- replies
-
-pub one_all : (v : View) (line : List ℕ) (before now : List (List ℕ)) → (offers : List (List ℕ)) × (now ≡ before ++ offers) × IsOffered (text_of v line) offers
-    → OffersAll (replies v (line ∷ [])) before now
-one_all v line before now h =
-    subst (λ r. OffersAll r before now) (sym (one_reply v line)) (h.0, h.1, (h.0, [], sym (append-nil h.0), h.2, refl))
-
-pub one_first : (v : View) (line : List ℕ) (before now : List (List ℕ)) → (offers : List (List ℕ)) × (now ≡ before ++ offers) × Begin (IsOffered (text_of v line)) offers
-    → OffersFirst (replies v (line ∷ [])) before now
-one_first v line before now h =
-    subst (λ r. OffersFirst r before now) (sym (one_reply v line)) (h.0, h.1, (h.2.0, (h.0 ++ h.2.0, [], sym (append-nil (h.0 ++ h.2.0)), h.2.1, refl)))
-
-pub last_first : (v : View) (line : List ℕ) (before now : List (List ℕ)) → 0 < length line → (offers : List (List ℕ)) × (now ≡ before ++ offers) × Begin (IsOffered (text_of v line)) offers
-    → OffersFirst (replies v (last_line line)) before now
-last_first v [] before now some h = absurd (omega arith)
-last_first v (b ∷ bs) before now some h = one_first v (b ∷ bs) before now h
-
-pub last_all : (v : View) (line : List ℕ) (before now : List (List ℕ)) → 0 < length line → (offers : List (List ℕ)) × (now ≡ before ++ offers) × IsOffered (text_of v line) offers
-    → OffersAll (replies v (last_line line)) before now
-last_all v [] before now some h = absurd (omega arith)
-last_all v (b ∷ bs) before now some h = one_all v (b ∷ bs) before now h
-
-pub none_all : (v : View) (lines before : List (List ℕ)) → lines ≡ [] → OffersAll (replies v lines) before before
-none_all v lines before none = subst (λ l. OffersAll (replies v l) before before) (sym none) ([], sym (append-nil before), refl)
-
--- the replies to the first lines
-pub first_lines : (v : View) (xs ys : List (List ℕ)) (before now : List (List ℕ)) → OffersFirst (replies v xs) before now → OffersFirst (replies v (xs ++ ys)) before now
-first_lines v xs ys before now h = subst (λ r. OffersFirst r before now) (sym (replies-append v xs ys)) (first_more (replies v xs) _ before now h)
-
--- lines without a `quit`, and more after them
-pub lines_all : (v w : View) (xs ys : List (List ℕ)) (before between now : List (List ℕ)) → has_quit xs ≡ false → w ≡ view_after v xs
-    → OffersAll (replies v xs) before between → OffersAll (replies w ys) between now → OffersAll (replies v (xs ++ ys)) before now
-lines_all v w xs ys before between now go view h k =
-    subst (λ r. OffersAll r before now) (sym (replies_go v xs ys go))
-    (all_then_all (replies v xs) (replies (view_after v xs) ys) before between now h (subst (λ u. OffersAll (replies u ys) between now) view k))
-
-pub lines_first : (v w : View) (xs ys : List (List ℕ)) (before between now : List (List ℕ)) → has_quit xs ≡ false → w ≡ view_after v xs
-    → OffersAll (replies v xs) before between → OffersFirst (replies w ys) between now → OffersFirst (replies v (xs ++ ys)) before now
-lines_first v w xs ys before between now go view h k =
-    subst (λ r. OffersFirst r before now) (sym (replies_go v xs ys go))
-    (all_then_first (replies v xs) (replies (view_after v xs) ys) before between now h (subst (λ u. OffersFirst (replies u ys) between now) view k))
-
--- a `quit` ends them
-pub quit_all : (v : View) (xs ys : List (List ℕ)) (before now : List (List ℕ)) → has_quit xs ≡ true → OffersAll (replies v xs) before now → OffersAll (replies v (xs ++ ys)) before now
-quit_all v xs ys before now quit h = subst (λ r. OffersAll r before now) (sym (replies_quit v xs ys quit)) h
-
 -- ---- lines of which some are left
 
 -- some of all lines are left to answer: what will be offered then is what is due of all
-pub record IsOffering (start at : View) (all rest : List (List ℕ)) (before now : List (List ℕ)) : Type 0 where
-  pub whole : (later : List (List ℕ)) → OffersAll (replies at rest) now later → OffersAll (replies start all) before later
-  pub first : (later : List (List ℕ)) → OffersFirst (replies at rest) now later → OffersFirst (replies start all) before later
+pub record IsOffering (reply : Reply) (start at : View) (all rest : List (List ℕ)) (before now : List (List ℕ)) : Type 0 where
+  pub whole : (later : List (List ℕ)) → OffersAll (replies reply at rest) now later → OffersAll (replies reply start all) before later
+  pub first : (later : List (List ℕ)) → OffersFirst (replies reply at rest) now later → OffersFirst (replies reply start all) before later
 
-pub offering_start : (v : View) (lines before : List (List ℕ)) → IsOffering v v lines lines before before
-offering_start v lines before = record { whole = λ later h. h; first = λ later h. h }
+module _ (reply : Reply) where
+  -- ---- replies
 
-pub offering_more : (start at next : View) (all rest xs ys : List (List ℕ)) (before now after : List (List ℕ)) → IsOffering start at all rest before now → rest ≡ xs ++ ys → has_quit xs ≡ false
-    → next ≡ view_after at xs → OffersAll (replies at xs) now after → IsOffering start next all ys before after
-offering_more start at next all rest xs ys before now after is e go view h = record {
-  whole = λ later k. is.whole later (subst (λ r. OffersAll (replies at r) now later) (sym e) (lines_all at next xs ys now after later go view h k));
-  first = λ later k. is.first later (subst (λ r. OffersFirst (replies at r) now later) (sym e) (lines_first at next xs ys now after later go view h k));
-}
+  pub one_all : (v : View) (line : List ℕ) (before now : List (List ℕ)) → (offers : List (List ℕ)) × (now ≡ before ++ offers) × IsOffered (text_of reply v line) offers
+      → OffersAll (replies reply v (line ∷ [])) before now
+  one_all v line before now h =
+      subst (λ r. OffersAll r before now) (sym (one_reply reply v line)) (h.0, h.1, (h.0, [], sym (append-nil h.0), h.2, refl))
 
-pub offering_stops : (start at : View) (all rest xs ys : List (List ℕ)) (before now after : List (List ℕ)) → IsOffering start at all rest before now → rest ≡ xs ++ ys
-    → OffersFirst (replies at xs) now after → OffersFirst (replies start all) before after
-offering_stops start at all rest xs ys before now after is e h = is.first after (subst (λ r. OffersFirst (replies at r) now after) (sym e) (first_lines at xs ys now after h))
+  pub one_first : (v : View) (line : List ℕ) (before now : List (List ℕ)) → (offers : List (List ℕ)) × (now ≡ before ++ offers) × Begin (IsOffered (text_of reply v line)) offers
+      → OffersFirst (replies reply v (line ∷ [])) before now
+  one_first v line before now h =
+      subst (λ r. OffersFirst r before now) (sym (one_reply reply v line)) (h.0, h.1, (h.2.0, (h.0 ++ h.2.0, [], sym (append-nil (h.0 ++ h.2.0)), h.2.1, refl)))
 
-pub offering_quits : (start at : View) (all rest xs ys : List (List ℕ)) (before now after : List (List ℕ)) → IsOffering start at all rest before now → rest ≡ xs ++ ys → has_quit xs ≡ true
-    → OffersAll (replies at xs) now after → OffersAll (replies start all) before after
-offering_quits start at all rest xs ys before now after is e quit h = is.whole after (subst (λ r. OffersAll (replies at r) now after) (sym e) (quit_all at xs ys now after quit h))
+  pub last_first : (v : View) (line : List ℕ) (before now : List (List ℕ)) → 0 < length line → (offers : List (List ℕ)) × (now ≡ before ++ offers) × Begin (IsOffered (text_of reply v line)) offers
+      → OffersFirst (replies reply v (last_line line)) before now
+  last_first v [] before now some h = absurd (omega arith)
+  last_first v (b ∷ bs) before now some h = one_first v (b ∷ bs) before now h
+
+  pub last_all : (v : View) (line : List ℕ) (before now : List (List ℕ)) → 0 < length line → (offers : List (List ℕ)) × (now ≡ before ++ offers) × IsOffered (text_of reply v line) offers
+      → OffersAll (replies reply v (last_line line)) before now
+  last_all v [] before now some h = absurd (omega arith)
+  last_all v (b ∷ bs) before now some h = one_all v (b ∷ bs) before now h
+
+  pub none_all : (v : View) (lines before : List (List ℕ)) → lines ≡ [] → OffersAll (replies reply v lines) before before
+  none_all v lines before none = subst (λ l. OffersAll (replies reply v l) before before) (sym none) ([], sym (append-nil before), refl)
+
+  -- the replies to the first lines
+  pub first_lines : (v : View) (xs ys : List (List ℕ)) (before now : List (List ℕ)) → OffersFirst (replies reply v xs) before now → OffersFirst (replies reply v (xs ++ ys)) before now
+  first_lines v xs ys before now h = subst (λ r. OffersFirst r before now) (sym (replies-append reply v xs ys)) (first_more (replies reply v xs) _ before now h)
+
+  -- lines without a `quit`, and more after them
+  pub lines_all : (v w : View) (xs ys : List (List ℕ)) (before between now : List (List ℕ)) → has_quit xs ≡ false → w ≡ view_after reply v xs
+      → OffersAll (replies reply v xs) before between → OffersAll (replies reply w ys) between now → OffersAll (replies reply v (xs ++ ys)) before now
+  lines_all v w xs ys before between now go view h k =
+      subst (λ r. OffersAll r before now) (sym (replies_go reply v xs ys go))
+      (all_then_all (replies reply v xs) (replies reply (view_after reply v xs) ys) before between now h (subst (λ u. OffersAll (replies reply u ys) between now) view k))
+
+  pub lines_first : (v w : View) (xs ys : List (List ℕ)) (before between now : List (List ℕ)) → has_quit xs ≡ false → w ≡ view_after reply v xs
+      → OffersAll (replies reply v xs) before between → OffersFirst (replies reply w ys) between now → OffersFirst (replies reply v (xs ++ ys)) before now
+  lines_first v w xs ys before between now go view h k =
+      subst (λ r. OffersFirst r before now) (sym (replies_go reply v xs ys go))
+      (all_then_first (replies reply v xs) (replies reply (view_after reply v xs) ys) before between now h (subst (λ u. OffersFirst (replies reply u ys) between now) view k))
+
+  -- a `quit` ends them
+  pub quit_all : (v : View) (xs ys : List (List ℕ)) (before now : List (List ℕ)) → has_quit xs ≡ true → OffersAll (replies reply v xs) before now → OffersAll (replies reply v (xs ++ ys)) before now
+  quit_all v xs ys before now quit h = subst (λ r. OffersAll r before now) (sym (replies_quit reply v xs ys quit)) h
+
+  -- ---- the same of lines of which some are left
+
+  pub offering_start : (v : View) (lines before : List (List ℕ)) → IsOffering reply v v lines lines before before
+  offering_start v lines before = record { whole = λ later h. h; first = λ later h. h }
+
+  pub offering_more : (start at next : View) (all rest xs ys : List (List ℕ)) (before now after : List (List ℕ)) → IsOffering reply start at all rest before now → rest ≡ xs ++ ys → has_quit xs ≡ false
+      → next ≡ view_after reply at xs → OffersAll (replies reply at xs) now after → IsOffering reply start next all ys before after
+  offering_more start at next all rest xs ys before now after is e go view h = record {
+    whole = λ later k. is.whole later (subst (λ r. OffersAll (replies reply at r) now later) (sym e) (lines_all at next xs ys now after later go view h k));
+    first = λ later k. is.first later (subst (λ r. OffersFirst (replies reply at r) now later) (sym e) (lines_first at next xs ys now after later go view h k));
+  }
+
+  pub offering_stops : (start at : View) (all rest xs ys : List (List ℕ)) (before now after : List (List ℕ)) → IsOffering reply start at all rest before now → rest ≡ xs ++ ys
+      → OffersFirst (replies reply at xs) now after → OffersFirst (replies reply start all) before after
+  offering_stops start at all rest xs ys before now after is e h = is.first after (subst (λ r. OffersFirst (replies reply at r) now after) (sym e) (first_lines at xs ys now after h))
+
+  pub offering_quits : (start at : View) (all rest xs ys : List (List ℕ)) (before now after : List (List ℕ)) → IsOffering reply start at all rest before now → rest ≡ xs ++ ys → has_quit xs ≡ true
+      → OffersAll (replies reply at xs) now after → OffersAll (replies reply start all) before after
+  offering_quits start at all rest xs ys before now after is e quit h = is.whole after (subst (λ r. OffersAll (replies reply at r) now after) (sym e) (quit_all at xs ys now after quit h))
