@@ -2,7 +2,7 @@
 """Measures how many events a second a run makes, forward and back, outside the gate.
 
     bench/steps.py             prints the rows of docs/BENCH.md's tables on events
-    bench/steps.py forward     those of one table alone: forward, invocations, entries or back
+    bench/steps.py forward     those of one table alone: forward, invocations, entries, back or again
 
 The environment's SPVDBG names the program, else it is that of crates/spvdbg. Times are of the processor, user and system
 together, as the system tells them of the ended process, so that other work on the machine counts as little as can be. Each is
@@ -132,6 +132,15 @@ def called(data, invocations=1):
     return calls
 
 
+def compiled():
+    """A shader as glslangValidator compiles it, whose loop goes on for as many turns as its buffer says."""
+    with open(os.path.join(TOP, "crates", "spv_runs", "data", "flow-cases.spv"), "rb") as file:
+        calls = called(file.read())
+    with open(os.path.join(calls.folder, "setup"), "w") as file:
+        file.write("spvdbg-setup 1\nbuffer 0 0 hex ffffffff%s\nrounds %d\n" % ("00000000" * 4, ENTRIES))
+    return calls
+
+
 def in_turn(calls, commands, runs):
     """The least seconds of so many runs of each of the commands by each of the calls, all in turn: so each has its share of slow moments."""
     least = [[float("inf")] * len(commands) for _ in calls]
@@ -179,7 +188,17 @@ def back(position=1_000_000, by=100_000, times=30):
         print("| %s | %.1f | %s | %.1f MiB | %.1f MiB |" % (name, 1e-6 / each, rate, calls.memory("goto 64\n"), calls.memory(to)))
 
 
-TABLES = {"forward": forward, "invocations": invocations, "entries": entries, "back": back}
+def again():
+    """Going back to the start from the end of all entries, where the events aren't kept, beside the way there."""
+    print("| run | position | the way there | `goto 0` from there |\n|---|---|---|---|")
+    rows = [("1 KiB of a mixture", called(mixed(1 << 10))), ("64 invocations with barriers", called(with_barriers(64), 64)), ("a compiled shader, flow-cases.spv", compiled())]
+    for name, calls in rows:
+        there = "goto %d\n" % ENTRIES
+        start, way, both = calls.least("goto 64\n"), calls.least(there), calls.least(there + "goto 0\n")
+        print("| %s | %s | %.2f s | %.2f s |" % (name, format(ENTRIES, ","), way - start, both - way))
+
+
+TABLES = {"forward": forward, "invocations": invocations, "entries": entries, "back": back, "again": again}
 
 
 def main():

@@ -2,5 +2,6 @@ mod Histories
 mod PositionsLemmas
 mod Reaches
 mod Runs
+mod Tellings
 mod WindowLemmas
 pub mod Exports

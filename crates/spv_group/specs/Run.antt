@@ -1,6 +1,7 @@
 -- A run by the entries of a schedule, each the invocation that an event is of: the states at its positions, always from the start, and
 -- where and why it ends.
-use Rattle.std.specs.Prelude.{ℕ, zero, suc, Bool, if◌then◌else◌, List, length, Option, Some, None, is_some, slice_get, option_map}
+use Rattle.std.specs.Prelude.{ℕ, zero, suc, ◌-◌, Bool, if◌then◌else◌, List, length, Option, Some, None, is_some, slice_get, option_map}
+use Rattle.std.specs.List.{filter_map, range_with_len}
 use Rattle.spv_base.specs.declared.happenings.Happening.{Happening}
 use Rattle.spv_base.specs.declared.happenings.EndCause.{EndCause}
 use Rattle.spv_base.specs.declared.happenings.EndCause.TheVariants as end
@@ -43,6 +44,10 @@ happening_at p entries n = option_map (λ i. happening_in (step_of p (run p entr
 abbrev pub happening_before : Program → List ℕ → ℕ → Option Happening
 happening_before p entries zero = None
 happening_before p entries (suc n) = happening_at p entries n
+
+-- what happened from position k on to position n, in the order of the events
+unfoldable pub happenings_between : Program → List ℕ → (k n : ℕ) → List Happening
+happenings_between p entries k n = filter_map (happening_at p entries) (range_with_len k (n - k))
 
 -- ---- the end
 

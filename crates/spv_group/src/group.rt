@@ -1,5 +1,6 @@
 //! A run of a module that goes forth and back along its schedule.
-ghost use Rattle.std.specs.Prelude.{◌≡◌, ◌≤◌, ◌<◌, ◌-◌, ◌+◌, Some, Ok, IfOk, IsOk, OnOk, OnErr, length};
+ghost use Rattle.std.specs.Prelude.{◌≡◌, ◌≤◌, ◌<◌, ◌-◌, ◌+◌, ◌++◌, List, Some, Ok, IfOk, IsOk, OnOk, OnErr, length};
+ghost use Rattle.spv_base.specs.declared.happenings.Happening.{Happening as AnyHappening};
 ghost use Rattle.spv_journal.specs.Events.{size};
 ghost use Rattle.spv_state.specs.Program.{schedule_for};
 ghost use Rattle.spv_state.specs.Sound.{IsSound};
@@ -7,11 +8,12 @@ ghost use Rattle.spv_state.specs.Start.{start_of};
 ghost use Rattle.spv_group.specs.Costs.{ForthCounts, ForthKeeps, BackCounts, BackKeeps};
 ghost use Rattle.spv_group.specs.Group.{first_undoing, group_at, entries_in, invocations_in, state_in, status_of, end_in, end_cause_in, window_in};
 ghost use Rattle.spv_group.specs.Motion.{Goes, IsOpened, Returns, kept_in};
-ghost use Rattle.spv_group.specs.Run.{happening_before};
+ghost use Rattle.spv_group.specs.Run.{happening_before, happenings_between};
 
 use crate::ends::cause_here;
 use crate::motion::{Back, Forth};
 use crate::run::Run;
+use crate::witness::Witness;
 use spv_base::{EndCause, Happening, NoMemory, Status4, Steps};
 use spv_machine::{Runnable, World};
 use spv_setup::Schedule;
@@ -225,17 +227,39 @@ impl Group {
         Ok(happening)
     }
 
-    /// Goes back to the start, with no step. After want of memory all is as before.
-    pub fn restart(&mut self) -> Result<(), NoMemory>
-        ensures start { OnOk result (self.new.group ≡ group_at 0 self.old.group) }
-        ensures kept { OnOk result (self.new.kept ≡ 0) }
+    /// Goes back to a position without undoing: a run from the start on makes it again, and another from there to the old position
+    /// tells each event that is taken back. Both together take a step for each event before the old position. After want of memory the
+    /// group is as before.
+    pub fn back_to<W: Witness, L: Ledger>(
+        &mut self,
+        target: u64,
+        witness: &mut W,
+        steps: &mut Steps<L>,
+    ) -> Result<(), NoMemory>
+        requires { target ≤ self.old.group.position }
+        ensures target { OnOk result (self.new.group ≡ group_at target self.old.group) }
+        ensures told { (before : List AnyHappening) → W.follows before witness.old
+            → OnOk result (W.follows (before ++ happenings_between self.old.group.program (entries_in self.old.group) target self.old.group.position) witness.new) }
+        ensures kept { OnOk result (self.new.kept ≤ window_in self.new) }
+        ensures reached { OnOk result (self.new.kept ≤ target) }
         ensures limit { self.new.limit ≡ self.old.limit }
         ensures within { self.new.group.position ≤ end_in self.old.group }
         ensures err { OnErr result (self.new ≡ self.old) }
+        ensures counted { steps.old ≤ steps.new }
+        ensures cost { steps.new ≤ steps.old + self.old.group.position }
     {
-        let run = self
+        let mut run = self
             .start
             .copy(self.alloc, &self.module, &self.schedule, self.limit)?;
+        run.run_to(self.alloc, &self.module, &self.schedule, target, steps)?;
+        run.tell_ahead(
+            self.alloc,
+            &self.module,
+            &self.schedule,
+            self.run.position,
+            witness,
+            steps,
+        )?;
         self.run.replace(run);
         Ok(())
     }

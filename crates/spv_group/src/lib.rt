@@ -7,9 +7,11 @@ mod motion;
 mod positions;
 mod run;
 mod windows;
+mod witness;
 
 pub use ends::end_is_least;
 pub use group::{Group, LIMIT};
 pub use motion::{Back, Forth};
 pub use positions::positions_are_found;
 pub use windows::windows_are_least;
+pub use witness::{Nobody, Witness};

@@ -1,15 +1,17 @@
 //! A run at a position, and the events before it that its journal keeps.
-ghost use Rattle.std.specs.Prelude.{◌≡◌, ◌≤◌, ◌+◌, ◌-◌, ◌<◌, ◌^◌, ℕ, length, slice_get, Some, IfOk, OnOk, IsOk, IfSome, IsSome, MatchOption, max, min};
+ghost use Rattle.std.specs.Prelude.{◌≡◌, ◌≤◌, ◌+◌, ◌-◌, ◌<◌, ◌^◌, ◌++◌, ℕ, List, length, slice_get, Some, IfOk, OnOk, IsOk, IfSome, IsSome, MatchOption, max, min};
+ghost use Rattle.spv_base.specs.declared.happenings.Happening.{Happening as AnyHappening};
 ghost use Rattle.spv_state.specs.Sound.{IsSound};
 ghost use Rattle.spv_state.specs.Start.{start_of};
 ghost use Rattle.spv_group.specs.Costs.{ForthCounts, ForthKeeps, run_cost};
 ghost use Rattle.spv_group.specs.History.{window};
 ghost use Rattle.spv_group.specs.Motion.{IsRun, Makes, Goes, kept_in};
-ghost use Rattle.spv_group.specs.Run.{end_of, happening_at, happening_before};
+ghost use Rattle.spv_group.specs.Run.{end_of, happening_at, happening_before, happenings_between};
 ghost use Rattle.spv_machine.specs.Step as spec;
 
 use crate::ends::{all_finished, is_stuck};
 use crate::motion::Forth;
+use crate::witness::Witness;
 use spv_base::{EndCause, Happening, Kind, NoMemory, Steps};
 use spv_machine::{Did, Runnable, StepErr, World, step, unstep};
 use spv_setup::Schedule;
@@ -200,6 +202,8 @@ impl Run {
     ) -> Result<Happening, NoMemory>
         requires run { IsRun m.now schedule.now self.old.world.limit self.old.world self.old.position }
         requires before { self.old.position < end_of m.now schedule.now.list }
+        ensures run { IsRun m.now schedule.now self.old.world.limit self.new.world self.new.position }
+        ensures position { OnOk result (self.new.position ≡ self.old.position + 1) }
         ensures event { IfOk result (λ h. happening_at m.now schedule.now.list self.old.position ≡ Some h) }
         ensures counted { steps.old ≤ steps.new }
         ensures cost { steps.new ≤ steps.old + 1 }
@@ -209,6 +213,53 @@ impl Run {
             Forth::Went(happening) => Ok(happening),
             Forth::AtEnd(_) => unreachable!(),
         }
+    }
+
+    /// Runs on to a position up to the end, and tells each event on the way. It takes a step for each.
+    fn tell_to<W: Witness, L: Ledger>(
+        &mut self,
+        alloc: Global,
+        m: &Runnable,
+        schedule: &Schedule,
+        target: u64,
+        witness: &mut W,
+        steps: &mut Steps<L>,
+    ) -> Result<(), NoMemory>
+        requires run { IsRun m.now schedule.now self.old.world.limit self.old.world self.old.position }
+        requires later { self.old.position ≤ target }
+        requires within { target ≤ end_of m.now schedule.now.list }
+        ensures told { (before : List AnyHappening) → W.follows before witness.old
+            → OnOk result (W.follows (before ++ happenings_between m.now schedule.now.list self.old.position target) witness.new) }
+        ensures counted { steps.old ≤ steps.new }
+        ensures cost { steps.new ≤ steps.old + (target - self.old.position) }
+    {
+        'up: while self.position < target {
+            let happening = self.make_next(alloc, m, schedule, steps)?;
+            witness.tell(&happening);
+        }
+        Ok(())
+    }
+
+    /// Tells each event from here on up to a position; they are made on a copy, with a step for each.
+    pub fn tell_ahead<W: Witness, L: Ledger>(
+        &self,
+        alloc: Global,
+        m: &Runnable,
+        schedule: &Schedule,
+        target: u64,
+        witness: &mut W,
+        steps: &mut Steps<L>,
+    ) -> Result<(), NoMemory>
+        requires run { IsRun m.now schedule.now self.now.world.limit self.now.world self.now.position }
+        requires later { self.now.position ≤ target }
+        requires within { target ≤ end_of m.now schedule.now.list }
+        ensures told { (before : List AnyHappening) → W.follows before witness.old
+            → OnOk result (W.follows (before ++ happenings_between m.now schedule.now.list self.now.position target) witness.new) }
+        ensures counted { steps.old ≤ steps.new }
+        ensures cost { steps.new ≤ steps.old + (target - self.now.position) }
+    {
+        let mut ahead = self.copy(alloc, m, schedule, 1)?;
+        ahead.tell_to(alloc, m, schedule, target, witness, steps)
     }
 
     /// What happens next, which no end keeps from happening; found on a copy, with one step.

@@ -5,7 +5,7 @@ ghost use Rattle.spv_group.specs.Group.{end_in, group_at, window_in};
 ghost use Rattle.spv_session.specs.Costs.{straight_cost};
 
 use spv_base::{NoMemory, Steps};
-use spv_group::{Forth, Group};
+use spv_group::{Forth, Group, Nobody};
 use std::sync::ledger::Ledger;
 
 /// Where a motion is asked to lead.
@@ -89,18 +89,20 @@ fn undo_to<L: Ledger>(group: &mut Group, target: u64, steps: &mut Steps<L>) -> R
     Ok(())
 }
 
-/// Goes back to a position before the present one by undoing, or to the start where the events from there on aren't kept. Takes no step.
+/// Goes back to a position before the present one: by undoing, or by a run from the start on where the events from there on aren't
+/// kept. The events that are taken back are told to nobody so far. Only that run takes steps.
 fn go_back<L: Ledger>(group: &mut Group, target: u64, steps: &mut Steps<L>) -> Result<(), NoMemory>
-    ensures target { OnOk result (group.new.group.position ≡ (if nat_lt target group.old.kept then 0 else min group.old.group.position target)) }
+    ensures target { OnOk result (group.new.group.position ≡ min group.old.group.position target) }
     ensures same { group.new.group ≡ group_at group.new.group.position group.old.group }
     ensures limit { group.new.limit ≡ group.old.limit }
     ensures within { group.new.group.position ≤ end_in group.old.group }
     ensures kept { group.new.kept ≤ group.old.kept }
-    ensures cost { steps.new ≡ steps.old }
+    ensures counted { steps.old ≤ steps.new }
+    ensures cost { steps.new ≤ steps.old + (if nat_lt target group.old.kept then group.old.group.position else 0) }
     ensures reached { group.old.kept ≤ group.old.group.position }
 {
     if target < group.first_kept() {
-        group.restart()
+        group.back_to(target, &mut Nobody, steps)
     } else {
         undo_to(group, target, steps)
     }
