@@ -27,14 +27,14 @@ pub fn answer<K: Sink, L: Ledger>(
 ) -> Result<Next, Stop>
     requires { K.faults out.old < 2 ^ 64 - 1 }
     ensures next { IfOk result (λ next. next ≡ next_of (is_quit line.now)) }
-    ensures written { OnOk result (Appends (K.taken out.old) (K.taken out.new) (text_of reply session.old.view line.now)) }
-    ensures view { OnOk result (session.new.view ≡ view_of reply session.old.view line.now) }
-    ensures offers { Offers (text_of reply session.old.view line.now) (K.offers out.old) (K.offers out.new) result }
-    ensures stop { IfErr result (λ stop. (put : List ℕ) × Appends (K.taken out.old) (K.taken out.new) put × StopSays stop put (text_of reply session.old.view line.now)) }
+    ensures written { OnOk result (Appends (K.taken out.old) (K.taken out.new) (text_of reply session.old.core.view line.now)) }
+    ensures view { OnOk result (session.new.core.view ≡ view_of reply session.old.core.view line.now) }
+    ensures offers { Offers (text_of reply session.old.core.view line.now) (K.offers out.old) (K.offers out.new) result }
+    ensures stop { IfErr result (λ stop. (put : List ℕ) × Appends (K.taken out.old) (K.taken out.new) put × StopSays stop put (text_of reply session.old.core.view line.now)) }
     ensures count { MatchResult result (λ _. K.faults out.new ≡ K.faults out.old) (λ stop. StopCounts stop (K.faults out.old) (K.faults out.new)) }
     ensures counted { steps.old ≤ steps.new }
-    ensures reach { result ≡ Ok Next.Go → Reaches reply session.old session.new (line.now ∷ []) }
-    ensures cost { Spends reply line_cost session.old (line.now ∷ []) steps.old steps.new }
+    ensures reach { result ≡ Ok Next.Go → Reaches reply session.old.core session.new.core (line.now ∷ []) }
+    ensures cost { Spends reply line_cost session.old.core (line.now ∷ []) steps.old steps.new }
 {
     let mut text = Vec::new(alloc);
     let next = session.command(line, &mut text, steps)?;
@@ -53,17 +53,17 @@ fn answer_byte<K: Sink, L: Ledger>(
 ) -> Result<Next, Stop>
     requires { K.faults out.old < 2 ^ 64 - 1 }
     ensures next { IfOk result (λ next. next ≡ next_of (has_quit (ended_by line.old.items byte))) }
-    ensures written { OnOk result (Appends (K.taken out.old) (K.taken out.new) (transcript reply session.old.view (ended_by line.old.items byte))) }
-    ensures view { OnOk result (session.new.view ≡ view_after reply session.old.view (ended_by line.old.items byte)) }
-    ensures offers { MatchResult result (λ _. OffersAll (replies reply session.old.view (ended_by line.old.items byte)) (K.offers out.old) (K.offers out.new))
-        (λ _. OffersFirst (replies reply session.old.view (ended_by line.old.items byte)) (K.offers out.old) (K.offers out.new)) }
+    ensures written { OnOk result (Appends (K.taken out.old) (K.taken out.new) (transcript reply session.old.core.view (ended_by line.old.items byte))) }
+    ensures view { OnOk result (session.new.core.view ≡ view_after reply session.old.core.view (ended_by line.old.items byte)) }
+    ensures offers { MatchResult result (λ _. OffersAll (replies reply session.old.core.view (ended_by line.old.items byte)) (K.offers out.old) (K.offers out.new))
+        (λ _. OffersFirst (replies reply session.old.core.view (ended_by line.old.items byte)) (K.offers out.old) (K.offers out.new)) }
     ensures rest { OnOk result (line.new.items ≡ line_after line.old.items byte) }
     ensures stop { IfErr result (λ stop. (put : List ℕ) × Appends (K.taken out.old) (K.taken out.new) put
-        × StopSays stop put (transcript reply session.old.view (ended_by line.old.items byte))) }
+        × StopSays stop put (transcript reply session.old.core.view (ended_by line.old.items byte))) }
     ensures count { MatchResult result (λ _. K.faults out.new ≡ K.faults out.old) (λ stop. StopCounts stop (K.faults out.old) (K.faults out.new)) }
     ensures counted { steps.old ≤ steps.new }
-    ensures reach { result ≡ Ok Next.Go → Reaches reply session.old session.new (ended_by line.old.items byte) }
-    ensures cost { Spends reply line_cost session.old (ended_by line.old.items byte) steps.old steps.new }
+    ensures reach { result ≡ Ok Next.Go → Reaches reply session.old.core session.new.core (ended_by line.old.items byte) }
+    ensures cost { Spends reply line_cost session.old.core (ended_by line.old.items byte) steps.old steps.new }
 {
     if byte == LF {
         let next = answer(alloc, session, line, out, steps)?;
@@ -85,17 +85,17 @@ pub fn answer_piece<K: Sink, L: Ledger>(
 ) -> Result<Next, Stop>
     requires { K.faults out.old < 2 ^ 64 - 1 }
     ensures next { IfOk result (λ next. next ≡ next_of (has_quit (complete_from line.old.items piece.now))) }
-    ensures written { OnOk result (Appends (K.taken out.old) (K.taken out.new) (transcript reply session.old.view (complete_from line.old.items piece.now))) }
-    ensures view { OnOk result (session.new.view ≡ view_after reply session.old.view (complete_from line.old.items piece.now)) }
-    ensures offers { MatchResult result (λ _. OffersAll (replies reply session.old.view (complete_from line.old.items piece.now)) (K.offers out.old) (K.offers out.new))
-        (λ _. OffersFirst (replies reply session.old.view (complete_from line.old.items piece.now)) (K.offers out.old) (K.offers out.new)) }
+    ensures written { OnOk result (Appends (K.taken out.old) (K.taken out.new) (transcript reply session.old.core.view (complete_from line.old.items piece.now))) }
+    ensures view { OnOk result (session.new.core.view ≡ view_after reply session.old.core.view (complete_from line.old.items piece.now)) }
+    ensures offers { MatchResult result (λ _. OffersAll (replies reply session.old.core.view (complete_from line.old.items piece.now)) (K.offers out.old) (K.offers out.new))
+        (λ _. OffersFirst (replies reply session.old.core.view (complete_from line.old.items piece.now)) (K.offers out.old) (K.offers out.new)) }
     ensures rest { result ≡ Ok Next.Go → line.new.items ≡ rest_from line.old.items piece.now }
     ensures stop { IfErr result (λ stop. (put : List ℕ) × Appends (K.taken out.old) (K.taken out.new) put
-        × StopSays stop put (transcript reply session.old.view (complete_from line.old.items piece.now))) }
+        × StopSays stop put (transcript reply session.old.core.view (complete_from line.old.items piece.now))) }
     ensures count { MatchResult result (λ _. K.faults out.new ≡ K.faults out.old) (λ stop. StopCounts stop (K.faults out.old) (K.faults out.new)) }
     ensures counted { steps.old ≤ steps.new }
-    ensures reach { result ≡ Ok Next.Go → Reaches reply session.old session.new (complete_from line.old.items piece.now) }
-    ensures cost { Spends reply line_cost session.old (complete_from line.old.items piece.now) steps.old steps.new }
+    ensures reach { result ≡ Ok Next.Go → Reaches reply session.old.core session.new.core (complete_from line.old.items piece.now) }
+    ensures cost { Spends reply line_cost session.old.core (complete_from line.old.items piece.now) steps.old steps.new }
 {
     for byte in piece {
         match answer_byte(alloc, session, line, *byte, out, steps)? {

@@ -48,14 +48,14 @@ fn answer_last<K: Sink, L: Ledger>(
     steps: &mut Steps<L>,
 ) -> Result<(), Stop>
     requires { K.faults out.old < 2 ^ 64 - 1 }
-    ensures written { OnOk result (Appends (K.taken out.old) (K.taken out.new) (transcript reply session.old.view (last_line line.now))) }
-    ensures offers { MatchResult result (λ _. OffersAll (replies reply session.old.view (last_line line.now)) (K.offers out.old) (K.offers out.new))
-        (λ _. OffersFirst (replies reply session.old.view (last_line line.now)) (K.offers out.old) (K.offers out.new)) }
+    ensures written { OnOk result (Appends (K.taken out.old) (K.taken out.new) (transcript reply session.old.core.view (last_line line.now))) }
+    ensures offers { MatchResult result (λ _. OffersAll (replies reply session.old.core.view (last_line line.now)) (K.offers out.old) (K.offers out.new))
+        (λ _. OffersFirst (replies reply session.old.core.view (last_line line.now)) (K.offers out.old) (K.offers out.new)) }
     ensures stop { IfErr result (λ stop. (put : List ℕ) × Appends (K.taken out.old) (K.taken out.new) put
-        × StopSays stop put (transcript reply session.old.view (last_line line.now))) }
+        × StopSays stop put (transcript reply session.old.core.view (last_line line.now))) }
     ensures count { MatchResult result (λ _. K.faults out.new ≡ K.faults out.old) (λ stop. StopCounts stop (K.faults out.old) (K.faults out.new)) }
     ensures counted { steps.old ≤ steps.new }
-    ensures cost { Spends reply line_cost session.old (last_line line.now) steps.old steps.new }
+    ensures cost { Spends reply line_cost session.old.core (last_line line.now) steps.old steps.new }
 {
     if line.is_empty() {
         return Ok(());
@@ -74,7 +74,7 @@ pub fn run<I: Source, K: Sink, L: Ledger>(
 ) -> Status
     requires input { I.faults input.old < 2 ^ 64 - 1 }
     requires out { K.faults out.old < 2 ^ 64 - 1 }
-    ensures ran { Ran reply line_cost session.old (record { left = I.left input.old; held = K.taken out.old; offers = K.offers out.old; steps = steps.old })
+    ensures ran { Ran reply line_cost session.old.core (record { left = I.left input.old; held = K.taken out.old; offers = K.offers out.old; steps = steps.old })
         (record { left = I.left input.new; held = K.taken out.new; offers = K.offers out.new; steps = steps.new }) result }
     ensures read_fault { (result ≡ Status.ReadFault) ↔ (I.faults input.old < I.faults input.new) }
     ensures write_fault { (result ≡ Status.WriteFault) ↔ (K.faults out.old < K.faults out.new) }

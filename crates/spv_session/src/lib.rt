@@ -1,10 +1,12 @@
 //! A group, the invocation that is looked at, and the replies to lines of input.
 #![tactic(auto)]
 
+mod kit;
 mod motions;
 mod registers;
 mod session;
 mod texts;
 
+pub use kit::Kit;
 pub use registers::shown_registers_ascend;
-pub use session::{Next, Session};
+pub use session::{Core, Next, Session};

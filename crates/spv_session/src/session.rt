@@ -1,5 +1,5 @@
-//! A group and the replies to lines of input.
-ghost use Rattle.std.specs.Prelude.{◌≡◌, ℕ, ◌==◌, ◌<◌, ◌≤◌, ◌+◌, ◌++◌, ◌&&◌, ◌⊎◌, List, All, IfOk, Ok, Some, OnOk, OnErr, max, min, vec_len, if◌then◌else◌};
+//! A kit of probes beside a group, and the replies to lines of input.
+ghost use Rattle.std.specs.Prelude.{◌≡◌, [], ℕ, ◌==◌, ◌<◌, ◌≤◌, ◌+◌, ◌++◌, ◌&&◌, ◌⊎◌, List, All, IfOk, Ok, Some, OnOk, OnErr, max, min, vec_len, if◌then◌else◌};
 ghost use Rattle.spv_base.specs.Prefix.{IsPrefixOf};
 ghost use Rattle.spv_cmd.specs.Commands.{command_of};
 ghost use Rattle.spv_group.specs.Group.{end_in, group_at, invocations_in, window_in};
@@ -9,6 +9,7 @@ ghost use Rattle.spv_session.specs.Texts.{refusal_line};
 ghost use Rattle.spv_session.specs.View.{first_viewing, focus_frame, focus_on, moved_to, undoing_in, view_at};
 ghost use Rattle.spv_session.specs.declared.session.Next.TheVariants as answers;
 
+use crate::kit::Kit;
 use crate::motions::{Aim, go_to};
 use crate::registers::push_registers;
 use crate::texts::{push_invocation, push_position, push_stop, refusal_line};
@@ -46,13 +47,13 @@ fn read(alloc: Global, line: &[u8]) -> Result<Result<Command, CmdRefusal>, NoMem
 
 /// A group, about which lines of input ask, and the invocation that replies speak of.
 #[derive(Drop)]
-pub struct Session {
+pub struct Core {
     alloc: Global,
     group: Group,
     focus: u32,
 }
 
-impl Model for Session {
+impl Model for Core {
     ghost use Rattle.std.specs.Prelude.{◌≤◌, ◌<◌};
     ghost use Rattle.spv_group.specs.Group.{end_in, invocations_in};
     ghost use Rattle.spv_session.specs.View.{Viewing, first_view};
@@ -64,29 +65,23 @@ impl Model for Session {
     ghost invariant = { λ s. (s.group.group.position ≤ end_in s.group.group) × (s.focus < invocations_in s.group.group) };
 }
 
-impl Session {
-    /// A session over a group at its start, with the invocation 0 as its focus. The probes are dropped at once.
-    pub fn open(alloc: Global, group: Group, kit: Vec<Box<dyn Probe>>) -> Result<Session, NoMemory>
-        requires position { group.group.position ≡ 0 }
-        requires few { vec_len kit ≤ 16 }
-        requires unused { All (λ p. tally p ≡ 0) kit.items }
-        ensures { IfOk result (λ s. s ≡ first_viewing group) }
+impl Core {
+    /// A group at its start, with the invocation 0 as the focus.
+    fn open(alloc: Global, group: Group) -> Core
+        requires { group.group.position ≡ 0 }
+        ensures { result ≡ first_viewing group }
     {
-        drop(kit);
         let _invocations = group.invocations();
-        Ok(Session {
+        Core {
             alloc,
             group,
             focus: 0,
-        })
+        }
     }
 
-    /// Answers a line: appends the reply. Only a motion takes steps: to a position before it none where the events from there on are
-    /// kept, else at most as many as the old position's number; else as many as it goes forth, and at most one more. After want of
-    /// memory a front of the reply was appended, the group is at some position of its run, and all else of the view is the old one's or
-    /// the reply's.
+    /// Answers a line, as the session's call of this name says.
     #[tactic(auto, using(crate::proofs::ReplyLemmas::same_view), unfolding(crate::specs::Reply::reply, crate::specs::Reply::is_quit, crate::specs::Reply::refusal_of, crate::specs::Costs::line_cost))]
-    pub fn command<L: Ledger>(
+    fn command<L: Ledger>(
         &mut self,
         line: &[u8],
         out: &mut Vec<u8>,
@@ -236,5 +231,62 @@ impl Session {
         let cause = self.group.end_cause()?;
         push_stop(self.alloc, text, done, self.group.position() == 0, cause)?;
         self.push_place(text, self.focus)
+    }
+}
+
+/// A kit of probes, and beside it the group that lines of input ask about.
+#[derive(Drop)]
+pub struct Session {
+    pub kit: Kit,
+    pub core: Core,
+}
+
+impl Session {
+    /// A session over a group at its start, with the invocation 0 as its focus. The probes are dropped at once.
+    pub fn open(
+        alloc: Global,
+        group: Group,
+        probes: Vec<Box<dyn Probe>>,
+    ) -> Result<Session, NoMemory>
+        requires position { group.group.position ≡ 0 }
+        requires few { vec_len probes ≤ 16 }
+        requires unused { All (λ p. tally p ≡ 0) probes.items }
+        ensures core { IfOk result (λ s. s.core ≡ first_viewing group) }
+        ensures kit { IfOk result (λ s. s.kit.boxes.items ≡ []) }
+    {
+        drop(probes);
+        Ok(Session {
+            kit: Kit::empty(alloc),
+            core: Core::open(alloc, group),
+        })
+    }
+
+    /// Answers a line: appends the reply. Only a motion takes steps: to a position before it none where the events from there on are
+    /// kept, else at most as many as the old position's number; else as many as it goes forth, and at most one more. After want of
+    /// memory a front of the reply was appended, the group is at some position of its run, and all else of the view is the old one's or
+    /// the reply's.
+    pub fn command<L: Ledger>(
+        &mut self,
+        line: &[u8],
+        out: &mut Vec<u8>,
+        steps: &mut Steps<L>,
+    ) -> Result<Next, NoMemory>
+        ensures text { OnOk result (out.new.items ≡ out.old.items ++ (reply self.old.core.view line.now).0) }
+        ensures view { OnOk result (self.new.core.view ≡ (reply self.old.core.view line.now).1) }
+        ensures next { IfOk result (λ next. next ≡ (if is_quit line.now then answers.Quit else answers.Go)) }
+        ensures front { OnErr result ((text : List ℕ) × (out.new.items ≡ out.old.items ++ text) × IsPrefixOf text (reply self.old.core.view line.now).0) }
+        ensures group { self.new.core.view.group ≡ group_at self.new.core.view.group.position self.old.core.view.group }
+        ensures limit { self.new.core.limit ≡ self.old.core.limit }
+        ensures kept { self.new.core.kept ≤ max self.old.core.kept (window_in (undoing_in self.new.core)) }
+        ensures same { (self.new.core.view ≡ view_at self.new.core.view.group.position self.old.core.view)
+            ⊎ (self.new.core.view ≡ view_at self.new.core.view.group.position (reply self.old.core.view line.now).1) }
+        ensures within { self.new.core.view.group.position ≤ end_in self.old.core.view.group }
+        ensures refused { (code : ℕ) → IsRefused self.old.core.view line.now code
+            → (self.new.core ≡ self.old.core) × OnOk result (out.new.items ≡ out.old.items ++ refusal_line code) }
+        ensures kit { self.new.kit.boxes.items ≡ self.old.kit.boxes.items }
+        ensures counted { steps.old ≤ steps.new }
+        ensures cost { steps.new ≤ steps.old + line_cost self.old.core.kept self.old.core.view line.now }
+    {
+        self.core.command(line, out, steps)
     }
 }

@@ -7,8 +7,8 @@ use Rattle.spv_loop.proofs.command_loop.run.Given as goal
 
 abbrev pub invariant-loop-count : goal.invariant-loop-count
 invariant-loop-count g l = record {
-  stands : Stands reply line_cost l.fn.session (record { left = g.I.Source.left l.fn.input; held = g.K.Sink.taken l.fn.out; offers = g.K.Sink.offers l.fn.out; steps = l.fn.steps })
-      (record { left = g.I.Source.left l.input; held = g.K.Sink.taken l.out; offers = g.K.Sink.offers l.out; steps = l.steps }) l.session l.line.items l.taken;
+  stands : Stands reply line_cost l.fn.session.core (record { left = g.I.Source.left l.fn.input; held = g.K.Sink.taken l.fn.out; offers = g.K.Sink.offers l.fn.out; steps = l.fn.steps })
+      (record { left = g.I.Source.left l.input; held = g.K.Sink.taken l.out; offers = g.K.Sink.offers l.out; steps = l.steps }) l.session.core l.line.items l.taken;
   few : l.taken ≤ input_limit;
   reads : g.I.Source.faults l.input ≡ g.I.Source.faults l.fn.input;
   ends : g.I.Source.ends l.input ≡ g.I.Source.ends l.fn.input;

@@ -3,7 +3,7 @@ use Rattle.spv_state.specs.Program.{Program}
 use Rattle.spv_state.specs.State.{top_of}
 use Rattle.std.specs.Prelude.{option_copied}
 use Rattle.spv_session.specs.Frames.{IsShown}
-use Rattle.spv_session.proofs.session.Session.push_registers.Goals as goal
+use Rattle.spv_session.proofs.session.Core.push_registers.Goals as goal
 
 pub push_registers-requires : goal.push_registers-requires
 push_registers-requires c =

@@ -1,6 +1,6 @@
 use Rattle.spv_session.specs.Reply.{refusal_of, act_of}
 use Rattle.spv_session.proofs.ReplyLemmas.{front_none, refused_as, refused_text, appended}
-use Rattle.spv_session.proofs.session.Session.command.Goals as goal
+use Rattle.spv_session.proofs.session.Core.command.Goals as goal
 
 pub returns-in_err-extend_from_slice-clause-front : goal.returns-in_err-extend_from_slice-clause-front
 returns-in_err-extend_from_slice-clause-front g c =

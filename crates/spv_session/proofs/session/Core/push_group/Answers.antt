@@ -1,7 +1,7 @@
 use Rattle.std.proofs.Common.{◌∙◌}
 use Rattle.spv_session.specs.Reply.{invocation_reply}
 use Rattle.spv_session.proofs.ReplyLemmas.{text_more}
-use Rattle.spv_session.proofs.session.Session.push_group.Goals as goal
+use Rattle.spv_session.proofs.session.Core.push_group.Goals as goal
 
 pub loop-inv-preserved : goal.loop-inv-preserved
 loop-inv-preserved c =
