@@ -22,12 +22,27 @@ use std::marker::Model;
 ///
 /// A pc is the word number of an executable: an instruction in a block that is no label, phi, variable, line, merge or
 /// OpNop and that has a meaning at run time.
-#[derive(Drop)]
 pub struct Flow {
     blocks: Table<u32>,
     nexts: Table<Option<u32>>,
     depths: Table<u32>,
     calls: Calls,
+}
+
+// Written out, so that it is proved once: a derived drop is proved again in each function that lets go of such a value.
+impl Drop for Flow {
+    fn drop(self) {
+        let Flow {
+            blocks,
+            nexts,
+            depths,
+            calls,
+        } = self;
+        drop(blocks);
+        drop(nexts);
+        drop(depths);
+        drop(calls);
+    }
 }
 
 impl Model for Flow {

@@ -23,7 +23,6 @@ use std::alloc::Global;
 use std::marker::Model;
 
 /// The well-formed debug instructions of a module, and what their operands stand for. Contracts see lists.
-#[derive(Drop)]
 pub struct DebugTables {
     insts: Vec<DebugInst>,
     /// By id and by word, the number of the debug instruction.
@@ -36,6 +35,31 @@ pub struct DebugTables {
     inlined: Table<u32>,
     sources: Vec<Source>,
     names: Names,
+}
+
+// Written out, so that it is proved once: a derived drop is proved again in each function that lets go of such a value.
+impl Drop for DebugTables {
+    fn drop(self) {
+        let DebugTables {
+            insts,
+            by_id,
+            by_word,
+            ignored: _,
+            strings,
+            constants,
+            inlined,
+            sources,
+            names,
+        } = self;
+        drop(insts);
+        drop(by_id);
+        drop(by_word);
+        drop(strings);
+        drop(constants);
+        drop(inlined);
+        drop(sources);
+        drop(names);
+    }
 }
 
 impl Model for DebugTables {

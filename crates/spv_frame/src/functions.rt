@@ -22,7 +22,6 @@ pub struct Register {
 
 /// The plans of the functions of a module, in its order. A function, and a register or its type, is found by its id without a walk over
 /// them (which is measured, and said by no clause).
-#[derive(Drop)]
 pub struct Plans {
     list: Vec<Rc<Plan>>,
     /// By the id of a function, the number of its plan.
@@ -31,6 +30,22 @@ pub struct Plans {
     registers: Table<Register>,
     /// By the id of a parameter or a result, its type.
     types: Table<u32>,
+}
+
+// Written out, so that it is proved once: a derived drop is proved again in each function that lets go of such a value.
+impl Drop for Plans {
+    fn drop(self) {
+        let Plans {
+            list,
+            numbers,
+            registers,
+            types,
+        } = self;
+        drop(list);
+        drop(numbers);
+        drop(registers);
+        drop(types);
+    }
 }
 
 impl Model for Plans {

@@ -26,7 +26,6 @@ use std::sync::ledger::Ledger;
 pub const LIMIT: usize = 1048576;
 
 /// A module, the schedule of its invocations, a position of the run that they give, and how far back it can undo.
-#[derive(Drop)]
 pub struct Group {
     alloc: Global,
     module: Runnable,
@@ -35,6 +34,24 @@ pub struct Group {
     /// The run at its start, from which it is made again where its events aren't kept.
     start: Run,
     run: Run,
+}
+
+// Written out, so that it is proved once: a derived drop is proved again in each function that lets go of such a value.
+impl Drop for Group {
+    fn drop(self) {
+        let Group {
+            alloc: _,
+            module,
+            schedule,
+            limit: _,
+            start,
+            run,
+        } = self;
+        drop(module);
+        drop(schedule);
+        drop(start);
+        drop(run);
+    }
 }
 
 impl Model for Group {

@@ -26,7 +26,6 @@ use std::marker::Model;
 const ID_LIMIT: u32 = 1_048_576;
 
 /// A module with what it says of ids and words. Contracts see the module.
-#[derive(Drop)]
 pub struct Index {
     module: DecodedModule,
     /// By id, the number of the instruction that defines it.
@@ -44,6 +43,31 @@ pub struct Index {
     sets: Table<bool>,
     /// Where each instruction stands, and what it is there.
     standings: Vec<Standing>,
+}
+
+// Written out, so that it is proved once: a derived drop is proved again in each function that lets go of such a value.
+impl Drop for Index {
+    fn drop(self) {
+        let Index {
+            module,
+            definitions,
+            words,
+            names,
+            decorations,
+            member_decorations,
+            functions_start: _,
+            sets,
+            standings,
+        } = self;
+        drop(module);
+        drop(definitions);
+        drop(words);
+        drop(names);
+        drop(decorations);
+        drop(member_decorations);
+        drop(sets);
+        drop(standings);
+    }
 }
 
 impl Model for Index {

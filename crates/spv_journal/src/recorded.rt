@@ -39,11 +39,23 @@ use std::marker::Model;
 
 /// A state, and a journal of the events that led to it. Contracts see the state beside what the journal keeps. Each event of the
 /// journal can be undone, one after the other.
-#[derive(Drop)]
 pub struct Recorded {
     pub(crate) alloc: Global,
     pub(crate) whole: Whole,
     pub(crate) journal: Journal,
+}
+
+// Written out, so that it is proved once: a derived drop is proved again in each function that lets go of such a value.
+impl Drop for Recorded {
+    fn drop(self) {
+        let Recorded {
+            alloc: _,
+            whole,
+            journal,
+        } = self;
+        drop(whole);
+        drop(journal);
+    }
 }
 
 impl Model for Recorded {

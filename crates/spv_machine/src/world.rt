@@ -13,10 +13,18 @@ use std::marker::Model;
 
 /// The state of a workgroup with the events that led to it, and a row that takes the value of the instruction at hand, kept so that a
 /// step needs no memory for it.
-#[derive(Drop)]
 pub struct World {
     pub(crate) recorded: Recorded,
     pub(crate) row: Row,
+}
+
+// Written out, so that it is proved once: a derived drop is proved again in each function that lets go of such a value.
+impl Drop for World {
+    fn drop(self) {
+        let World { recorded, row } = self;
+        drop(recorded);
+        drop(row);
+    }
 }
 
 impl Model for World {

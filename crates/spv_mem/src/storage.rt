@@ -32,13 +32,30 @@ use std::marker::Model;
 use std::rc::Rc;
 
 /// The variables of a workgroup. Contracts see the types, the types of the variables' values, and the variables as trees.
-#[derive(Drop)]
 pub struct Memory {
     pub(crate) types: Rc<TypeTable>,
     pub(crate) targets: Targets,
     pub(crate) shared: Roots,
     pub(crate) privates: Vec<Roots>,
     pub(crate) locals: Vec<Levels>,
+}
+
+// Written out, so that it is proved once: a derived drop is proved again in each function that lets go of such a value.
+impl Drop for Memory {
+    fn drop(self) {
+        let Memory {
+            types,
+            targets,
+            shared,
+            privates,
+            locals,
+        } = self;
+        drop(types);
+        drop(targets);
+        drop(shared);
+        drop(privates);
+        drop(locals);
+    }
 }
 
 impl Model for Memory {

@@ -46,11 +46,22 @@ fn read(alloc: Global, line: &[u8]) -> Result<Result<Command, CmdRefusal>, NoMem
 }
 
 /// A group, about which lines of input ask, and the invocation that replies speak of.
-#[derive(Drop)]
 pub struct Core {
     alloc: Global,
     group: Group,
     focus: u32,
+}
+
+// Written out, so that it is proved once: a derived drop is proved again in each function that lets go of such a value.
+impl Drop for Core {
+    fn drop(self) {
+        let Core {
+            alloc: _,
+            group,
+            focus: _,
+        } = self;
+        drop(group);
+    }
 }
 
 impl Model for Core {

@@ -32,7 +32,6 @@ pub enum Run {
 }
 
 /// What the lines of a setup set, each list in the order of the lines.
-#[derive(Drop)]
 pub struct Settings {
     /// The name of the entry point, where one is given.
     pub entry: Option<Bytes>,
@@ -48,4 +47,26 @@ pub struct Settings {
     pub push: Option<Push>,
     /// The parts of the schedule.
     pub runs: Items<Run>,
+}
+
+// Written out, so that it is proved once: a derived drop is proved again in each function that lets go of such a value.
+impl Drop for Settings {
+    fn drop(self) {
+        let Settings {
+            entry,
+            group,
+            overrides,
+            override_lines,
+            buffers,
+            push,
+            runs,
+        } = self;
+        drop(entry);
+        drop(group);
+        drop(overrides);
+        drop(override_lines);
+        drop(buffers);
+        drop(push);
+        drop(runs);
+    }
 }

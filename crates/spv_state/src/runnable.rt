@@ -18,11 +18,24 @@ use std::alloc::Global;
 use std::marker::Model;
 
 /// An accepted module, and a setup that fits it.
-#[derive(Drop)]
 pub struct Runnable {
     accepted: Module,
     setup: Setup,
     lookups: Lookups,
+}
+
+// Written out, so that it is proved once: a derived drop is proved again in each function that lets go of such a value.
+impl Drop for Runnable {
+    fn drop(self) {
+        let Runnable {
+            accepted,
+            setup,
+            lookups,
+        } = self;
+        drop(accepted);
+        drop(setup);
+        drop(lookups);
+    }
 }
 
 impl Model for Runnable {

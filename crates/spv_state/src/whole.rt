@@ -38,12 +38,27 @@ use std::alloc::Global;
 use std::marker::Model;
 
 /// The state of a workgroup: the plans of the module's functions, its memory, and per invocation the calls that it is in and a status.
-#[derive(Drop)]
 pub struct Whole {
     pub(crate) plans: Plans,
     pub(crate) memory: Memory,
     pub(crate) stacks: Vec<Stack>,
     pub(crate) statuses: Statuses,
+}
+
+// Written out, so that it is proved once: a derived drop is proved again in each function that lets go of such a value.
+impl Drop for Whole {
+    fn drop(self) {
+        let Whole {
+            plans,
+            memory,
+            stacks,
+            statuses,
+        } = self;
+        drop(plans);
+        drop(memory);
+        drop(stacks);
+        drop(statuses);
+    }
 }
 
 impl Model for Whole {

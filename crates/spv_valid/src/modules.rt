@@ -18,7 +18,6 @@ use spv_types::TypeTable;
 use std::marker::Model;
 
 /// A module that broke no rule, and what was read off it.
-#[derive(Drop)]
 pub struct Module {
     pub(crate) index: Index,
     pub(crate) types: TypeTable,
@@ -26,6 +25,25 @@ pub struct Module {
     pub(crate) flow: Flow,
     pub(crate) entry: Entry,
     pub(crate) stack_cells: u64,
+}
+
+// Written out, so that it is proved once: a derived drop is proved again in each function that lets go of such a value.
+impl Drop for Module {
+    fn drop(self) {
+        let Module {
+            index,
+            types,
+            consts,
+            flow,
+            entry,
+            stack_cells: _,
+        } = self;
+        drop(index);
+        drop(types);
+        drop(consts);
+        drop(flow);
+        drop(entry);
+    }
 }
 
 impl Model for Module {

@@ -22,8 +22,8 @@ stacks-requires-clause-frame c =
     begun_readable c.functions_have_their_plans.ensures.has c.args.m.now.accepted c.accepted-accepted.result.now c.entry_plan-plan.result.now.value c.accepted-accepted.ensures.module c.insts-insts.ensures.accepted
     c.insts-insts.ensures.valid c.entry_plan-plan.ensures
 
-pub invariant_of-result-2 : goal.invariant_of-result-2
-invariant_of-result-2 c =
+pub invariant_of-result : goal.invariant_of-result
+invariant_of-result c =
     let some : 1 ≤ c.accepted-accepted.result.now.depth = entry_depth c.accepted-accepted.result.now c.insts-insts.ensures.valid in
     let count : length c.in_ok-stacks.stacks.items ≡ c.invocations-count.result
     = ap (λ (ks : List Stacked). length ks) c.in_ok-stacks.ensures ∙ length-replicate c.invocations-count.result (record { frames = passed c.args.m.now.accepted 0 (fresh c.entry_plan-plan.result.now.value) ∷ []; room = c.depth.result }) in (
@@ -34,5 +34,5 @@ invariant_of-result-2 c =
 pub returns : goal.returns
 returns c =
     start_is c.args.m.now c.accepted-accepted.result.now _ c.in_ok-memory.field-0 c.in_ok-stacks.stacks.items c.in_ok-new.field-0 c.entry_plan-plan.result.now.value c.invocations-count.result c.depth.result
-    c.words_of.result c.accepted-accepted.ensures.module (c.plans.view_is ∙ c.in_ok-plans.ensures.are) c.in_ok-memory.ensures c.entry_plan-plan.ensures c.invocations-count.ensures.count c.depth.ensures
+    c.words_of.result c.accepted-accepted.ensures.module c.in_ok-plans.ensures.are c.in_ok-memory.ensures c.entry_plan-plan.ensures c.invocations-count.ensures.count c.depth.ensures
     c.in_ok-stacks.ensures c.words_of.ensures c.in_ok-new.ensures
