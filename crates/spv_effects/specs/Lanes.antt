@@ -13,6 +13,7 @@ of_lanes [] = Many []
 of_lanes (c ∷ []) = Scalar c
 of_lanes (c ∷ (d ∷ cs)) = Many (map Scalar (c ∷ (d ∷ cs)))
 
+-- The lane of a scalar. A value of a scalar type has one lane (values_are_their_lanes), so the cell of width 0 is read of none.
 abbrev pub lane_of : Value → Cell
 lane_of v = slice_index_or (leaves v) 0 (undefined_cell 0)
 

@@ -13,12 +13,12 @@ abbrev pub word_of : Bool → ℕ → ℕ → ℕ → ℕ → ℕ
 word_of true a b c d = 16777216 * a + 65536 * b + 256 * c + d
 word_of false a b c d = 16777216 * d + 65536 * c + 256 * b + a
 
--- the words of bytes, four bytes a word
+-- The words of bytes, four bytes a word. Fewer than four at the end are no word: `breaches` refuses such a size.
 abbrev pub group_words : Bool → List ℕ → List ℕ
 group_words big (a ∷ b ∷ c ∷ d ∷ rest) = word_of big a b c d ∷ group_words big rest
 group_words big rest = []
 
--- whether the first word is the magic number with the highest byte first
+-- whether the first word is the magic number with the highest byte first; where there is no word it is 0, which is no magic number
 abbrev pub is_big : List ℕ → Bool
 is_big bytes = is_magic (slice_index (group_words true bytes) 0)
 
