@@ -6,10 +6,12 @@
 The compiled modules of data/ are of examples/check; whether one is accepted is what its compiler, the optimizer and the
 profile say. A line of the list `changes` is a module, a word of it and what it becomes, and how many bytes are left. The
 files of rules are listings of modules that keep a rule or break one, of rules_of_sections.py, rules_of_types.py and
-rules_of_blocks.py. A line of `instructions` is the words of one, of which the listing is shown. Each outcome stands in these programs, as the rules have it: none is taken from the program that is tested.
+rules_of_blocks.py. A line of `instructions` is the words of one, of which the listing is shown. A line of `records` is a module,
+or a module with a change, whose debug records are counted by records.py. Each outcome stands in these programs, as the rules have it: none is taken from the program that is tested.
 """
 import os
 import struct
+import records
 import rules_of_blocks
 import rules_of_sections
 import rules_of_types
@@ -179,6 +181,9 @@ def main():
     single = list(rules_of_words.instructions())
     write("instructions", "".join(" ".join(map(str, words)) + "\n" for words, _ in single))
     out += "instructions\n" + "".join(line + "\n" for _, line in single)
+    counted_records = list(records.rows())
+    write("records", "".join(line + "\n" for line, _ in counted_records))
+    out += "records\n" + "".join("%s: %s\n" % row for row in counted_records)
     with open(os.path.join(FOLDER, "stdout"), "w") as file:
         file.write(out)
 

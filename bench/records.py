@@ -1,15 +1,17 @@
 #!/usr/bin/env python3
 """Counts the debug records of modules, worked out here apart from the program.
 
-Reads the modules of crates/spv_records/data, and writes src/cases.rt and stdout of that crate. The modules are the shaders
-of examples/check: NAME-gVS.spv by `glslangValidator -V -gVS --target-env spirv1.6`, NAME-glslc.spv by `glslc -g
---target-env=vulkan1.2`, and each of them after `spirv-opt -O` too. The kinds are those of
-NonSemantic.Shader.DebugInfo.100, and what makes a record malformed is this project's profile of it.
+The rows are written by bench/modules.py. The modules are the shaders of examples/check: NAME-1.6-gVS.spv by
+`glslangValidator -V -gVS --target-env spirv1.6`, NAME-glslc-g.spv by `glslc -g --target-env=vulkan1.2`, and each of them after
+`spirv-opt -O` too. The kinds are those of NonSemantic.Shader.DebugInfo.100, and what makes a record malformed is this project's
+profile of it.
 """
 import os
 import struct
+from listings import TOP
 
-CRATE = os.path.join(os.path.dirname(os.path.abspath(__file__)), "..", "crates", "spv_records")
+DATA = os.path.join(TOP, "crates", "spv_modules", "data")
+NAMES = [f"{shader}-{form}" for shader in ("loops", "shared", "structs", "widths") for form in ("1.6-gVS", "1.6-gVS-opt", "glslc-g", "glslc-g-opt")]
 SET = b"NonSemantic.Shader.DebugInfo.100"
 TYPES, SCOPES = {0, 2, 3, 4, 5, 6, 7, 8, 9, 10, 108}, {0, 1, 10, 20, 21, 22}
 LEADS = {"T": TYPES, "P": SCOPES, "S": {35}, "I": {25}, "V": {26}, "W": {26, 27}, "E": {31}, "O": {30}}
@@ -120,7 +122,7 @@ class Module:
             return sum(bits for bits, _ in members), 1 + max([nesting for _, nesting in members], default=0)
         return 0, 0
 
-    def line(self, name):
+    def counts(self):
         operands = [ident for _, _, _, ids in self.records for ident in ids]
         strings = sum(len(self.strings[ident]) for ident in operands if ident in self.strings)
         numbers = sum(self.numbers.get(ident, 0) for ident in operands)
@@ -129,7 +131,7 @@ class Module:
             if rank < 2:
                 files.setdefault(file, data)
         texts = sum(len(files.get(name, b"")) for name in self.strings.values())
-        return (f"{name}: records {len(self.records)}, found {len(self.marks)}, ignored {len(self.malformed)}, strings {strings}, numbers {numbers}, "
+        return (f"records {len(self.records)}, found {len(self.marks)}, ignored {len(self.malformed)}, strings {strings}, numbers {numbers}, "
                 f"inlined {self.inlined}, text {texts}")
 
 
@@ -140,11 +142,11 @@ def text(words):
 # One operand of the first record with a number is exchanged: the module, the number, the place of the operand (-1 for the
 # number itself), and what stands there then: the first record with a number, string or number.
 EXCHANGES = [
-    ("structs-gVS", 26, 5, 2), ("structs-gVS", 20, 2, 1), ("structs-gVS", 11, 1, 20), ("structs-gVS", 10, 9, 2),
-    ("structs-gVS", 35, 0, "number"), ("structs-gVS-opt", 23, 0, 35), ("structs-gVS-opt", 25, 1, 31),
-    ("structs-gVS-opt", 25, 0, "string"), ("loops-gVS", 28, 2, 2), ("loops-gVS", 103, 0, 1), ("loops-gVS", 1, 2, "string"),
-    ("loops-gVS", 28, -1, 36), ("loops-gVS", 2, -1, 24), ("shared-gVS", 2, 1, "string"), ("shared-gVS", 35, 1, "number"),
-    ("widths-gVS", 6, 0, 10), ("widths-gVS", 5, 1, "string"), ("loops-gVS-opt", 29, 0, 35),
+    ("structs-1.6-gVS", 26, 5, 2), ("structs-1.6-gVS", 20, 2, 1), ("structs-1.6-gVS", 11, 1, 20), ("structs-1.6-gVS", 10, 9, 2),
+    ("structs-1.6-gVS", 35, 0, "number"), ("structs-1.6-gVS-opt", 23, 0, 35), ("structs-1.6-gVS-opt", 25, 1, 31),
+    ("structs-1.6-gVS-opt", 25, 0, "string"), ("loops-1.6-gVS", 28, 2, 2), ("loops-1.6-gVS", 103, 0, 1), ("loops-1.6-gVS", 1, 2, "string"),
+    ("loops-1.6-gVS", 28, -1, 36), ("loops-1.6-gVS", 2, -1, 24), ("shared-1.6-gVS", 2, 1, "string"), ("shared-1.6-gVS", 35, 1, "number"),
+    ("widths-1.6-gVS", 6, 0, 10), ("widths-1.6-gVS", 5, 1, "string"), ("loops-1.6-gVS-opt", 29, 0, 35),
 ]
 
 
@@ -159,26 +161,17 @@ def exchange(name, number, place, other):
 
 
 def words_of(name):
-    data = open(os.path.join(CRATE, "data", name + ".spv"), "rb").read()
+    with open(os.path.join(DATA, name + ".spv"), "rb") as file:
+        data = file.read()
     return list(struct.unpack(f"<{len(data) // 4}I", data))
 
 
-def main():
-    names = sorted(file[: -len(".spv")] for file in os.listdir(os.path.join(CRATE, "data")))
-    cases = [(name, 0, words_of(name)[0]) for name in names] + [exchange(*row) for row in EXCHANGES]
-    lines = []
-    for name, word, number in cases:
+def rows():
+    """The modules, and those with a word exchanged, as lines `NAME` and `NAME WORD NUMBER LENGTH`, each with what is due."""
+    for name in NAMES:
+        yield f"{name}.spv", Module(words_of(name)).counts()
+    for row in EXCHANGES:
+        name, word, number = exchange(*row)
         words = words_of(name)
         words[word] = number
-        lines.append(Module(words).line(f"{name}.spv, word {word} is {number}" if word else name + ".spv"))
-    with open(os.path.join(CRATE, "stdout"), "w") as file:
-        file.write("".join(line + "\n" for line in lines))
-    with open(os.path.join(CRATE, "src", "cases.rt"), "w") as file:
-        file.write("//! What is read: written by bench/records.py.\n\n")
-        file.write("/// Modules of data/, each with a word and the number that is put there. Word 0 is left as it is.\n")
-        file.write("pub(crate) const CASES: &[(&str, usize, u32)] = &[\n")
-        file.write("".join(f'    ("{name}.spv", {word}, {number}),\n' for name, word, number in cases) + "];\n")
-
-
-if __name__ == "__main__":
-    main()
+        yield f"{name}.spv {word} {number} {4 * len(words)}", Module(words).counts()

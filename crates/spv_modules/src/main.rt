@@ -1,16 +1,22 @@
 //! Runs `check` on each module of data/, as a user would, and says what it writes and how it ends: shaders as compilers
 //! and the optimizer give them, whose sources stand in examples/check, modules with one word changed, and modules with one
-//! rule broken; and lists single instructions. Each module that is decoded is also read back from its listing. What is due is worked out by bench/modules.py.
+//! rule broken; lists single instructions; and reads the debug records of modules, as they are and with one operand exchanged. Each
+//! module that is checked and decoded is also read back from its listing. What is due is worked out by bench/modules.py.
+//!
+//! No record of a compiler is malformed but those that `spirv-opt -O` puts behind the end of a block, where none has a meaning: a
+//! NoScope in shared, structs and widths, and a NoLine in structs.
 #![tactic(auto)]
 
 mod calls;
 mod changes;
 mod read_back;
+mod records;
 mod rules;
 
 use crate::calls::{check, check_in};
 use crate::changes::Change;
 use crate::read_back::{is_read_back, listing_of};
+use crate::records::{Counts, counts_of};
 use crate::rules::{module_of, module_of_words};
 use spv_base::{Fail, RealFiles, Refusal};
 use std::alloc::Global;
@@ -50,20 +56,25 @@ fn report<R: rt::Files + Print + AllocGlobal>(rt: &R, name: &str) -> io::Result<
     io::writer(rt).write_all(&written)
 }
 
+/// The module of a line `NAME CHANGE`, or of a line `NAME` as it is.
+fn module_in<R: rt::Files + AllocGlobal>(rt: &R, line: &str) -> io::Result<Vec<u8>> {
+    let (name, numbers) = line.split_once(' ').unwrap_or((line, ""));
+    let mut module = fs::read(rt, name)?;
+    if let Some(change) = Change::of(numbers) {
+        change.apply(&mut module);
+    }
+    Ok(module)
+}
+
 /// Says what `check` writes for a module with each change of a list, and how it ends.
 fn report_changes<R: rt::Files + Print + AllocGlobal>(rt: &R, list: &str) -> io::Result<()> {
     let text = fs::read_to_string(rt, list)?;
     for line in text.lines() {
-        if let Some((name, numbers)) = line.split_once(' ') {
-            let mut module = fs::read(rt, name)?;
-            if let Some(change) = Change::of(numbers) {
-                change.apply(&mut module);
-            }
-            let listed = of_listing(rt.alloc(), &module);
-            let (status, written) = check(rt.alloc(), module)?;
-            print!(rt; "{line}: status {}, {listed}, ", status as u8)?;
-            io::writer(rt).write_all(&written)?;
-        }
+        let module = module_in(rt, line)?;
+        let listed = of_listing(rt.alloc(), &module);
+        let (status, written) = check(rt.alloc(), module)?;
+        print!(rt; "{line}: status {}, {listed}, ", status as u8)?;
+        io::writer(rt).write_all(&written)?;
     }
     Ok(())
 }
@@ -109,6 +120,29 @@ fn report_instruction<R: Print + AllocGlobal>(rt: &R, line: &str) -> io::Result<
     }
 }
 
+/// Says what is counted.
+fn print_counts<R: Print>(rt: &R, counts: &Counts) -> io::Result<()> {
+    let (records, found, ignored) = (counts.records, counts.found, counts.ignored);
+    print!(rt; "records {records}, found {found}, ignored {ignored}")?;
+    print!(rt; ", strings {}, numbers {}", counts.strings, counts.numbers)?;
+    println!(rt; ", inlined {}, text {}", counts.inlined, counts.text)
+}
+
+/// Says what the debug records of each module of a list hold, and what the look-ups give.
+fn report_records<R: rt::Files + Print + AllocGlobal>(rt: &R, list: &str) -> io::Result<()> {
+    println!(rt; "{list}")?;
+    let text = fs::read_to_string(rt, list)?;
+    for line in text.lines() {
+        print!(rt; "{line}: ")?;
+        let module = module_in(rt, line)?;
+        match counts_of(rt.alloc(), &module) {
+            Ok(counts) => print_counts(rt, &counts)?,
+            Err(_) => println!(rt; "refused")?,
+        }
+    }
+    Ok(())
+}
+
 fn main(rt: HostRuntime) -> io::Result<()> {
     let names = fs::read_to_string(&rt, "modules")?;
     for name in names.lines() {
@@ -123,5 +157,5 @@ fn main(rt: HostRuntime) -> io::Result<()> {
     for line in instructions.lines() {
         report_instruction(&rt, line)?;
     }
-    Ok(())
+    report_records(&rt, "records")
 }

@@ -1,142 +1,37 @@
-//! One call of the program.
+//! Calls of the program, each on a counter of its own.
 ghost use Rattle.std.specs.Prelude.{◌≡◌, ◌<◌};
 
+use crate::fakes::{Lengths, Watched};
+use crate::rows::{files, input, output};
 use spv_app::{Status, debug_main};
-use spv_base::{Files, NoMemory, Probe, Sink, Source, Steps};
+use spv_base::{FailingFiles, Probe, Steps};
 use std::alloc::Global;
-use std::collections::BTreeMap;
+use std::io::Write;
 use std::marker::Brand;
 use std::sync::ledger::{Blank, Ledger};
+use std::{fs, io, rt};
 
-/// A shader that adds 40 and 2: words of SPIR-V 1.6.
-const SUM: [u32; 67] = [
-    0x0723_0203,
-    0x0001_0600,
-    0,
-    12,
-    0,
-    0x0002_0011,
-    1,
-    0x0003_000E,
-    0,
-    1,
-    0x0005_000F,
-    5,
-    7,
-    0x6E69_616D,
-    0,
-    0x0006_0010,
-    7,
-    17,
-    1,
-    1,
-    1,
-    0x0002_0013,
-    1,
-    0x0003_0021,
-    2,
-    1,
-    0x0004_0015,
-    3,
-    32,
-    0,
-    0x0004_0020,
-    4,
-    7,
-    3,
-    0x0004_002B,
-    3,
-    5,
-    40,
-    0x0004_002B,
-    3,
-    6,
-    2,
-    0x0005_0036,
-    1,
-    7,
-    0,
-    2,
-    0x0002_00F8,
-    8,
-    0x0004_003B,
-    4,
-    9,
-    7,
-    0x0003_003E,
-    9,
-    5,
-    0x0004_003D,
-    3,
-    10,
-    9,
-    0x0005_0080,
-    3,
-    11,
-    10,
-    6,
-    0x0001_00FD,
-    0x0001_0038,
-];
-
-/// The words of a call that debugs.
-pub const DEBUG: &str = "spvdbg debug module.spv module.setup";
-
-/// The words of a call that checks.
-pub const CHECK: &str = "spvdbg check module.spv";
-
-/// The name of the module in each call.
-pub const MODULE: &str = "module.spv";
-
-/// The name of the setup.
-pub const SETUP: &str = "module.setup";
-
-/// A setup of ten rounds.
-pub const TEN_ROUNDS: &str = "spvdbg-setup 1\nrounds 10\n";
-
-/// The bytes of the shader.
-pub(crate) fn sum(alloc: Global) -> Result<Vec<u8>, NoMemory> {
-    let mut bytes = Vec::new(alloc);
-    for word in &SUM {
-        bytes.extend_from_slice(&word.to_le_bytes())?;
-    }
-    Ok(bytes)
-}
-
-/// Files with these contents.
-pub(crate) fn files(
-    alloc: Global,
-    module: Vec<u8>,
-    setup: &str,
-) -> Result<BTreeMap<String, Vec<u8>>, NoMemory> {
-    let mut files = BTreeMap::new(alloc);
-    files.insert(String::from_str(alloc, MODULE)?, module)?;
-    let setup = Vec::from_slice(alloc, setup.as_bytes())?;
-    files.insert(String::from_str(alloc, SETUP)?, setup)?;
-    Ok(files)
-}
-
-/// The words of a text, split at its spaces.
-pub(crate) fn words(alloc: Global, text: &str) -> Result<Vec<String>, NoMemory> {
+/// The words of a line, split at its spaces.
+fn words_of(alloc: Global, line: &str) -> io::Result<Vec<String>> {
     let mut words = Vec::new(alloc);
-    for word in text.split(' ') {
+    for word in line.split(' ') {
         words.push(String::from_str(alloc, word)?)?;
     }
     Ok(words)
 }
 
-/// One call, with no probes, on a counter of its own.
-fn call_counted<F: Files, I: Source, K: Sink, L: Ledger>(
+/// Does what the words say, with no probes.
+fn call_counted<L: Ledger>(
     alloc: Global,
-    words: &[String],
-    files: &mut F,
-    input: &mut I,
-    out: &mut K,
     blank: Blank,
+    words: &[String],
+    files: &mut FailingFiles,
+    input: &mut Watched,
+    out: &mut Lengths,
 ) -> Status
-    requires files { F.faults files.old ≡ 0 }
-    requires input { I.faults input.old ≡ 0 }
-    requires out { K.faults out.old ≡ 0 }
+    requires files { files.old.held.faults ≡ 0 }
+    requires input { input.old.held.faults ≡ 0 }
+    requires out { out.old.held.held.faults ≡ 0 }
     requires name { blank.name ≡ L.name }
     requires parts { blank.parts ≡ L.parts }
     requires some { 0 < blank.parts }
@@ -146,17 +41,74 @@ fn call_counted<F: Files, I: Source, K: Sink, L: Ledger>(
     debug_main(alloc, words, files, input, out, kit, &mut steps)
 }
 
-/// One call, with no probes.
-pub(crate) fn call<F: Files, I: Source, K: Sink>(
+/// Does what the words say.
+fn call(
     alloc: Global,
     words: &[String],
-    files: &mut F,
-    input: &mut I,
-    out: &mut K,
+    files: &mut FailingFiles,
+    input: &mut Watched,
+    out: &mut Lengths,
 ) -> Status
-    requires files { F.faults files.old ≡ 0 }
-    requires input { I.faults input.old ≡ 0 }
-    requires out { K.faults out.old ≡ 0 }
+    requires files { files.old.held.faults ≡ 0 }
+    requires input { input.old.held.faults ≡ 0 }
+    requires out { out.old.held.held.faults ≡ 0 }
 {
-    call_counted::<F, I, K, Brand>(alloc, words, files, input, out, Blank::new(1))
+    call_counted::<Brand>(alloc, Blank::new(1), words, files, input, out)
+}
+
+/// Says what a call has written, how it ended, and what it asked for.
+fn report_end<R: Print>(
+    rt: &R,
+    status: Status,
+    files: &FailingFiles,
+    input: &Watched,
+    out: &Lengths,
+) -> io::Result<()> {
+    io::writer(rt).write_all(&out.held.held.bytes)?;
+    print!(rt;
+        "-- status {}, file [{}]",
+        status as u8, files.held.failed_name
+    )?;
+    let (reads, taken) = (input.held.calls, input.held.held.at);
+    print!(rt;
+        ", reads {reads}, longest {}, taken {taken}, pieces",
+        input.longest
+    )?;
+    for length in &out.lengths {
+        print!(rt; " {length}")?;
+    }
+    println!(rt; "")
+}
+
+/// Says what a call over the outside of a row writes, and how it ends.
+fn report_row<R: rt::Files + Print + AllocGlobal>(
+    rt: &R,
+    words: &str,
+    row: &str,
+    setup: &str,
+    commands: &str,
+) -> io::Result<()> {
+    let alloc = rt.alloc();
+    let words = words_of(alloc, words)?;
+    let mut out = output(alloc, row)?;
+    let mut input = input(alloc, row, commands)?;
+    let mut files = files(alloc, row, fs::read(rt, "first.spv")?, setup)?;
+    let status = call(alloc, &words, &mut files, &mut input, &mut out);
+    report_end(rt, status, &files, &input, &out)
+}
+
+/// Says what the call of a row `WHAT: WORDS` writes, and how it ends.
+pub fn report_call<R: rt::Files + Print + AllocGlobal>(rt: &R, row: &str) -> io::Result<()> {
+    if let Some((line, rest)) = row.split_once('\n') {
+        println!(rt; "{line}")?;
+        if let (Some((_, words)), Some((numbers, rest))) = (
+            line.split_once(": "),
+            rest.split_once("-- setup\n"),
+        ) {
+            if let Some((setup, commands)) = rest.split_once("-- commands\n") {
+                report_row(rt, words, numbers, setup, commands)?;
+            }
+        }
+    }
+    Ok(())
 }

@@ -1,30 +1,41 @@
 //! The edge of the program: files of the system, and readers and writers that fail.
-use spv_base::{Failed, FileErr, Files, FromRead, RealFiles, Sink, Source, ToWrite, write_all};
-use std::fs;
-use std::io::{self, Read, Write};
-use std::test::Fail;
+ghost use Rattle.std.specs.Prelude.{◌<◌, ◌-◌, ◌^◌};
 
-#[test]
-fn reads_real_files_and_counts_their_faults(rt: HostRuntime) -> Result<(), Fail> {
-    let alloc = rt.alloc();
-    let name = "spv_rows_real_file";
-    fs::write(&rt, name, b"abcde".as_slice())?;
-    let mut files = RealFiles::new(alloc, &rt);
-    let whole = files.read_all(alloc, name, 5)?;
-    assert_eq!(rt; whole.as_slice(), b"abcde".as_slice());
-    assert_eq!(rt; files.faults(), 0);
-    let longer = files.read_all(alloc, name, 4);
-    assert!(rt; matches!(longer, Err(FileErr::TooLong)));
-    assert_eq!(rt; (files.faults(), files.taken()), (0, 5));
-    // A file that isn't there, and a directory, which opens and gives no bytes.
-    for (place, name) in ["spv_rows_no_file", "/"].iter().enumerate() {
-        assert_eq!(rt; files.faults(), place as u64);
-        let answer = files.read_all(alloc, name, 5);
-        assert!(rt; matches!(answer, Err(FileErr::Failed)));
-        assert_eq!(rt; files.failed_name(), *name);
+use spv_base::{Files, FromRead, RealFiles, Sink, Source, ToWrite};
+use std::io::{self, Read, Write};
+use std::{fs, rt};
+
+/// Says what reading a file of a line `NAME LIMIT` gives.
+fn report_file<R: rt::Files + Print + AllocGlobal>(
+    rt: &R,
+    files: &mut RealFiles<R>,
+    line: &str,
+) -> io::Result<()>
+    requires { files.old.faults < 2 ^ 64 - 1 }
+{
+    print!(rt; "{line}: ")?;
+    let (name, limit) = line.split_once(' ').unwrap_or((line, ""));
+    match files.read_all(rt.alloc(), name, limit.parse().unwrap_or(0)) {
+        Ok(bytes) => io::writer(rt).write_all(&bytes)?,
+        Err(error) => print!(rt; "{error}")?,
     }
-    assert_eq!(rt; files.faults(), 2);
-    fs::remove_file(&rt, name)?;
+    let (taken, faults) = (files.taken(), files.faults());
+    println!(rt;
+        ", taken {taken}, faults {faults} [{}]",
+        files.failed_name()
+    )
+}
+
+/// Says what reading files of the system gives, one after the other.
+pub fn report_files<R: rt::Files + Print + AllocGlobal>(rt: &R) -> io::Result<()> {
+    println!(rt; "files")?;
+    let lines = fs::read_to_string(rt, "files")?;
+    let mut files = RealFiles::new(rt.alloc(), rt);
+    for line in lines.lines() {
+        if files.faults() < u64::MAX {
+            report_file(rt, &mut files, line)?;
+        }
+    }
     Ok(())
 }
 
@@ -46,21 +57,24 @@ impl Read for Sevens {
     }
 }
 
-#[test]
-fn reads_from_a_reader_and_counts_its_faults(rt: HostRuntime) {
+/// Says what a reader gives that fails at every second call.
+pub fn report_reads<R: Print>(rt: &R) -> io::Result<()> {
+    println!(rt; "reads")?;
     let mut input = FromRead::new(Sevens { calls: 0 });
-    let mut buf = [0; 4];
-    for faults in 0..2 {
-        assert_eq!(rt; input.faults(), faults);
-        assert!(rt; matches!(input.read(&mut buf), Ok(1)));
-        assert_eq!(rt; buf, [7, 0, 0, 0]);
-        assert_eq!(rt; input.faults(), faults);
-        assert!(rt; matches!(input.read(&mut buf), Err(Failed)));
+    let mut buf = [0; 2];
+    for _call in 0..4 {
+        if input.faults() < u64::MAX {
+            match input.read(&mut buf) {
+                Ok(count) => print!(rt; "{count} of {} {}", buf[0], buf[1])?,
+                Err(_) => print!(rt; "failed")?,
+            }
+            println!(rt; ", faults {}", input.faults())?;
+        }
     }
-    assert_eq!(rt; input.faults(), 2);
+    Ok(())
 }
 
-/// Takes two bytes at a call, and nothing once it has four; it fails at a piece that begins with 0.
+/// Takes two bytes at a call, and nothing once it has four; it fails at a piece that begins with a zero.
 #[derive(Drop)]
 struct Four<'a> {
     bytes: &'a mut Vec<u8>,
@@ -68,7 +82,7 @@ struct Four<'a> {
 
 impl Write for Four<'_> {
     fn write(&mut self, buf: &[u8]) -> io::Result<usize> {
-        if buf.first() == Some(&0) {
+        if buf.first() == Some(&b'0') {
             return Err(io::ErrorKind::Other.into());
         }
         let room = 4usize.saturating_sub(self.bytes.len());
@@ -82,16 +96,26 @@ impl Write for Four<'_> {
     }
 }
 
-#[test]
-fn writes_to_a_writer_and_counts_its_faults(rt: HostRuntime) {
+/// Says what a writer takes of each piece.
+fn report_pieces<R: Print>(rt: &R, bytes: &mut Vec<u8>) -> io::Result<()> {
+    let mut out = ToWrite::new(Four { bytes });
+    for piece in ["", "01", "12345", "345", "5"] {
+        if out.faults() < u64::MAX {
+            match out.write(piece.as_bytes()) {
+                Ok(count) => print!(rt; "{count} of [{piece}]")?,
+                Err(_) => print!(rt; "failed at [{piece}]")?,
+            }
+            println!(rt; ", faults {}", out.faults())?;
+        }
+    }
+    Ok(())
+}
+
+/// Says what a writer takes that has room for four bytes.
+pub fn report_writes<R: Print + AllocGlobal>(rt: &R) -> io::Result<()> {
+    println!(rt; "writes")?;
     let mut bytes = Vec::new(rt.alloc());
-    let mut out = ToWrite::new(Four { bytes: &mut bytes });
-    assert_eq!(rt; out.faults(), 0);
-    assert!(rt; matches!(out.write(&[]), Ok(0)));
-    assert_eq!(rt; out.faults(), 0);
-    assert!(rt; matches!(write_all(&mut out, &[0, 1]), Err(Failed)));
-    assert_eq!(rt; out.faults(), 1);
-    assert!(rt; matches!(write_all(&mut out, &[1, 2, 3, 4, 5]), Err(Failed)));
-    assert_eq!(rt; out.faults(), 2);
-    assert_eq!(rt; bytes.as_slice(), [1, 2, 3, 4].as_slice());
+    report_pieces(rt, &mut bytes)?;
+    io::writer(rt).write_all(&bytes)?;
+    println!(rt; "")
 }
