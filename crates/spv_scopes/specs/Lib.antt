@@ -1,0 +1,13 @@
+pub mod Blocks
+pub mod InForce
+pub mod Scopes
+pub mod Spots
+pub mod Calls
+pub mod Read
+pub mod Inside
+pub mod Shown
+pub mod Heads
+pub mod Lines
+pub mod Files
+pub mod Numbered
+pub mod Found
