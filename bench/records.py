@@ -1,10 +1,10 @@
 #!/usr/bin/env python3
-"""Counts the debug records of modules, worked out here apart from the program.
+"""Counts the debug records of modules, and where their instructions stand in the source, worked out here apart from the program.
 
 The rows are written by bench/modules.py. The modules are the shaders of examples/check: NAME-1.6-gVS.spv by
 `glslangValidator -V -gVS --target-env spirv1.6`, NAME-glslc-g.spv by `glslc -g --target-env=vulkan1.2`, and each of them after
 `spirv-opt -O` too. The kinds are those of NonSemantic.Shader.DebugInfo.100, and what makes a record malformed is this project's
-profile of it.
+profile of it. Where an instruction stands is read off its block anew for each, from the instruction back.
 """
 import os
 import struct
@@ -24,6 +24,7 @@ KINDS = {
 }
 KINDS.update({number: "" for number in (12, 13, 14, 15, 16, 17, 32, 33, 34, 105, 106, 107)})
 IN_BLOCKS = {23, 24, 28, 29, 103, 104}
+PARENTS = {10: 5, 21: 3, 22: 2}
 OPERATIONS = {0: "", 1: "", 2: "", 3: "#", 4: "..", 5: "", 6: "", 7: "", 8: "#", 9: "##"}
 FRAGMENT, MOST_BITS, MOST_NESTING = 9, 268_435_456, 64
 
@@ -48,6 +49,9 @@ class Module:
             if op in (43, 50) and rest[0] in integers:
                 self.numbers[rest[1]] = rest[2]
         self.read(insts)
+        self.insts = insts
+        self.imports = {rest[0] for _, op, rest in insts if op == 11 and text(rest[1:]).startswith(b"NonSemantic.")}
+        self.show()
 
     def read(self, insts):
         for at, op, rest in insts:
@@ -122,6 +126,77 @@ class Module:
             return sum(bits for bits, _ in members), 1 + max([nesting for _, nesting in members], default=0)
         return 0, 0
 
+    # ---- where instructions stand in the source: what is in force is read off the block before each of them
+
+    def show(self):
+        self.lines, self.heads, self.frames, op_names, function = [], [], [], {}, 0
+        by_word = {at: (number, ids) for at, _, number, ids in self.records}
+        for _, op, rest in self.insts:
+            if op == 5:
+                op_names.setdefault(rest[0], text(rest[1:]))
+        for start, (_, op, rest) in enumerate(self.insts):
+            function = rest[1] if op == 54 else function
+            if op == 248:
+                self.show_block(start, by_word, op_names.get(function, b""))
+
+    def show_block(self, start, by_word, op_name):
+        before, block = None, []
+        for at, op, rest in self.insts[start + 1 :]:
+            scope, inlined, file, line = self.location(block, by_word)
+            if line:
+                self.lines.append(line)
+            if not (op in (0, 8, 59, 245, 246, 247, 317) or op == 12 and rest[2] in self.imports):
+                key = (file, line, inlined) if line else None
+                if key is not None and key != before:
+                    self.heads.append((file, line))
+                before = key
+            self.frames += self.shown(scope, inlined, file, line, op_name)
+            block.append((at, op, rest))
+            if op in (249, 250, 251, 253, 254, 255):
+                return
+
+    def location(self, block, by_word):
+        last = lambda found: next(iter(found), None)
+        records = [by_word[at] for at, _, _ in reversed(block) if at in by_word]
+        scope = last(row for row in records if row[0] in (23, 24))
+        debug = last(row for row in records if row[0] in (103, 104))
+        plain = last((op, rest) for _, op, rest in reversed(block) if op in (8, 317))
+        ids = scope[1] if scope and scope[0] == 23 else [0]
+        if debug and debug[0] == 103:
+            file, line = self.strings[self.marks[debug[1][0]][1][0]], self.numbers[debug[1][1]]
+        elif plain and plain[0] == 8:
+            file, line = self.strings[plain[1][0]], plain[1][1]
+        else:
+            file, line = b"", 0
+        return ids[0], ids[1] if len(ids) > 1 else 0, file if line else b"", line
+
+    def around(self, scope, wanted):
+        """The operands of the first scope on the way outward with a wanted number, and this number."""
+        while scope in self.marks:
+            number, ids = self.marks[scope][:2]
+            if number in wanted:
+                return number, ids
+            if number not in PARENTS:
+                return None
+            scope = ids[PARENTS[number]]
+        return None
+
+    def shown(self, scope, inlined, file, line, op_name):
+        """The name, the file and the line of each frame."""
+        name = lambda function: self.strings[function[1][0]] or op_name if function else op_name
+        function = self.around(scope, {20})
+        frames = [(name(function), file, line)]
+        while function and inlined in self.marks:
+            ids = self.marks[inlined][1]
+            line, source = self.numbers[ids[0]], self.around(ids[1], {20, 21})
+            file = b""
+            if line and source:
+                file = self.strings[self.marks[source[1][2 if source[0] == 20 else 0]][1][0]]
+            frames.append((name(self.around(ids[1], {20})), file, line))
+            inlined = ids[2] if len(ids) > 2 else 0
+        return frames
+
+
     def counts(self):
         operands = [ident for _, _, _, ids in self.records for ident in ids]
         strings = sum(len(self.strings[ident]) for ident in operands if ident in self.strings)
@@ -132,7 +207,9 @@ class Module:
                 files.setdefault(file, data)
         texts = sum(len(files.get(name, b"")) for name in self.strings.values())
         return (f"records {len(self.records)}, found {len(self.marks)}, ignored {len(self.malformed)}, strings {strings}, numbers {numbers}, "
-                f"inlined {self.inlined}, text {texts}")
+                f"inlined {self.inlined}, text {texts}, lines {len(self.lines)} of sum {sum(self.lines)}, "
+                f"heads {len(self.heads)} and {sum(self.heads.count(head) for head in self.heads)}, "
+                f"frames {len(self.frames)} of sum {sum(row[2] for row in self.frames)} and {sum(len(row[0]) + len(row[1]) for row in self.frames)} bytes")
 
 
 def text(words):

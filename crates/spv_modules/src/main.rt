@@ -1,7 +1,7 @@
 //! Runs `check` on each module of data/, as a user would, and says what it writes and how it ends: shaders as compilers
 //! and the optimizer give them, whose sources stand in examples/check, modules with one word changed, and modules with one
-//! rule broken; lists single instructions; and reads the debug records of modules, as they are and with one operand exchanged. Each
-//! module that is checked and decoded is also read back from its listing. What is due is worked out by bench/modules.py.
+//! rule broken; lists single instructions; and reads the debug records of modules, as they are and with one operand exchanged, with
+//! the lines and frames that they give. Each module that is checked and decoded is also read back from its listing. What is due is worked out by bench/modules.py.
 //!
 //! No record of a compiler is malformed but those that `spirv-opt -O` puts behind the end of a block, where none has a meaning: a
 //! NoScope in shared, structs and widths, and a NoLine in structs.
@@ -9,14 +9,16 @@
 
 mod calls;
 mod changes;
+mod lines;
 mod read_back;
 mod records;
 mod rules;
 
 use crate::calls::{check, check_in};
 use crate::changes::Change;
+use crate::lines::Shown;
 use crate::read_back::{is_read_back, listing_of};
-use crate::records::{Counts, counts_of};
+use crate::records::{Counts, read_of};
 use crate::rules::{module_of, module_of_words};
 use spv_base::{Fail, RealFiles, Refusal};
 use std::alloc::Global;
@@ -125,18 +127,29 @@ fn print_counts<R: Print>(rt: &R, counts: &Counts) -> io::Result<()> {
     let (records, found, ignored) = (counts.records, counts.found, counts.ignored);
     print!(rt; "records {records}, found {found}, ignored {ignored}")?;
     print!(rt; ", strings {}, numbers {}", counts.strings, counts.numbers)?;
-    println!(rt; ", inlined {}, text {}", counts.inlined, counts.text)
+    print!(rt; ", inlined {}, text {}", counts.inlined, counts.text)
 }
 
-/// Says what the debug records of each module of a list hold, and what the look-ups give.
+/// Says where instructions stand.
+fn print_shown<R: Print>(rt: &R, shown: &Shown) -> io::Result<()> {
+    print!(rt; ", lines {} of sum {}", shown.lines, shown.numbers)?;
+    print!(rt; ", heads {} and {}", shown.heads, shown.same)?;
+    let (frames, outer, names) = (shown.frames, shown.outer, shown.names);
+    println!(rt; ", frames {frames} of sum {outer} and {names} bytes")
+}
+
+/// Says what the debug records of each module of a list hold, what the look-ups give, and where the instructions stand in the source.
 fn report_records<R: rt::Files + Print + AllocGlobal>(rt: &R, list: &str) -> io::Result<()> {
     println!(rt; "{list}")?;
     let text = fs::read_to_string(rt, list)?;
     for line in text.lines() {
         print!(rt; "{line}: ")?;
         let module = module_in(rt, line)?;
-        match counts_of(rt.alloc(), &module) {
-            Ok(counts) => print_counts(rt, &counts)?,
+        match read_of(rt.alloc(), &module) {
+            Ok(read) => {
+                print_counts(rt, &read.counts)?;
+                print_shown(rt, &read.shown)?;
+            }
             Err(_) => println!(rt; "refused")?,
         }
     }

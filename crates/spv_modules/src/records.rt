@@ -1,9 +1,12 @@
-//! What the debug records of a module hold, and what the look-ups of their tables give, summed up.
+//! What the debug records of a module hold, what the look-ups of their tables give, and where the instructions stand in the source,
+//! summed up.
 
+use crate::lines::{Asked, Shown};
 use spv_app::acceptance::accepted;
-use spv_base::{Fail, Inst, Refusal};
+use spv_base::{Fail, Inst, NoMemory, Refusal};
 use spv_dbg::{DebugInst, DebugTables};
 use spv_ops::op;
+use spv_scopes::Lines;
 use spv_valid::Module;
 use spv_words::words;
 use std::alloc::Global;
@@ -87,14 +90,31 @@ impl Counts {
     }
 }
 
-/// The sums of a module's debug records.
-fn counts_in(alloc: Global, module: &Module) -> Result<Counts, Fail<Refusal>> {
-    let tables = DebugTables::build(alloc, module)?;
-    Ok(Counts::of(&tables, module.insts()))
+/// What is read in a module.
+#[derive(Drop)]
+pub struct Read {
+    pub counts: Counts,
+    pub shown: Shown,
 }
 
-/// The sums of the debug records of the module with these bytes. Refuses one that isn't accepted.
-pub fn counts_of(alloc: Global, bytes: &[u8]) -> Result<Counts, Fail<Refusal>> {
+/// What the debug records of a module hold and give, and where its instructions stand in the source.
+fn read_in(alloc: Global, module: &Module) -> Result<Read, NoMemory> {
+    let tables = DebugTables::build(alloc, module)?;
+    let lines = Lines::build(alloc, module, &tables)?;
+    let asked = Asked {
+        alloc,
+        module,
+        tables: &tables,
+        lines: &lines,
+    };
+    Ok(Read {
+        counts: Counts::of(&tables, module.insts()),
+        shown: Shown::of(&asked)?,
+    })
+}
+
+/// What is read in the module with these bytes. Refuses one that isn't accepted.
+pub fn read_of(alloc: Global, bytes: &[u8]) -> Result<Read, Fail<Refusal>> {
     let module = accepted(alloc, &words(alloc, bytes)?)?;
-    counts_in(alloc, &module)
+    Ok(read_in(alloc, &module)?)
 }
