@@ -15,7 +15,8 @@ use spv_valid::Module;
 use std::alloc::Global;
 use std::marker::Model;
 
-/// Where each instruction of a block stands in the source, and at which executables a line begins. Contracts see lists by word.
+/// Where each instruction of a block stands in the source, and at which executables a line begins. Contracts see lists by word. How
+/// long a call takes is said below, and by no clause.
 #[derive(Drop)]
 pub struct Lines {
     spots: SpotTable,

@@ -180,7 +180,7 @@ impl Scopes {
     }
 }
 
-/// What is known behind all debug instructions. In time n log n.
+/// What is known behind all debug instructions. In time n log n, which no clause says.
 pub(crate) fn scopes_of(alloc: Global, tables: &DebugTables) -> Result<Scopes, NoMemory>
     ensures scopes { IfOk result (λ scopes. AreScopesRead (reverse tables.now.insts) scopes.enclosings) }
     ensures calls { IfOk result (λ scopes. AreCallsRead tables.now (reverse tables.now.insts) scopes.calls) }

@@ -52,7 +52,7 @@ fn kept_at(spots: &Table<Linked>, word: u32) -> Linked
 }
 
 impl SpotTable {
-    /// Those of a module with its debug tables. In time n log n.
+    /// Those of a module with its debug tables. In time n log n, which no clause says.
     pub(crate) fn build(
         alloc: Global,
         module: &Module,
