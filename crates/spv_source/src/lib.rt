@@ -1,0 +1,9 @@
+//! What users are shown of the source: where a frame stands, and the lines around a line.
+#![tactic(auto)]
+
+mod frames;
+mod lines;
+mod windows;
+
+pub use frames::{frame_line, place_text};
+pub use windows::source_lines;
