@@ -18,8 +18,8 @@ if test "$most" -lt "$at_once"; then at_once=$((most > 1 ? most : 1)); fi
 count=$(crates | wc -l)
 log=$(mktemp)
 trap 'rm -f "$log"' EXIT
-say "proves $count crates, $at_once at a time where they don't wait for each other. From nothing that takes an hour to an hour"
-say "and a half on four processors; after an edit only what changed is proved again, and what stands above it."
+say "proves $count crates, $at_once at a time where they don't wait for each other. From nothing that takes about"
+say "an hour on four processors; after an edit only what changed is proved again, and what stands above it."
 cd "$top/crates/spvdbg"
 
 # Tells of each crate that is done: rt prints a line '== NAME' and what the crate's check said.
