@@ -62,10 +62,8 @@ cases_by_word (_ ∷ []) = []
 cases_by_word (word ∷ label ∷ more) = (word, label) ∷ cases_by_word more
 
 abbrev pub cases_by_two : List ℕ → List (ℕ × ℕ)
-cases_by_two [] = []
-cases_by_two (_ ∷ []) = []
-cases_by_two (_ ∷ _ ∷ []) = []
 cases_by_two (low ∷ high ∷ label ∷ more) = (low + high * 2 ^ 32, label) ∷ cases_by_two more
+cases_by_two _ = []
 
 abbrev pub cases : ℕ → List ℕ → List (ℕ × ℕ)
 cases width words = if width == 64 then cases_by_two words else cases_by_word words

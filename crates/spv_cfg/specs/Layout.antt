@@ -15,15 +15,8 @@ unended position class = if ends_block class && in_block position.stage then pos
 -- A function without OpFunctionEnd, or without a block. It stands at its OpFunction.
 abbrev pub is_lacking : Position → Class → Bool
 is_lacking position Function = in_function position.stage
-is_lacking position Parameter = false
 is_lacking position End = is_head position.stage
-is_lacking position Label = false
-is_lacking position Line = false
-is_lacking position Phi = false
-is_lacking position Variable = false
-is_lacking position Terminator = false
-is_lacking position Passed = false
-is_lacking position Executable = false
+is_lacking position _ = false
 
 abbrev pub lacking : Position → Class → List ℕ
 lacking position class = if is_lacking position class then position.function_word ∷ [] else []

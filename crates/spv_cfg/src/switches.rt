@@ -54,14 +54,6 @@ fn cases(alloc: Global, width: u32, words: &[u32]) -> Result<Vec<(u64, u32)>, No
     }
 }
 
-/// The literals and labels behind the selector and the default.
-fn cases_of(alloc: Global, width: u32, inst: &Inst) -> Result<Vec<(u64, u32)>, NoMemory>
-    ensures { IfOk result (λ cases. cases.items ≡ spec.cases width (spec.case_words inst.now)) }
-{
-    let words = case_words(alloc, inst)?;
-    cases(alloc, width, words.as_slice())
-}
-
 fn are_whole(width: u32, words: &[u32]) -> bool
     ensures { result ≡ spec.are_whole width words.now }
 {
@@ -136,6 +128,7 @@ fn labels_in(
 pub fn switch_targets(alloc: Global, width: u32, inst: &Inst) -> Result<Vec<u32>, NoMemory>
     ensures { IfOk result (λ targets. targets.items ≡ option_to_list (operands.id_operand inst.now 1) ++ map (λ c. c.1) (spec.cases width (spec.case_words inst.now))) }
 {
-    let cases = cases_of(alloc, width, inst)?;
+    let words = case_words(alloc, inst)?;
+    let cases = cases(alloc, width, words.as_slice())?;
     labels_in(alloc, id_operand(inst, 1), cases.as_slice())
 }

@@ -48,62 +48,25 @@ class_of sets inst = unwrap_or (reads inst.op (classes (is_debug sets inst) (is_
 
 -- a run stops at it: everything in a block but labels, phis, variables, lines, merges, OpNop and instructions with no meaning
 abbrev pub is_executable : Class → Bool
-is_executable Function = false
-is_executable Parameter = false
-is_executable End = false
-is_executable Label = false
-is_executable Line = false
-is_executable Phi = false
-is_executable Variable = false
 is_executable Terminator = true
-is_executable Passed = false
 is_executable Executable = true
+is_executable _ = false
 
 -- a block has ended, or should have, where one of these stands
 abbrev pub ends_block : Class → Bool
 ends_block Function = true
-ends_block Parameter = false
 ends_block End = true
 ends_block Label = true
-ends_block Line = false
-ends_block Phi = false
-ends_block Variable = false
-ends_block Terminator = false
-ends_block Passed = false
-ends_block Executable = false
+ends_block _ = false
 
 abbrev pub is_label : Class → Bool
-is_label Function = false
-is_label Parameter = false
-is_label End = false
 is_label Label = true
-is_label Line = false
-is_label Phi = false
-is_label Variable = false
-is_label Terminator = false
-is_label Passed = false
-is_label Executable = false
+is_label _ = false
 
 abbrev pub is_terminator : Class → Bool
-is_terminator Function = false
-is_terminator Parameter = false
-is_terminator End = false
-is_terminator Label = false
-is_terminator Line = false
-is_terminator Phi = false
-is_terminator Variable = false
 is_terminator Terminator = true
-is_terminator Passed = false
-is_terminator Executable = false
+is_terminator _ = false
 
 abbrev pub is_phi : Class → Bool
-is_phi Function = false
-is_phi Parameter = false
-is_phi End = false
-is_phi Label = false
-is_phi Line = false
 is_phi Phi = true
-is_phi Variable = false
-is_phi Terminator = false
-is_phi Passed = false
-is_phi Executable = false
+is_phi _ = false

@@ -11,47 +11,30 @@ use Rattle.spv_index.specs.Definitions.{has_result, is_id}
 use Rattle.spv_index.specs.Classes.{class_of, sets_of}
 
 abbrev pub in_block : Stage → Bool
-in_block Outside = false
-in_block Head = false
 in_block Phis = true
 in_block Variables = true
 in_block Body = true
-in_block Between = false
+in_block _ = false
 
 abbrev pub in_function : Stage → Bool
 in_function Outside = false
-in_function Head = true
-in_function Phis = true
-in_function Variables = true
-in_function Body = true
-in_function Between = true
+in_function _ = true
 
 -- before the first block of the function
 abbrev pub is_head : Stage → Bool
-is_head Outside = false
 is_head Head = true
-is_head Phis = false
-is_head Variables = false
-is_head Body = false
-is_head Between = false
+is_head _ = false
 
 -- phis alone came before it in the block, with lines
 abbrev pub among_phis : Stage → Bool
-among_phis Outside = false
-among_phis Head = false
 among_phis Phis = true
-among_phis Variables = false
-among_phis Body = false
-among_phis Between = false
+among_phis _ = false
 
 -- phis and variables alone came before it in the block, with lines
 abbrev pub among_variables : Stage → Bool
-among_variables Outside = false
-among_variables Head = false
 among_variables Phis = true
 among_variables Variables = true
-among_variables Body = false
-among_variables Between = false
+among_variables _ = false
 
 -- the stage behind an instruction
 abbrev pub stage_after : Class → Stage → Stage

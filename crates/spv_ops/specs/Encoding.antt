@@ -71,11 +71,8 @@ IsPart part.MemoryOperands operands = (mask : ℕ) × (mask ≤ 7) × (((bit_and
 
 -- the instruction has no operands from this part on
 abbrev pub EndsAt : Part → List Operand → Type 0
-EndsAt part.Id operands = ⊥
-EndsAt part.Literal operands = ⊥
-EndsAt part.String operands = ⊥
 EndsAt part.MayEnd operands = operands ≡ []
-EndsAt part.MemoryOperands operands = ⊥
+EndsAt _ operands = ⊥
 
 -- these operands follow the grammar
 abbrev pub FollowsGrammar : List Part → Rest → List Operand → Type 0

@@ -40,11 +40,8 @@ part_at part.MemoryOperands words = memory_operands_at words
 
 -- the instruction ends before this part
 abbrev pub ends_at : Part → List ℕ → Bool
-ends_at part.Id words = false
-ends_at part.Literal words = false
-ends_at part.String words = false
 ends_at part.MayEnd words = length words == 0
-ends_at part.MemoryOperands words = false
+ends_at _ words = false
 
 -- the operands that all of these words are
 unfoldable pub operands_of : List Part → Rest → List ℕ → Result (List Operand) WrongOperands

@@ -9,7 +9,7 @@ use Rattle.spv_index.specs.declared.positions.Standing.{Standing}
 use Rattle.spv_index.specs.Classes.{sets_of}
 use Rattle.spv_index.specs.Positions.{Stand, stands, outside, in_function}
 use Rattle.spv_sections.specs.declared.definitions.Home.{Home}
-use Rattle.spv_sections.specs.declared.definitions.Home.TheVariants.{Anywhere, Module, Within}
+use Rattle.spv_sections.specs.declared.definitions.Home.TheVariants.{Module, Within}
 use Rattle.spv_sections.specs.declared.definitions.Definition.{Definition}
 use Rattle.spv_sections.specs.Kinds.{kind_of}
 
@@ -19,13 +19,9 @@ home_of position = if in_function position.stage then Within position.function_w
 
 -- an id of the second home can be named from the first
 abbrev pub sees : Home → Home → Bool
-sees Anywhere there = true
-sees Module Anywhere = true
-sees Module Module = true
 sees Module (Within there) = false
-sees (Within here) Anywhere = true
-sees (Within here) Module = true
 sees (Within here) (Within there) = here == there
+sees _ _ = true
 
 -- what the result of an instruction stands for: a function (54) can be named from anywhere
 abbrev pub definition_at : Position → Inst → Definition

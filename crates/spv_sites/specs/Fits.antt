@@ -76,11 +76,8 @@ ResultRooted a frames (Some v) = (q : Pointer) → pointer_in (out-Value v) ≡ 
 
 -- and so does each pointer that is kept in the frame of a function which is called, above them
 abbrev pub ControlRooted : Accepted → List Frame → Control → Type 0
-ControlRooted a frames Next = ⊤
-ControlRooted a frames (Jump block phis) = ⊤
 ControlRooted a frames (Enter frame es) = IsRooted a (frames ++ frame ∷ []) (length frames) frame
-ControlRooted a frames (Leave v) = ⊤
-ControlRooted a frames Wait = ⊤
+ControlRooted a frames _ = ⊤
 
 pub record Fits (p : Program) (s : State) (i : ℕ) (d : Inst) (e : Effect) : Type 0 where
   pub store : StoreFits s i e.store

@@ -6,7 +6,7 @@ use Rattle.spv_base.specs.declared.instructions.Operand.{Operand}
 use Rattle.spv_base.specs.declared.values.Value.{Value}
 use Rattle.spv_base.specs.Options.{holds}
 use Rattle.spv_index.specs.declared.classes.Class.{Class}
-use Rattle.spv_index.specs.declared.classes.Class.TheVariants.{Function, Parameter, End, Label, Line, Phi, Variable, Terminator, Passed, Executable}
+use Rattle.spv_index.specs.declared.classes.Class.TheVariants.{Line, Phi}
 use Rattle.spv_index.specs.Classes.{class_of, sets_of}
 use Rattle.spv_index.specs.Definitions.{number_of, stands_at}
 use Rattle.spv_index.specs.Operands.{id_in}
@@ -20,16 +20,9 @@ use Rattle.spv_valid.specs.Acceptance.{Accepted}
 
 -- Phis and lines. In an accepted module the phis of a block come before all else in it, with lines alone among them.
 abbrev pub comes_first : Class → Bool
-comes_first Function = false
-comes_first Parameter = false
-comes_first End = false
-comes_first Label = false
 comes_first Line = true
 comes_first Phi = true
-comes_first Variable = false
-comes_first Terminator = false
-comes_first Passed = false
-comes_first Executable = false
+comes_first _ = false
 
 -- the instructions behind the OpLabel of a block
 abbrev pub behind_label : List Inst → ℕ → List Inst

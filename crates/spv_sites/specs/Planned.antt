@@ -61,12 +61,8 @@ IsGained s i (Some q) (Handed c) v = load_of s.memory i q ≡ Some (Scalar c)
 
 -- what a function gives lies in the row alone
 abbrev pub IsGiven : Control → Option Reference → Gain → Type 0
-IsGiven Next store gain = ⊤
-IsGiven (Jump block phis) store gain = ⊤
-IsGiven (Enter b) store gain = ⊤
-IsGiven Leave store gain = ⊤
 IsGiven Give store gain = (store ≡ None) × (gain ≡ Nothing)
-IsGiven Wait store gain = ⊤
+IsGiven _ store gain = ⊤
 
 -- the row is taken once
 abbrev pub IsTaken : State → ℕ → Effect → Value → Type 0

@@ -5,7 +5,7 @@ use Rattle.std.specs.Prelude.{ℕ, ◌==◌, ◌&&◌, ◌||◌, Bool, true, fal
 use Rattle.std.specs.Option.{option_map_or}
 use Rattle.spv_base.specs.Options.{holds}
 use Rattle.spv_types.specs.declared.forms.Form.{Form}
-use Rattle.spv_types.specs.declared.forms.Form.TheVariants.{Void, Bool as FormBool, Int, Vector, Array, Runtime, Struct, Pointer, Function}
+use Rattle.spv_types.specs.declared.forms.Form.TheVariants.{Struct, Pointer}
 use Rattle.spv_types.specs.declared.forms.Member.{Member}
 use Rattle.spv_types.specs.Types.{Types, form_of}
 use Rattle.spv_typing.specs.declared.lanes.Lanes.{Lanes}
@@ -44,15 +44,8 @@ is_pair_of ty _ = false
 -- what Select chooses: a value of any type but a pointer type. Of void and of a function type too, as for other copies
 abbrev pub is_selectable : Option Form → Bool
 is_selectable None = false
-is_selectable (Some Void) = true
-is_selectable (Some FormBool) = true
-is_selectable (Some (Int width sign)) = true
-is_selectable (Some (Vector component count)) = true
-is_selectable (Some (Array element length stride)) = true
-is_selectable (Some (Runtime element stride)) = true
-is_selectable (Some (Struct members block)) = true
 is_selectable (Some (Pointer class target)) = false
-is_selectable (Some (Function returns parameters)) = true
+is_selectable _ = true
 
 -- one Boolean for the whole, or one for each component of a vector
 abbrev pub is_condition : Option Lanes → Option Lanes → Bool

@@ -11,7 +11,7 @@ use Rattle.spv_base.specs.Options.{holds}
 use Rattle.spv_index.specs.Operands.{id_operand, literal_operand, text_operand}
 use Rattle.spv_index.specs.Definitions.{decoration, defining}
 use Rattle.spv_types.specs.declared.forms.Form.{Form}
-use Rattle.spv_types.specs.declared.forms.Form.TheVariants.{Void, Bool as Boolean, Int, Vector, Array, Runtime, Struct, Pointer, Function}
+use Rattle.spv_types.specs.declared.forms.Form.TheVariants.{Function}
 use Rattle.spv_types.specs.Types.{Types, form_of}
 use Rattle.spv_types.specs.Constants.{is_constant}
 use Rattle.spv_types.specs.Rules.{is_three_words, is_word}
@@ -56,16 +56,8 @@ entry_point insts (Some name) = find (is_named name) insts
 
 -- the type of functions without parameters that return void
 abbrev pub is_plain : Types → Option Form → Bool
-is_plain ts None = false
-is_plain ts (Some Void) = false
-is_plain ts (Some Boolean) = false
-is_plain ts (Some (Int width sign)) = false
-is_plain ts (Some (Vector component count)) = false
-is_plain ts (Some (Array element n stride)) = false
-is_plain ts (Some (Runtime element stride)) = false
-is_plain ts (Some (Struct members block)) = false
-is_plain ts (Some (Pointer class target)) = false
 is_plain ts (Some (Function returns parameters)) = is_void (form_of ts returns) && length parameters == 0
+is_plain ts _ = false
 
 -- an OpFunction (54) of such a type
 abbrev pub begins_plain : Types → Inst → Bool
@@ -83,11 +75,8 @@ all_three x y z = option_and_then (λ a. option_and_then (λ b. option_and_then 
 
 -- the numbers of three scalars
 abbrev pub numbers_in : List Cell → Option Size
-numbers_in [] = None
-numbers_in (x ∷ []) = None
-numbers_in (x ∷ y ∷ []) = None
 numbers_in (x ∷ y ∷ z ∷ []) = all_three (defined_number x) (defined_number y) (defined_number z)
-numbers_in (x ∷ y ∷ z ∷ w ∷ more) = None
+numbers_in _ = None
 
 -- a constant whose decoration BuiltIn (11) is WorkgroupSize (25)
 abbrev pub is_size_constant : List Inst → Inst → Bool
@@ -102,9 +91,8 @@ constant_size ts constants i = option_and_then (size_in ts) (reads i.id constant
 
 -- the number of the one cell
 abbrev pub number_in : List Cell → Option ℕ
-number_in [] = None
 number_in (x ∷ []) = defined_number x
-number_in (x ∷ y ∷ more) = None
+number_in _ = None
 
 -- the number of a constant of such a row, which has to be a 32-bit integer
 abbrev pub word_in : Types → Row → Option ℕ
