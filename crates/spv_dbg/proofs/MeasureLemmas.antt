@@ -1,28 +1,28 @@
 -- Sums and products that stop at the greatest of 64 bits.
-use Rattle.std.proofs.Common.{◌≡◌, ◌∙◌, Bool, true, false, ◌&&◌, nat_le, Some, None, ℕ, ◌+◌, ◌-◌, ◌*◌, ◌^◌, ◌<◌, ◌≤◌, List, [], ◌∷◌, length, get_or, drop, drop-cons, add-one, refl, sym, ap, arith}
+use Rattle.std.proofs.Common.{◌≡◌, ◌∙◌, Bool, true, false, ◌&&◌, nat_le, Option, Some, None, ℕ, ◌+◌, ◌-◌, ◌*◌, ◌^◌, ◌<◌, ◌≤◌, List, [], ◌∷◌, length, get_or, drop, drop-cons, add-one, refl, sym, ap, arith}
 use Rattle.std.specs.Prelude.{max, if◌then◌else◌}
 use Rattle.std.proofs.Math.ListN.{drop_of_length-le}
 use Rattle.std.proofs.Math.Nat.{mul_assoc}
 use Rattle.spv_base.specs.Saturation.{saturated}
 use Rattle.spv_base.proofs.Exports.{saturated-mul, unsaturated}
-use Rattle.spv_valid.specs.Acceptance.{Accepted}
+use Rattle.spv_dbg.specs.declared.marks.Mark.{Mark}
 use Rattle.spv_dbg.specs.declared.measures.Measure.{Measure}
 use Rattle.spv_dbg.specs.Saturation.{saturated_measure}
 use Rattle.spv_dbg.specs.Forming.{is_within, marked}
-use Rattle.spv_dbg.specs.Marks.{Marks, count_of, members, product}
+use Rattle.spv_dbg.specs.Marks.{count_of, members, product}
 
 -- one more factor
-pub times_more : (m : Accepted) (bits i : ℕ) (ids : List ℕ) (whole : ℕ) → i < length ids → saturated (bits * product m (drop i ids)) ≡ whole
-    → saturated (saturated (bits * count_of m (get_or ids i 0)) * product m (drop (i + 1) ids)) ≡ whole
-times_more m bits i ids whole lt e =
+pub times_more : (literal : ℕ → Option ℕ) (bits i : ℕ) (ids : List ℕ) (whole : ℕ) → i < length ids → saturated (bits * product literal (drop i ids)) ≡ whole
+    → saturated (saturated (bits * count_of literal (get_or ids i 0)) * product literal (drop (i + 1) ids)) ≡ whole
+times_more literal bits i ids whole lt e =
     let next = get_or ids i 0 in
-    let rest = product m (drop (i + 1) ids) in
-    saturated-mul (bits * count_of m next) rest ∙ ap saturated (mul_assoc bits (count_of m next) rest)
-    ∙ sym (ap (λ (xs : List ℕ). saturated (bits * product m xs)) (drop-cons ids i 0 lt ∙ ap (λ (j : ℕ). next ∷ drop j ids) (sym (add-one i)))) ∙ e
+    let rest = product literal (drop (i + 1) ids) in
+    saturated-mul (bits * count_of literal next) rest ∙ ap saturated (mul_assoc bits (count_of literal next) rest)
+    ∙ sym (ap (λ (xs : List ℕ). saturated (bits * product literal xs)) (drop-cons ids i 0 lt ∙ ap (λ (j : ℕ). next ∷ drop j ids) (sym (add-one i)))) ∙ e
 
 -- all factors
-pub times_all : (m : Accepted) (bits i : ℕ) (ids : List ℕ) (whole : ℕ) → length ids ≤ i → bits < 2 ^ 64 → saturated (bits * product m (drop i ids)) ≡ whole → bits ≡ whole
-times_all m bits i ids whole le lt e =
+pub times_all : (literal : ℕ → Option ℕ) (bits i : ℕ) (ids : List ℕ) (whole : ℕ) → length ids ≤ i → bits < 2 ^ 64 → saturated (bits * product literal (drop i ids)) ≡ whole → bits ≡ whole
+times_all literal bits i ids whole le lt e =
     let none : drop i ids ≡ [] = drop_of_length-le ids le in
     let one : saturated (bits * 1) ≡ whole = rw none at e in
     let same : bits * 1 ≡ bits = omega arith in
@@ -33,9 +33,9 @@ abbrev pub with_rest : Measure → Measure → Measure
 with_rest all rest = record { bits = all.bits + rest.bits; nesting = max all.nesting rest.nesting }
 
 -- all members
-pub members_all : (m : Accepted) (marks : Marks) (all : Measure) (i : ℕ) (ids : List ℕ) (whole : Measure) → length ids ≤ i → all.bits < 2 ^ 64 → all.nesting < 2 ^ 64
-    → saturated_measure (with_rest all (members m marks (drop i ids))) ≡ whole → all ≡ whole
-members_all m marks all i ids whole le b n e =
+pub members_all : (kept : ℕ → Option Mark) (all : Measure) (i : ℕ) (ids : List ℕ) (whole : Measure) → length ids ≤ i → all.bits < 2 ^ 64 → all.nesting < 2 ^ 64
+    → saturated_measure (with_rest all (members kept (drop i ids))) ≡ whole → all ≡ whole
+members_all kept all i ids whole le b n e =
     let none : drop i ids ≡ [] = drop_of_length-le ids le in
     let f = rw none at e in
     let same_bits : saturated (all.bits + 0) ≡ all.bits = omega arith in

@@ -18,15 +18,37 @@ use Rattle.spv_dbg.specs.declared.marks.Mark.{Mark}
 use Rattle.spv_dbg.specs.declared.measures.Measure.{Measure}
 use Rattle.spv_dbg.specs.Kinds.{in_blocks_alone, kinds, numbers_for, operations}
 use Rattle.spv_dbg.specs.Literals.{literal_of, string_of}
-use Rattle.spv_dbg.specs.Marks.{Marks, is_one_of, known, measure_of}
+use Rattle.spv_dbg.specs.Marks.{Marks, is_one_of, known, measured}
 use Rattle.spv_dbg.specs.Forming.{all_fit, fits, fragment_is_last, has_operands, is_exact, is_formed, is_fragment, is_operation, is_within, leads_to, more_fit, opcode_of, operands_fit, pairs_fit}
-use Rattle.spv_dbg.specs.Wellformed.{AllFit, EachFits, Fits, FragmentIsLast, IsOperation, IsWellFormed, MoreFit, PairsFit}
+use Rattle.spv_dbg.specs.Wellformed.{AllFit, EachFits, Fits, FragmentIsLast, IsOperation, IsWellFormed, MoreFit, Names, PairsFit}
 
 module _ (m : Accepted) (marks : Marks) where
+  -- what operands have to be, by these marks
+  abbrev FitsHere : Role → ℕ → Type 0
+  FitsHere = Fits (Names m marks) (literal_of m) (string_of m.insts) (opcode_of m)
+
+  abbrev AllFitHere : List Role → List ℕ → Type 0
+  AllFitHere = AllFit (Names m marks) (literal_of m) (string_of m.insts) (opcode_of m)
+
+  abbrev EachFitsHere : Role → List ℕ → Type 0
+  EachFitsHere = EachFits (Names m marks) (literal_of m) (string_of m.insts) (opcode_of m)
+
+  abbrev PairsFitHere : Role → Role → List ℕ → Type 0
+  PairsFitHere = PairsFit (Names m marks) (literal_of m) (string_of m.insts) (opcode_of m)
+
+  abbrev MoreFitHere : More → List ℕ → Type 0
+  MoreFitHere = MoreFit (Names m marks) (literal_of m) (string_of m.insts) (opcode_of m)
+
+  abbrev IsOperationHere : List ℕ → Type 0
+  IsOperationHere = IsOperation (Names m marks) (literal_of m) (string_of m.insts) (opcode_of m)
+
+  abbrev FragmentIsLastHere : List ℕ → Type 0
+  FragmentIsLastHere = FragmentIsLast (Names m marks) (literal_of m) (string_of m.insts) (opcode_of m)
+
   names_decides : (role : Role) (id : ℕ) → Decides (leads_to m marks role id) ((k : Mark) × (known m marks id ≡ Some k) × (is_one_of (numbers_for role) k.number ≡ true))
   names_decides role id = test_decides (λ (k : Mark). is_one_of (numbers_for role) k.number ≡ true) (λ (k : Mark). is_one_of (numbers_for role) k.number) (known m marks id) (λ k. itself (is_one_of (numbers_for role) k.number))
 
-  fits_decides : (role : Role) (id : ℕ) → Decides (fits m marks role id) (Fits m marks role id)
+  fits_decides : (role : Role) (id : ℕ) → Decides (fits m marks role id) (FitsHere role id)
   fits_decides Any id = ((λ h. tt), (λ h. refl))
   fits_decides Literal id = some_decides (literal_of m id)
   fits_decides Text id = some_decides (string_of m.insts id)
@@ -39,18 +61,18 @@ module _ (m : Accepted) (marks : Marks) where
   fits_decides Expression id = names_decides Expression id
   fits_decides Operation id = names_decides Operation id
 
-  all_decides : (roles : List Role) (ids : List ℕ) → Decides (all_fit m marks roles ids) (AllFit m marks roles ids)
+  all_decides : (roles : List Role) (ids : List ℕ) → Decides (all_fit m marks roles ids) (AllFitHere roles ids)
   all_decides [] ids = ((λ h. tt), (λ h. refl))
   all_decides (role ∷ roles) [] = ((λ h. absurd (cc)), (λ h. absurd h))
   all_decides (role ∷ roles) (id ∷ ids) =
       Decides-and (fits m marks role id) (all_fit m marks roles ids) (fits_decides role id) (all_decides roles ids)
 
-  each_decides : (role : Role) (ids : List ℕ) → Decides (list_all (fits m marks role) ids) (EachFits m marks role ids)
+  each_decides : (role : Role) (ids : List ℕ) → Decides (list_all (fits m marks role) ids) (EachFitsHere role ids)
   each_decides role [] = ((λ h. tt), (λ h. refl))
   each_decides role (id ∷ ids) =
       Decides-and (fits m marks role id) (list_all (fits m marks role) ids) (fits_decides role id) (each_decides role ids)
 
-  pairs_decides : (first second : Role) (ids : List ℕ) → Decides (pairs_fit m marks first second ids) (PairsFit m marks first second ids)
+  pairs_decides : (first second : Role) (ids : List ℕ) → Decides (pairs_fit m marks first second ids) (PairsFitHere first second ids)
   pairs_decides first second [] = ((λ h. tt), (λ h. refl))
   pairs_decides first second (a ∷ []) = ((λ h. tt), (λ h. refl))
   pairs_decides first second (a ∷ b ∷ ids) =
@@ -58,7 +80,7 @@ module _ (m : Accepted) (marks : Marks) where
       (Decides-and (fits m marks first a) (fits m marks second b) (fits_decides first a) (fits_decides second b))
       (pairs_decides first second ids)
 
-  more_decides : (more : More) (ids : List ℕ) → Decides (more_fit m marks more ids) (MoreFit m marks more ids)
+  more_decides : (more : More) (ids : List ℕ) → Decides (more_fit m marks more ids) (MoreFitHere more ids)
   more_decides Nothing ids = ((λ h. tt), (λ h. refl))
   more_decides (Optional role) [] = ((λ h. tt), (λ h. refl))
   more_decides (Optional role) (id ∷ ids) = fits_decides role id
@@ -67,7 +89,7 @@ module _ (m : Accepted) (marks : Marks) where
 
   -- by the row of a kind
   abbrev OfKind : List ℕ → List Role × More → Type 0
-  OfKind ids kind = AllFit m marks kind.0 ids × MoreFit m marks kind.1 (drop (length kind.0) ids)
+  OfKind ids kind = AllFitHere kind.0 ids × MoreFitHere kind.1 (drop (length kind.0) ids)
 
   operands_decides : (number : ℕ) (ids : List ℕ) → Decides (has_operands m marks number ids) ((kind : List Role × More) × (reads number kinds ≡ Some kind) × OfKind ids kind)
   unfolding has_operands
@@ -75,10 +97,10 @@ module _ (m : Accepted) (marks : Marks) where
       test_decides (OfKind ids) (λ (kind : List Role × More). operands_fit m marks kind ids) (reads number kinds)
       (λ kind. Decides-and (all_fit m marks kind.0 ids) (more_fit m marks kind.1 (drop (length kind.0) ids)) (all_decides kind.0 ids) (more_decides kind.1 (drop (length kind.0) ids)))
 
-  operation_decides : (ids : List ℕ) → Decides (is_operation m marks ids) (IsOperation m marks ids)
+  operation_decides : (ids : List ℕ) → Decides (is_operation m marks ids) (IsOperationHere ids)
   operation_decides [] = ((λ h. absurd (cc)), (λ h. absurd h))
   operation_decides (code ∷ ids) =
-      test_decides (λ (roles : List Role). (length ids ≡ length roles) × AllFit m marks roles ids) (λ (roles : List Role). (length ids == length roles) && all_fit m marks roles ids)
+      test_decides (λ (roles : List Role). (length ids ≡ length roles) × AllFitHere roles ids) (λ (roles : List Role). (length ids == length roles) && all_fit m marks roles ids)
       (option_and_then (λ opcode. reads opcode operations) (literal_of m code))
       (λ roles. Decides-and (length ids == length roles) (all_fit m marks roles ids) (Decides-eqb (length ids) (length roles)) (all_decides roles ids))
 
@@ -90,7 +112,7 @@ module _ (m : Accepted) (marks : Marks) where
         | inr apart ↦ (let nope : (k == 9) ≡ false = ne_eqb k 9 apart in rw nope ((λ h e. apart (cc)), (λ h. refl)))
       ]
 
-  last_decides : (ids : List ℕ) → Decides (fragment_is_last m ids) (FragmentIsLast m marks ids)
+  last_decides : (ids : List ℕ) → Decides (fragment_is_last m ids) (FragmentIsLastHere ids)
   last_decides [] = ((λ h. tt), (λ h. refl))
   last_decides (id ∷ []) = ((λ h. tt), (λ h. refl))
   last_decides (id ∷ next ∷ ids) =
@@ -121,11 +143,11 @@ module _ (m : Accepted) (marks : Marks) where
       by_case true = refl
       by_case false = refl
 
-  exact_decides : (number : ℕ) (ids : List ℕ) → Decides (is_exact m marks number ids) ((number ≡ 30 → IsOperation m marks ids) × (number ≡ 31 → FragmentIsLast m marks ids))
+  exact_decides : (number : ℕ) (ids : List ℕ) → Decides (is_exact m marks number ids) ((number ≡ 30 → IsOperationHere ids) × (number ≡ 31 → FragmentIsLastHere ids))
   exact_decides number ids =
       rw (exact_split number (is_operation m marks ids) (fragment_is_last m ids))
       (Decides-and (if number == 30 then is_operation m marks ids else true) (if number == 31 then fragment_is_last m ids else true)
-      (asked number 30 (is_operation m marks ids) (IsOperation m marks ids) (operation_decides ids)) (asked number 31 (fragment_is_last m ids) (FragmentIsLast m marks ids) (last_decides ids)))
+      (asked number 30 (is_operation m marks ids) (IsOperationHere ids) (operation_decides ids)) (asked number 31 (fragment_is_last m ids) (FragmentIsLastHere ids) (last_decides ids)))
 
   -- all of it
   abbrev HasKind : DebugInst → Type 0
@@ -135,7 +157,7 @@ module _ (m : Accepted) (marks : Marks) where
   HasPlace inside d = is_one_of in_blocks_alone d.number ≡ true → inside ≡ true
 
   abbrev IsExact : DebugInst → Type 0
-  IsExact d = (d.number ≡ 30 → IsOperation m marks d.operands) × (d.number ≡ 31 → FragmentIsLast m marks d.operands)
+  IsExact d = (d.number ≡ 30 → IsOperationHere d.operands) × (d.number ≡ 31 → FragmentIsLastHere d.operands)
 
   abbrev IsWithin : Measure → Type 0
   IsWithin x = (x.bits ≤ 268435456) × (x.nesting ≤ 64)
@@ -144,14 +166,14 @@ module _ (m : Accepted) (marks : Marks) where
   within_decides x = Decides-and (nat_le x.bits 268435456) (nat_le x.nesting 64) (at_most x.bits 268435456) (at_most x.nesting 64)
 
   abbrev Parts : Bool → DebugInst → Type 0
-  Parts inside d = ((HasKind d × HasPlace inside d) × IsExact d) × IsWithin (measure_of m marks d.number d.operands)
+  Parts inside d = ((HasKind d × HasPlace inside d) × IsExact d) × IsWithin (measured m marks d)
 
   parts_decide : (inside : Bool) (d : DebugInst) → Decides (is_formed m marks inside d) (Parts inside d)
   parts_decide inside d =
       let kind = has_operands m marks d.number d.operands in
       let place = inside || not (is_one_of in_blocks_alone d.number) in
       let exact = is_exact m marks d.number d.operands in
-      let measure = measure_of m marks d.number d.operands in
+      let measure = measured m marks d in
       Decides-and ((kind && place) && exact) (is_within measure)
       (Decides-and (kind && place) exact
       (Decides-and kind place (operands_decides d.number d.operands) (place_decides inside (is_one_of in_blocks_alone d.number)))
@@ -163,16 +185,18 @@ module _ (m : Accepted) (marks : Marks) where
     where
       told : Parts inside d → IsWellFormed m marks inside d
       told p = record {
-        kind = p.0.0.0.0;
-        is_kind = p.0.0.0.1;
-        operands = p.0.0.0.2.0;
-        more = p.0.0.0.2.1;
+        operands = record {
+          kind = p.0.0.0.0;
+          is_kind = p.0.0.0.1;
+          operands = p.0.0.0.2.0;
+          more = p.0.0.0.2.1;
+          operation = p.0.1.0;
+          expression = p.0.1.1;
+        };
         place = p.0.0.1;
-        operation = p.0.1.0;
-        expression = p.0.1.1;
         bits = p.1.0;
         nesting = p.1.1;
       }
 
       parts : IsWellFormed m marks inside d → Parts inside d
-      parts w = ((((w.kind, w.is_kind, (w.operands, w.more)), w.place), (w.operation, w.expression)), (w.bits, w.nesting))
+      parts w = ((((w.operands.kind, w.operands.is_kind, (w.operands.operands, w.operands.more)), w.place), (w.operands.operation, w.operands.expression)), (w.bits, w.nesting))

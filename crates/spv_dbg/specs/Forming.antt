@@ -1,12 +1,11 @@
 -- Which debug instructions are well-formed: by the table of their kinds, where they stand, and the limits on types. This is this project's profile
 -- of NonSemantic.Shader.DebugInfo.100.
-use Rattle.std.specs.Prelude.{ℕ, ◌+◌, ◌==◌, ◌&&◌, ◌||◌, not, nat_le, Bool, true, false, if◌then◌else◌, List, [], ◌∷◌, ◌++◌, length, drop, Option, Some, None}
+use Rattle.std.specs.Prelude.{ℕ, ◌+◌, ◌==◌, ◌&&◌, ◌||◌, not, nat_le, Bool, true, false, if◌then◌else◌, List, [], ◌∷◌, ◌++◌, length, drop, slice_index, Option, Some, None}
 use Rattle.std.specs.Option.{is_some, option_and_then, option_map, option_map_or}
 use Rattle.std.specs.List.{list_all}
 use Rattle.spv_base.specs.Entries.{reads}
 use Rattle.spv_base.specs.declared.instructions.Inst.{Inst}
 use Rattle.spv_index.specs.Definitions.{defining}
-use Rattle.spv_index.specs.Operands.{id_operand}
 use Rattle.spv_index.specs.Positions.{Stand, in_block}
 use Rattle.spv_index.specs.declared.classes.Class.{Class}
 use Rattle.spv_index.specs.declared.positions.Position.{Position}
@@ -20,12 +19,12 @@ use Rattle.spv_dbg.specs.declared.marks.Mark.{Mark}
 use Rattle.spv_dbg.specs.declared.measures.Measure.{Measure}
 use Rattle.spv_dbg.specs.Kinds.{in_blocks_alone, kinds, numbers_for, operations}
 use Rattle.spv_dbg.specs.Literals.{literal_of, string_of}
-use Rattle.spv_dbg.specs.Marks.{Marks, debug_inst, is_one_of, known, measure_of}
+use Rattle.spv_dbg.specs.Marks.{Marks, debug_inst, ids_behind, is_one_of, known, measured}
 use Rattle.spv_index.specs.DebugSet.{set_number}
 
--- the OpCode of the Operation with an id
+-- the OpCode of the Operation with an id, its first operand
 abbrev pub opcode_of : Accepted → ℕ → Option ℕ
-opcode_of m id = option_and_then (λ i. option_and_then (literal_of m) (id_operand i 2)) (defining m.insts id)
+opcode_of m id = option_and_then (λ i. literal_of m (slice_index (ids_behind i) 0)) (defining m.insts id)
 
 abbrev pub is_fragment : Option ℕ → Bool
 is_fragment None = false
@@ -107,11 +106,11 @@ module _ (m : Accepted) (marks : Marks) where
 
   -- a debug instruction is well-formed, in a block or not
   abbrev pub is_formed : Bool → DebugInst → Bool
-  is_formed inside d = is_right inside d && is_within (measure_of m marks d.number d.operands)
+  is_formed inside d = is_right inside d && is_within (measured m marks d)
 
   -- what is kept of it
   unfoldable pub mark_of : Bool → DebugInst → Option Mark
-  mark_of inside d = if is_formed inside d then Some (marked d.number (measure_of m marks d.number d.operands)) else None
+  mark_of inside d = if is_formed inside d then Some (marked d.number (measured m marks d)) else None
 
 -- ---- all instructions of a module, where those before have these marks
 

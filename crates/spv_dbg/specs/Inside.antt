@@ -1,14 +1,14 @@
 -- What stored tables are.
-use Rattle.std.specs.Prelude.{◌≡◌, ℕ, List, map}
+use Rattle.std.specs.Prelude.{◌≡◌, ℕ, List, map, zip}
 use Rattle.spv_dbg.specs.declared.tables.DebugTables.TheInside.{Inside}
 use Rattle.spv_dbg.specs.Names.{number_from, number_under}
 use Rattle.spv_index.specs.Places.{keys_of, places_from}
 use Rattle.spv_dbg.specs.Seen.{seen}
 use Rattle.spv_dbg.specs.Sources.{has_name}
-use Rattle.spv_dbg.specs.Tables.{Tables}
+use Rattle.spv_dbg.specs.Tables.{Tables, ids_of}
 
 abbrev pub view_of : Inside → Tables
-view_of x = record { insts = x.insts.items; ignored = x.ignored; strings = x.strings; constants = x.constants; inlined = x.inlined; sources = map (seen x.strings) x.sources.items }
+view_of x = record { insts = x.insts.items; marks = zip (ids_of x.insts.items) x.marks.items; ignored = x.ignored; strings = x.strings; constants = x.constants; inlined = x.inlined; sources = map (seen x.strings) x.sources.items }
 
 -- the numbers of the debug instructions stand under their ids and their words, those of the texts under the names of their files
 pub record AreTables (x : Inside) : Type 0 where

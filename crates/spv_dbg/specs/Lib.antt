@@ -9,3 +9,4 @@ pub mod Names
 pub mod Wellformed
 pub mod Tables
 pub mod Inside
+pub mod Records

@@ -36,7 +36,7 @@ known m marks id = option_and_then (λ n. unwrap_or (slice_get marks n) None) (n
 abbrev pub is_one_of : List ℕ → ℕ → Bool
 is_one_of numbers n = list_any (λ k. k == n) numbers
 
--- ---- bits and nesting
+-- ---- bits and nesting, by the numbers of constants and by what is kept of earlier debug instructions
 
 abbrev pub nothing : Measure
 nothing = record { bits = 0; nesting = 0 }
@@ -44,32 +44,34 @@ nothing = record { bits = 0; nesting = 0 }
 abbrev pub measure_in : Mark → Measure
 measure_in k = record { bits = k.bits; nesting = k.nesting }
 
--- those of an earlier type
-abbrev pub part : Accepted → Marks → ℕ → Measure
-part m marks id = option_map_or measure_in (known m marks id) nothing
+module _ (literal : ℕ → Option ℕ) where
+  abbrev pub count_of : ℕ → ℕ
+  count_of id = unwrap_or (literal id) 0
 
-abbrev pub count_of : Accepted → ℕ → ℕ
-count_of m id = unwrap_or (literal_of m id) 0
-
--- the product of some Counts
-abbrev pub product : Accepted → List ℕ → ℕ
-product m [] = 1
-product m (id ∷ ids) = count_of m id * product m ids
+  -- the product of some Counts
+  abbrev pub product : List ℕ → ℕ
+  product [] = 1
+  product (id ∷ ids) = count_of id * product ids
 
 -- what a Member has; one that is no TypeMember (11) is skipped
 abbrev pub member_in : Mark → Measure
 member_in k = if k.number == 11 then measure_in k else nothing
 
-abbrev pub member : Accepted → Marks → ℕ → Measure
-member m marks id = option_map_or member_in (known m marks id) nothing
+module _ (kept : ℕ → Option Mark) where
+  -- those of an earlier type
+  abbrev pub part : ℕ → Measure
+  part id = option_map_or measure_in (kept id) nothing
 
--- the sum of the bits of some Members, and the greatest of their nestings
-abbrev pub members : Accepted → Marks → List ℕ → Measure
-members m marks [] = nothing
-members m marks (id ∷ ids) = record {
-  bits = (member m marks id).bits + (members m marks ids).bits;
-  nesting = max (member m marks id).nesting (members m marks ids).nesting;
-}
+  abbrev pub member : ℕ → Measure
+  member id = option_map_or member_in (kept id) nothing
+
+  -- the sum of the bits of some Members, and the greatest of their nestings
+  abbrev pub members : List ℕ → Measure
+  members [] = nothing
+  members (id ∷ ids) = record {
+    bits = (member id).bits + (members ids).bits;
+    nesting = max (member id).nesting (members ids).nesting;
+  }
 
 -- a type over another one, so many times
 abbrev pub over : ℕ → ℕ → Measure → Measure
@@ -77,14 +79,18 @@ over times deeper base = record { bits = base.bits * times; nesting = base.nesti
 
 -- By the numbers of the instructions: TypeBasic (2), TypePointer (3), TypeQualifier (4), TypeArray (5), TypeVector (6), Typedef (7), TypeFunction (8),
 -- TypeEnum (9), TypeComposite (10), TypeMember (11, that of its Type), TypeMatrix (108) and InfoNone (0). No other is a type.
-unfoldable pub measure_of : Accepted → Marks → ℕ → List ℕ → Measure
-measure_of m marks number ids =
-    if number == 2 then record { bits = count_of m (slice_index ids 1); nesting = 1 }
+unfoldable pub measure_of : (ℕ → Option ℕ) → (ℕ → Option Mark) → ℕ → List ℕ → Measure
+measure_of literal kept number ids =
+    if number == 2 then record { bits = count_of literal (slice_index ids 1); nesting = 1 }
     else if is_one_of (0 ∷ 3 ∷ 8 ∷ []) number then record { bits = 0; nesting = 1 }
-    else if number == 4 then over 1 1 (part m marks (slice_index ids 0))
-    else if number == 5 then over (product m (drop 1 ids)) (length (drop 1 ids)) (part m marks (slice_index ids 0))
-    else if is_one_of (6 ∷ 108 ∷ []) number then over (count_of m (slice_index ids 1)) 1 (part m marks (slice_index ids 0))
-    else if is_one_of (7 ∷ 9 ∷ []) number then over 1 1 (part m marks (slice_index ids 1))
-    else if number == 10 then over 1 1 (members m marks (drop 9 ids))
-    else if number == 11 then part m marks (slice_index ids 1)
+    else if number == 4 then over 1 1 (part kept (slice_index ids 0))
+    else if number == 5 then over (product literal (drop 1 ids)) (length (drop 1 ids)) (part kept (slice_index ids 0))
+    else if is_one_of (6 ∷ 108 ∷ []) number then over (count_of literal (slice_index ids 1)) 1 (part kept (slice_index ids 0))
+    else if is_one_of (7 ∷ 9 ∷ []) number then over 1 1 (part kept (slice_index ids 1))
+    else if number == 10 then over 1 1 (members kept (drop 9 ids))
+    else if number == 11 then part kept (slice_index ids 1)
     else nothing
+
+-- those of a debug instruction of a module, behind instructions with these marks
+abbrev pub measured : Accepted → Marks → DebugInst → Measure
+measured m marks d = measure_of (literal_of m) (known m marks) d.number d.operands

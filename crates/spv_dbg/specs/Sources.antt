@@ -1,5 +1,5 @@
 -- The texts of source files: those of Source and SourceContinued of the debug set, and of OpSource and OpSourceContinued (SPIR-V 1.6 section 3.42.2).
-use Rattle.std.specs.Prelude.{ℕ, ◌+◌, ◌-◌, ◌==◌, ◌&&◌, nat_le, nat_lt, Bool, false, if◌then◌else◌, List, [], ◌∷◌, ◌++◌, length, slice_index, unwrap_or, find, Option, Some, None}
+use Rattle.std.specs.Prelude.{ℕ, ◌==◌, ◌&&◌, nat_lt, Bool, false, if◌then◌else◌, List, [], ◌∷◌, ◌++◌, length, slice_index, unwrap_or, find, Option, Some, None}
 use Rattle.std.specs.Option.{option_map, option_map_or}
 use Rattle.std.specs.Str.{bytes_eq}
 use Rattle.spv_base.specs.Entries.{reads}
@@ -31,30 +31,13 @@ continuation strings (d ∷ ds) = if d.number == 35 then [] else continued strin
 abbrev pub has_text : DebugInst → Bool
 has_text d = d.number == 35 && nat_lt 1 (length d.operands)
 
--- the bytes that are joined for the text with an id, before others: none where nothing continues it
-abbrev pub joined : Strings → ℕ → List DebugInst → ℕ
-joined strings id ds = if length (continuation strings ds) == 0 then 0 else length (text_of strings id) + length (continuation strings ds)
+-- a Source with a Text, before others
+abbrev pub source_at : Strings → DebugInst → List DebugInst → Sources
+source_at strings d ds = if has_text d then (slice_index d.operands 0, text_of strings (slice_index d.operands 1) ++ continuation strings ds) ∷ [] else []
 
--- a Source with a Text, before others, where so many bytes may still be joined
-abbrev pub fits : Strings → ℕ → DebugInst → List DebugInst → Bool
-fits strings room d ds = has_text d && nat_le (joined strings (slice_index d.operands 1) ds) room
-
-abbrev pub source_at : Strings → ℕ → DebugInst → List DebugInst → Sources
-source_at strings room d ds =
-    if fits strings room d ds then (slice_index d.operands 0, text_of strings (slice_index d.operands 1) ++ continuation strings ds) ∷ [] else []
-
--- how many bytes may be joined behind it
-abbrev pub room_behind : Strings → ℕ → DebugInst → List DebugInst → ℕ
-room_behind strings room d ds = if fits strings room d ds then room - joined strings (slice_index d.operands 1) ds else room
-
-abbrev pub sources_in : Strings → ℕ → List DebugInst → Sources
-sources_in strings room [] = []
-sources_in strings room (d ∷ ds) = source_at strings room d ds ++ sources_in strings (room_behind strings room d ds) ds
-
--- Joined texts have together at most as many bytes as a module has, 4 MiB. Only strings that are named again and again lead past them, and a Source
--- there has no text.
 abbrev pub debug_sources : Strings → List DebugInst → Sources
-debug_sources strings ds = sources_in strings 4194304 ds
+debug_sources strings [] = []
+debug_sources strings (d ∷ ds) = source_at strings d ds ++ debug_sources strings ds
 
 -- ---- OpSource (3): language, version, file, text; OpSourceContinued (2): text
 

@@ -1,6 +1,6 @@
 -- What is read off the debug instructions of a module: the well-formed ones, and what their operands stand for.
-use Rattle.std.specs.Prelude.{ℕ, ◌==◌, if◌then◌else◌, List, [], ◌∷◌, ◌++◌, slice_index, unwrap_or, find, Option, Some, None}
-use Rattle.std.specs.Option.{option_and_then, option_map_or}
+use Rattle.std.specs.Prelude.{ℕ, ◌==◌, if◌then◌else◌, List, [], ◌∷◌, ◌++◌, map, position, slice_index, unwrap_or, find, zip, Option, Some, None}
+use Rattle.std.specs.Option.{option_and_then, option_map, option_map_or}
 use Rattle.std.specs.List.{flat_map}
 use Rattle.spv_base.specs.Entries.{reads}
 use Rattle.spv_base.specs.declared.instructions.Inst.{Inst}
@@ -18,6 +18,7 @@ use Rattle.spv_dbg.specs.Forming.{formed_from, malformed_from, marks_from}
 
 pub record Tables : Type 0 where
   pub insts : List DebugInst  -- the well-formed debug instructions, in the order of the module
+  pub marks : List (ℕ × Mark)  -- what is kept of each of them, under its id: its number, and the bits and the nesting of a type
   pub ignored : ℕ  -- how many debug instructions are malformed
   pub strings : List (ℕ × List ℕ)  -- each OpString
   pub constants : List (ℕ × Constant)  -- each constant
@@ -69,6 +70,15 @@ abbrev pub inlined_from : List (Stand × Option Mark) → List (Stand × Option 
 inlined_from before [] = []
 inlined_from before (p ∷ ps) = (p.0.inst.word, if in_block p.0.position.stage then in_force before else 0) ∷ inlined_from (p ∷ before) ps
 
+-- ---- what is kept of the well-formed ones
+
+abbrev pub kept_if : Option Mark → List Mark
+kept_if None = []
+kept_if (Some k) = k ∷ []
+
+abbrev pub kept_in : Marks → List Mark
+kept_in marks = flat_map kept_if marks
+
 -- ---- all of them
 
 unfoldable pub marks_of : Accepted → Marks
@@ -86,9 +96,13 @@ ignored_of m = malformed_from m [] (stands_of m.insts)
 abbrev pub sources_of : Accepted → List (ℕ × List ℕ)
 sources_of m = debug_sources (strings_of m.insts) (insts_of m) ++ op_sources_in m.insts
 
+abbrev pub ids_of : List DebugInst → List ℕ
+ids_of insts = map (λ d. d.id) insts
+
 unfoldable pub tables_of : Accepted → Tables
 tables_of m = record {
   insts = insts_of m;
+  marks = zip (ids_of (insts_of m)) (kept_in (marks_of m));
   ignored = ignored_of m;
   strings = strings_of m.insts;
   constants = constants_of m;
@@ -101,6 +115,14 @@ tables_of m = record {
 -- the debug instruction with an id
 abbrev pub with_id : Tables → ℕ → Option DebugInst
 with_id t id = find (λ (d : DebugInst). d.id == id) t.insts
+
+-- its number among the well-formed ones
+abbrev pub number_in : Tables → ℕ → Option ℕ
+number_in t id = position (λ (d : DebugInst). d.id == id) t.insts
+
+-- how many bits the values of the type with an id have, or those of the Type of the TypeMember with it; 0 where it is neither
+abbrev pub bits_in : Tables → ℕ → Option ℕ
+bits_in t id = option_map (λ (k : Mark). k.bits) (reads id t.marks)
 
 -- the debug instruction at a word
 abbrev pub at_word : Tables → ℕ → Option DebugInst

@@ -2,12 +2,11 @@
 ghost use Rattle.std.specs.Prelude.{◌≡◌};
 ghost use Rattle.spv_dbg.specs.Forming as spec;
 
-use crate::insts::DebugInst;
+use crate::insts::{DebugInst, operand_of};
 use crate::kinds::{FRAGMENT, More, Role, is_in_blocks_alone, kind_of, operands_of};
 use crate::literals::{literal_of, string_of};
 use crate::marks::{Mark, known};
 use crate::measures::{Measure, measure_of, operands_from};
-use spv_index::id_operand;
 use spv_ops::debug_info::{EXPRESSION, OPERATION};
 use spv_valid::Module;
 
@@ -127,7 +126,7 @@ fn opcode_of(module: &Module, id: u32) -> Option<u32>
     ensures { result ≡ spec.opcode_of module.now id }
 {
     let inst = module.index().defining(id)?;
-    literal_of(module, id_operand(inst, 2)?)
+    literal_of(module, operand_of(inst, 0))
 }
 
 /// Whether an Operation has what its OpCode asks, and nothing behind it.

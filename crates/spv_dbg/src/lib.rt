@@ -13,12 +13,15 @@ mod marks;
 mod measures;
 mod names;
 mod op_sources;
+mod pieces;
 mod records;
 mod sources;
 mod strings;
 mod tables;
+mod texts;
 
 pub use frames::{Bit, ShownFrame};
 pub use insts::DebugInst;
-pub use laws::well_formed_records_are_those_of_the_table;
+pub use laws::{records_are_whole_in_their_tables, well_formed_records_are_those_of_the_table};
+pub use pieces::SourceText;
 pub use tables::DebugTables;

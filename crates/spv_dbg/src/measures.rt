@@ -2,6 +2,7 @@
 ghost use Rattle.std.specs.Prelude.{◌≡◌, ◌*◌, ◌<◌, drop, length};
 ghost use Rattle.spv_base.specs.Saturation.{saturated};
 ghost use Rattle.spv_dbg.specs.Saturation.{saturated_measure};
+ghost use Rattle.spv_dbg.specs.Literals.{literal_of};
 ghost use Rattle.spv_dbg.specs.Marks as spec;
 
 use crate::insts::operand;
@@ -41,7 +42,7 @@ fn measure_in(mark: Mark) -> Measure
 
 /// That of an earlier type.
 fn part(module: &Module, marks: &[Option<Mark>], id: u32) -> Measure
-    ensures { result ≡ spec.part module.now marks.now id }
+    ensures { result ≡ spec.part (spec.known module.now marks.now) id }
 {
     match known(module, marks, id) {
         Some(mark) => measure_in(mark),
@@ -50,14 +51,14 @@ fn part(module: &Module, marks: &[Option<Mark>], id: u32) -> Measure
 }
 
 fn count_of(module: &Module, id: u32) -> u64
-    ensures { result ≡ spec.count_of module.now id }
+    ensures { result ≡ spec.count_of (literal_of module.now) id }
 {
     u64::from(literal_of(module, id).unwrap_or(0))
 }
 
 /// A number times the product of some Counts.
 fn times(module: &Module, base: u64, counts: &[u32]) -> u64
-    ensures { result ≡ saturated (base * spec.product module.now counts.now) }
+    ensures { result ≡ saturated (base * spec.product (literal_of module.now) counts.now) }
 {
     let mut bits = base;
     for id in counts {
@@ -68,7 +69,7 @@ fn times(module: &Module, base: u64, counts: &[u32]) -> u64
 
 /// That of a member, where it is a well-formed one.
 fn member(module: &Module, marks: &[Option<Mark>], id: u32) -> Measure
-    ensures { result ≡ spec.member module.now marks.now id }
+    ensures { result ≡ spec.member (spec.known module.now marks.now) id }
 {
     match known(module, marks, id) {
         Some(mark) if mark.number == TYPE_MEMBER => measure_in(mark),
@@ -78,7 +79,7 @@ fn member(module: &Module, marks: &[Option<Mark>], id: u32) -> Measure
 
 /// The sum of the bits of some members, and the greatest of their nestings.
 fn members(module: &Module, marks: &[Option<Mark>], ids: &[u32]) -> Measure
-    ensures { result ≡ saturated_measure (spec.members module.now marks.now ids.now) }
+    ensures { result ≡ saturated_measure (spec.members (spec.known module.now marks.now) ids.now) }
 {
     let mut all = NOTHING;
     for id in ids {
@@ -103,7 +104,7 @@ fn over(times: u64, base: Measure) -> Measure
 
 /// An array of a type.
 fn array(module: &Module, counts: &[u32], base: Measure) -> Measure
-    ensures { result ≡ saturated_measure (spec.over (spec.product module.now counts.now) (length counts.now) base) }
+    ensures { result ≡ saturated_measure (spec.over (spec.product (literal_of module.now) counts.now) (length counts.now) base) }
 {
     Measure {
         bits: times(module, base.bits, counts),
@@ -119,7 +120,7 @@ pub(crate) fn measure_of(
     number: u32,
     ids: &[u32],
 ) -> Measure
-    ensures { result ≡ saturated_measure (spec.measure_of module.now marks.now number ids.now) }
+    ensures { result ≡ saturated_measure (spec.measure_of (literal_of module.now) (spec.known module.now marks.now) number ids.now) }
 {
     match number {
         TYPE_BASIC => Measure {

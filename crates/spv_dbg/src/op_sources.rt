@@ -3,7 +3,9 @@ ghost use Rattle.std.specs.Prelude.{◌≡◌, ◌++◌, ℕ, List, OnOk, map};
 ghost use Rattle.spv_dbg.specs.Seen.{seen};
 ghost use Rattle.spv_dbg.specs.Sources as spec;
 
-use crate::sources::{Source, SourceText};
+use crate::pieces::{Piece, Pieces};
+use crate::sources::Source;
+use crate::texts::Text;
 use spv_base::{Bytes, Inst, NoMemory};
 use spv_index::{id_operand, text_operand};
 use spv_ops::op;
@@ -44,7 +46,9 @@ fn add_op_source(
     };
     let mut text = Vec::from_slice(alloc, first)?;
     push_op_continuation(behind, &mut text)?;
-    sources.push((file, SourceText::Joined(Bytes::from_vec(text))))?;
+    let mut pieces = Pieces::new(alloc);
+    pieces.push(Piece::Own(Text::of(Bytes::from_vec(text))))?;
+    sources.push((file, pieces))?;
     Ok(())
 }
 

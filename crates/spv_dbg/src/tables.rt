@@ -1,5 +1,6 @@
 //! The tables of a module's debug instructions.
-ghost use Rattle.std.specs.Prelude.{◌≡◌, ◌++◌, ℕ, List, IfOk, map, option_copied, option_map, slice_get};
+ghost use Rattle.std.specs.Prelude.{◌≡◌, ◌<◌, ◌++◌, ℕ, List, IfOk, IfSome, length, map, option_copied, option_map, slice_get};
+ghost use Rattle.std.specs.List.{concat};
 ghost use Rattle.std.specs.Option.{option_and_then};
 ghost use Rattle.spv_base.specs.Entries.{reads};
 ghost use Rattle.spv_dbg.specs.Names.{number_from, number_under};
@@ -11,11 +12,14 @@ ghost use Rattle.spv_dbg.specs.Tables as spec;
 use crate::constants::{Constant, constants_of};
 use crate::inlined::inlined_of;
 use crate::insts::DebugInst;
+use crate::marks::{Mark, kept_in};
 use crate::names::{Names, names_of, text_with};
+use crate::pieces::SourceText;
 use crate::records::{Records, records_of};
 use crate::sources::{Source, sources_of};
 use crate::strings::strings_of;
-use spv_base::{Bytes, Inst, NoMemory};
+use crate::texts::Text;
+use spv_base::{Inst, NoMemory};
 use spv_consts::table::Row;
 use spv_index::{Keyed, Table, places_of};
 use spv_valid::Module;
@@ -25,11 +29,13 @@ use std::marker::Model;
 /// The well-formed debug instructions of a module, and what their operands stand for. Contracts see lists.
 pub struct DebugTables {
     insts: Vec<DebugInst>,
+    /// What is kept of each of them.
+    marks: Vec<Mark>,
     /// By id and by word, the number of the debug instruction.
     by_id: Table<usize>,
     by_word: Table<usize>,
     ignored: u64,
-    strings: Keyed<Bytes>,
+    strings: Keyed<Text>,
     constants: Keyed<Constant>,
     /// By word, the InlinedAt that holds at the instruction there, or 0.
     inlined: Table<u32>,
@@ -42,6 +48,7 @@ impl Drop for DebugTables {
     fn drop(self) {
         let DebugTables {
             insts,
+            marks,
             by_id,
             by_word,
             ignored: _,
@@ -52,6 +59,7 @@ impl Drop for DebugTables {
             names,
         } = self;
         drop(insts);
+        drop(marks);
         drop(by_id);
         drop(by_word);
         drop(strings);
@@ -106,7 +114,7 @@ fn numbers_of(alloc: Global, insts: &[DebugInst]) -> Result<Numbers, NoMemory>
 /// The strings of a module, the texts of its source files, and their numbers by the names of the files.
 #[derive(Drop)]
 struct Texts {
-    strings: Keyed<Bytes>,
+    strings: Keyed<Text>,
     sources: Vec<Source>,
     names: Names,
 }
@@ -117,7 +125,7 @@ fn texts_of(alloc: Global, debug: &[DebugInst], insts: &[Inst]) -> Result<Texts,
     ensures names { IfOk result (λ texts. (file : List ℕ) → number_under texts.names file ≡ number_from 0 (has_name texts.strings file) (keys_of texts.sources.items)) }
 {
     let strings = strings_of(alloc, insts)?;
-    let sources = sources_of(alloc, &strings, debug, insts)?;
+    let sources = sources_of(alloc, debug, insts)?;
     let names = names_of(alloc, &strings, sources.as_slice())?;
     Ok(Texts {
         strings,
@@ -133,6 +141,19 @@ fn inst_with(insts: &[DebugInst], number: Option<usize>) -> Option<&DebugInst>
     insts.get(number?)
 }
 
+/// What is kept of the debug instruction with a number.
+fn mark_with(marks: &[Mark], number: Option<usize>) -> Option<Mark>
+    ensures { result ≡ option_and_then (slice_get marks.now) number }
+{
+    marks.get(number?).copied()
+}
+
+fn bits_in(mark: Option<Mark>) -> Option<u64>
+    ensures { result ≡ option_map (λ k. k.bits) mark }
+{
+    Some(mark?.bits)
+}
+
 impl DebugTables {
     /// The tables of a module. In time n log n.
     #[tactic(auto, unfolding(crate::specs::Tables::tables_of))]
@@ -145,6 +166,7 @@ impl DebugTables {
             ignored,
         } = records_of(alloc, module)?;
         let inlined = inlined_of(alloc, module, marks.as_slice())?;
+        let marks = kept_in(alloc, marks.as_slice())?;
         let Numbers { by_id, by_word } = numbers_of(alloc, insts.as_slice())?;
         let constants = constants_of(alloc, module)?;
         let Texts {
@@ -154,6 +176,7 @@ impl DebugTables {
         } = texts_of(alloc, insts.as_slice(), module.insts())?;
         Ok(DebugTables {
             insts,
+            marks,
             by_id,
             by_word,
             ignored,
@@ -186,6 +209,22 @@ impl DebugTables {
         inst_with(self.insts.as_slice(), self.by_id.get(id))
     }
 
+    /// The number of the well-formed debug instruction with an id among all of them.
+    pub fn number(&self, id: u32) -> Option<usize>
+        ensures number { result ≡ spec.number_in self.now id }
+        ensures within { IfSome result (λ n. n < length self.now.insts) }
+    {
+        self.by_id.get(id)
+    }
+
+    /// How many bits the values of the well-formed type with an id have, or those of the Type of the TypeMember with it. It is 0
+    /// for other debug instructions.
+    pub fn bits(&self, id: u32) -> Option<u64>
+        ensures { result ≡ spec.bits_in self.now id }
+    {
+        bits_in(mark_with(self.marks.as_slice(), self.by_id.get(id)))
+    }
+
     /// The well-formed debug instruction at a word.
     pub fn at(&self, word: u32) -> Option<&DebugInst>
         ensures { option_copied result ≡ spec.at_word self.now word }
@@ -197,7 +236,7 @@ impl DebugTables {
     pub fn string(&self, id: u32) -> Option<&[u8]>
         ensures { option_copied result ≡ reads id self.now.strings }
     {
-        Some(self.strings.get(id)?.as_slice())
+        Some(self.strings.get(id)?.bytes())
     }
 
     /// The row of the constant with an id: its type, and the leaves of its value in order.
@@ -227,8 +266,8 @@ impl DebugTables {
 
     /// The text of the file with a name: that of the first Source with this name and a Text, with what its SourceContinued add,
     /// and where there is none the same of OpSource and OpSourceContinued. In logarithmic time.
-    pub fn source(&self, file: &[u8]) -> Option<&[u8]>
-        ensures { option_copied result ≡ spec.text_of_file self.now file.now }
+    pub fn source(&self, file: &[u8]) -> Option<SourceText<'_>>
+        ensures { option_map (λ text. concat text) result ≡ spec.text_of_file self.now file.now }
     {
         let number = self.names.get(file).copied();
         text_with(&self.strings, self.sources.as_slice(), number)

@@ -4,7 +4,7 @@
 use crate::lines::{Asked, Shown};
 use spv_app::acceptance::accepted;
 use spv_base::{Fail, Inst, NoMemory, Refusal};
-use spv_dbg::{DebugInst, DebugTables};
+use spv_dbg::{DebugInst, DebugTables, SourceText};
 use spv_ops::op;
 use spv_scopes::Lines;
 use spv_valid::Module;
@@ -46,6 +46,15 @@ fn number_of(tables: &DebugTables, id: u32) -> u64 {
     }
 }
 
+/// How many bytes a text has.
+fn len_of(text: &SourceText<'_>) -> u64 {
+    let mut len = 0u64;
+    for n in 0..text.len() {
+        len = len.saturating_add(text.piece(n).len() as u64);
+    }
+    len
+}
+
 impl Counts {
     /// Adds a record: whether it is found, and what its operands name.
     fn add_record(&mut self, tables: &DebugTables, record: &DebugInst) {
@@ -64,8 +73,9 @@ impl Counts {
         self.inlined = self.inlined.saturating_add(u64::from(is_inlined));
         if inst.op == op::STRING {
             let name = tables.string(inst.id).unwrap_or(&[]);
-            let text = tables.source(name).unwrap_or(&[]);
-            self.text = self.text.saturating_add(text.len() as u64);
+            if let Some(text) = tables.source(name) {
+                self.text = self.text.saturating_add(len_of(&text));
+            }
         }
     }
 

@@ -1,2 +1,2 @@
-mod LineLemmas
 mod WindowLemmas
+mod WalkLemmas

@@ -1,32 +1,8 @@
 -- What is shown of a window.
-use Rattle.std.proofs.Common.{◌≡◌, ℕ, ◌+◌, ◌<◌, Bool, true, false, not, cond, List, [], ◌∷◌, ◌++◌, length, refl, sym, ap, ◌∙◌, arith, Some, None, Option, nat_eq, unwrap_or, is_some, length-append, append-nil}
-use Rattle.std.specs.Prelude.{if◌then◌else◌, filter, ◌==◌, ◌||◌, codes}
-use Rattle.std.specs.List.{enumerate_from, flat_map}
-use Rattle.spv_source.specs.Windows.{is_near, mark, right_aligned, row_text, source_lines, window}
-
--- the lines near one, of lines of which the first has number n
-abbrev pub near_from : ℕ → ℕ → List (List ℕ) → List (ℕ × List ℕ)
-near_from line n ls = filter (λ numbered. is_near line numbered.0) (enumerate_from n ls)
-
--- what is shown of them
-abbrev pub shown_from : ℕ → ℕ → List (List ℕ) → List ℕ
-shown_from line n ls = flat_map (row_text line) (near_from line n ls)
-
--- no line is near past the second one after it
-not_near : (line n : ℕ) → line + 2 < n → is_near line n ≡ false
-not_near line n past = grind arith
-
-left_out : (b : Bool) (numbered : ℕ × List ℕ) (rows : List (ℕ × List ℕ)) → b ≡ false → rows ≡ [] → cond b (numbered ∷ rows) rows ≡ []
-left_out true numbered rows h e = absurd (cc)
-left_out false numbered rows h e = e
-
-none_from : (line n : ℕ) (ls : List (List ℕ)) → line + 2 < n → near_from line n ls ≡ []
-none_from line n [] past = refl
-none_from line n (l ∷ ls) past = left_out (is_near line n) (n, l) (near_from line (n + 1) ls) (not_near line n past) (none_from line (n + 1) ls (omega arith))
-
--- so what was shown before is all
-pub all_shown : (line n : ℕ) (ls : List (List ℕ)) (shown whole : List ℕ) → line + 2 < n → shown ++ shown_from line n ls ≡ whole → shown ≡ whole
-all_shown line n ls shown whole past h = sym (ap (λ rows. shown ++ flat_map (row_text line) rows) (none_from line n ls past) ∙ append-nil shown) ∙ h
+use Rattle.std.proofs.Common.{◌≡◌, ℕ, ◌<◌, Bool, true, false, not, List, [], ◌∷◌, ◌++◌, length, refl, sym, ap, arith, Some, None, Option, nat_eq, unwrap_or, is_some, length-append}
+use Rattle.std.specs.Prelude.{if◌then◌else◌, ◌==◌, ◌||◌, codes}
+use Rattle.std.specs.List.{flat_map}
+use Rattle.spv_source.specs.Windows.{mark, right_aligned, row_text, source_lines, window}
 
 not_zero : (n : ℕ) → 0 < n → nat_eq n 0 ≡ false
 not_zero n some = grind arith

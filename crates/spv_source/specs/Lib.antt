@@ -1,3 +1,3 @@
 pub mod Frames
-pub mod Lines
 pub mod Windows
+pub mod Walks

@@ -58,8 +58,8 @@ fn push_place(alloc: Global, text: &mut Vec<u8>, frame: &ShownFrame) -> Result<(
     push_line_or_word(alloc, text, frame)
 }
 
-/// Appends the line of the shown frame with a number.
-fn push_frame(
+/// Appends the line of the shown frame with a number, as `frame_line` does. After want of memory a part of it may have been appended.
+pub fn push_frame(
     alloc: Global,
     text: &mut Vec<u8>,
     number: u32,

@@ -3,7 +3,9 @@
 
 mod frames;
 mod lines;
+mod rows;
+mod walks;
 mod windows;
 
-pub use frames::{frame_line, place_text};
+pub use frames::{frame_line, place_text, push_frame};
 pub use windows::source_lines;
