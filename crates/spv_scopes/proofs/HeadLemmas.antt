@@ -14,6 +14,7 @@ use Rattle.std.proofs.lemmas.Option.{slice_get_within}
 use Rattle.spv_base.specs.Entries.{reads}
 use Rattle.spv_base.proofs.Exports.{element_at, same_number}
 use Rattle.spv_index.specs.Positions.{Stand}
+use Rattle.spv_dbg.proofs.Exports.{Names}
 use Rattle.spv_dbg.specs.Names.{number_under}
 use Rattle.spv_dbg.specs.Tables.{Tables}
 use Rattle.spv_scopes.specs.declared.heads.Key.{Key}
@@ -22,7 +23,7 @@ use Rattle.spv_scopes.specs.Found.{begun as begun_number}
 use Rattle.spv_scopes.specs.Heads.{Heads, NamedLine, begun, head_at, heads_from, heads_with, is_head, line_begun, same_key, same_line}
 use Rattle.spv_scopes.specs.Numbered.{NumberedLine, are_within, is_line, named, named_key, named_line, same_number as same_numbers, words_under, words_with}
 use Rattle.spv_scopes.specs.Spots.{Spots}
-use Rattle.spv_scopes.proofs.FileLemmas.{AreNumbered, Names}
+use Rattle.spv_scopes.proofs.FileLemmas.{AreNumbered}
 use Rattle.spv_scopes.proofs.ListLemmas.{back_next}
 
 -- ---- one instruction more

@@ -1,7 +1,8 @@
 use Rattle.std.proofs.Common.{◌≡◌, ◌∙◌, ℕ, List, [], ◌∷◌, ◌++◌, length, slice_get, Some, sym, ap, subst, arith}
 use Rattle.spv_base.proofs.Exports.{get_snoc, last_get}
+use Rattle.spv_dbg.proofs.Exports.{updated}
 use Rattle.spv_scopes.specs.Shown.{string_in}
-use Rattle.spv_scopes.proofs.FileLemmas.{AreNumbered, numbered_more, updated}
+use Rattle.spv_scopes.proofs.FileLemmas.{AreNumbered, numbered_more}
 use Rattle.spv_scopes.proofs.files.Files.number_of_name.Goals as goal
 
 pub returns-in-Some-clause-number : goal.returns-in-Some-clause-number
