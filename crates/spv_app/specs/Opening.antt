@@ -1,8 +1,6 @@
 -- Which pair of a module and a setup is opened, and which refusal is due else.
-use Rattle.std.specs.Prelude.{◌≡◌, ℕ, List, ◌++◌, codes, decimal, Result, Ok, Err}
+use Rattle.std.specs.Prelude.{ℕ, List, ◌++◌, codes, decimal, Result, Ok, Err}
 use Rattle.spv_base.specs.Answers.{after}
-use Rattle.spv_base.specs.declared.causes.Fail.{Fail}
-use Rattle.spv_base.specs.declared.causes.Fail.TheVariants.{Refused, NoMemory}
 use Rattle.spv_base.specs.declared.causes.Refusal.{Refusal}
 use Rattle.spv_base.specs.declared.causes.SetupRefusal.{SetupRefusal}
 use Rattle.spv_words.specs.Words.{words_of}
@@ -43,11 +41,6 @@ journaled limit due = after due (λ group. Ok (with_journal limit group))
 -- the first view of it, for a session
 abbrev pub viewed : ℕ → Result Group OpeningRefusal → Result Viewing OpeningRefusal
 viewed limit due = after due (λ group. Ok (first_viewing (with_journal limit group)))
-
--- why none is opened: the refusal that is due, or memory ran out
-abbrev pub Refuses : {T : Type 0} → Result T OpeningRefusal → Fail OpeningRefusal → Type 0
-Refuses due (Refused refusal) = due ≡ Err refusal
-Refuses due NoMemory = Unit {0}
 
 -- The setup's text is looked at first, then the module, and then whether the setup fits it.
 unfoldable pub opening : List ℕ → List ℕ → Result Group OpeningRefusal

@@ -1,11 +1,13 @@
 //! The top call.
-ghost use Rattle.std.specs.Prelude.{◌≡◌, ◌≢◌, ◌↔◌, ◌⊎◌, ◌<◌, ◌≤◌, ◌+◌, ◌-◌, ◌^◌, [], ◌∷◌, ◌++◌, List, ℕ, Option, Some, None, Ok, All, vec_len, length, MatchResult, IfOk, IfErr, IsOk, IsErrOf};
+ghost use Rattle.std.specs.Prelude.{◌≡◌, ◌≢◌, ◌↔◌, ◌⊎◌, ◌<◌, ◌≤◌, ◌+◌, ◌-◌, ◌^◌, [], ◌∷◌, ◌++◌, List, ℕ, Option, Some, None, Ok, All, vec_len, length, IfOk, IfErr, IsOk, IsErrOf};
 ghost use Rattle.std.specs.Io.KnownBytes.{Appends};
 ghost use Rattle.spv_app.specs.CommandLine.{PairNames, debug_names, check_name, text_name, usage_line};
-ghost use Rattle.spv_app.specs.Opening.{opening, refusal_line, viewed, Refuses};
+ghost use Rattle.spv_app.specs.Opening.{opening, refusal_line, viewed};
 ghost use Rattle.spv_app.specs.Outside.{library};
 ghost use Rattle.spv_app.specs.Debug.{Debugged, IsPair, IsOneOf, SaysLine, SaysUnopened, status_of_refusal, due_text, due_status};
+ghost use Rattle.spv_base.specs.Answers.{Answers};
 ghost use Rattle.spv_base.specs.Outside.{AsksFor};
+ghost use Rattle.spv_ops.specs.Steps.{seen};
 ghost use Rattle.spv_loop.specs.FileStatus.{status_of_file};
 ghost use Rattle.spv_app.specs.Limits.{binary_limit, setup_limit};
 ghost use Rattle.spv_loop.specs.Limits.{input_limit};
@@ -93,8 +95,7 @@ fn open_session(
     requires fits { length setup.items ≤ setup_limit }
     requires few { vec_len kit ≤ 16 }
     requires unused { All (λ p. tally p ≡ 0) kit.items }
-    ensures { MatchResult result (λ session. viewed 1048576 (opening binary.items setup.items) ≡ Ok session.core)
-        (λ fail. Refuses (viewed 1048576 (opening binary.items setup.items)) fail) }
+    ensures { Answers (viewed 1048576 (opening binary.items setup.items)) (seen (λ session. session.core) result) }
 {
     let group = open(alloc, binary, setup)?;
     Ok(Session::open(alloc, group, kit)?)

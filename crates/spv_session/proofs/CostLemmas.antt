@@ -1,5 +1,5 @@
 -- The steps of a line, by how many events are kept.
-use Rattle.std.proofs.Common.{◌≤◌, ℕ, ◌≡◌, ◌+◌, ◌-◌, min, Bool, true, false, cond, List, refl, arith}
+use Rattle.std.proofs.Common.{◌≤◌, ℕ, ◌≡◌, ◌-◌, max, min, Bool, true, false, cond, List, refl, arith}
 use Rattle.std.specs.Prelude.{nat_lt, nat_le}
 use Rattle.std.proofs.lemmas.Bool.{ltb-true, ltb-false, leb-true, leb-false}
 use Rattle.spv_cmd.specs.Commands.{command_of}
@@ -23,18 +23,18 @@ straight_rises : (j k : ℕ) (g : Group) (n : ℕ) → j ≤ k → straight_cost
 straight_rises j k g n h =
     straight_with (nat_lt n g.position) (cond (nat_lt n j) g.position 0) (cond (nat_lt n k) g.position 0) (forth_cost g.position (min n (end_in g))) (back_with (nat_lt n j) (nat_lt n k) j k n g.position h refl refl)
 
-search_with : (b c : Bool) (j k n p : ℕ) → j ≤ k → nat_le j n ≡ b → nat_le k n ≡ c → cond b 1 (p + 1) ≤ cond c 1 (p + 1)
-search_with true true j k n p h e f = omega arith
-search_with true false j k n p h e f = omega arith
-search_with false true j k n p h e f = let above = leb-true k n f in let below = leb-false j n e in absurd (omega arith)
-search_with false false j k n p h e f = omega arith
+search_with : (b c : Bool) (j k n p : ℕ) → 1 ≤ p → j ≤ k → nat_le j n ≡ b → nat_le k n ≡ c → cond b 1 p ≤ cond c 1 p
+search_with true true j k n p some h e f = omega arith
+search_with true false j k n p some h e f = some
+search_with false true j k n p some h e f = let above = leb-true k n f in let below = leb-false j n e in absurd (omega arith)
+search_with false false j k n p some h e f = omega arith
 
 motion_rises : (j k : ℕ) (v : View) (m : Motion) → j ≤ k → motion_cost j v m ≤ motion_cost k v m
 motion_rises j k v (straight n done) h = straight_rises j k v.group n h
 motion_rises j k v (forward own) h = omega arith
 motion_rises j k v (backward own) h =
     let to : ℕ = target hits v (backward own) in
-    search_with (nat_le j (to - 1)) (nat_le k (to - 1)) j k (to - 1) v.group.position h refl refl
+    search_with (nat_le j (to - 1)) (nat_le k (to - 1)) j k (to - 1) (max 1 v.group.position) (omega arith) h refl refl
 
 act_rises : (j k : ℕ) (v : View) (a : Act) → j ≤ k → act_cost j v a ≤ act_cost k v a
 act_rises j k v nothing h = omega arith

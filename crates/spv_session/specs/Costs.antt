@@ -1,5 +1,5 @@
 -- How many steps the commands take, at most. A step is a call of the machine's `step`; nothing else counts one.
-use Rattle.std.specs.Prelude.{ℕ, ◌+◌, ◌-◌, min, nat_lt, nat_le, if◌then◌else◌, List}
+use Rattle.std.specs.Prelude.{ℕ, ◌+◌, ◌-◌, max, min, nat_lt, nat_le, if◌then◌else◌, List}
 use Rattle.spv_cmd.specs.Commands.{command_of}
 use Rattle.spv_group.specs.Group.{Held as Group, end_in}
 use Rattle.spv_session.specs.View.{View}
@@ -13,9 +13,10 @@ forth_cost from to = (to - from) + 1
 abbrev pub straight_cost : (kept : ℕ) → Group → ℕ → ℕ
 straight_cost kept g n = if nat_lt n g.position then (if nat_lt n kept then g.position else 0) else forth_cost g.position (min n (end_in g))
 
--- Of a search back to a position: one where all events that were looked at are kept, else one more than the old position's number.
+-- Of a search back to a position: one where all events that were looked at are kept, else as many as the old position's number, or one at
+-- the start.
 abbrev pub search_cost : (kept from to : ℕ) → ℕ
-search_cost kept from to = if nat_le kept (to - 1) then 1 else from + 1
+search_cost kept from to = if nat_le kept (to - 1) then 1 else max 1 from
 
 abbrev pub motion_cost : (kept : ℕ) → View → Motion → ℕ
 motion_cost kept v (straight n done) = straight_cost kept v.group n

@@ -3,4 +3,6 @@ pub mod Texts
 pub mod Reply
 pub mod Costs
 pub mod Frames
+pub mod Shown
+pub mod Info
 pub mod Happenings

@@ -1,16 +1,20 @@
 -- The reply to a line, and the view after it. How a position was reached doesn't matter to it.
-use Rattle.std.specs.Prelude.{◌≡◌, ℕ, ◌==◌, ◌+◌, ◌-◌, min, nat_lt, ◌&&◌, ◌||◌, not, Bool, true, false, List, [], ◌++◌, Option, Some, None, if◌then◌else◌, Result, Ok, Err}
-use Rattle.std.specs.List.{flat_map, range_with_len}
+use Rattle.std.specs.Prelude.{◌≡◌, ℕ, ◌==◌, ◌+◌, ◌-◌, min, nat_lt, ◌&&◌, ◌||◌, not, Bool, true, false, List, [], ◌∷◌, ◌++◌, length, slice_get, Option, Some, None, if◌then◌else◌, Result, Ok, Err}
+use Rattle.std.specs.List.{enumerate_from, flat_map, range_with_len}
+use Rattle.std.specs.Option.{option_map_or}
 use Rattle.spv_base.specs.declared.causes.CmdRefusal.{CmdRefusal}
 use Rattle.spv_cmd.specs.declared.command.Command.{Command}
 use Rattle.spv_cmd.specs.declared.command.Command.TheVariants as command
 use Rattle.spv_cmd.specs.Commands.{command_of}
-use Rattle.spv_frame.specs.Frames.{Held as Frame}
-use Rattle.spv_state.specs.State.{top_of}
-use Rattle.spv_group.specs.Group.{Held as Group, invocations_in, state_in, status_of, end_in, end_cause_in}
+use Rattle.spv_dbg.specs.declared.frames.ShownFrame.{ShownFrame}
+use Rattle.spv_group.specs.Group.{Held as Group, entries_in, invocations_in, state_in, status_of, end_in, end_cause_in}
 use Rattle.spv_group.specs.Positions.{least_of, greatest_of}
-use Rattle.spv_session.specs.Texts.{refusal_line, registers_text, position_line, invocation_line, stop_line}
-use Rattle.spv_session.specs.View.{View, moved_to, focus_on, focus_frame}
+use Rattle.spv_source.specs.Frames.{frame_line}
+use Rattle.spv_source.specs.Windows.{source_lines}
+use Rattle.spv_session.specs.Info.{module_words}
+use Rattle.spv_session.specs.Shown.{focus_frames, innermost, real_frame, source_text, tables_in}
+use Rattle.spv_session.specs.Texts.{refusal_line, registers_text, position_line, invocation_line, stop_line, info_line}
+use Rattle.spv_session.specs.View.{View, moved_to, focus_on, frame_on}
 
 -- ---- refusals
 
@@ -18,7 +22,15 @@ use Rattle.spv_session.specs.View.{View, moved_to, focus_on, focus_frame}
 abbrev pub no_such_invocation : ℕ
 no_such_invocation = 3
 
--- of a command that asks for the frame of a finished invocation
+-- of one that names a shown frame which doesn't exist
+abbrev pub no_such_frame : ℕ
+no_such_frame = 4
+
+-- of one that asks for lines of the source where there are none
+abbrev pub no_source_text : ℕ
+no_source_text = 10
+
+-- of one that asks for a frame of a finished invocation
 abbrev pub focus_finished : ℕ
 focus_finished = 12
 
@@ -26,15 +38,19 @@ focus_finished = 12
 
 -- where the focus stands at the view's position
 abbrev pub place_reply : View → List ℕ
-place_reply v = position_line v.group.position v.focus (focus_frame v)
+place_reply v = position_line v.group.position v.focus (innermost v.group v.focus)
 
 -- how far an invocation is, and where it stands
 abbrev pub invocation_reply : Group → ℕ → List ℕ
-invocation_reply g i = invocation_line i (status_of (state_in g) i) (top_of (state_in g) i)
+invocation_reply g i = invocation_line i (status_of (state_in g) i) (innermost g i)
 
 -- each invocation, in the order of their numbers
 abbrev pub group_reply : Group → List ℕ
 group_reply g = flat_map (invocation_reply g) (range_with_len 0 (invocations_in g))
+
+-- what the module and its run have in numbers
+abbrev pub info_reply : Group → List ℕ
+info_reply g = info_line (module_words g.program.accepted.insts) (length g.program.accepted.insts) (tables_in g).ignored (invocations_in g) (length (entries_in g))
 
 -- why a motion stopped at the view's position, and where the focus stands there
 abbrev pub stop_reply : Bool → View → List ℕ
@@ -63,10 +79,27 @@ pub data Act : Type 0 where
   shows : (View → Told) → Act
   goes : (View → Motion) → Act
 
--- a finished invocation has no registers
-abbrev pub registers_told : View → Option Frame → Told
-registers_told v None = refuses focus_finished
-registers_told v (Some f) = tells (registers_text v.group.program.accepted f) v
+-- a line for each shown frame of the focus; a finished one has none
+abbrev pub frames_told : View → List ShownFrame → Told
+frames_told v [] = refuses focus_finished
+frames_told v (f ∷ fs) = tells (flat_map (λ numbered. frame_line numbered.0 numbered.1) (enumerate_from 0 (f ∷ fs))) v
+
+-- what is told of the shown frame with a number, among those of the focus
+abbrev pub frame_told : (ShownFrame → Told) → List ShownFrame → ℕ → Told
+frame_told told [] k = refuses focus_finished
+frame_told told (f ∷ fs) k = option_map_or told (slice_get (f ∷ fs) k) (refuses no_such_frame)
+
+-- it becomes the selected one
+abbrev pub select_told : ℕ → View → ShownFrame → Told
+select_told k v f = tells (frame_line k f) (frame_on k v)
+
+-- the registers of its call
+abbrev pub registers_told : View → ShownFrame → Told
+registers_told v f = tells (option_map_or (registers_text v.group.program.accepted) (real_frame v f) []) v
+
+-- the lines of the source around it
+abbrev pub lines_told : View → ShownFrame → Told
+lines_told v f = option_map_or (λ text. tells text v) (source_lines f.line (source_text v f)) (refuses no_source_text)
 
 -- the focus becomes an invocation that exists
 abbrev pub focus_told : ℕ → View → Told
@@ -92,7 +125,12 @@ act (command.Fwd n) = goes (fwd_motion n)
 act (command.Back n) = goes (back_motion n)
 act command.Group = shows (λ v. tells (group_reply v.group) v)
 act (command.Focus i) = shows (focus_told i)
-act command.Regs = shows (λ v. registers_told v (focus_frame v))
+act command.Place = shows (λ v. tells (place_reply v) v)
+act command.Bt = shows (λ v. frames_told v (focus_frames v))
+act (command.Frame k) = shows (λ v. frame_told (select_told k v) (focus_frames v) k)
+act command.Regs = shows (λ v. frame_told (registers_told v) (focus_frames v) v.frame)
+act command.List = shows (λ v. frame_told (lines_told v) (focus_frames v) v.frame)
+act command.Info = shows (λ v. tells (info_reply v.group) v)
 act command.Quit = quits
 act _ = nothing
 
@@ -146,7 +184,7 @@ does_quit _ = false
 unfoldable pub is_quit : List ℕ → Bool
 is_quit line = does_quit (act_of (command_of line))
 
--- the refusal of a command, by its number: that of its line, of an invocation that doesn't exist, or of a finished focus
+-- the refusal of a command, by its number: that of its line, or of what it asks for
 abbrev pub told_refusal : Told → Option ℕ
 told_refusal (tells text w) = None
 told_refusal (refuses code) = Some code

@@ -12,8 +12,10 @@ use Rattle.spv_base.specs.declared.values.Pointer.{Pointer}
 use Rattle.spv_base.specs.declared.values.Value.{Value, Ptr}
 use Rattle.spv_index.specs.Definitions.{result_type}
 use Rattle.spv_valid.specs.Acceptance.{Accepted}
+use Rattle.spv_dbg.specs.declared.frames.ShownFrame.{ShownFrame}
 use Rattle.spv_frame.specs.Frames.{Held as Frame}
 use Rattle.spv_show.specs.Texts.{value_text}
+use Rattle.spv_source.specs.Frames.{place_text}
 
 -- ---- refusals
 
@@ -67,24 +69,35 @@ registers_text a f = flat_map shown_line (ascending (shown_in a f))
 
 -- ---- positions
 
--- where the top frame of an invocation stands; a finished one has no frame
-abbrev pub place_text : Option Frame → List ℕ
-place_text None = codes "finished"
-place_text (Some f) = codes "%" ++ decimal f.plan.function ++ codes " word " ++ decimal f.pc
+-- where the innermost shown frame of an invocation stands; a finished one has no frame
+abbrev pub standing_text : Option ShownFrame → List ℕ
+standing_text None = codes "finished"
+standing_text (Some f) = place_text f
 
 -- the position, and where an invocation stands there
-abbrev pub position_line : (position i : ℕ) → Option Frame → List ℕ
-position_line position i top = codes "@" ++ decimal position ++ codes " i=" ++ decimal i ++ codes " " ++ place_text top ++ codes "\n"
+abbrev pub position_line : (position i : ℕ) → Option ShownFrame → List ℕ
+position_line position i frame = codes "@" ++ decimal position ++ codes " i=" ++ decimal i ++ codes " " ++ standing_text frame ++ codes "\n"
 
 -- how far an invocation is, and where it stands; a finished one stands nowhere
-abbrev pub standing_text : Status4 → Option Frame → List ℕ
-standing_text status.Ready top = codes "ready " ++ place_text top
-standing_text status.Arrived top = codes "arrived " ++ place_text top
-standing_text status.Passed top = codes "passed " ++ place_text top
-standing_text status.Finished top = codes "finished"
+abbrev pub status_text : Status4 → Option ShownFrame → List ℕ
+status_text status.Ready frame = codes "ready " ++ standing_text frame
+status_text status.Arrived frame = codes "arrived " ++ standing_text frame
+status_text status.Passed frame = codes "passed " ++ standing_text frame
+status_text status.Finished frame = codes "finished"
 
-abbrev pub invocation_line : ℕ → Status4 → Option Frame → List ℕ
-invocation_line i how top = codes "i=" ++ decimal i ++ codes " " ++ standing_text how top ++ codes "\n"
+abbrev pub invocation_line : ℕ → Status4 → Option ShownFrame → List ℕ
+invocation_line i how frame = codes "i=" ++ decimal i ++ codes " " ++ status_text how frame ++ codes "\n"
+
+-- ---- numbers
+
+-- how many words and instructions a module has, and how many of its debug instructions are malformed
+abbrev pub module_numbers : (words instructions ignored : ℕ) → List ℕ
+module_numbers words instructions ignored = codes "words " ++ decimal words ++ codes ", instructions " ++ decimal instructions ++ codes ", ignored " ++ decimal ignored
+
+-- the same, and how many invocations and entries its run has
+abbrev pub info_line : (words instructions ignored invocations entries : ℕ) → List ℕ
+info_line words instructions ignored invocations entries =
+    module_numbers words instructions ignored ++ codes ", invocations " ++ decimal invocations ++ codes ", entries " ++ decimal entries ++ codes "\n"
 
 -- ---- stops
 

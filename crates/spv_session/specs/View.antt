@@ -1,12 +1,10 @@
 -- A view: all that replies depend on. A group at a position of its run, the invocation and the frame that replies speak of, and what
--- motions stop at. No command changes the frame, the stops or the probes so far.
-use Rattle.std.specs.Prelude.{ℕ, List, [], Option}
-use Rattle.spv_frame.specs.Frames.{Held as Frame}
-use Rattle.spv_state.specs.State.{top_of}
+-- motions stop at. No command changes the stops or the probes so far.
+use Rattle.std.specs.Prelude.{ℕ, List, []}
 use Rattle.spv_stops.specs.declared.breaks.Breakpoint.{Breakpoint}
 use Rattle.spv_stops.specs.declared.watches.WatchKey.{WatchKey}
 use Rattle.spv_stops.specs.Stops.{Stops}
-use Rattle.spv_group.specs.Group.{Held as Group, Undoing, group_at, state_in}
+use Rattle.spv_group.specs.Group.{Held as Group, Undoing, group_at}
 
 pub record View : Type 0 where
   pub group : Group
@@ -33,9 +31,9 @@ moved_to n v = record v { group = group_at n v.group; frame = 0 }
 abbrev pub focus_on : ℕ → View → View
 focus_on i v = record v { focus = i; frame = 0 }
 
--- the top frame of the focus; none where it is finished
-abbrev pub focus_frame : View → Option Frame
-focus_frame v = top_of (state_in v.group) v.focus
+-- the same position and focus, with another of its shown frames
+abbrev pub frame_on : ℕ → View → View
+frame_on k v = record v { frame = k }
 
 -- ---- what no reply depends on
 

@@ -1,6 +1,10 @@
 //! A group, the invocation that is looked at, and the replies to lines of input.
 #![tactic(auto)]
 
+mod debug_info;
+mod frames;
+mod happenings;
+mod info;
 mod kit;
 mod motions;
 mod registers;

@@ -1,21 +1,33 @@
 //! A kit of probes beside a group, and the replies to lines of input.
-ghost use Rattle.std.specs.Prelude.{◌≡◌, [], ℕ, ◌==◌, ◌<◌, ◌≤◌, ◌+◌, ◌++◌, ◌&&◌, ◌⊎◌, List, All, IfOk, Ok, Some, OnOk, OnErr, max, min, vec_len, if◌then◌else◌};
+ghost use Rattle.std.specs.Prelude.{◌≡◌, [], ℕ, ◌==◌, ◌<◌, ◌≤◌, ◌+◌, ◌++◌, ◌&&◌, ◌⊎◌, List, All, IfOk, Ok, Some, OnOk, OnErr, max, min, slice_get, vec_len, if◌then◌else◌};
+ghost use Rattle.std.specs.Option.{option_map_or};
 ghost use Rattle.spv_base.specs.Prefix.{IsPrefixOf};
 ghost use Rattle.spv_cmd.specs.Commands.{command_of};
-ghost use Rattle.spv_group.specs.Group.{end_in, group_at, invocations_in, window_in};
+ghost use Rattle.spv_group.specs.Group.{end_in, group_at, invocations_in, state_in, window_in};
+ghost use Rattle.spv_state.specs.State.{frames_of};
 ghost use Rattle.spv_session.specs.Costs.{act_cost, line_cost, straight_cost};
-ghost use Rattle.spv_session.specs.Reply.{act_of, does_quit, focus_told, group_reply, invocation_reply, is_quit, IsRefused, place_reply, refusal_by, registers_told, reply, reply_by, stop_reply, told_refusal, told_reply};
-ghost use Rattle.spv_session.specs.Texts.{refusal_line};
-ghost use Rattle.spv_session.specs.View.{first_viewing, focus_frame, focus_on, moved_to, undoing_in, view_at};
+ghost use Rattle.spv_session.specs.Happenings.{lined};
+ghost use Rattle.spv_session.specs.Reply.{act_of, does_quit, focus_told, frame_told, frames_told, group_reply, info_reply, invocation_reply, is_quit, IsRefused, lines_told, place_reply, refusal_by, registers_told, reply, reply_by, select_told, stop_reply, told_refusal, told_reply};
+ghost use Rattle.spv_session.specs.Shown as spec;
+ghost use Rattle.spv_session.specs.Shown.{focus_frames, shown_frames};
+ghost use Rattle.spv_session.specs.Texts.{refusal_line, registers_text};
+ghost use Rattle.spv_session.specs.View.{first_viewing, focus_on, moved_to, undoing_in, view_at};
 ghost use Rattle.spv_session.specs.declared.session.Next.TheVariants as answers;
 
+use crate::debug_info::DebugInfo;
+use crate::frames::{FOCUS_FINISHED, NO_SOURCE_TEXT, frame_with, push_frame_lines};
+use crate::happenings::lined;
+use crate::info::{Info, module_words, push_info};
 use crate::kit::Kit;
 use crate::motions::{Aim, go_to};
 use crate::registers::push_registers;
 use crate::texts::{push_invocation, push_position, push_stop, refusal_line};
-use spv_base::{CmdRefusal, Fail, NoMemory, Probe, Steps};
+use spv_base::{CmdRefusal, Fail, Happening, NoMemory, Probe, Steps};
 use spv_cmd::{Command, parse_built};
+use spv_dbg::ShownFrame;
 use spv_group::Group;
+use spv_scopes::{innermost, shown};
+use spv_source::{frame_line, source_lines};
 use spv_state::laws::top_frames_are_sound;
 use std::alloc::Global;
 use std::marker::Model;
@@ -23,9 +35,6 @@ use std::sync::ledger::Ledger;
 
 /// The command names an invocation that doesn't exist.
 const NO_SUCH_INVOCATION: CmdRefusal = CmdRefusal { code: 3 };
-
-/// The command asks for the frame of a finished invocation.
-const FOCUS_FINISHED: CmdRefusal = CmdRefusal { code: 12 };
 
 /// Whether the session goes on after a line.
 #[derive(Clone, Copy)]
@@ -45,11 +54,14 @@ fn read(alloc: Global, line: &[u8]) -> Result<Result<Command, CmdRefusal>, NoMem
     }
 }
 
-/// A group, about which lines of input ask, and the invocation that replies speak of.
+/// A group, about which lines of input ask, the debug information of its module, and the invocation and the shown frame that replies
+/// speak of.
 pub struct Core {
     alloc: Global,
     group: Group,
+    info: DebugInfo,
     focus: u32,
+    frame: u32,
 }
 
 // Written out, so that it is proved once: a derived drop is proved again in each function that lets go of such a value.
@@ -58,36 +70,45 @@ impl Drop for Core {
         let Core {
             alloc: _,
             group,
+            info,
             focus: _,
+            frame: _,
         } = self;
         drop(group);
+        drop(info);
     }
 }
 
 impl Model for Core {
-    ghost use Rattle.std.specs.Prelude.{◌≤◌, ◌<◌};
+    ghost use Rattle.std.specs.Prelude.{◌≡◌, ◌≤◌, ◌<◌};
     ghost use Rattle.spv_group.specs.Group.{end_in, invocations_in};
+    ghost use Rattle.spv_scopes.specs.Lines.{lines_of};
+    ghost use Rattle.spv_session.specs.Shown.{tables_in};
     ghost use Rattle.spv_session.specs.View.{Viewing, first_view};
 
     ghost Value = { Viewing };
 
-    ghost view = { λ s. record { view = record (first_view s.group.group) { focus = s.focus }; kept = s.group.kept; limit = s.group.limit } };
+    ghost view = { λ s. record { view = record (first_view s.group.group) { focus = s.focus; frame = s.frame }; kept = s.group.kept; limit = s.group.limit } };
 
-    ghost invariant = { λ s. (s.group.group.position ≤ end_in s.group.group) × (s.focus < invocations_in s.group.group) };
+    ghost invariant = { λ s. (s.group.group.position ≤ end_in s.group.group) × (s.focus < invocations_in s.group.group)
+        × (s.info.tables ≡ tables_in s.group.group) × (s.info.lines ≡ lines_of s.group.group.program.accepted (tables_in s.group.group)) };
 }
 
 impl Core {
-    /// A group at its start, with the invocation 0 as the focus.
-    fn open(alloc: Global, group: Group) -> Core
+    /// A group at its start, with the invocation 0 as the focus and its innermost frame.
+    fn open(alloc: Global, group: Group) -> Result<Core, NoMemory>
         requires { group.group.position ≡ 0 }
-        ensures { result ≡ first_viewing group }
+        ensures { IfOk result (λ core. core ≡ first_viewing group) }
     {
         let _invocations = group.invocations();
-        Core {
+        let info = DebugInfo::of(alloc, group.module().accepted())?;
+        Ok(Core {
             alloc,
             group,
+            info,
             focus: 0,
-        }
+            frame: 0,
+        })
     }
 
     /// Answers a line, as the session's call of this name says.
@@ -143,9 +164,14 @@ impl Core {
         match command {
             Err(refusal) => text.extend_from_slice(refusal_line(*refusal))?,
             Ok(Command::Quit) => return Ok(Next::Quit),
-            Ok(Command::Regs) => self.push_registers(text)?,
+            Ok(Command::Place) => self.push_place(text, self.focus)?,
             Ok(Command::Group) => self.push_group(text)?,
             Ok(Command::Focus(inv)) => self.look_at(*inv, text)?,
+            Ok(Command::Bt) => self.push_frames(text)?,
+            Ok(Command::Frame(number)) => self.select(*number, text)?,
+            Ok(Command::Regs) => self.push_registers(text)?,
+            Ok(Command::List) => self.push_lines(text)?,
+            Ok(Command::Info) => self.push_info(text)?,
             Ok(Command::Goto(position)) => self.go(Aim::at(*position), text, steps)?,
             Ok(Command::Fwd(count)) => self.go(Aim::forward(from, count.get()), text, steps)?,
             Ok(Command::Back(count)) => self.go(Aim::back(from, count.get()), text, steps)?,
@@ -154,7 +180,7 @@ impl Core {
         Ok(Next::Go)
     }
 
-    /// Goes where a motion is asked to lead, and appends why it stopped.
+    /// Goes where a motion is asked to lead, and appends why it stopped. The innermost frame is selected then.
     fn go<L: Ledger>(
         &mut self,
         aim: Aim,
@@ -163,7 +189,8 @@ impl Core {
     ) -> Result<(), NoMemory>
         ensures text { OnOk result (text.new.items ≡ text.old.items ++ stop_reply (aim.exact && self.new.view.group.position == aim.position) self.new.view) }
         ensures view { OnOk result (self.new.view ≡ moved_to (min aim.position (end_in self.old.view.group)) self.old.view) }
-        ensures same { self.new.view ≡ view_at self.new.view.group.position self.old.view }
+        ensures group { self.new.view.group ≡ group_at self.new.view.group.position self.old.view.group }
+        ensures same { OnErr result (self.new.view ≡ view_at self.new.view.group.position self.old.view) }
         ensures limit { self.new.limit ≡ self.old.limit }
         ensures kept { self.new.kept ≤ max self.old.kept (window_in (undoing_in self.new)) }
         ensures within { self.new.view.group.position ≤ end_in self.old.view.group }
@@ -172,7 +199,9 @@ impl Core {
     {
         go_to(&mut self.group, aim.position, steps)?;
         let done = aim.exact && self.group.position() == aim.position;
-        self.push_stop(text, done)
+        self.push_stop(text, done)?;
+        self.frame = 0;
+        Ok(())
     }
 
     /// Makes an invocation the focus, and appends where it stands; or a refusal, where there is no such invocation.
@@ -191,19 +220,138 @@ impl Core {
         }
         self.push_place(text, inv)?;
         self.focus = inv;
+        self.frame = 0;
         Ok(())
     }
 
-    /// Appends the registers of the focus.
-    fn push_registers(&self, text: &mut Vec<u8>) -> Result<(), NoMemory>
-        ensures { OnOk result (text.new.items ≡ text.old.items ++ (told_reply self.now.view (registers_told self.now.view (focus_frame self.now.view))).0) }
+    /// Selects a shown frame of the focus, and appends its line; or a refusal, where there is no such frame.
+    fn select(&mut self, number: u32, text: &mut Vec<u8>) -> Result<(), NoMemory>
+        ensures text { OnOk result (text.new.items ≡ text.old.items
+            ++ (told_reply self.old.view (frame_told (select_told number self.old.view) (focus_frames self.old.view) number)).0) }
+        ensures view { OnOk result (self.new.view ≡ (told_reply self.old.view (frame_told (select_told number self.old.view) (focus_frames self.old.view) number)).1) }
+        ensures err { OnErr result (self.new ≡ self.old) }
+        ensures group { self.new.view.group ≡ self.old.view.group }
+        ensures kept { self.new.kept ≡ self.old.kept }
+        ensures limit { self.new.limit ≡ self.old.limit }
+        ensures refused { (code : ℕ) → told_refusal (frame_told (select_told number self.old.view) (focus_frames self.old.view) number) ≡ Some code → self.new ≡ self.old }
     {
-        top_frames_are_sound();
-        match self.group.world().whole().top(self.focus) {
-            None => text.extend_from_slice(refusal_line(FOCUS_FINISHED))?,
-            Some(frame) => push_registers(self.alloc, text, self.group.module(), frame)?,
+        let frames = self.frames(self.focus)?;
+        match frame_with(frames.as_slice(), number) {
+            Err(refusal) => text.extend_from_slice(refusal_line(refusal))?,
+            Ok(frame) => {
+                frame_line(self.alloc, number, frame, text)?;
+                self.frame = number;
+            }
         }
         Ok(())
+    }
+
+    /// The frames that are shown of an invocation.
+    fn frames(&self, inv: u32) -> Result<Vec<ShownFrame>, NoMemory>
+        requires { inv < invocations_in self.now.view.group }
+        ensures { IfOk result (λ frames. frames.items ≡ shown_frames self.now.view.group inv) }
+    {
+        let module = self.group.module().accepted();
+        let stack = self.group.world().whole().stack(inv);
+        shown(
+            self.alloc,
+            module,
+            &self.info.tables,
+            &self.info.lines,
+            stack,
+        )
+    }
+
+    /// The innermost of them.
+    fn innermost(&self, inv: u32) -> Result<Option<ShownFrame>, NoMemory>
+        requires { inv < invocations_in self.now.view.group }
+        ensures { IfOk result (λ frame. frame ≡ spec.innermost self.now.view.group inv) }
+    {
+        let module = self.group.module().accepted();
+        let stack = self.group.world().whole().stack(inv);
+        innermost(
+            self.alloc,
+            module,
+            &self.info.tables,
+            &self.info.lines,
+            stack,
+        )
+    }
+
+    /// Appends the line of each shown frame of the focus.
+    fn push_frames(&self, text: &mut Vec<u8>) -> Result<(), NoMemory>
+        ensures { OnOk result (text.new.items ≡ text.old.items ++ (told_reply self.now.view (frames_told self.now.view (focus_frames self.now.view))).0) }
+    {
+        let frames = self.frames(self.focus)?;
+        if frames.is_empty() {
+            text.extend_from_slice(refusal_line(FOCUS_FINISHED))?;
+            return Ok(());
+        }
+        push_frame_lines(self.alloc, text, frames.as_slice())
+    }
+
+    /// Appends the registers of the call that the selected frame is of.
+    fn push_registers(&self, text: &mut Vec<u8>) -> Result<(), NoMemory>
+        ensures { OnOk result (text.new.items ≡ text.old.items
+            ++ (told_reply self.now.view (frame_told (registers_told self.now.view) (focus_frames self.now.view) self.now.view.frame)).0) }
+    {
+        let frames = self.frames(self.focus)?;
+        match frame_with(frames.as_slice(), self.frame) {
+            Err(refusal) => text.extend_from_slice(refusal_line(refusal))?,
+            Ok(frame) => self.push_registers_at(text, frame.depth)?,
+        }
+        Ok(())
+    }
+
+    /// Appends the registers of the focus's call at a depth.
+    fn push_registers_at(&self, text: &mut Vec<u8>, depth: u32) -> Result<(), NoMemory>
+        ensures { OnOk result (text.new.items ≡ text.old.items
+            ++ option_map_or (registers_text self.now.view.group.program.accepted) (slice_get (frames_of (state_in self.now.view.group) self.now.view.focus) depth) []) }
+    {
+        top_frames_are_sound();
+        match self.group.world().whole().stack(self.focus).frame(depth) {
+            None => Ok(()),
+            Some(frame) => push_registers(self.alloc, text, self.group.module(), frame),
+        }
+    }
+
+    /// Appends the lines of the source around the selected frame.
+    fn push_lines(&self, text: &mut Vec<u8>) -> Result<(), NoMemory>
+        ensures { OnOk result (text.new.items ≡ text.old.items
+            ++ (told_reply self.now.view (frame_told (lines_told self.now.view) (focus_frames self.now.view) self.now.view.frame)).0) }
+    {
+        let frames = self.frames(self.focus)?;
+        match frame_with(frames.as_slice(), self.frame) {
+            Err(refusal) => text.extend_from_slice(refusal_line(refusal))?,
+            Ok(frame) => self.push_lines_around(text, frame)?,
+        }
+        Ok(())
+    }
+
+    /// Appends the lines of the source around a shown frame, or a refusal where there are none.
+    fn push_lines_around(&self, text: &mut Vec<u8>, frame: &ShownFrame) -> Result<(), NoMemory>
+        ensures { OnOk result (text.new.items ≡ text.old.items ++ (told_reply self.now.view (lines_told self.now.view frame.now)).0) }
+    {
+        let source = self.info.tables.source(frame.file.as_slice());
+        if !source_lines(self.alloc, source, frame.line, text)? {
+            text.extend_from_slice(refusal_line(NO_SOURCE_TEXT))?;
+        }
+        Ok(())
+    }
+
+    /// Appends what the module and its run have in numbers.
+    fn push_info(&self, text: &mut Vec<u8>) -> Result<(), NoMemory>
+        ensures { OnOk result (text.new.items ≡ text.old.items ++ info_reply self.now.view.group) }
+    {
+        let insts = self.group.module().accepted().insts();
+        let info = Info {
+            words: module_words(insts)?,
+            instructions: insts.len() as u64,
+            ignored: self.info.tables.ignored(),
+            invocations: u64::from(self.group.invocations()),
+            entries: self.group.schedule().len(),
+        };
+        push_info(self.alloc, text, info)
     }
 
     /// Appends the line of each invocation, in the order of their numbers.
@@ -222,8 +370,8 @@ impl Core {
         ensures { OnOk result (text.new.items ≡ text.old.items ++ invocation_reply self.now.view.group inv) }
     {
         let status = self.group.status(inv);
-        let top = self.group.world().whole().top(inv);
-        push_invocation(self.alloc, text, inv, status, top)
+        let frame = self.innermost(inv)?;
+        push_invocation(self.alloc, text, inv, status, frame.as_ref())
     }
 
     /// Appends the position, and where an invocation stands there.
@@ -231,8 +379,15 @@ impl Core {
         requires { inv < invocations_in self.now.view.group }
         ensures { OnOk result (text.new.items ≡ text.old.items ++ place_reply (focus_on inv self.now.view)) }
     {
-        let top = self.group.world().whole().top(inv);
-        push_position(self.alloc, text, self.group.position(), inv, top)
+        let frame = self.innermost(inv)?;
+        push_position(self.alloc, text, self.group.position(), inv, frame.as_ref())
+    }
+
+    /// A happening of the run with its line, as probes are told it.
+    pub fn lined(&self, happening: Happening) -> Happening
+        ensures { result ≡ lined self.now.view.group.program.accepted happening }
+    {
+        lined(self.group.module().accepted(), &self.info.lines, happening)
     }
 
     /// Appends why a motion stopped where the group is, and where the focus stands.
@@ -268,7 +423,7 @@ impl Session {
         drop(probes);
         Ok(Session {
             kit: Kit::empty(alloc),
-            core: Core::open(alloc, group),
+            core: Core::open(alloc, group)?,
         })
     }
 

@@ -1,10 +1,11 @@
 //! The texts of replies.
 ghost use Rattle.std.specs.Prelude.{◌≡◌, ◌++◌, OnOk, option_copied};
-ghost use Rattle.spv_session.specs.Texts.{refusal_line, place_text, position_line, standing_text, invocation_line, cause_text, stop_line};
+ghost use Rattle.spv_session.specs.Texts.{refusal_line, standing_text, position_line, status_text, invocation_line, cause_text, stop_line};
 
 use spv_base::{CmdRefusal, EndCause, NoMemory, Status4};
-use spv_frame::Frame;
+use spv_dbg::ShownFrame;
 use spv_line::push_number;
+use spv_source::place_text;
 use std::alloc::Global;
 
 /// The line of a refusal. Its code is 1 to 13.
@@ -29,48 +30,49 @@ pub fn refusal_line(refusal: CmdRefusal) -> &'static [u8]
     }
 }
 
-/// Appends where a frame stands, or that there is none.
-fn push_place(alloc: Global, text: &mut Vec<u8>, top: Option<&Frame>) -> Result<(), NoMemory>
-    ensures { OnOk result (text.new.items ≡ text.old.items ++ place_text (option_copied top.entry)) }
+/// Appends where a shown frame stands, or that there is none.
+fn push_standing(
+    alloc: Global,
+    text: &mut Vec<u8>,
+    frame: Option<&ShownFrame>,
+) -> Result<(), NoMemory>
+    ensures { OnOk result (text.new.items ≡ text.old.items ++ standing_text (option_copied frame.entry)) }
 {
-    let Some(frame) = top else {
-        text.extend_from_slice(b"finished")?;
-        return Ok(());
-    };
-    text.extend_from_slice(b"%")?;
-    push_number(alloc, text, frame.function() as u64)?;
-    text.extend_from_slice(b" word ")?;
-    push_number(alloc, text, frame.pc() as u64)
+    match frame {
+        Some(frame) => place_text(alloc, frame, text)?,
+        None => text.extend_from_slice(b"finished")?,
+    }
+    Ok(())
 }
 
-/// Appends the line that tells the position, and where an invocation with this top frame stands there.
+/// Appends the line that tells the position, and where an invocation with this innermost frame stands there.
 pub fn push_position(
     alloc: Global,
     text: &mut Vec<u8>,
     position: u64,
     inv: u32,
-    top: Option<&Frame>,
+    frame: Option<&ShownFrame>,
 ) -> Result<(), NoMemory>
-    ensures { OnOk result (text.new.items ≡ text.old.items ++ position_line position inv (option_copied top.entry)) }
+    ensures { OnOk result (text.new.items ≡ text.old.items ++ position_line position inv (option_copied frame.entry)) }
 {
     text.extend_from_slice(b"@")?;
     push_number(alloc, text, position)?;
     text.extend_from_slice(b" i=")?;
     push_number(alloc, text, inv as u64)?;
     text.extend_from_slice(b" ")?;
-    push_place(alloc, text, top)?;
+    push_standing(alloc, text, frame)?;
     text.extend_from_slice(b"\n")?;
     Ok(())
 }
 
-/// Appends how far an invocation is, and where it stands with this top frame.
-fn push_standing(
+/// Appends how far an invocation is, and where it stands with this innermost frame.
+fn push_status(
     alloc: Global,
     text: &mut Vec<u8>,
     status: Status4,
-    top: Option<&Frame>,
+    frame: Option<&ShownFrame>,
 ) -> Result<(), NoMemory>
-    ensures { OnOk result (text.new.items ≡ text.old.items ++ standing_text status (option_copied top.entry)) }
+    ensures { OnOk result (text.new.items ≡ text.old.items ++ status_text status (option_copied frame.entry)) }
 {
     match status {
         Status4::Ready => text.extend_from_slice(b"ready ")?,
@@ -81,23 +83,23 @@ fn push_standing(
             return Ok(());
         }
     }
-    push_place(alloc, text, top)
+    push_standing(alloc, text, frame)
 }
 
-/// Appends the line of an invocation that has this status and top frame.
+/// Appends the line of an invocation that has this status and innermost frame.
 pub fn push_invocation(
     alloc: Global,
     text: &mut Vec<u8>,
     inv: u32,
     status: Status4,
-    top: Option<&Frame>,
+    frame: Option<&ShownFrame>,
 ) -> Result<(), NoMemory>
-    ensures { OnOk result (text.new.items ≡ text.old.items ++ invocation_line inv status (option_copied top.entry)) }
+    ensures { OnOk result (text.new.items ≡ text.old.items ++ invocation_line inv status (option_copied frame.entry)) }
 {
     text.extend_from_slice(b"i=")?;
     push_number(alloc, text, inv as u64)?;
     text.extend_from_slice(b" ")?;
-    push_standing(alloc, text, status, top)?;
+    push_status(alloc, text, status, frame)?;
     text.extend_from_slice(b"\n")?;
     Ok(())
 }
