@@ -11,6 +11,7 @@ import os
 import struct
 import subprocess
 import tempfile
+from places import Places
 
 TOP = os.path.join(os.path.dirname(os.path.abspath(__file__)), "..")
 DATA = os.path.join(TOP, "crates", "spv_runs", "data")
@@ -52,7 +53,7 @@ class Module:
     NO_TYPE = {7, 11, 19, 20, 21, 23, 28, 29, 30, 32, 33, 248}
 
     def __init__(self, data):
-        self.words = list(struct.unpack("<%dI" % (len(data) // 4), data))
+        self.words, self.places = list(struct.unpack("<%dI" % (len(data) // 4), data)), Places(data)
         self.types, self.constants, self.variables, self.functions, self.blocks = {}, {}, {}, {}, {}
         self.instructions = []
         place, function, block = 5, None, None
@@ -261,7 +262,7 @@ class Run:
     def where(self):
         if not self.frames:
             return "@%d i=0 finished" % self.position
-        return "@%d i=0 %%%d word %d" % (self.position, self.frames[-1].function, self.here().word)
+        return "@%d i=0 %s" % (self.position, self.m.places.place(self.here().word))
 
     def registers(self):
         if not self.frames:

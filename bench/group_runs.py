@@ -11,6 +11,7 @@ import os
 import struct
 import subprocess
 import atomics
+from places import Places
 
 TOP = os.path.join(os.path.dirname(os.path.abspath(__file__)), "..")
 DATA = os.path.join(TOP, "crates", "spv_runs", "data")
@@ -22,6 +23,7 @@ UNDEFINED = atomics.UNDEFINED
 BOOL, INT, VECTOR, ARRAY, STRUCT, POINTER = 20, 21, 23, 28, 30, 32
 INPUT, PRIVATE, FUNCTION, BUFFER = 1, 6, 7, 12
 PASSED = (0, 8, 59, 246, 247, 248, 317)
+TERMINATORS = (249, 250, 251, 253, 254, 255)
 LOCAL_ID, GLOBAL_ID, LOCAL_INDEX = 27, 28, 29
 SCALARS = {
     124: lambda a: a,
@@ -39,12 +41,13 @@ SCALARS = {
 
 
 class Module:
-    """The instructions of a module by their words, its types, constants and variables, and the blocks of its one function."""
+    """The instructions of a module by their words, its types, constants and variables, and the blocks of its functions."""
 
     def __init__(self, data):
         words = struct.unpack("<%dI" % (len(data) // 4), data)
         self.insts, self.types, self.constants, self.variables = {}, {}, {}, {}
-        self.builtins, self.bindings, self.blocks, self.after = {}, {}, {}, {}
+        self.builtins, self.bindings, self.blocks, self.after, self.places = {}, {}, {}, {}, Places(data)
+        self.firsts, self.function = {}, 0
         word, last = 5, None
         while word < len(words):
             count, op = words[word] >> 16, words[word] & 0xFFFF
@@ -53,17 +56,21 @@ class Module:
             self.declare(op, args)
             if op == 248:
                 last = self.blocks[args[0]] = []
-            elif last is not None and op not in PASSED + (245,):
+                self.firsts.setdefault(self.function, args[0])
+            elif last is not None and op != 245 and not self.is_passed(op, args):
                 last.append(word)
+                last = None if op in TERMINATORS else last
             word += count
         for stops in self.blocks.values():
             self.after.update(zip(stops, stops[1:]))
 
     def declare(self, op, args):
         if op == 15:
-            self.main = args[1]
+            self.entry = args[1]
         elif op == 16 and args[1] == 17:
             self.size = args[2:5]
+        elif op == 54:
+            self.function = args[1]
         elif op == 71 and args[1] == 11:
             self.builtins[args[0]] = args[2]
         elif op == 71 and args[1] == 33:
@@ -76,6 +83,10 @@ class Module:
             self.constants[args[1]] = [self.constants[id] for id in args[2:]]
         elif op == 59:
             self.variables[args[1]] = (args[2], self.types[args[0]][2])
+
+    def is_passed(self, op, args):
+        """No event stops there; so it is with debug records."""
+        return op in PASSED or op == 12 and args[2] in self.places.module.imports
 
     def blank(self, ty):
         kind, *args = self.types[ty]
@@ -110,7 +121,7 @@ class Module:
 class Invocation:
     def __init__(self, module, number):
         self.status, self.registers, self.number = "ready", {}, number
-        self.before, self.block = None, next(iter(module.blocks))
+        self.before, self.block = None, module.firsts[module.entry]
         self.word = module.blocks[self.block][0]
 
 
@@ -186,7 +197,7 @@ class Group:
         one.word = stops[0]
         words = list(self.m.insts)
         phis, at = {}, words.index(next(w for w, (op, args) in self.m.insts.items() if op == 248 and args[0] == block)) + 1
-        while self.m.insts[words[at]][0] in (245, 8, 317):
+        while self.m.insts[words[at]][0] == 245 or self.m.is_passed(*self.m.insts[words[at]]):
             op, args = self.m.insts[words[at]]
             if op == 245:
                 pairs = dict(zip(args[3::2], args[2::2]))
@@ -230,7 +241,7 @@ class Group:
 
     def place(self, k):
         one = self.invocations[k]
-        return "finished" if one.status == "finished" else "%%%d word %d" % (self.m.main, one.word)
+        return "finished" if one.status == "finished" else self.m.places.place(one.word)
 
     def position(self, k):
         return "@%d i=%d %s" % (self.events, k, self.place(k))
@@ -239,7 +250,10 @@ class Group:
         one = self.invocations[k]
         if one.status == "finished":
             return ["refused: C12 focus finished"]
-        return ["%%%d = %s" % (id, self.m.text(*held)) for id, held in sorted(one.registers.items())]
+        return self.shown(one.registers)
+
+    def shown(self, registers):
+        return ["%%%d = %s" % (id, self.m.text(*held)) for id, held in sorted(registers.items())]
 
     def each(self):
         return ["i=%d finished" % k if one.status == "finished" else "i=%d %s %s" % (k, one.status, self.place(k)) for k, one in enumerate(self.invocations)]

@@ -1,11 +1,12 @@
 #!/usr/bin/env python3
 """The runs that docs/MANUAL.md speaks of, and what `debug` has to show of them, worked out here apart from the program.
 
-    bench/manual_runs.py    makes modules manual-*.spv of crates/spv_runs/data/ of the shaders of bench/manual/ and of six examples
+    bench/manual_runs.py    makes modules manual-*.spv of crates/spv_runs/data/ of the shaders of bench/manual/ and of the examples
 
-The runs are written by bench/runs.py. The shaders are compiled by `glslangValidator`, one of them once more through `spirv-opt -O`. An event is one entry of the schedule: one executable instruction of its invocation, or nothing where that one is
+The runs are written by bench/runs.py. The shaders are compiled by `glslangValidator` and `glslc`, two of them once more through
+`spirv-opt -O`. An event is one entry of the schedule: one executable instruction of its invocation, or nothing where that one is
 finished or waits at a barrier. An undefined operand makes a scalar of the result undefined, of OpSelect, OpLogicalAnd and
-OpLogicalOr too. Opcodes are those of SPIR-V 1.6, section 3.42.
+OpLogicalOr too. Opcodes are those of SPIR-V 1.6, section 3.42. Where instructions stand in the source is told by places.py.
 """
 import os
 import shutil
@@ -55,11 +56,15 @@ def lanes(op, values):
 
 
 class Module(group_runs.Module):
-    sizes = None
+    """A module, and of each function the parameters with their types, and the variables."""
 
     def declare(self, op, args):
         super().declare(op, args)
-        if op == RUNTIME_ARRAY:
+        if op == 55:
+            self.parameters.setdefault(self.function, []).append((args[1], args[0]))
+        elif op == 59 and args[2] == group_runs.FUNCTION:
+            self.locals.setdefault(self.function, []).append(args[1])
+        elif op == RUNTIME_ARRAY:
             self.types[args[0]] = (op, *args[1:])
         elif op in (41, 42):
             self.constants[args[1]] = int(op == 41)
@@ -69,6 +74,7 @@ class Module(group_runs.Module):
             self.sizes = args[2:5]
 
     def __init__(self, data):
+        self.sizes, self.parameters, self.locals = None, {}, {}
         super().__init__(data)
         if self.sizes:
             self.size = [self.constants[id] for id in self.sizes]
@@ -91,6 +97,8 @@ class Run(group_runs.Group):
             if storage == group_runs.BUFFER:
                 self.memory[(id,)] = [module.block(ty, iter(numbers))]
         self.schedule, self.fault = schedule, None
+        for one in self.invocations:
+            one.outer = []
 
     def slot(self, pointer):
         root, path = pointer
@@ -120,7 +128,34 @@ class Run(group_runs.Group):
         op, args = self.m.insts[one.word]
         if op == 250 and one.status == "ready" and self.value(one, args[0]) == UNDEFINED:
             raise Fault(1)
-        super().step(one)
+        if op == 57:
+            self.enter(one, args)
+        elif op in (253, 254) and one.outer:
+            self.leave(one, [self.value(one, id) for id in args])
+        else:
+            super().step(one)
+
+    # ---- calls: those that aren't the innermost wait, each with its word, registers and blocks
+
+    def enter(self, one, args):
+        given = [self.value(one, id) for id in args[3:]]
+        one.outer.append((one.word, one.registers, one.before, one.block))
+        one.registers = {id: (ty, value) for (id, ty), value in zip(self.m.parameters.get(args[2], []), given)}
+        for id in self.m.locals.get(args[2], []):
+            self.memory[one.number, id] = [self.m.blank(self.m.variables[id][1])]
+        one.before, one.block = None, self.m.firsts[args[2]]
+        one.word = self.m.blocks[one.block][0]
+
+    def leave(self, one, values):
+        word, one.registers, one.before, one.block = one.outer.pop()
+        ty, id = self.m.insts[word][1][:2]
+        one.registers.update({id: (ty, value) for value in values})
+        one.word = self.m.after[word]
+
+    def calls(self, k):
+        """The calls of an invocation, the innermost first: of each the word at which it stands, and its registers."""
+        one = self.invocations[k]
+        return [] if one.status == "finished" else [(one.word, one.registers)] + [call[:2] for call in reversed(one.outer)]
 
     def cause(self):
         """Why the run is at its end, if it is."""
@@ -148,9 +183,10 @@ class Session:
 
     def __init__(self, module, numbers, schedule):
         self.start = (module, numbers, schedule)
-        self.run, self.focus = Run(*self.start), 0
+        self.run, self.focus, self.frame = Run(*self.start), 0, 0
 
     def go(self, position):
+        self.frame = 0
         if position < self.run.events:
             self.run = Run(*self.start)
         while self.run.events < max(position, 0) and not self.run.cause():
@@ -175,9 +211,34 @@ class Session:
         if word in ("fwd", "back"):
             return self.go(self.run.events + int(rest[0]) * (1 if word == "fwd" else -1))
         if word == "focus":
-            self.focus = int(rest[0])
+            if int(rest[0]) >= len(self.run.invocations):
+                return ["refused: C3 no such invocation"]
+            self.focus, self.frame = int(rest[0]), 0
+        if word in ("focus", "where"):
             return [self.run.position(self.focus)]
-        return self.run.each() if word == "group" else self.run.regs(self.focus)
+        if word == "info":
+            return self.run.m.places.info(len(self.run.invocations), len(self.run.schedule))
+        if word == "quit":
+            return []
+        return self.run.each() if word == "group" else self.told(word, *rest)
+
+    def told(self, word, k=None):
+        """The reply to a command that tells of the frames of the focus."""
+        calls, places = self.run.calls(self.focus), self.run.m.places
+        if not calls:
+            return ["refused: C12 focus finished"]
+        words = [word for word, _ in calls]
+        lines = places.bt(words)
+        if word == "frame" and int(k) >= len(lines):
+            return ["refused: C4 no such frame"]
+        self.frame = int(k) if word == "frame" else self.frame
+        replies = {
+            "bt": lambda: lines,
+            "frame": lambda: [lines[self.frame]],
+            "list": lambda: places.list(words, self.frame),
+            "regs": lambda: self.run.shown(calls[places.stack(words)[self.frame][0]][1]),
+        }
+        return replies[word]()
 
 
 def rounds(times, invocations):
@@ -198,10 +259,17 @@ def setup_of(numbers, lines):
 
 ASCENDING = ["move %d 100" % k for k in range(4)]
 BARRIER = ["goto 33", "group", "goto 36", "group", "fwd 1", "group", "goto 148", "regs", "fwd 5", "back 1"]
-STUCK = ["goto 20", "group", "back 1", "group", "focus 1", "regs", "fwd 5", "back 9"]
+STUCK = ["goto 20", "group", "back 1", "group", "focus 1", "regs", "focus 2", "fwd 5", "back 9", "back 1"]
+with open(os.path.join(TOP, "examples", "shares", "commands")) as lines:
+    SESSION = lines.read().splitlines()
+# The run of examples/shares up to its fault, and what the fault's invocation shows there and before, of each of its frames.
+FAULT = ["goto 4000", "focus 3", "bt", "list"]
+FRAMES = FAULT + ["regs", "frame 1", "list", "regs", "where", "group", "frame 2", "list", "regs", "frame 3", "list", "info"]
+BEFORE = FRAMES + ["back 64", "where", "bt", "list", "frame 1", "regs", "goto 0", "list", "focus 0", "fwd 56", "bt", "frame 1", "list", "focus 4", "list", "fwd 1", "list"]
 # What each run is, its module, the numbers of its buffer, the setup's lines of the schedule, how many times which entries these are, and
 # the commands.
-TURNS = (["rounds 1000"], rounds(1000, 1))
+TURNS, FOURS = (["rounds 1000"], rounds(1000, 1)), (["rounds 1000"], rounds(1000, 4))
+TEN = [0, 0, 0, 0] + list(range(1, 11))
 RUNS = [
     ("either", "either", [0, 5, 5, 6, 6], *TURNS, ["goto %d" % END, "regs"]),
     ("either with the variable set", "either_set", [0, 5, 5, 6, 6], *TURNS, ["goto 106", "goto %d" % END]),
@@ -210,8 +278,15 @@ RUNS = [
     ("chosen", "chosen", [0, 1, 2, 3, 4], *TURNS, ["goto %d" % END, "regs"]),
     ("sources", "sources", [0, 32, 2], *TURNS, ["goto 42", "regs"]),
     ("undefined", "undefined", [0, 3, 1, 4, 9], *TURNS, ["goto %d" % END, "back 2", "regs"]),
-    ("rounding", "rounding", [0, 0, 0, 0] + list(range(1, 11)), ["rounds 1000"], rounds(1000, 4), ["goto %d" % END, "group", "focus 3", "regs"]),
-    ("rounding with its lines", "rounding-lines", [0, 0, 0, 0] + list(range(1, 11)), ["rounds 1000"], rounds(1000, 4), ["goto %d" % END]),
+    ("rounding", "rounding", TEN, *FOURS, ["goto %d" % END, "group", "focus 3", "regs", "bt", "list"]),
+    ("rounding with its lines", "rounding-lines", TEN, *FOURS, FAULT + ["frame 0", "regs", "back 100", "list", "goto 0", "where", "list"]),
+    ("the session of shares", "shares", TEN, *FOURS, SESSION),
+    ("shares", "shares", TEN, *FOURS, BEFORE + ["goto 36", "bt"]),
+    ("shares before spirv-opt -O", "shares-calls", TEN, *FOURS, BEFORE),
+    ("shares without its text", "shares-textless", TEN, *FOURS, FRAMES),
+    ("shares with its lines alone", "shares-lines", TEN, *FOURS, FRAMES),
+    ("shares with its lines alone, after spirv-opt -O", "shares-lines-optimized", TEN, *FOURS, FRAMES),
+    ("shares by glslc", "shares-glslc", TEN, *FOURS, FRAMES),
     ("race in rounds", "race", [1, 2, 3, 4], ["rounds 100"], rounds(100, 4), ["goto 72", "focus 1", "regs", "goto %d" % END]),
     ("race ascending", "race", [1, 2, 3, 4], ASCENDING, moves(0, 1, 2, 3), ["goto 30", "goto 99", "goto 118", "focus 1", "regs", "goto %d" % END]),
     ("race descending", "race", [1, 2, 3, 4], ASCENDING[::-1], moves(3, 2, 1, 0), ["goto 318", "focus 0", "regs", "goto %d" % END]),
@@ -222,11 +297,19 @@ RUNS = [
     ("exchange in too few rounds", "exchange", [7, 9], ["rounds 17"], rounds(17, 2), ["goto %d" % END]),
     ("exchange in just enough rounds", "exchange", [7, 9], ["rounds 18"], rounds(18, 2), ["goto %d" % END]),
     ("exchange in more rounds than it needs", "exchange", [7, 9], ["rounds 2097152"], rounds(100, 2), ["goto 4294967295"]),
-    ("exchange with a mark behind each command", "exchange", [7, 9], ["rounds 20"], rounds(20, 2), ["regs", "focus 0", "goto 3", "focus 0", "regs", "focus 0"]),
+    ("exchange with a mark behind each command", "exchange", [7, 9], ["rounds 20"], rounds(20, 2), ["regs", "where", "goto 3", "where", "regs", "where"]),
 ]
 GLSLANG = ["glslangValidator", "-V", "--target-env", "spirv1.6"]
 SHADERS = [("manual", "either"), ("manual", "either_set"), ("manual", "alarm"), ("manual", "chosen"), ("manual", "sources"), ("manual", "shown")]
-EXAMPLES = ["rounding", "race", "undefined", "exchange", "barrier", "stuck"]
+EXAMPLES = ["rounding", "race", "undefined", "exchange", "barrier", "stuck", "shares"]
+# Modules with lines, of the sources of examples, whose names are part of them.
+WITH_LINES = [
+    ("rounding-lines", "rounding", GLSLANG + ["-g"]),
+    ("shares-textless", "shares", GLSLANG + ["-gV"]),
+    ("shares-lines", "shares", GLSLANG + ["-g"]),
+    ("shares-glslc", "shares", ["glslc", "-g", "--target-env=vulkan1.2"]),
+]
+OPTIMIZED = ["alarm", "shares-lines"]
 HLSL = ["glslangValidator", "-D", "-V", "-e", "main", "-S", "comp", "--target-env", "vulkan1.2", "bench/manual/refused/scale.hlsl"]
 # Modules that are refused: the file's name, what makes it, the code, and the instruction at which it is refused: its opcode, and how many
 # such ones stand before it. A struct of HLSL ends with a runtime array and isn't a Block; an array of blocks has elements that do.
@@ -322,15 +405,16 @@ def main():
         made(GLSLANG + ["bench/%s/%s.comp" % (folder, name)], path_of(name))
     for name in EXAMPLES:
         shutil.copy(os.path.join(TOP, "examples", name, "module.spv"), path_of(name))
-    made(["spirv-opt", "-O", path_of("alarm")], path_of("alarm-optimized"))
+    shutil.copy(os.path.join(TOP, "examples", "shares", "calls.spv"), path_of("shares-calls"))
+    for name, example, command in WITH_LINES:
+        with tempfile.TemporaryDirectory() as room:
+            shutil.copy(os.path.join(TOP, "examples", example, example + ".comp"), room)
+            subprocess.run(command + [example + ".comp", "-o", path_of(name)], cwd=room, check=True, stdout=subprocess.DEVNULL)
+    for name in OPTIMIZED:
+        made(["spirv-opt", "-O", path_of(name)], path_of(name + "-optimized"))
     for name, command, *_ in REFUSED:
         made(command, path_of(name))
     made(VERSION, path_of("version"))
-    with tempfile.TemporaryDirectory() as room:
-        # (the source's name is part of the module)
-        with open(os.path.join(TOP, "examples", "rounding", "rounding.comp")) as source, open(os.path.join(room, "rounding.comp"), "w") as copy:
-            copy.write(source.read())
-        subprocess.run(GLSLANG + ["-g", "rounding.comp", "-o", path_of("rounding-lines")], cwd=room, check=True, stdout=subprocess.DEVNULL)
 
 
 if __name__ == "__main__":

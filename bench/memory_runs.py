@@ -9,6 +9,7 @@ module say where a part begins, and any other variable is a tree of lists. Opcod
 import os
 import struct
 import subprocess
+from places import Places
 
 TOP = os.path.join(os.path.dirname(os.path.abspath(__file__)), "..")
 DATA = os.path.join(TOP, "crates", "spv_runs", "data")
@@ -47,7 +48,7 @@ class Module:
 
     def __init__(self, data, spec):
         words = struct.unpack("<%dI" % (len(data) // 4), data)
-        self.spec, self.insts = spec, []
+        self.spec, self.insts, self.stands = spec, [], Places(data)
         at = 5
         while at < len(words):
             count, op = words[at] >> 16, words[at] & 0xFFFF
@@ -57,7 +58,6 @@ class Module:
         self.offsets, self.strides, self.ids, self.places, self.builtins = {}, {}, {}, {}, {}
         for _, op, args in self.insts:
             self.declare(op, args)
-        self.main = next(args[1] for _, op, args in self.insts if op == 15)
 
     def declare(self, op, args):
         if op == 71 and args[1] in (1, 6, 11, 33, 34):
@@ -298,12 +298,11 @@ def copied(value):
 def transcript(module, run, stops):
     """The replies to `goto` and `regs` at each of some positions, and to the `goto` that ends the run."""
     body = module.insts[next(k for k, inst in enumerate(module.insts) if inst[1] == 54) :]
-    name = "%%%d" % module.main
     lines, commands = [], []
     for word, op, args in body:
         if op in PASSED or op in (54, 56):
             continue
-        at = "@%d i=0 %s word %d" % (run.events, name, word)
+        at = "@%d i=0 %s" % (run.events, module.stands.place(word))
         start, shown, fault = ", start" if run.events == 0 else "", run.shown(), ""
         try:
             if op != 253:

@@ -4,7 +4,8 @@
 The rows are written by bench/modules.py. The modules are the shaders of examples/check: NAME-1.6-gVS.spv by
 `glslangValidator -V -gVS --target-env spirv1.6`, NAME-glslc-g.spv by `glslc -g --target-env=vulkan1.2`, and each of them after
 `spirv-opt -O` too. The kinds are those of NonSemantic.Shader.DebugInfo.100, and what makes a record malformed is this project's
-profile of it. Where an instruction stands is read off its block anew for each, from the instruction back.
+profile of it. Where an instruction stands is read off its block anew for each, from the instruction back; bench/places.py makes
+the texts of replies of it.
 """
 import os
 import struct
@@ -27,12 +28,16 @@ IN_BLOCKS = {23, 24, 28, 29, 103, 104}
 PARENTS = {10: 5, 21: 3, 22: 2}
 OPERATIONS = {0: "", 1: "", 2: "", 3: "#", 4: "..", 5: "", 6: "", 7: "", 8: "#", 9: "##"}
 FRAGMENT, MOST_BITS, MOST_NESTING = 9, 268_435_456, 64
+# Texts of Sources go before those of OpSources.
+SOURCE, OP_SOURCE, NO_TEXT = range(3)
 
 
 class Module:
     def __init__(self, words):
         self.words, self.strings, self.numbers = words, {}, {}
         self.marks, self.records, self.malformed, self.inlined, self.texts = {}, [], [], 0, []
+        # what a SourceContinued continues, and what an OpSourceContinued does
+        self.source = self.op_source = [NO_TEXT, b"", b""]
         integers, self.set, self.inside, self.in_force, at = set(), None, False, 0, 5
         insts = []
         while at < len(words):
@@ -63,9 +68,10 @@ class Module:
             if op in (249, 250, 251, 253, 254, 255):
                 self.inside = False
             if op == 3:
-                self.texts.append([1, self.strings[rest[2]], text(rest[3:])] if len(rest) > 3 else [2, b"", b""])
+                self.op_source = [OP_SOURCE, self.strings[rest[2]], text(rest[3:])] if len(rest) > 3 else [NO_TEXT, b"", b""]
+                self.texts.append(self.op_source)
             if op == 2:
-                self.texts[-1][2] += text(rest)
+                self.op_source[2] += text(rest)
 
     def add(self, at, ident, number, ids):
         measure = self.measure(number, ids) if self.is_right(number, ids) else None
@@ -77,9 +83,10 @@ class Module:
         if number in (23, 24):
             self.in_force = ids[1] if len(ids) > 1 else 0
         if number == 35:
-            self.texts.append([0 if len(ids) > 1 else 2, self.strings[ids[0]], self.strings[ids[1]] if len(ids) > 1 else b""])
+            self.source = [SOURCE, self.strings[ids[0]], self.strings[ids[1]]] if len(ids) > 1 else [NO_TEXT, b"", b""]
+            self.texts.append(self.source)
         if number == 102:
-            self.texts[-1][2] += self.strings[ids[0]]
+            self.source[2] += self.strings[ids[0]]
 
     def fits(self, role, ident):
         if role in LEADS:
@@ -129,7 +136,7 @@ class Module:
     # ---- where instructions stand in the source: what is in force is read off the block before each of them
 
     def show(self):
-        self.lines, self.heads, self.frames, op_names, function = [], [], [], {}, 0
+        self.lines, self.heads, self.frames, self.stands, op_names, function = [], [], [], {}, {}, 0
         by_word = {at: (number, ids) for at, _, number, ids in self.records}
         for _, op, rest in self.insts:
             if op == 5:
@@ -137,9 +144,9 @@ class Module:
         for start, (_, op, rest) in enumerate(self.insts):
             function = rest[1] if op == 54 else function
             if op == 248:
-                self.show_block(start, by_word, op_names.get(function, b""))
+                self.show_block(start, by_word, function, op_names.get(function, b""))
 
-    def show_block(self, start, by_word, op_name):
+    def show_block(self, start, by_word, function, op_name):
         before, block = None, []
         for at, op, rest in self.insts[start + 1 :]:
             scope, inlined, file, line = self.location(block, by_word)
@@ -150,7 +157,9 @@ class Module:
                 if key is not None and key != before:
                     self.heads.append((file, line))
                 before = key
-            self.frames += self.shown(scope, inlined, file, line, op_name)
+            frames = self.shown(scope, inlined, file, line, op_name)
+            self.frames += frames
+            self.stands[at] = (function, frames)
             block.append((at, op, rest))
             if op in (249, 250, 251, 253, 254, 255):
                 return
@@ -196,15 +205,19 @@ class Module:
             inlined = ids[2] if len(ids) > 2 else 0
         return frames
 
+    def files(self):
+        """The text of each file: that of the first Source with its name and a text, else of the first such OpSource."""
+        files = {}
+        for rank, file, data in sorted(self.texts, key=lambda row: row[0]):
+            if rank != NO_TEXT:
+                files.setdefault(file, data)
+        return files
 
     def counts(self):
         operands = [ident for _, _, _, ids in self.records for ident in ids]
         strings = sum(len(self.strings[ident]) for ident in operands if ident in self.strings)
         numbers = sum(self.numbers.get(ident, 0) for ident in operands)
-        files = {}
-        for rank, file, data in sorted(self.texts, key=lambda row: row[0]):
-            if rank < 2:
-                files.setdefault(file, data)
+        files = self.files()
         texts = sum(len(files.get(name, b"")) for name in self.strings.values())
         return (f"records {len(self.records)}, found {len(self.marks)}, ignored {len(self.malformed)}, strings {strings}, numbers {numbers}, "
                 f"inlined {self.inlined}, text {texts}, lines {len(self.lines)} of sum {sum(self.lines)}, "

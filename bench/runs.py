@@ -6,7 +6,8 @@
 A call of a file `*.runs` is a line `== WHAT: MODULE: WORDS`, the text of the setup, and behind `-- commands` the input. The
 transcripts are worked out by hand from the manual, docs/SETUP.md and the standard; the numbers in runs_of_values.py and
 arithmetic.py by Python, and those of memory.runs, flow.runs and group.runs, and of the runs that docs/MANUAL.md speaks of, by the
-interpreters memory_runs.py, flow.py, group_runs.py and manual_runs.py. None is taken from the program that is tested.
+interpreters memory_runs.py, flow.py, group_runs.py and manual_runs.py; those of source.runs by hand in source_runs.py, and those of
+traces.runs by sessions.py. None is taken from the program that is tested.
 """
 import os
 import struct
@@ -16,9 +17,13 @@ import group_runs
 import make
 import manual_runs
 import memory_runs
+import runs_of_places as places
 import runs_of_setups as setups
 import runs_of_values as values
+import source_runs
+import traces
 from listings import TOP, Inst, laid_out
+from places import Places
 
 FOLDER = os.path.join(TOP, "crates", "spv_runs")
 DATA = os.path.join(FOLDER, "data")
@@ -28,15 +33,26 @@ TEN_ROUNDS = "spvdbg-setup 1\nrounds 10\n"
 USAGE_LINE = "usage: spvdbg debug MODULE SETUP | check MODULE | make N | text MODULE\n"
 UNKNOWN = "refused: C1 unknown command\n"
 ARGUMENTS = "refused: C2 arguments\n"
+NO_FRAME, NO_TEXT, FINISHED = "refused: C4 no such frame\n", "refused: C10 no source text\n", "refused: C12 focus finished\n"
+# What `info` and, at the end, `where` reply of the shader that adds 40 and 2, under ten rounds.
+INFO, OVER = "words 67, instructions 18, ignored 0, invocations 1, entries 10\n", "@4 i=0 finished\n"
 
 # The commands to the shader that adds 40 and 2, under ten rounds, and all that is written.
 COMMANDS = [
     ("goto 3\nregs\ngoto 9\nquit\n", "stop: done\n@3 i=0 %7 word 65\n%10 = 40\n%11 = 42\nstop: all finished\n@4 i=0 finished\n"),
     (
         "goto 4\nregs\ngoto 0\nwhere\n",
-        "stop: done, all finished\n@4 i=0 finished\nrefused: C12 focus finished\nstop: done, start\n@0 i=0 %7 word 53\n" + UNKNOWN,
+        "stop: done, all finished\n@4 i=0 finished\nrefused: C12 focus finished\nstop: done, start\n" + 2 * "@0 i=0 %7 word 53\n",
     ),
-    ("where 5\njump\nGoto 1\n", 3 * UNKNOWN),
+    ("jump\nGoto 1\nstep\nprint %10\nbreak\n", 5 * UNKNOWN),
+    ("where 5\nbt 0\nlist 3\ninfo 1\nframe\nframe x\nframe 4294967296\n", 7 * ARGUMENTS),
+    ("where\ngoto 3\nwhere\n", "@0 i=0 %7 word 53\nstop: done\n" + 2 * "@3 i=0 %7 word 65\n"),
+    ("bt\nframe 0\nframe 00\nframe 1\nframe 4294967295\n", 3 * "#0 %7 word 53\n" + 2 * NO_FRAME),
+    ("goto 2\nframe 0\nregs\nwhere\nbt\n", "stop: done\n@2 i=0 %7 word 60\n#0 %7 word 60\n%10 = 40\n@2 i=0 %7 word 60\n#0 %7 word 60\n"),
+    ("list\ngoto 3\nlist\n", NO_TEXT + "stop: done\n@3 i=0 %7 word 65\n" + NO_TEXT),
+    ("info\ngoto 2\ninfo\n", INFO + "stop: done\n@2 i=0 %7 word 60\n" + INFO),
+    # a finished invocation stands nowhere, and that is looked at before the number of a frame
+    ("goto 4\nbt\nframe 0\nframe 7\nlist\nregs\nwhere\ninfo\n", "stop: done, all finished\n" + OVER + 5 * FINISHED + OVER + INFO),
     ("", ""),
     ("\n\n   \n", ""),
     ("regs\n", ""),
@@ -141,7 +157,9 @@ def calls():
     """By file: what each call is, the module, the words, the setup, the commands, the status and what is written."""
     yield "commands.runs", [("commands", "first.spv", DEBUG, TEN_ROUNDS, commands, DONE, out) for commands, out in COMMANDS] + [
         ("schedules", "first-big.spv", DEBUG, setup, commands, DONE, out) for setup, commands, out in SCHEDULES
-    ] + [("assembled", name, DEBUG, "spvdbg-setup 1\nrounds 20\n", commands, DONE, out) for name, commands, out in ASSEMBLED] + list(manual_runs.calls())
+    ] + [("assembled", name, DEBUG, "spvdbg-setup 1\nrounds 20\n", commands, DONE, out) for name, commands, out in ASSEMBLED] + [
+        (what, name, DEBUG, *row) for what, name, *row in places.calls()
+    ] + list(manual_runs.calls())
     yield "words.runs", [("words", "first.spv", words, TEN_ROUNDS, "goto 1\n", status, out) for words, status, out in WORDS] + [
         ("a listing", "first.spv", "spvdbg text module", "", "goto 1\n", DONE, LISTING)
     ] + [
@@ -154,7 +172,7 @@ def calls():
     yield "invocations.runs", [("two", "two.spv", DEBUG, "spvdbg-setup 1\nrounds 20\n", "goto 1\n", DONE, setups.RETURNED)] + [
         ("several", "blocks.spv", DEBUG, setup, "goto 1\n", DONE, out) for setup, out in setups.OF_TWO
     ]
-    for file, runs in (("memory.runs", memory_runs), ("flow.runs", flow), ("group.runs", group_runs)):
+    for file, runs in (("memory.runs", memory_runs), ("flow.runs", flow), ("group.runs", group_runs), ("source.runs", source_runs), ("traces.runs", traces)):
         yield file, [(what, name, DEBUG, *row) for what, name, *row in runs.calls()]
 
 
@@ -312,6 +330,8 @@ def modules():
     yield "unreachable.spv", with_word(first, 65, 0x000100FF)
     yield from setups.modules()
     yield from values.modules()
+    yield from places.modules()
+    yield from source_runs.modules()
 
 
 def made(n):
@@ -328,8 +348,7 @@ def undone(n, back=100_000):
     position = end - back
     # the entries before the position that are of invocation 0
     before = (position + make.INVOCATIONS - 1) // make.INVOCATIONS
-    main = next(operands[1] for name, operands in make.instructions(n) if name == "Function")
-    first, last = "@%d i=0 finished" % end, "@%d i=0 %%%d word %d" % (position, main, make.places(n)[before])
+    first, last = "@%d i=0 finished" % end, "@%d i=0 %s" % (position, Places(make.module(n)).place(make.places(n)[before]))
     lines = ["undone %d" % n, "lines %d" % (2 * (1 + back)), "stop: done, all finished", first, "stop: done", last, "status 0"]
     return "".join(line + "\n" for line in lines)
 

@@ -30,7 +30,7 @@ const GROUPS: [(&str, &str, &str); 9] = [
 ];
 
 /// The files of calls, in the order of the output.
-const CALLS: [&str; 8] = [
+const CALLS: [&str; 10] = [
     "commands.runs",
     "words.runs",
     "setups.runs",
@@ -39,6 +39,8 @@ const CALLS: [&str; 8] = [
     "memory.runs",
     "flow.runs",
     "group.runs",
+    "source.runs",
+    "traces.runs",
 ];
 
 /// Says what `debug` writes for a module and some commands, and how it ends.
