@@ -88,12 +88,16 @@ defines insts id i e = (guarded (is_id id) (find (has_result id) insts) i e).1
 -- ---- an instruction of the set has an id
 
 -- OpExtInst (12) has a result
+has_result_there : is_with_result (head_of 12) ≡ true
+unfolding head_of row_of table
+has_result_there = refl
+
 set_has_result : (insts : List Inst) (i : Inst) (number : ℕ) → set_number insts i ≡ Some number → is_with_result (head_of i.op) ≡ true
-unfolding set_number head_of row_of table
+unfolding set_number
 set_has_result insts i number e =
     let test = (guarded (i.op == 12 && names_set insts i) (literal_operand i 1) number e).0 in
     let op : i.op ≡ 12 = eqb-true i.op 12 (and_parts (i.op == 12) (names_set insts i) test).0 in
-    rw op refl
+    ap (λ (n : ℕ). is_with_result (head_of n)) op ∙ has_result_there
 
 below_limit : (bound id : ℕ) → bound ≤ 1048576 → is_below bound id ≡ true → is_id id ≡ true
 below_limit bound id le h =

@@ -1,11 +1,14 @@
 -- What is read off the debug instructions of a module: the well-formed ones, and what their operands stand for.
-use Rattle.std.specs.Prelude.{ℕ, ◌==◌, if◌then◌else◌, List, [], ◌∷◌, ◌++◌, map, position, slice_index, unwrap_or, find, zip, Option, Some, None}
+use Rattle.std.specs.Prelude.{ℕ, Bool, false, ◌==◌, if◌then◌else◌, List, [], ◌∷◌, ◌++◌, map, position, slice_index, unwrap_or, find, zip, Option, Some, None}
 use Rattle.std.specs.Option.{option_and_then, option_map, option_map_or}
 use Rattle.std.specs.List.{flat_map}
 use Rattle.spv_base.specs.Entries.{reads}
 use Rattle.spv_base.specs.declared.instructions.Inst.{Inst}
 use Rattle.spv_index.specs.Classes.{is_label}
+use Rattle.spv_index.specs.Definitions.{result_type}
 use Rattle.spv_index.specs.Positions.{Stand, in_block, stands_of}
+use Rattle.spv_types.specs.Rules.{is_scalar}
+use Rattle.spv_types.specs.Types.{form_of}
 use Rattle.spv_consts.specs.Table.{Row}
 use Rattle.spv_valid.specs.Acceptance.{Accepted}
 use Rattle.spv_dbg.specs.declared.constants.Constant.{Constant}
@@ -22,6 +25,7 @@ pub record Tables : Type 0 where
   pub ignored : ℕ  -- how many debug instructions are malformed
   pub strings : List (ℕ × List ℕ)  -- each OpString
   pub constants : List (ℕ × Constant)  -- each constant
+  pub scalars : List (ℕ × Bool)  -- for the word of each debug instruction in insts, whether its second operand is the id of a scalar
   pub inlined : List (ℕ × ℕ)  -- for the word of each instruction, the InlinedAt that holds there, or 0
   pub sources : List (ℕ × List ℕ)  -- the texts of source files, each with the id of the OpString that names its file
 
@@ -79,6 +83,15 @@ kept_if (Some k) = k ∷ []
 abbrev pub kept_in : Marks → List Mark
 kept_in marks = flat_map kept_if marks
 
+-- ---- scalars
+
+-- an id is that of a Boolean or an integer, which are scalars (SPIR-V 1.6 section 2.2.1)
+abbrev pub is_scalar_id : Accepted → ℕ → Bool
+is_scalar_id m id = is_scalar (option_and_then (form_of m.types) (result_type m.insts id))
+
+abbrev pub scalar_entry : Accepted → DebugInst → ℕ × Bool
+scalar_entry m d = (d.word, is_scalar_id m (slice_index d.operands 1))
+
 -- ---- all of them
 
 unfoldable pub marks_of : Accepted → Marks
@@ -99,6 +112,9 @@ sources_of m = debug_sources (strings_of m.insts) (insts_of m) ++ op_sources_in 
 abbrev pub ids_of : List DebugInst → List ℕ
 ids_of insts = map (λ d. d.id) insts
 
+abbrev pub scalars_of : Accepted → List (ℕ × Bool)
+scalars_of m = map (scalar_entry m) (insts_of m)
+
 unfoldable pub tables_of : Accepted → Tables
 tables_of m = record {
   insts = insts_of m;
@@ -106,6 +122,7 @@ tables_of m = record {
   ignored = ignored_of m;
   strings = strings_of m.insts;
   constants = constants_of m;
+  scalars = scalars_of m;
   inlined = inlined_of m;
   sources = sources_of m;
 }
@@ -135,6 +152,10 @@ row_in c = record { ty = c.ty; cells = c.cells }
 -- the number of the 32-bit integer constant with an id
 abbrev pub number_of : Tables → ℕ → Option ℕ
 number_of t id = option_and_then (λ (c : Constant). c.number) (reads id t.constants)
+
+-- the second operand of the debug instruction at a word is the id of a scalar
+abbrev pub names_scalar : Tables → ℕ → Bool
+names_scalar t word = unwrap_or (reads word t.scalars) false
 
 -- the InlinedAt that holds at a word, and 0 where there is none
 abbrev pub inlined_at : Tables → ℕ → ℕ

@@ -15,6 +15,7 @@ mod names;
 mod op_sources;
 mod pieces;
 mod records;
+mod scalars;
 mod sources;
 mod strings;
 mod tables;

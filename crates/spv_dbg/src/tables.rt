@@ -5,6 +5,7 @@ ghost use Rattle.std.specs.Option.{option_and_then};
 ghost use Rattle.spv_base.specs.Entries.{reads};
 ghost use Rattle.spv_dbg.specs.Names.{number_from, number_under};
 ghost use Rattle.spv_index.specs.Places.{keys_of, places_from};
+ghost use Rattle.spv_dbg.specs.Records.{AreRecords};
 ghost use Rattle.spv_dbg.specs.Seen.{seen};
 ghost use Rattle.spv_dbg.specs.Sources.{debug_sources, has_name, op_sources_in};
 ghost use Rattle.spv_dbg.specs.Tables as spec;
@@ -12,10 +13,12 @@ ghost use Rattle.spv_dbg.specs.Tables as spec;
 use crate::constants::{Constant, constants_of};
 use crate::inlined::inlined_of;
 use crate::insts::DebugInst;
+use crate::laws::records_are_whole_in_their_tables;
 use crate::marks::{Mark, kept_in};
 use crate::names::{Names, names_of, text_with};
 use crate::pieces::SourceText;
 use crate::records::{Records, records_of};
+use crate::scalars::scalars_of;
 use crate::sources::{Source, sources_of};
 use crate::strings::strings_of;
 use crate::texts::Text;
@@ -37,6 +40,8 @@ pub struct DebugTables {
     ignored: u64,
     strings: Keyed<Text>,
     constants: Keyed<Constant>,
+    /// By word, whether the second operand of the debug instruction there is the id of a scalar.
+    scalars: Table<bool>,
     /// By word, the InlinedAt that holds at the instruction there, or 0.
     inlined: Table<u32>,
     sources: Vec<Source>,
@@ -54,6 +59,7 @@ impl Drop for DebugTables {
             ignored: _,
             strings,
             constants,
+            scalars,
             inlined,
             sources,
             names,
@@ -64,6 +70,7 @@ impl Drop for DebugTables {
         drop(by_word);
         drop(strings);
         drop(constants);
+        drop(scalars);
         drop(inlined);
         drop(sources);
         drop(names);
@@ -160,6 +167,7 @@ impl DebugTables {
     pub fn build(alloc: Global, module: &Module) -> Result<DebugTables, NoMemory>
         ensures { IfOk result (λ tables. tables ≡ spec.tables_of module.now) }
     {
+        records_are_whole_in_their_tables();
         let Records {
             marks,
             insts,
@@ -169,6 +177,7 @@ impl DebugTables {
         let marks = kept_in(alloc, marks.as_slice())?;
         let Numbers { by_id, by_word } = numbers_of(alloc, insts.as_slice())?;
         let constants = constants_of(alloc, module)?;
+        let scalars = scalars_of(alloc, module, insts.as_slice())?;
         let Texts {
             strings,
             sources,
@@ -182,10 +191,19 @@ impl DebugTables {
             ignored,
             strings,
             constants,
+            scalars,
             inlined,
             sources,
             names,
         })
+    }
+
+    /// A law, with nothing to run: these are the tables of an accepted module, so each record is whole in them.
+    pub fn records_are_whole(&self)
+        ensures { ∥ AreRecords self.now ∥₁ }
+    {
+        // What is so of each such value is known where a field is used.
+        let _ = &self.insts;
     }
 
     /// How many debug instructions are malformed.
@@ -255,6 +273,14 @@ impl DebugTables {
         ensures { result ≡ spec.number_of self.now id }
     {
         self.constants.get(id)?.number
+    }
+
+    /// Whether the second operand of the well-formed debug instruction at a word is the id of a scalar: of a Declare or a Value,
+    /// whether what it captures is one.
+    pub fn names_scalar(&self, word: u32) -> bool
+        ensures { result ≡ spec.names_scalar self.now word }
+    {
+        self.scalars.get(word).unwrap_or(false)
     }
 
     /// The InlinedAt that holds at the instruction at a word, and 0 where there is none.

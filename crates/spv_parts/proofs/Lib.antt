@@ -1,0 +1,3 @@
+mod SaturationLemmas
+mod PartLemmas
+mod CompositeLemmas

@@ -1,0 +1,4 @@
+pub mod Parts
+pub mod Composites
+pub mod Arrays
+pub mod Kept
