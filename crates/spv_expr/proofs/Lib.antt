@@ -1,0 +1,5 @@
+mod CellLemmas
+mod EntryLemmas
+mod RangeLemmas
+mod TellLemmas
+mod ValueLemmas

@@ -1,0 +1,5 @@
+pub mod Variables
+pub mod Expressions
+pub mod Bits
+pub mod Kept
+pub mod Rests
