@@ -1,0 +1,4 @@
+mod ScopeLemmas
+mod VariableLemmas
+mod PortionLemmas
+mod PathLemmas

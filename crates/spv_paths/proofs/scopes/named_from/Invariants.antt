@@ -1,0 +1,9 @@
+use Rattle.std.proofs.Common.{◌≡◌, ◌-◌, find, flat_map, length}
+use Rattle.spv_parts.specs.Composites.{is_named}
+use Rattle.spv_paths.specs.Kept.{ids_under}
+use Rattle.spv_paths.specs.Variables.{scopes, scopes_within}
+use Rattle.spv_paths.proofs.scopes.named_from.Given as goal
+
+abbrev pub invariant-loop-n : goal.invariant-loop-n
+invariant-loop-n l = find (is_named l.tables l.name) (flat_map (ids_under l.locals) (scopes_within (length l.tables.insts - l.n) l.tables l.at))
+    ≡ find (is_named l.tables l.name) (flat_map (ids_under l.locals) (scopes l.tables l.scope))

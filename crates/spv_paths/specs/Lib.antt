@@ -1,0 +1,4 @@
+pub mod Variables
+pub mod Portions
+pub mod Paths
+pub mod Kept
