@@ -14,8 +14,8 @@ fn shown_byte(byte: u8) -> u8
     if byte < 32 || byte == 127 { b'?' } else { byte }
 }
 
-/// Appends a name or a file as it is shown.
-fn push_shown(text: &mut Vec<u8>, bytes: &[u8]) -> Result<(), NoMemory>
+/// Appends a name or a file as it is shown. After want of memory a part of it may have been appended.
+pub fn push_shown(text: &mut Vec<u8>, bytes: &[u8]) -> Result<(), NoMemory>
     ensures { OnOk result (text.new.items ≡ text.old.items ++ shown_bytes bytes.now) }
 {
     for byte in bytes {

@@ -7,5 +7,5 @@ mod rows;
 mod walks;
 mod windows;
 
-pub use frames::{frame_line, place_text, push_frame};
+pub use frames::{frame_line, place_text, push_frame, push_shown};
 pub use windows::source_lines;

@@ -1,0 +1,8 @@
+mod LeafLemmas
+mod NumberLemmas
+mod PieceLemmas
+mod SheetLemmas
+mod LayoutLemmas
+mod WholeLemmas
+mod RecordLemmas
+mod DepthLemmas
