@@ -1,5 +1,7 @@
+mod ElementLemmas
 mod SheetLemmas
 mod LoopLemmas
 mod TextLemmas
 mod PointerLemmas
 mod ScalarLemmas
+pub mod Exports

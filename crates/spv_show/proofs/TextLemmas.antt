@@ -1,8 +1,8 @@
 -- Written cell by cell, the row of a value gives the text of the value.
 use Rattle.std.proofs.Common.{◌≡◌, ◌∙◌, ℕ, zero, suc, ◌+◌, ◌<◌, ◌==◌, Bool, true, false, List, [], ◌∷◌, ◌++◌, Option, Some, None, append_assoc, append-nil, length, map, drop, replicate, slice_get, refl, sym, ap, subst, arith}
 use Rattle.std.specs.Bool.{MatchBool}
-use Rattle.std.specs.Option.{IsSomeAnd, MatchOption, option_map_or}
-use Rattle.std.specs.Prelude.{IsSome, codes, decimal, if◌then◌else◌}
+use Rattle.std.specs.Option.{IsSomeAnd, MatchOption, option_map, option_map_or}
+use Rattle.std.specs.Prelude.{codes, decimal, if◌then◌else◌}
 use Rattle.std.specs.List.{All, AllZip, flat_map}
 use Rattle.std.proofs.lemmas.List.Elements.{All-head, All-tail}
 use Rattle.spv_base.specs.Cell.{Cell}
@@ -14,17 +14,17 @@ use Rattle.spv_types.specs.declared.forms.Form.{Form}
 use Rattle.spv_types.specs.declared.forms.Form.TheVariants.{Void, Bool as Boolean, Int, Vector, Array, Runtime, Struct, Pointer, Function}
 use Rattle.spv_types.specs.declared.forms.Member.{Member}
 use Rattle.spv_types.specs.Types.{Types, form_of, in_first, number_of}
-use Rattle.spv_types.specs.Cells.{cells_among, cells_of, cells_step, members_cells}
 use Rattle.spv_types.specs.Shapes.{HasShape, HasShapeAmong, scalar_in, shape_step}
 use Rattle.spv_types.specs.Rows.{leaves, no_roots}
-use Rattle.spv_types.proofs.Exports.{added_is, many_is, times_is, many_row, scalar_row, no_pointer}
+use Rattle.spv_types.proofs.Exports.{many_is, many_row, scalar_row, no_pointer}
 use Rattle.spv_show.specs.declared.scalars.Reading.{Reading}
 use Rattle.spv_show.specs.declared.scalars.Reading.TheVariants as reading
+use Rattle.spv_show.specs.Elements.{sized, with_elements}
 use Rattle.spv_show.specs.Lists.{Shown, Writer, bracketed, continued, elements, joined, leaf, named, plain, separator}
-use Rattle.spv_show.specs.Rows.{IsRowOf}
 use Rattle.spv_show.specs.Scalars.{reading_of, scalar_if_any, scalar_text, unavailable}
 use Rattle.spv_show.specs.Texts.{Text, members_text, no_text, row_if_any, struct_if_any, text_among, text_step, value_text}
 use Rattle.spv_show.specs.Sheets.{Change, Written, blank, put, put_among, put_bracketed, put_cell, put_elements, put_leaf, put_members, put_named, put_next, put_rest, put_row, put_step, put_struct}
+use Rattle.spv_show.proofs.ElementLemmas.{form_sized, length_sized, number_sized}
 
 -- ---- what is written from one sheet to another
 
@@ -150,24 +150,22 @@ scalar_agrees cells reading P v h = level (out-Value v) refl h
 
 -- ---- the parts of a value
 
--- values of a type, whose cells are counted, are written as their texts say
-abbrev Agree : List Cell → (ℕ → Value → Type 0) → (ℕ → Option ℕ) → (ℕ → Change) → (ℕ → Text) → Type 0
-Agree cells shape counts change text = (id : ℕ) (v : Value) (n : ℕ) → shape id v → counts id ≡ Some n → Agrees cells (change id) (text id v) (leaves v)
+-- values of types are written as their texts say
+abbrev Agree : List Cell → (ℕ → Value → Type 0) → (ℕ → Change) → (ℕ → Text) → Type 0
+Agree cells shape change text = (id : ℕ) (v : Value) → shape id v → Agrees cells (change id) (text id v) (leaves v)
 
 each_agrees : (cells : List Cell) (c : Change) (text : Text) (P : Value → Type 0) (vs : List Value) → ((v : Value) → P v → Agrees cells c (text v) (leaves v)) → All P vs
     → AgreeAll cells (replicate (length vs) c) (map text vs) (flat_map leaves vs)
 each_agrees cells c text P [] agree all = refl
 each_agrees cells c text P (v ∷ vs) agree all = (leaves v, flat_map leaves vs, refl, agree v (All-head P v vs all), each_agrees cells c text P vs agree (All-tail P v vs all))
 
-members_agree : (cells : List Cell) (shape : ℕ → Value → Type 0) (counts : ℕ → Option ℕ) (change : ℕ → Change) (text : ℕ → Text) (number : ℕ) (ms : List Member) (vs : List Value) (n : ℕ) → Agree cells shape counts change text
-    → AllZip (λ (m : Member). shape m.ty) ms vs → members_cells counts ms ≡ Some n → AgreeAll cells (put_members change number ms) (members_text text number ms vs) (flat_map leaves vs)
-unfolding members_cells
-members_agree cells shape counts change text number [] [] n agree all k = refl
-members_agree cells shape counts change text number [] (v ∷ vs) n agree all k = absurd all
-members_agree cells shape counts change text number (m ∷ ms) [] n agree all k = absurd all
-members_agree cells shape counts change text number (m ∷ ms) (v ∷ vs) n agree all k =
-    let sum = added_is (counts m.ty) (members_cells counts ms) n k in
-    (leaves v, flat_map leaves vs, refl, named_agrees cells number (change m.ty) (text m.ty v) (leaves v) (agree m.ty v sum.0 all.0 sum.2), members_agree cells shape counts change text (number + 1) ms vs sum.1 agree all.1 sum.3)
+members_agree : (cells : List Cell) (shape : ℕ → Value → Type 0) (change : ℕ → Change) (text : ℕ → Text) (number : ℕ) (ms : List Member) (vs : List Value) → Agree cells shape change text
+    → AllZip (λ (m : Member). shape m.ty) ms vs → AgreeAll cells (put_members change number ms) (members_text text number ms vs) (flat_map leaves vs)
+members_agree cells shape change text number [] [] agree all = refl
+members_agree cells shape change text number [] (v ∷ vs) agree all = absurd all
+members_agree cells shape change text number (m ∷ ms) [] agree all = absurd all
+members_agree cells shape change text number (m ∷ ms) (v ∷ vs) agree all =
+    (leaves v, flat_map leaves vs, refl, named_agrees cells number (change m.ty) (text m.ty v) (leaves v) (agree m.ty v all.0), members_agree cells shape change text (number + 1) ms vs agree all.1)
 
 row_agrees : (cells : List Cell) (cs : List Change) (text : Text) (v : Value) (vs : List Value) → out-Value v ≡ Value-F.List vs → AgreeAll cells cs (map text vs) (flat_map leaves vs)
     → Agrees cells (put_row cs) (row_if_any text (parts_in (out-Value v))) (leaves v)
@@ -183,68 +181,84 @@ struct_agrees cells cs text ms v vs e all =
     let here : Agrees cells (put_struct cs) (struct_if_any text ms (Some vs)) (flat_map leaves vs) = record { writes = λ s rest lies. inside.writes s rest lies } in
     rw (many_row v vs e, e) here
 
--- ---- one level
-
-step_agrees : (ts : Types) (cells : List Cell) (shape : ℕ → Value → Type 0) (counts : ℕ → Option ℕ) (change : ℕ → Change) (text : ℕ → Text) (f : Form) (v : Value) (n : ℕ) → Agree cells shape counts change text
-    → shape_step ts no_roots shape f v → cells_step counts f ≡ Some n → Agrees cells (put_step cells change f) (text_step text f v) (leaves v)
-step_agrees ts cells shape counts change text Void v n agree h k = absurd h
-step_agrees ts cells shape counts change text Boolean v n agree h k = scalar_agrees cells reading.Boolean _ v h
-step_agrees ts cells shape counts change text (Int width sign) v n agree h k = scalar_agrees cells (reading_of sign) _ v h
-step_agrees ts cells shape counts change text (Vector component size) v n agree h k =
+-- an array, or a runtime array, of so many elements
+elements_agree_all : (cells : List Cell) (shape : ℕ → Value → Type 0) (change : ℕ → Change) (text : ℕ → Text) (element size : ℕ) (v : Value) → Agree cells shape change text
+    → IsSomeAnd (parts_in (out-Value v)) (λ vs. (Some (length vs) ≡ Some size) × All (shape element) vs) → Agrees cells (put_row (replicate size (change element))) (row_if_any (text element) (parts_in (out-Value v))) (leaves v)
+elements_agree_all cells shape change text element size v agree h =
     let many = many_is _ v h in
-    let times = times_is (counts component) size n k in
-    let each = each_agrees cells (change component) (text component) (shape component) many.0 (λ u s. agree component u times.0 s times.1) many.2.1 in
-    row_agrees cells (replicate size (change component)) (text component) v many.0 many.1
-    (subst (λ (size : ℕ). AgreeAll cells (replicate size (change component)) (map (text component) many.0) (flat_map leaves many.0)) many.2.0 each)
-step_agrees ts cells shape counts change text (Array element None stride) v n agree h k = cc
-step_agrees ts cells shape counts change text (Array element (Some size) stride) v n agree h k =
-    let many = many_is _ v h in
-    let times = times_is (counts element) size n k in
     let same : length many.0 ≡ size = let e = many.2.0 in cc in
-    let each = each_agrees cells (change element) (text element) (shape element) many.0 (λ u s. agree element u times.0 s times.1) many.2.1 in
+    let each = each_agrees cells (change element) (text element) (shape element) many.0 (λ u s. agree element u s) many.2.1 in
     row_agrees cells (replicate size (change element)) (text element) v many.0 many.1
     (subst (λ (size : ℕ). AgreeAll cells (replicate size (change element)) (map (text element) many.0) (flat_map leaves many.0)) same each)
-step_agrees ts cells shape counts change text (Runtime element stride) v n agree h k = cc
-step_agrees ts cells shape counts change text (Struct members block) v n agree h k =
+
+-- ---- one level
+
+step_agrees : (us : Types) (k : ℕ) (cells : List Cell) (shape : ℕ → Value → Type 0) (change : ℕ → Change) (text : ℕ → Text) (f : Form) (v : Value) → Agree cells shape change text
+    → shape_step us no_roots shape (sized k f) v → Agrees cells (put_step cells change (sized k f)) (text_step text f v) (leaves v)
+step_agrees us k cells shape change text Void v agree h = absurd h
+step_agrees us k cells shape change text Boolean v agree h = scalar_agrees cells reading.Boolean _ v h
+step_agrees us k cells shape change text (Int width sign) v agree h = scalar_agrees cells (reading_of sign) _ v h
+step_agrees us k cells shape change text (Vector component size) v agree h =
     let many = many_is _ v h in
-    struct_agrees cells (put_members change 0 members) text members v many.0 many.1 (members_agree cells shape counts change text 0 members many.0 n agree many.2 k)
-step_agrees ts cells shape counts change text (Pointer class target) v n agree h k = absurd (no_pointer ts v target h)
-step_agrees ts cells shape counts change text (Function returns parameters) v n agree h k = absurd h
+    let each = each_agrees cells (change component) (text component) (shape component) many.0 (λ u s. agree component u s) many.2.1 in
+    row_agrees cells (replicate size (change component)) (text component) v many.0 many.1
+    (subst (λ (size : ℕ). AgreeAll cells (replicate size (change component)) (map (text component) many.0) (flat_map leaves many.0)) many.2.0 each)
+step_agrees us k cells shape change text (Array element None stride) v agree h = let many = many_is _ v h in let none = many.2.0 in absurd (cc)
+step_agrees us k cells shape change text (Array element (Some size) stride) v agree h = elements_agree_all cells shape change text element size v agree h
+step_agrees us k cells shape change text (Runtime element stride) v agree h = elements_agree_all cells shape change text element k v agree h
+step_agrees us k cells shape change text (Struct members block) v agree h =
+    let many = many_is _ v h in
+    struct_agrees cells (put_members change 0 members) text members v many.0 many.1 (members_agree cells shape change text 0 members many.0 agree many.2)
+step_agrees us k cells shape change text (Pointer class target) v agree h = absurd (no_pointer us v target h)
+step_agrees us k cells shape change text (Function returns parameters) v agree h = absurd h
 
 -- ---- all levels
 
-formed_agrees : (ts : Types) (cells : List Cell) (shape : ℕ → Value → Type 0) (counts : ℕ → Option ℕ) (change : ℕ → Change) (text : ℕ → Text) (o : Option Form) (v : Value) (n : ℕ) → Agree cells shape counts change text
-    → MatchOption o ⊥ (λ f. shape_step ts no_roots shape f v) → option_map_or (cells_step counts) o None ≡ Some n
-    → Agrees cells (option_map_or {U = Change} (put_step cells change) o (put_leaf unavailable)) (option_map_or {U = Text} (text_step text) o no_text v) (leaves v)
-formed_agrees ts cells shape counts change text None v n agree h k = absurd h
-formed_agrees ts cells shape counts change text (Some f) v n agree h k = step_agrees ts cells shape counts change text f v n agree h k
+formed_agrees : (us : Types) (k : ℕ) (cells : List Cell) (shape : ℕ → Value → Type 0) (change : ℕ → Change) (text : ℕ → Text) (o : Option Form) (v : Value) → Agree cells shape change text
+    → MatchOption (option_map (sized k) o) ⊥ (λ f. shape_step us no_roots shape f v)
+    → Agrees cells (option_map_or {U = Change} (put_step cells change) (option_map (sized k) o) (put_leaf unavailable)) (option_map_or {U = Text} (text_step text) o no_text v) (leaves v)
+formed_agrees us k cells shape change text None v agree h = absurd h
+formed_agrees us k cells shape change text (Some f) v agree h = step_agrees us k cells shape change text f v agree h
 
-among_agree : (ts : Types) (cells : List Cell) (m : ℕ) → Agree cells (HasShapeAmong ts no_roots m) (cells_among ts m) (put_among ts cells m) (text_among ts m)
-unfolding HasShapeAmong cells_among in_first put_among text_among
-among_agree ts cells zero id v n h k = absurd h
-among_agree ts cells (suc m) id v n h k = here (among_agree ts cells m) (holds m (number_of ts id)) h k
+among_agree : (k : ℕ) (ts : Types) (cells : List Cell) (m : ℕ) → Agree cells (HasShapeAmong (with_elements k ts) no_roots m) (put_among (with_elements k ts) cells m) (text_among ts m)
+unfolding HasShapeAmong in_first put_among text_among
+among_agree k ts cells zero id v h = absurd h
+among_agree k ts cells (suc m) id v h = by_sized (λ other u has. among_agree k ts cells m other u has) (number_of us id) (form_of us id) (number_sized k ts id) (form_sized k ts id) h
   where
-    here : Agree cells (HasShapeAmong ts no_roots m) (cells_among ts m) (put_among ts cells m) (text_among ts m) → (b : Bool)
-        → MatchBool b (MatchOption (form_of ts id) ⊥ (λ f. shape_step ts no_roots (HasShapeAmong ts no_roots m) f v)) (HasShapeAmong ts no_roots m id v)
-        → (if b then option_map_or (cells_step (cells_among ts m)) (form_of ts id) None else cells_among ts m id) ≡ Some n
-        → Agrees cells (if b then option_map_or {U = Change} (put_step cells (put_among ts cells m)) (form_of ts id) (put_leaf unavailable) else put_among ts cells m id)
-        ((if b then option_map_or {U = Text} (text_step (text_among ts m)) (form_of ts id) no_text else text_among ts m id) v) (leaves v)
-    here below true h k = formed_agrees ts cells (HasShapeAmong ts no_roots m) (cells_among ts m) (put_among ts cells m) (text_among ts m) (form_of ts id) v n below h k
-    here below false h k = below id v n h k
+    us : Types
+    us = with_elements k ts
+
+    here : Agree cells (HasShapeAmong us no_roots m) (put_among us cells m) (text_among ts m) → (b : Bool) (o : Option Form)
+        → MatchBool b (MatchOption (option_map (sized k) o) ⊥ (λ f. shape_step us no_roots (HasShapeAmong us no_roots m) f v)) (HasShapeAmong us no_roots m id v)
+        → Agrees cells (if b then option_map_or {U = Change} (put_step cells (put_among us cells m)) (option_map (sized k) o) (put_leaf unavailable) else put_among us cells m id)
+        ((if b then option_map_or {U = Text} (text_step (text_among ts m)) o no_text else text_among ts m id) v) (leaves v)
+    here below true o h = formed_agrees us k cells (HasShapeAmong us no_roots m) (put_among us cells m) (text_among ts m) o v below h
+    here below false o h = below id v h
+
+    by_sized : Agree cells (HasShapeAmong us no_roots m) (put_among us cells m) (text_among ts m) → (p : Option ℕ) (q : Option Form) → p ≡ number_of ts id → q ≡ option_map (sized k) (form_of ts id)
+        → MatchBool (holds m p) (MatchOption q ⊥ (λ f. shape_step us no_roots (HasShapeAmong us no_roots m) f v)) (HasShapeAmong us no_roots m id v)
+        → Agrees cells (if holds m p then option_map_or {U = Change} (put_step cells (put_among us cells m)) q (put_leaf unavailable) else put_among us cells m id)
+        ((if holds m (number_of ts id) then option_map_or {U = Text} (text_step (text_among ts m)) (form_of ts id) no_text else text_among ts m id) v) (leaves v)
+    by_sized below p q number form h =
+        subst (λ (p : Option ℕ). MatchBool (holds m p) (MatchOption q ⊥ (λ f. shape_step us no_roots (HasShapeAmong us no_roots m) f v)) (HasShapeAmong us no_roots m id v)
+        → Agrees cells (if holds m p then option_map_or {U = Change} (put_step cells (put_among us cells m)) q (put_leaf unavailable) else put_among us cells m id)
+        ((if holds m (number_of ts id) then option_map_or {U = Text} (text_step (text_among ts m)) (form_of ts id) no_text else text_among ts m id) v) (leaves v)) (sym number)
+        (subst (λ (q : Option Form). MatchBool (holds m (number_of ts id)) (MatchOption q ⊥ (λ f. shape_step us no_roots (HasShapeAmong us no_roots m) f v)) (HasShapeAmong us no_roots m id v)
+        → Agrees cells (if holds m (number_of ts id) then option_map_or {U = Change} (put_step cells (put_among us cells m)) q (put_leaf unavailable) else put_among us cells m id)
+        ((if holds m (number_of ts id) then option_map_or {U = Text} (text_step (text_among ts m)) (form_of ts id) no_text else text_among ts m id) v) (leaves v)) (sym form)
+        (here below (holds m (number_of ts id)) (form_of ts id))) h
 
 -- the row of a value of a type, written on a blank sheet
-text_is : (ts : Types) (id : ℕ) (v : Value) → HasShape ts no_roots id v → IsSome (cells_of ts id) → (put_among ts (leaves v) (length ts) id blank).text ≡ value_text ts id v
-unfolding HasShape cells_of value_text
-text_is ts id v h counted = level (cells_among ts (length ts) id) refl counted
-  where
-    level : (o : Option ℕ) → cells_among ts (length ts) id ≡ o → IsSome o → (put_among ts (leaves v) (length ts) id blank).text ≡ (text_among ts (length ts) id v 256).text
-    level None e counted = absurd cc
-    level (Some n) e counted = ((among_agree ts (leaves v) (length ts) id v n h e).writes blank [] (sym (append-nil (leaves v)))).text
+text_is : (k : ℕ) (ts : Types) (id : ℕ) (v : Value) → HasShape (with_elements k ts) no_roots id v → (put_among (with_elements k ts) (leaves v) (length ts) id blank).text ≡ value_text ts id v
+unfolding HasShape value_text
+text_is k ts id v h =
+    let among : HasShapeAmong (with_elements k ts) no_roots (length ts) id v = subst (λ (n : ℕ). HasShapeAmong (with_elements k ts) no_roots n id v) (length_sized k ts) h in
+    ((among_agree k ts (leaves v) (length ts) id v among).writes blank [] (sym (append-nil (leaves v)))).text
 
 -- and appended to what stands before it
-pub row_written : (ts : Types) (id n : ℕ) (cells : List Cell) (v : Value) (old new text : List ℕ) (s t : Written) → IsRowOf ts id cells v → n ≡ length ts → s ≡ blank → t ≡ put_among ts cells n id s → text ≡ t.text → new ≡ old ++ text
-    → new ≡ old ++ value_text ts id v
-row_written ts id n cells v old new text s t row all nothing written shown appended =
-    let read : (put_among ts cells (length ts) id blank).text ≡ value_text ts id v = subst (λ (cs : List Cell). (put_among ts cs (length ts) id blank).text ≡ value_text ts id v) row.row (text_is ts id v row.shape row.counted) in
-    let same : t ≡ put_among ts cells (length ts) id blank = written ∙ ap (λ (k : ℕ). put_among ts cells k id s) all ∙ ap (λ (u : Written). put_among ts cells (length ts) id u) nothing in
+pub row_written : (k : ℕ) (ts : Types) (id n : ℕ) (cells : List Cell) (v : Value) (old new text : List ℕ) (s t : Written) → HasShape (with_elements k ts) no_roots id v → leaves v ≡ cells → n ≡ length ts → s ≡ blank
+    → t ≡ put_among (with_elements k ts) cells n id s → text ≡ t.text → new ≡ old ++ text → new ≡ old ++ value_text ts id v
+row_written k ts id n cells v old new text s t shape row all nothing written shown appended =
+    let read : (put_among (with_elements k ts) cells (length ts) id blank).text ≡ value_text ts id v = subst (λ (cs : List Cell). (put_among (with_elements k ts) cs (length ts) id blank).text ≡ value_text ts id v) row (text_is k ts id v shape) in
+    let same : t ≡ put_among (with_elements k ts) cells (length ts) id blank = written ∙ ap (λ (m : ℕ). put_among (with_elements k ts) cells m id s) all ∙ ap (λ (u : Written). put_among (with_elements k ts) cells (length ts) id u) nothing in
     appended ∙ ap (λ (x : List ℕ). old ++ x) (shown ∙ ap (λ (u : Written). u.text) same ∙ read)

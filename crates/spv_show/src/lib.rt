@@ -7,4 +7,4 @@ mod sheets;
 pub mod values;
 
 pub use pointers::pointer_text;
-pub use values::{row_text, value_text};
+pub use values::{open_text, row_text, value_text};

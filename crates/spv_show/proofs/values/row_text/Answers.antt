@@ -1,6 +1,6 @@
-use Rattle.spv_show.proofs.TextLemmas.{row_written}
+use Rattle.std.proofs.lemmas.Result.{on_ok_weaker}
+use Rattle.spv_show.proofs.ElementLemmas.{counted_shape}
 use Rattle.spv_show.proofs.values.row_text.Goals as goal
 
 pub returns-clause-ok : goal.returns-clause-ok
-returns-clause-ok c = λ v row.
-    row_written c.args.types.now c.args.ty c.len.result c.args.cells.now v c.args.out.now.items c.extend_from_slice.new.self.items c.text.result.now _ c.among.new.sheet row c.len.ensures c.new-sheet.ensures c.in_ok-among.ensures c.text.ensures c.in_ok-extend_from_slice.ensures.items
+returns-clause-ok c = on_ok_weaker c.open_row_text.result (λ text v row. text v (counted_shape 0 c.args.types.now c.args.ty v row.shape row.counted) row.row) c.open_row_text.ensures.ok

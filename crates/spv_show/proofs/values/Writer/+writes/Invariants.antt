@@ -1,4 +1,5 @@
 use Rattle.std.proofs.Common.{◌≡◌, ◌*◌, ◌+◌, drop, replicate}
+use Rattle.spv_show.specs.Elements.{with_elements}
 use Rattle.spv_show.specs.Sheets.{put_among, put_elements, put_members}
 use Rattle.spv_show.proofs.values.Writer.+writes.Given as goal
 
@@ -27,11 +28,11 @@ decreases-of_members l = 5 * l.limit + 1
 -- with the elements that are left, all are written
 abbrev pub invariant-elements-loop-number : goal.invariant-elements-loop-number
 invariant-elements-loop-number l =
-    put_elements l.number (drop l.number (replicate l.count (put_among l.self.types.now l.self.cells.now l.limit l.ty))) l.sheet
-    ≡ put_elements 0 (replicate l.count (put_among l.self.types.now l.self.cells.now l.limit l.ty)) l.fn.sheet
+    put_elements l.number (drop l.number (replicate l.count (put_among (with_elements l.self.elements l.self.types.now) l.self.cells.now l.limit l.ty))) l.sheet
+    ≡ put_elements 0 (replicate l.count (put_among (with_elements l.self.elements l.self.types.now) l.self.cells.now l.limit l.ty)) l.fn.sheet
 
 -- with the members that are left, all are written
 abbrev pub invariant-of_members-loop-number : goal.invariant-of_members-loop-number
 invariant-of_members-loop-number l =
-    put_elements l.number (drop l.number (put_members (put_among l.self.types.now l.self.cells.now l.limit) 0 l.members)) l.sheet
-    ≡ put_elements 0 (put_members (put_among l.self.types.now l.self.cells.now l.limit) 0 l.members) l.fn.sheet
+    put_elements l.number (drop l.number (put_members (put_among (with_elements l.self.elements l.self.types.now) l.self.cells.now l.limit) 0 l.members)) l.sheet
+    ≡ put_elements 0 (put_members (put_among (with_elements l.self.elements l.self.types.now) l.self.cells.now l.limit) 0 l.members) l.fn.sheet

@@ -1,0 +1,7 @@
+mod FrameLemmas
+mod IdLemmas
+mod SharedLemmas
+mod OpenLemmas
+mod LoadLemmas
+mod TreeLemmas
+mod TypedLemmas

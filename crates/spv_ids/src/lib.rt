@@ -1,0 +1,8 @@
+//! The texts of ids: what one stands for in a state, as it is shown.
+#![tactic(auto)]
+
+mod elements;
+mod ids;
+mod texts;
+
+pub use texts::id_text;
