@@ -14,4 +14,4 @@ pub use command::{BreakPlace, Command, Count, PathPart, PathParts, PathText, Val
 pub use keywords::{Keyword, keywords_differ};
 pub use numbers::number;
 pub use parsing::{built_commands_are_commands, parse, parse_built};
-pub use printing::{print, read_again};
+pub use printing::{print, push_path_text, read_again};

@@ -139,7 +139,7 @@ fn push_parts(alloc: Global, text: &mut Vec<u8>, parts: &PathParts) -> Result<()
 }
 
 /// Appends the text of a path.
-fn push_path_text(alloc: Global, text: &mut Vec<u8>, path: &PathText) -> Result<(), NoMemory>
+pub fn push_path_text(alloc: Global, text: &mut Vec<u8>, path: &PathText) -> Result<(), NoMemory>
     ensures { OnOk result (text.new.items ≡ text.old.items ++ path_text path.now) }
 {
     match path {

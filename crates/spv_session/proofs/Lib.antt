@@ -4,4 +4,5 @@ mod RegisterLemmas
 mod ShownLemmas
 mod FrameLemmas
 mod InfoLemmas
+mod SightLemmas
 pub mod Exports

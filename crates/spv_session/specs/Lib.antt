@@ -4,5 +4,6 @@ pub mod Reply
 pub mod Costs
 pub mod Frames
 pub mod Shown
+pub mod Variables
 pub mod Info
 pub mod Happenings

@@ -5,8 +5,12 @@ use Rattle.std.specs.Option.{option_map_or}
 use Rattle.spv_base.specs.declared.causes.CmdRefusal.{CmdRefusal}
 use Rattle.spv_cmd.specs.declared.command.Command.{Command}
 use Rattle.spv_cmd.specs.declared.command.Command.TheVariants as command
+use Rattle.spv_cmd.specs.declared.command.PathText.{PathText}
+use Rattle.spv_cmd.specs.declared.command.PathText.TheVariants.{Id, Name}
 use Rattle.spv_cmd.specs.Commands.{command_of}
 use Rattle.spv_dbg.specs.declared.frames.ShownFrame.{ShownFrame}
+use Rattle.spv_paths.specs.Paths.{Named}
+use Rattle.spv_paths.specs.Variables.{globals, locals}
 use Rattle.spv_group.specs.Group.{Held as Group, entries_in, invocations_in, state_in, status_of, end_in, end_cause_in}
 use Rattle.spv_group.specs.Positions.{least_of, greatest_of}
 use Rattle.spv_source.specs.Frames.{frame_line}
@@ -14,6 +18,7 @@ use Rattle.spv_source.specs.Windows.{source_lines}
 use Rattle.spv_session.specs.Info.{module_words}
 use Rattle.spv_session.specs.Shown.{focus_frames, innermost, real_frame, source_text, tables_in}
 use Rattle.spv_session.specs.Texts.{refusal_line, registers_text, position_line, invocation_line, stop_line, info_line}
+use Rattle.spv_session.specs.Variables.{id_line, id_told, line_in, named, path_line, selected}
 use Rattle.spv_session.specs.View.{View, moved_to, focus_on, frame_on}
 
 -- ---- refusals
@@ -25,6 +30,10 @@ no_such_invocation = 3
 -- of one that names a shown frame which doesn't exist
 abbrev pub no_such_frame : ℕ
 no_such_frame = 4
+
+-- of one that names an id which stands for nothing there
+abbrev pub no_such_name : ℕ
+no_such_name = 5
 
 -- of one that asks for lines of the source where there are none
 abbrev pub no_source_text : ℕ
@@ -101,6 +110,24 @@ registers_told v f = tells (option_map_or (registers_text v.group.program.accept
 abbrev pub lines_told : View → ShownFrame → Told
 lines_told v f = option_map_or (λ text. tells text v) (source_lines f.line (source_text v f)) (refuses no_source_text)
 
+-- the variables that are seen from a frame, its own scope's first
+abbrev pub locals_told : View → ShownFrame → Told
+locals_told v f = tells (flat_map (line_in v (Some f)) (locals (tables_in v.group) f.scope)) v
+
+-- the globals, in the order of the module
+abbrev pub globals_reply : View → List ℕ
+globals_reply v = flat_map (line_in v (selected v)) (globals (tables_in v.group))
+
+-- a part of a variable, or why there is none
+abbrev pub part_told : View → PathText → Result Named CmdRefusal → Told
+part_told v path (Err refusal) = refuses refusal.code
+part_told v path (Ok n) = tells (path_line v path n) v
+
+-- what a path names where the selected frame is shown
+abbrev pub print_told : PathText → View → Told
+print_told (Id id) v = option_map_or (λ text. tells (id_line id text) v) (id_told v id) (refuses no_such_name)
+print_told (Name name parts) v = part_told v (Name name parts) (named v name parts)
+
 -- the focus becomes an invocation that exists
 abbrev pub focus_told : ℕ → View → Told
 focus_told i v = if nat_lt i (invocations_in v.group) then tells (place_reply (focus_on i v)) (focus_on i v) else refuses no_such_invocation
@@ -131,6 +158,9 @@ act (command.Frame k) = shows (λ v. frame_told (select_told k v) (focus_frames 
 act command.Regs = shows (λ v. frame_told (registers_told v) (focus_frames v) v.frame)
 act command.List = shows (λ v. frame_told (lines_told v) (focus_frames v) v.frame)
 act command.Info = shows (λ v. tells (info_reply v.group) v)
+act command.Locals = shows (λ v. frame_told (locals_told v) (focus_frames v) v.frame)
+act command.Globals = shows (λ v. tells (globals_reply v) v)
+act (command.Print path) = shows (print_told path)
 act command.Quit = quits
 act _ = nothing
 

@@ -1,29 +1,38 @@
 //! The debug information of a module, read once when a session opens.
 ghost use Rattle.std.specs.Prelude.{◌≡◌, IfOk};
 ghost use Rattle.spv_dbg.specs.Tables.{tables_of};
+ghost use Rattle.spv_paths.specs.Variables.{variables_of};
 ghost use Rattle.spv_scopes.specs.Lines.{lines_of};
 
 use spv_base::NoMemory;
 use spv_dbg::DebugTables;
+use spv_paths::Variables;
 use spv_scopes::Lines;
 use spv_valid::Module;
 use std::alloc::Global;
 
-/// The debug tables of a module, and where its instructions stand in the source.
+/// The debug tables of a module, where its instructions stand in the source, and its variables.
 #[derive(Drop)]
 pub(crate) struct DebugInfo {
     pub(crate) tables: DebugTables,
     pub(crate) lines: Lines,
+    pub(crate) variables: Variables,
 }
 
 impl DebugInfo {
     /// That of a module.
     pub(crate) fn of(alloc: Global, module: &Module) -> Result<DebugInfo, NoMemory>
         ensures tables { IfOk result (λ info. info.tables ≡ tables_of module.now) }
+        ensures variables { IfOk result (λ info. info.variables ≡ variables_of (tables_of module.now)) }
         ensures lines { IfOk result (λ info. info.lines ≡ lines_of module.now (tables_of module.now)) }
     {
         let tables = DebugTables::build(alloc, module)?;
         let lines = Lines::build(alloc, module, &tables)?;
-        Ok(DebugInfo { tables, lines })
+        let variables = Variables::build(alloc, &tables)?;
+        Ok(DebugInfo {
+            tables,
+            lines,
+            variables,
+        })
     }
 }

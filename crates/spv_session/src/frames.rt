@@ -1,5 +1,5 @@
 //! The frames that are shown of an invocation.
-ghost use Rattle.std.specs.Prelude.{◌≡◌, ◌++◌, MatchResult, OnOk};
+ghost use Rattle.std.specs.Prelude.{◌≡◌, ◌++◌, MatchResult, OnOk, option_copied, slice_get};
 ghost use Rattle.std.specs.List.{enumerate_from, flat_map};
 ghost use Rattle.spv_dbg.specs.declared.frames.ShownFrame.{ShownFrame as Shown};
 ghost use Rattle.spv_session.specs.Reply.{Told, frame_told, refuses};
@@ -13,11 +13,21 @@ use std::alloc::Global;
 /// The command names a shown frame that doesn't exist.
 const NO_SUCH_FRAME: CmdRefusal = CmdRefusal { code: 4 };
 
+/// The command names an id that stands for nothing there.
+pub(crate) const NO_SUCH_NAME: CmdRefusal = CmdRefusal { code: 5 };
+
 /// The command asks for lines of the source where there are none.
 pub(crate) const NO_SOURCE_TEXT: CmdRefusal = CmdRefusal { code: 10 };
 
 /// The command asks for a frame of a finished invocation.
 pub(crate) const FOCUS_FINISHED: CmdRefusal = CmdRefusal { code: 12 };
+
+/// The shown frame with a number, if there is one.
+pub(crate) fn frame_at(frames: &[ShownFrame], number: u32) -> Option<&ShownFrame>
+    ensures { option_copied result ≡ slice_get frames.now number }
+{
+    frames.get(number as usize)
+}
 
 /// The shown frame with a number, among those of an invocation; or why there is none.
 pub(crate) fn frame_with(frames: &[ShownFrame], number: u32) -> Result<&ShownFrame, CmdRefusal>

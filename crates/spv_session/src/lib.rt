@@ -9,6 +9,7 @@ mod kit;
 mod motions;
 mod registers;
 mod session;
+mod sights;
 mod texts;
 
 pub use kit::Kit;
