@@ -9,11 +9,12 @@ from listings import FORMS, string_words
 
 HEADER = [0x07230203, 0x00010600, 0]
 RECORDS = {
-    "DebugInfoNone": 0, "DebugCompilationUnit": 1, "DebugTypeBasic": 2, "DebugTypeArray": 5, "DebugTypeFunction": 8, "DebugTypeComposite": 10,
-    "DebugTypeMember": 11, "DebugGlobalVariable": 18, "DebugFunction": 20, "DebugLexicalBlock": 21, "DebugLexicalBlockDiscriminator": 22,
-    "DebugScope": 23, "DebugNoScope": 24, "DebugInlinedAt": 25, "DebugLocalVariable": 26, "DebugDeclare": 28, "DebugValue": 29,
-    "DebugExpression": 31, "DebugSource": 35, "DebugFunctionDefinition": 101, "DebugSourceContinued": 102, "DebugLine": 103, "DebugNoLine": 104,
-    "DebugUnknown": 50,
+    "DebugInfoNone": 0, "DebugCompilationUnit": 1, "DebugTypeBasic": 2, "DebugTypePointer": 3, "DebugTypeQualifier": 4, "DebugTypeArray": 5,
+    "DebugTypeVector": 6, "DebugTypedef": 7, "DebugTypeFunction": 8, "DebugTypeEnum": 9, "DebugTypeComposite": 10, "DebugTypeMember": 11,
+    "DebugGlobalVariable": 18, "DebugFunction": 20, "DebugLexicalBlock": 21, "DebugLexicalBlockDiscriminator": 22, "DebugScope": 23,
+    "DebugNoScope": 24, "DebugInlinedAt": 25, "DebugLocalVariable": 26, "DebugInlinedVariable": 27, "DebugDeclare": 28, "DebugValue": 29,
+    "DebugOperation": 30, "DebugExpression": 31, "DebugSource": 35, "DebugFunctionDefinition": 101, "DebugSourceContinued": 102,
+    "DebugLine": 103, "DebugNoLine": 104, "DebugTypeMatrix": 108, "DebugUnknown": 50,
 }
 
 

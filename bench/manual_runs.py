@@ -16,6 +16,8 @@ import tempfile
 import group_runs
 from group_runs import UNDEFINED
 from listings import FORMS, NAMES, text_of
+from places import plain
+from variables_told import NO_NAME, UNBOUND, Told, bits_of
 
 TOP = os.path.join(os.path.dirname(os.path.abspath(__file__)), "..")
 DATA = os.path.join(TOP, "crates", "spv_runs", "data")
@@ -76,6 +78,13 @@ class Module(group_runs.Module):
     def __init__(self, data):
         self.sizes, self.parameters, self.locals = None, {}, {}
         super().__init__(data)
+        self.told, self.before = Told(data), {}
+        for word, (op, args) in self.insts.items():
+            self.before[word] = passed = [] if op == 248 else passed if self.before else []
+            if self.told.by_word.get(word, (0,))[0] in (28, 29):
+                passed.append(word)
+            elif op != 245 and not self.is_passed(op, args):
+                passed = []
         if self.sizes:
             self.size = [self.constants[id] for id in self.sizes]
 
@@ -98,7 +107,8 @@ class Run(group_runs.Group):
                 self.memory[(id,)] = [module.block(ty, iter(numbers))]
         self.schedule, self.fault = schedule, None
         for one in self.invocations:
-            one.outer = []
+            one.outer, one.events = [], [[]]
+            self.passed(one)
 
     def slot(self, pointer):
         root, path = pointer
@@ -124,7 +134,38 @@ class Run(group_runs.Group):
             raise Fault(2)
         return lanes(op, values) if op in SCALARS else super().result(one, op, args)
 
+    # ---- debug events: those of each call, the outermost first, with what they captured
+
+    def passed(self, one):
+        for word in self.m.before[one.word]:
+            try:
+                value = self.value(one, self.m.told.by_word[word][1][1])
+            except KeyError:
+                value = None
+            one.events[-1].append((word, value))
+
+    def piece(self, event, value):
+        """The bits that an event without Operations tells, or none."""
+        assert not event[4]
+        if isinstance(value, tuple):
+            value = self.load(value) if event[5] == 28 else None
+        return [] if value is None else bits_of(none_of(value))
+
+    def local_bits(self, events, variable, inlined):
+        told, bits = [(self.m.told.event(word), value) for word, value in reversed(events)], []
+        told = [(event, self.piece(event, value)) for event, value in told if event[:2] == (variable, inlined)]
+        for j in range(self.m.told.size((self.m.told.ids[variable][1][1], ()))):
+            pieces = [(piece, j - event[2]) for event, piece in told if event[2] <= j < event[2] + event[3]]
+            bits.append(pieces[0][0][pieces[0][1]] if pieces and pieces[0][1] < len(pieces[0][0]) else UNBOUND)
+        return bits
+
     def step(self, one):
+        before = one.word, len(one.outer)
+        self.stepped(one)
+        if one.status != "finished" and (one.word, len(one.outer)) != before:
+            self.passed(one)
+
+    def stepped(self, one):
         op, args = self.m.insts[one.word]
         if op == 250 and one.status == "ready" and self.value(one, args[0]) == UNDEFINED:
             raise Fault(1)
@@ -140,6 +181,7 @@ class Run(group_runs.Group):
     def enter(self, one, args):
         given = [self.value(one, id) for id in args[3:]]
         one.outer.append((one.word, one.registers, one.before, one.block))
+        one.events.append([])
         one.registers = {id: (ty, value) for (id, ty), value in zip(self.m.parameters.get(args[2], []), given)}
         for id in self.m.locals.get(args[2], []):
             self.memory[one.number, id] = [self.m.blank(self.m.variables[id][1])]
@@ -148,6 +190,7 @@ class Run(group_runs.Group):
 
     def leave(self, one, values):
         word, one.registers, one.before, one.block = one.outer.pop()
+        one.events.pop()
         ty, id = self.m.insts[word][1][:2]
         one.registers.update({id: (ty, value) for value in values})
         one.word = self.m.after[word]
@@ -232,6 +275,8 @@ class Session:
         if word == "frame" and int(k) >= len(lines):
             return ["refused: C4 no such frame"]
         self.frame = int(k) if word == "frame" else self.frame
+        if word in ("locals", "print"):
+            return self.variables(words, k)
         replies = {
             "bt": lambda: lines,
             "frame": lambda: [lines[self.frame]],
@@ -239,6 +284,21 @@ class Session:
             "regs": lambda: self.run.shown(calls[places.stack(words)[self.frame][0]][1]),
         }
         return replies[word]()
+
+
+    def variables(self, words, name):
+        """The locals of the selected frame, or the first with a name."""
+        m = self.run.m
+        call, scope, inlined = [(call, *frame) for call, word in enumerate(words) for frame in m.told.frames(word)][self.frame]
+        events = self.run.invocations[self.focus].events[-1 - call]
+        ids = [id for id in m.told.locals(scope) if name is None or m.told.name(id) == name.encode()]
+        lines = ["%s = %s" % (plain(m.told.name(id)), m.told.text((m.told.ids[id][1][1], ()), self.run.local_bits(events, id, inlined), False)) for id in ids]
+        return lines if name is None else lines[:1] or [NO_NAME]
+
+
+def none_of(value):
+    """A value with none for what isn't defined."""
+    return [none_of(part) for part in value] if isinstance(value, list) else None if value == UNDEFINED else value
 
 
 def rounds(times, invocations):
@@ -266,6 +326,7 @@ with open(os.path.join(TOP, "examples", "shares", "commands")) as lines:
 FAULT = ["goto 4000", "focus 3", "bt", "list"]
 FRAMES = FAULT + ["regs", "frame 1", "list", "regs", "where", "group", "frame 2", "list", "regs", "frame 3", "list", "info"]
 BEFORE = FRAMES + ["back 64", "where", "bt", "list", "frame 1", "regs", "goto 0", "list", "focus 0", "fwd 56", "bt", "frame 1", "list", "focus 4", "list", "fwd 1", "list"]
+LOCALS = ["goto 4000", "focus 3", "locals", "frame 1", "locals", "print so_far", "print k", "frame 2", "locals", "print so_far", "back 28", "locals", "print so_far", "back 36", "locals"]
 # What each run is, its module, the numbers of its buffer, the setup's lines of the schedule, how many times which entries these are, and
 # the commands.
 TURNS, FOURS = (["rounds 1000"], rounds(1000, 1)), (["rounds 1000"], rounds(1000, 4))
@@ -293,6 +354,8 @@ RUNS = [
     ("barrier", "barrier", [3, 1, 4, 1], ["rounds 50"], rounds(50, 4), BARRIER),
     ("stuck", "stuck", [], ["rounds 20"], rounds(20, 2), STUCK),
     ("a load that shows what the buffer holds", "shown", [7, 9], ["rounds 100"], rounds(100, 2), ["goto 4000", "back 2", "regs"]),
+    ("variables of shares", "shares", TEN, *FOURS, LOCALS),
+    ("variables of shares before spirv-opt -O", "shares-calls", TEN, *FOURS, LOCALS),
     ("exchange, one after the other", "exchange", [7, 9], ASCENDING[:2], moves(0, 1), ["goto 9", "group", "goto 99", "group", "goto 109", "group", "goto %d" % END]),
     ("exchange in too few rounds", "exchange", [7, 9], ["rounds 17"], rounds(17, 2), ["goto %d" % END]),
     ("exchange in just enough rounds", "exchange", [7, 9], ["rounds 18"], rounds(18, 2), ["goto %d" % END]),

@@ -6,8 +6,9 @@
 A call of a file `*.runs` is a line `== WHAT: MODULE: WORDS`, the text of the setup, and behind `-- commands` the input. The
 transcripts are worked out by hand from the manual, docs/SETUP.md and the standard; the numbers in runs_of_values.py and
 arithmetic.py by Python, and those of memory.runs, flow.runs and group.runs, and of the runs that docs/MANUAL.md speaks of, by the
-interpreters memory_runs.py, flow.py, group_runs.py and manual_runs.py; those of source.runs by hand in source_runs.py, and those of
-traces.runs by sessions.py. None is taken from the program that is tested.
+interpreters memory_runs.py, flow.py, group_runs.py and manual_runs.py; those of source.runs by hand in source_runs.py, those of
+traces.runs by sessions.py, and those of variables.runs by hand in
+variable_runs.py and by variables_told.py. None is taken from the program that is tested.
 """
 import os
 import struct
@@ -22,6 +23,8 @@ import runs_of_setups as setups
 import runs_of_values as values
 import source_runs
 import traces
+import variable_runs
+import variables_told
 from listings import TOP, Inst, laid_out
 from places import Places
 
@@ -34,6 +37,7 @@ USAGE_LINE = "usage: spvdbg debug MODULE SETUP | check MODULE | make N | text MO
 UNKNOWN = "refused: C1 unknown command\n"
 ARGUMENTS = "refused: C2 arguments\n"
 NO_FRAME, NO_TEXT, FINISHED = "refused: C4 no such frame\n", "refused: C10 no source text\n", "refused: C12 focus finished\n"
+NO_NAME = "refused: C5 no such name\n"
 # What `info` and, at the end, `where` reply of the shader that adds 40 and 2, under ten rounds.
 INFO, OVER = "words 67, instructions 18, ignored 0, invocations 1, entries 10\n", "@4 i=0 finished\n"
 
@@ -44,7 +48,13 @@ COMMANDS = [
         "goto 4\nregs\ngoto 0\nwhere\n",
         "stop: done, all finished\n@4 i=0 finished\nrefused: C12 focus finished\nstop: done, start\n" + 2 * "@0 i=0 %7 word 53\n",
     ),
-    ("jump\nGoto 1\nstep\nprint %10\nbreak\n", 5 * UNKNOWN),
+    ("jump\nGoto 1\nstep\nwatch %10\nbreak\n", 5 * UNKNOWN),
+    # a module without debug records has no variables, but ids
+    (
+        "print %10\nprint %9\nprint %5\nlocals\nglobals\nprint x\ngoto 3\nprint %10\nprint %9\nprint %7\ngoto 4\nprint %10\nprint %9\nprint %5\nlocals\nglobals\n",
+        NO_NAME + "%9 = &%9 -> <undefined>\n%5 = 40\n" + NO_NAME + "stop: done\n@3 i=0 %7 word 65\n%10 = 40\n%9 = &%9 -> 40\n" + NO_NAME
+        + "stop: done, all finished\n" + OVER + 2 * NO_NAME + "%5 = 40\n" + FINISHED,
+    ),
     ("where 5\nbt 0\nlist 3\ninfo 1\nframe\nframe x\nframe 4294967296\n", 7 * ARGUMENTS),
     ("where\ngoto 3\nwhere\n", "@0 i=0 %7 word 53\nstop: done\n" + 2 * "@3 i=0 %7 word 65\n"),
     ("bt\nframe 0\nframe 00\nframe 1\nframe 4294967295\n", 3 * "#0 %7 word 53\n" + 2 * NO_FRAME),
@@ -172,8 +182,12 @@ def calls():
     yield "invocations.runs", [("two", "two.spv", DEBUG, "spvdbg-setup 1\nrounds 20\n", "goto 1\n", DONE, setups.RETURNED)] + [
         ("several", "blocks.spv", DEBUG, setup, "goto 1\n", DONE, out) for setup, out in setups.OF_TWO
     ]
-    for file, runs in (("memory.runs", memory_runs), ("flow.runs", flow), ("group.runs", group_runs), ("source.runs", source_runs), ("traces.runs", traces)):
-        yield file, [(what, name, DEBUG, *row) for what, name, *row in runs.calls()]
+    by_file = [
+        ("memory.runs", [memory_runs]), ("flow.runs", [flow]), ("group.runs", [group_runs]), ("source.runs", [source_runs]), ("traces.runs", [traces]),
+        ("variables.runs", [variable_runs, variables_told]),
+    ]
+    for file, runs in by_file:
+        yield file, [(what, name, DEBUG, *row) for each in runs for what, name, *row in each.calls()]
 
 
 # Lines with their canonical lines, or the code of their refusal, by hand from the manual's table of commands.
@@ -332,6 +346,7 @@ def modules():
     yield from values.modules()
     yield from places.modules()
     yield from source_runs.modules()
+    yield from variable_runs.modules()
 
 
 def made(n):

@@ -20,7 +20,10 @@ class Session:
 
     def __init__(self, shaped, buffers, schedule):
         self.shaped, self.buffers, self.schedule = shaped, buffers, schedule
-        self.group, self.focus, self.frame = stacks.Group(shaped.code, buffers, schedule), 0, 0
+        self.group, self.focus, self.frame = self.made(shaped.code, buffers, schedule), 0, 0
+
+    def made(self, code, buffers, schedule):
+        return stacks.Group(code, buffers, schedule)
 
     # ---- where invocations stand
 
@@ -49,7 +52,7 @@ class Session:
     def go(self, position, asked):
         """Goes to a position or to the run's end; whether that is the one that was asked for is told."""
         if position < self.group.events:
-            self.group = stacks.Group(self.shaped.code, self.buffers, self.schedule)
+            self.group = self.made(self.shaped.code, self.buffers, self.schedule)
         while self.group.events < position and not self.causes():
             self.group.event()
         self.frame = 0

@@ -20,6 +20,8 @@ NAMES = ["levels", "exchange", "loops", "cases", "parts", "files", "early", "sid
 FORMS = ["gVS", "gVS-opt", "g", "g-opt"]
 # The modules of which the gate has whole runs.
 IN_GATE = [("levels", "gVS-opt"), ("exchange", "gVS-opt"), ("files", "gVS-opt"), ("files", "g")]
+# The module of which the gate has a run with its variables.
+VARIABLES_IN_GATE = ("parts", "gVS-opt")
 COMPILERS = {
     "gVS": ["glslangValidator", "-V", "-gVS", "--target-env", "spirv1.6"],
     "g": ["glslc", "-g", "--target-env=vulkan1.2", "-DFAR"],
@@ -32,7 +34,7 @@ def file_of(name, form):
 
 
 def path_of(name, form):
-    return os.path.join(DATA if (name, form) in IN_GATE else FOLDER, file_of(name, form))
+    return os.path.join(DATA if (name, form) in IN_GATE + [VARIABLES_IN_GATE] else FOLDER, file_of(name, form))
 
 
 def insts(words):

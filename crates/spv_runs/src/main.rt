@@ -30,7 +30,7 @@ const GROUPS: [(&str, &str, &str); 9] = [
 ];
 
 /// The files of calls, in the order of the output.
-const CALLS: [&str; 10] = [
+const CALLS: [&str; 11] = [
     "commands.runs",
     "words.runs",
     "setups.runs",
@@ -41,6 +41,7 @@ const CALLS: [&str; 10] = [
     "group.runs",
     "source.runs",
     "traces.runs",
+    "variables.runs",
 ];
 
 /// Says what `debug` writes for a module and some commands, and how it ends.
