@@ -1,3 +1,4 @@
+mod EventLemmas
 mod Histories
 mod PositionsLemmas
 mod Reaches

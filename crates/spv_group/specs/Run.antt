@@ -8,6 +8,7 @@ use Rattle.spv_base.specs.declared.happenings.EndCause.TheVariants as end
 use Rattle.spv_state.specs.Program.{Program}
 use Rattle.spv_state.specs.State.{State}
 use Rattle.spv_state.specs.Start.{start_of}
+pub use Rattle.spv_machine.specs.Kinds.{is_idle}
 use Rattle.spv_machine.specs.Step.{Outcome, Idles, Moves, Faults, idle, step_of, fault_in}
 use Rattle.spv_statuses.specs.Group as statuses
 use Rattle.spv_group.specs.Positions.{least_of}

@@ -244,6 +244,20 @@ impl Group {
         Ok(happening)
     }
 
+    /// Goes back to the start, without undoing and with no step. After want of memory the group is as before.
+    pub fn restart(&mut self) -> Result<(), NoMemory>
+        ensures start { OnOk result (self.new.group ≡ group_at 0 self.old.group) }
+        ensures kept { OnOk result (self.new.kept ≡ 0) }
+        ensures limit { self.new.limit ≡ self.old.limit }
+        ensures err { OnErr result (self.new ≡ self.old) }
+    {
+        let run = self
+            .start
+            .copy(self.alloc, &self.module, &self.schedule, self.limit)?;
+        self.run.replace(run);
+        Ok(())
+    }
+
     /// Goes back to a position without undoing: a run from the start on makes it again, and another from there to the old position
     /// tells each event that is taken back. Both together take a step for each event before the old position. After want of memory the
     /// group is as before.

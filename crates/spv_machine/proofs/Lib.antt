@@ -19,3 +19,4 @@ mod EventLemmas
 mod Recording
 mod PassedLemmas
 mod CellLemmas
+pub mod Exports

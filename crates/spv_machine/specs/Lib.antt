@@ -5,3 +5,4 @@ pub mod Weights
 pub mod World
 pub mod Recording
 pub mod Does
+pub mod Kinds
