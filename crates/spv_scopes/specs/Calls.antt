@@ -1,5 +1,5 @@
 -- Calls that were inlined, as they are kept: each with the number of the one around it, which stands before.
-use Rattle.std.specs.Prelude.{ℕ, suc, nat_eq, nat_lt, if◌then◌else◌, Bool, List, [], ◌∷◌, ◌++◌, length, reverse, unwrap_or, Option, Some, None}
+use Rattle.std.specs.Prelude.{◌≡◌, ℕ, suc, nat_eq, nat_lt, if◌then◌else◌, Bool, List, [], ◌∷◌, ◌++◌, length, reverse, slice_index, unwrap_or, Option, Some, None}
 use Rattle.std.specs.Option.{option_eq}
 use Rattle.spv_base.specs.Entries.{reads}
 use Rattle.spv_scopes.specs.declared.calls.Linked.{Linked}
@@ -40,3 +40,12 @@ seen calls e = (e.0, seen_at calls e.1)
 -- what is kept of the instruction at a word
 abbrev pub kept_at : List (ℕ × Linked) → ℕ → Linked
 kept_at entries word = unwrap_or (reads word entries) (record { place = nowhere.place; call = None })
+
+-- what stands under a call's number, and 0 where nothing does
+abbrev pub count_in : List ℕ → Option ℕ → ℕ
+count_in counts None = 0
+count_in counts (Some n) = slice_index counts n
+
+-- under each call's number stands how many calls there are from it outward
+abbrev pub AreCounted : List Linked → List ℕ → Type 0
+AreCounted calls counts = (call : Option ℕ) → count_in counts call ≡ length (calls_from (reverse calls) call)

@@ -1,6 +1,6 @@
 -- The frames that are shown of the calls of an invocation, the innermost first: for each real frame, from the top one on, the Function around
 -- the scope in force, and those of the calls that were inlined around it (NonSemantic.Shader.DebugInfo.100, DebugInlinedAt).
-use Rattle.std.specs.Prelude.{ℕ, suc, ◌==◌, if◌then◌else◌, List, [], ◌∷◌, ◌++◌, length, map, slice_index, unwrap_or}
+use Rattle.std.specs.Prelude.{ℕ, suc, ◌==◌, ◌+◌, if◌then◌else◌, List, [], ◌∷◌, ◌++◌, length, map, slice_index, unwrap_or, Option, Some, None}
 use Rattle.std.specs.Option.{option_map_or}
 use Rattle.spv_base.specs.Entries.{reads}
 use Rattle.spv_index.specs.Definitions.{name_of}
@@ -32,6 +32,18 @@ name_or debug other = if length debug == 0 then other else debug
 -- a place in no Function tells of no scope
 abbrev pub plain : Place → Place
 plain p = record p { scope = 0; inlined = 0 }
+
+-- the line of a shown frame, with the name of its file, where it has one
+abbrev pub line_shown : ShownFrame → Option (List ℕ × ℕ)
+line_shown f = if f.line == 0 then None else Some (f.file, f.line)
+
+-- a line of a file by its OpString, with the name
+abbrev pub line_named : Tables → ℕ × ℕ → List ℕ × ℕ
+line_named t line = (string_in t line.0, line.1)
+
+-- how many frames are shown of a real one whose next instruction is at a word
+abbrev pub count_at : Spots → ℕ → ℕ
+count_at spots word = if (spot_in spots word).place.function == 0 then 1 else length (spot_in spots word).calls + 1
 
 module _ (m : Accepted) (t : Tables) where
   -- the frame of a real frame at a place

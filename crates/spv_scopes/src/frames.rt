@@ -125,7 +125,7 @@ fn before(n: usize, call: Option<usize>) -> Option<usize>
 }
 
 /// The call with a number, with the one around it where this stands before.
-fn call_with(calls: &[Linked], number: Option<usize>) -> Option<Linked>
+pub(crate) fn call_with(calls: &[Linked], number: Option<usize>) -> Option<Linked>
     ensures calls { calls_from (reverse calls.now) number ≡ calls_behind (reverse calls.now) result }
     ensures smaller { IfSome result (λ k. rank k.call < rank number) }
 {

@@ -16,4 +16,4 @@ mod stacks;
 pub use frames::Real;
 pub use lines::Lines;
 pub use places::Place;
-pub use stacks::{innermost, shown};
+pub use stacks::{innermost, innermost_line, shown, shown_count};

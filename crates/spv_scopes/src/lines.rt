@@ -77,6 +77,13 @@ impl Lines {
         self.heads.with(alloc, file, line)
     }
 
+    /// How many frames are shown of a call whose next instruction is at a word. None is made. In constant time.
+    pub fn count(&self, pc: u32) -> u64
+        ensures { result ≡ shown.count_at self.now.spots pc }
+    {
+        self.spots.count(pc)
+    }
+
     /// The first frame that is shown of a call, at the place of its next instruction.
     pub fn first_frame(
         &self,

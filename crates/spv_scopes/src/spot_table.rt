@@ -2,9 +2,9 @@
 ghost use Rattle.std.specs.Prelude.{◌≡◌, ◌++◌, IfOk, OnOk};
 ghost use Rattle.spv_scopes.specs.Calls.{kept_at};
 ghost use Rattle.spv_scopes.specs.Spots as spec;
-ghost use Rattle.spv_scopes.specs.Shown.{frames_at};
+ghost use Rattle.spv_scopes.specs.Shown.{count_at, frames_at};
 
-use crate::calls::Linked;
+use crate::calls::{Linked, count_in, counts_of};
 use crate::frames::{Real, first_frame, push_calls};
 use crate::places::Place;
 use crate::scopes::scopes_of;
@@ -21,15 +21,18 @@ use std::marker::Model;
 pub(crate) struct SpotTable {
     spots: Table<Linked>,
     calls: Vec<Linked>,
+    counts: Vec<u32>,
 }
 
 impl Model for SpotTable {
-    ghost use Rattle.spv_scopes.specs.Inside.{view_of};
+    ghost use Rattle.spv_scopes.specs.Inside.{IsCounted, view_of};
     ghost use Rattle.spv_scopes.specs.Spots.{Spots};
 
     ghost Value = { Spots };
 
     ghost view = { view_of };
+
+    ghost invariant = { IsCounted };
 }
 
 /// What is kept of the instruction at a word, and a place with nothing where none of a block stands there.
@@ -63,9 +66,12 @@ impl SpotTable {
         let scopes = scopes_of(alloc, tables)?;
         let entries = spots_of(alloc, module, tables, &scopes)?;
         let spots = Table::new(alloc, entries)?;
+        let calls = scopes.into_calls();
+        let counts = counts_of(alloc, calls.as_slice())?;
         Ok(SpotTable {
             spots,
-            calls: scopes.into_calls(),
+            calls,
+            counts,
         })
     }
 
@@ -74,6 +80,17 @@ impl SpotTable {
         ensures { result ≡ (spec.spot_in self.now word).place }
     {
         kept_at(&self.spots, word).place
+    }
+
+    /// How many frames are shown of a call whose next instruction is at a word. None is made.
+    pub(crate) fn count(&self, word: u32) -> u64
+        ensures { result ≡ count_at self.now word }
+    {
+        let linked = kept_at(&self.spots, word);
+        if linked.place.function == 0 {
+            return 1;
+        }
+        u64::from(count_in(self.counts.as_slice(), linked.call)) + 1
     }
 
     /// Adds the frames that are shown of a call.

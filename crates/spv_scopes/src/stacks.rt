@@ -1,5 +1,8 @@
 //! The frames that are shown of a stack.
-ghost use Rattle.std.specs.Prelude.{◌≡◌, IfOk, slice_get};
+ghost use Rattle.std.specs.Prelude.{◌≡◌, IfOk, length, option_map, slice_get};
+ghost use Rattle.std.specs.Option.{option_and_then};
+ghost use Rattle.spv_valid.specs.Acceptance.{Accepted};
+ghost use Rattle.spv_dbg.specs.Tables.{Tables};
 ghost use Rattle.spv_scopes.specs.Shown as spec;
 
 use crate::frames::Real;
@@ -64,4 +67,35 @@ pub fn innermost(
         word: frame.pc(),
     };
     Ok(Some(lines.first_frame(alloc, module, tables, real)?))
+}
+
+/// How many frames are shown of a stack. None is made. In as many steps as the stack has frames, which no clause says. There is no memory
+/// for so many that a `u64` doesn't count them.
+#[tactic(auto, unfolding(crate::specs::Shown::shown_of))]
+pub fn shown_count(lines: &Lines, stack: &Stack) -> Result<u64, NoMemory>
+    ensures { (m : Accepted) (t : Tables) → IfOk result (λ count. count ≡ length (spec.shown_of m t lines.now.spots stack.now.frames)) }
+{
+    let Ok(mut depth) = u32::try_from(stack.depth()) else {
+        return Err(NoMemory);
+    };
+    let mut count = 0u64;
+    'frames: while depth > 0 {
+        depth -= 1;
+        if let Some(frame) = stack.frame(depth) {
+            let Some(sum) = count.checked_add(lines.count(frame.pc())) else {
+                return Err(NoMemory);
+            };
+            count = sum;
+        }
+    }
+    Ok(count)
+}
+
+/// The line of the innermost frame that is shown of a stack, with the id of the OpString with the name of its file; none where there is no
+/// frame, or it has no line. In constant time, which no clause says.
+#[tactic(auto, unfolding(crate::specs::Shown::shown_of))]
+pub fn innermost_line(lines: &Lines, stack: &Stack) -> Option<(u32, u32)>
+    ensures { (m : Accepted) (t : Tables) → option_map (spec.line_named t) result ≡ option_and_then spec.line_shown (slice_get (spec.shown_of m t lines.now.spots stack.now.frames) 0) }
+{
+    lines.line(stack.pc()?)
 }
