@@ -3,3 +3,6 @@ mod EntryLemmas
 mod RangeLemmas
 mod TellLemmas
 mod ValueLemmas
+mod GroupLemmas
+mod SizeLemmas
+mod TypedLemmas

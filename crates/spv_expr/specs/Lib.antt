@@ -2,4 +2,8 @@ pub mod Variables
 pub mod Expressions
 pub mod Bits
 pub mod Kept
+pub mod Picks
+pub mod Groups
 pub mod Rests
+pub mod Sizes
+pub mod Typing

@@ -1,5 +1,5 @@
 -- Bits while they are read and put. Clauses of private calls alone cite this.
-use Rattle.std.specs.Prelude.{◌≡◌, ℕ, ◌+◌, ◌-◌, ◌<◌, ◌&&◌, nat_le, nat_lt, if◌then◌else◌, true, false, List, [], ◌∷◌, length, slice_index_or}
+use Rattle.std.specs.Prelude.{◌≡◌, ℕ, ◌+◌, ◌-◌, ◌<◌, ◌≤◌, ◌&&◌, nat_le, nat_lt, if◌then◌else◌, true, false, List, [], ◌∷◌, length, Option, Some, slice_get, slice_index_or}
 use Rattle.spv_base.specs.Bits.{cell_bits}
 use Rattle.spv_base.specs.Cell.{Cell}
 use Rattle.spv_dbg.specs.declared.frames.Bit.{Bit}
@@ -37,3 +37,15 @@ AreOpen first bits gaps = (k : ℕ) → k < length bits → is_in_any (first + k
 abbrev pub AreTold : (ℕ → Bit) → (ℕ → Bit) → ℕ → List Bit → List Range → Type 0
 AreTold all left first bits gaps = (k : ℕ) → k < length bits
     → (is_in_any (first + k) gaps ≡ true → (bit_in bits k ≡ unbound) × (all (first + k) ≡ left (first + k))) × (is_in_any (first + k) gaps ≡ false → bit_in bits k ≡ all (first + k))
+
+-- The bits of a row from one on are those of another row from another bit on, and as many.
+pub record IsRest (cells : List Cell) (bit : ℕ) (left : List Cell) (k : ℕ) : Type 0 where
+  pub lower : k ≤ bit
+  pub same : (m : ℕ) → slice_get (bits_of left) (k + m) ≡ slice_get (bits_of cells) (bit + m)
+  pub count : length (bits_of cells) + k ≡ bit + length (bits_of left)
+
+-- that of a row which is there
+pub record IsSomeRest (row : Option (List Cell)) (bit : ℕ) (left : List Cell) (k : ℕ) : Type 0 where
+  pub cells : List Cell
+  pub is : row ≡ Some cells
+  pub rest : IsRest cells bit left k

@@ -63,7 +63,7 @@ fn type_of(tables: &DebugTables, variable: u32) -> u32
 }
 
 /// The well-formed Declare or Value at a word.
-fn event_at(tables: &DebugTables, word: u32) -> Option<&DebugInst>
+pub(crate) fn event_at(tables: &DebugTables, word: u32) -> Option<&DebugInst>
     ensures { option_copied result ≡ spec.event_at tables.now word }
 {
     let debug = tables.at(word)?;

@@ -10,6 +10,7 @@ use crate::cells::{UNBOUND, all_bits, put_bits};
 use crate::entries::Entry;
 use crate::events::{Instance, event_of, told_at};
 use crate::expressions::piece;
+use crate::lists::EventList;
 use crate::ranges::Range;
 use crate::spans::{common, is_empty, meets, without};
 use crate::views::View;
@@ -93,7 +94,7 @@ fn put_local(
     alloc: Global,
     view: &View<'_>,
     instance: Instance,
-    events: &[DebugEvent],
+    events: &EventList<'_>,
     first: u64,
     bits: &mut [Bit],
 ) -> Result<(), NoMemory>
@@ -109,7 +110,7 @@ fn put_local(
     let mut k = events.len();
     'back: while k > 0 && !gaps.is_empty() {
         k -= 1;
-        take_event(alloc, view, instance, &events[k], first, bits, &mut gaps)?;
+        take_event(alloc, view, instance, events.at(k), first, bits, &mut gaps)?;
     }
     Ok(())
 }
@@ -119,7 +120,7 @@ pub(crate) fn local_bits(
     alloc: Global,
     view: &View<'_>,
     instance: Instance,
-    events: &[DebugEvent],
+    events: &EventList<'_>,
     first: u64,
     count: u64,
 ) -> Result<Vec<Bit>, NoMemory>

@@ -26,7 +26,8 @@ back-init c =
     record {
       least = omega arith;
       within = subst (λ (gaps : List Range). AreWithin first bits gaps) (sym one) (within_first first bits span refl refl);
-      told = subst (λ (gaps : List Range). AreTold (bit events) (bit (take (length events) events)) first bits gaps) (sym one) told;
+      told = subst (λ (n : ℕ). AreTold (bit events) (bit (take n events)) first bits c.in_ok-gaps.gaps.items) (sym c.len-k.ensures)
+          (subst (λ (gaps : List Range). AreTold (bit events) (bit (take (length events) events)) first bits gaps) (sym one) told);
     }
 
 pub back-preserved : goal.back-preserved
@@ -36,7 +37,7 @@ back-preserved c =
     let t = c.args.view.now.tables.now in
     let v = c.args.instance in
     let events = c.args.events.now in
-    let e = c.index-events-k.result in
+    let e = c.at.result.now in
     let k = c.back.k - 1 in
     let first = c.args.first in
     let bit : List PassedEvent → ℕ → Bit = λ es. local_bit m inv t es v in
@@ -44,7 +45,7 @@ back-preserved c =
     let short : k < length events = omega (arith, c.back.invariant.least, some) in
     let one : k + 1 ≡ c.back.k = omega (arith, some) in
     let step : (j : ℕ) → bit (take c.back.k events) j ≡ (if tells t v j e then told m inv t v j e else bit (take k events) j) =
-    λ j. ap (λ (n : ℕ). bit (take n events) j) (sym one) ∙ local_more m inv t v events k e short c.index-events-k.is j in
+    λ j. ap (λ (n : ℕ). bit (take n events) j) (sym one) ∙ local_more m inv t v events k e short c.at.ensures j in
     let long = c.take_event.auto.bits in
     let fits : first + length c.back.bits < 2 ^ 64 = omega (arith, c.back.auto.bits, c.requires.fits) in
     record {
