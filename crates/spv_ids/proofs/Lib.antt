@@ -5,3 +5,4 @@ mod OpenLemmas
 mod LoadLemmas
 mod TreeLemmas
 mod TypedLemmas
+pub mod Exports

@@ -1,5 +1,5 @@
 //! What an id stands for where a state is looked at.
-ghost use Rattle.std.specs.Prelude.{◌≡◌, IfOk, IfSome, None, Some, option_copied, option_map, slice_get};
+ghost use Rattle.std.specs.Prelude.{◌≡◌, IfOk, IfSome, Some, option_copied, option_map, slice_get};
 ghost use Rattle.spv_operands.specs.Operands.{IsPlain, shown};
 ghost use Rattle.spv_plans.specs.Plans.{plans_in};
 ghost use Rattle.spv_state.specs.Sound.{IsSound, IsSoundFrame};

@@ -22,8 +22,8 @@ use spv_types::queries::pointee;
 use spv_valid::Module;
 use std::alloc::Global;
 
-/// The type of the result with an id.
-fn type_of(accepted: &Module, id: u32) -> u32
+/// The type of the result with an id; 0 where it has none.
+pub fn type_of(accepted: &Module, id: u32) -> u32
     ensures { result ≡ spec.type_of accepted.now id }
 {
     accepted.type_of_id(id).unwrap_or(0)
