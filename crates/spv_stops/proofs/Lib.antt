@@ -1,2 +1,3 @@
 mod StopLemmas
 mod HitLemmas
+mod HaltLemmas

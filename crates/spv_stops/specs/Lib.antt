@@ -1,3 +1,4 @@
 pub mod Stops
 pub mod Breaks
 pub mod Watches
+pub mod Halts

@@ -31,7 +31,7 @@ impl<T, const MOST: usize> Model for Stops<T, MOST> {
 }
 
 /// The place of the stop with this number.
-fn place_of<T>(stops: &[(u32, T)], number: u32) -> Option<usize>
+pub(crate) fn place_of<T>(stops: &[(u32, T)], number: u32) -> Option<usize>
     ensures { result ≡ position (has_number number) stops.now }
 {
     stops.iter().position(|stop| stop.0 == number)
