@@ -1,0 +1,3 @@
+mod PlaceLemmas
+mod FollowLemmas
+pub mod Exports
