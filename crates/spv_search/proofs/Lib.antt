@@ -1,0 +1,11 @@
+mod MoveLemmas
+mod CountLemmas
+mod TargetLemmas
+mod FocusLemmas
+mod OwnLemmas
+mod ForwardLemmas
+mod BackLemmas
+mod StopLemmas
+mod AgainLemmas
+mod FoundLemmas
+mod SearchLemmas

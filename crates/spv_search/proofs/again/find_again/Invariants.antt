@@ -1,0 +1,20 @@
+use Rattle.std.proofs.Common.{◌≡◌, ◌≤◌, ◌-◌, ◌+◌}
+use Rattle.spv_group.specs.Group.{Held, group_at, window_in}
+use Rattle.spv_search.specs.Again.{IsFoundOf}
+use Rattle.spv_search.specs.Keys.{depth_in}
+use Rattle.spv_search.proofs.again.find_again.Given as goal
+
+abbrev pub invariant-up : goal.invariant-up
+invariant-up g l = record {
+  same : l.group.group ≡ group_at l.group.group.position l.fn.group.group;
+  limit : l.group.limit ≡ l.fn.group.limit;
+  until : l.group.group.position ≤ l.end;
+  kept : l.group.kept ≤ window_in l.group;
+  counted : l.steps ≡ l.fn.steps + l.group.group.position;
+  hits : (x : Held) → g.H.Hits.hits l.hits x ≡ g.H.Hits.hits l.fn.hits x;
+  found : (p : Held) → l.search.depth ≡ depth_in p l.search.focus.inv
+      → IsFoundOf (g.H.Hits.hits l.fn.hits) l.search.command l.search.focus.inv p l.search.position l.fn.group.group l.group.group.position l.found;
+}
+
+abbrev pub decreases-up : goal.decreases-up
+decreases-up g l = l.end - l.group.group.position

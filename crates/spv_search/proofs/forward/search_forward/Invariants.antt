@@ -1,0 +1,16 @@
+use Rattle.std.proofs.Common.{◌≡◌, ◌-◌}
+use Rattle.spv_group.specs.Group.{Held, end_in}
+use Rattle.spv_search.specs.Keys.{key_in, named_key}
+use Rattle.spv_search.specs.Targets.{passes_forward}
+use Rattle.spv_search.proofs.ForwardLemmas.{IsOnward}
+use Rattle.spv_search.proofs.forward.search_forward.Given as goal
+
+abbrev pub invariant-up : goal.invariant-up
+invariant-up g l = record {
+  on : IsOnward (passes_forward (g.H.Hits.hits l.fn.hits) l.command l.focus.inv l.fn.group.group) l.focus.inv l.fn.group l.group l.count l.fn.steps l.steps;
+  hits : (x : Held) → g.H.Hits.hits l.hits x ≡ g.H.Hits.hits l.fn.hits x;
+  from : named_key l.focus.tables.now l.from ≡ key_in l.fn.group.group l.focus.inv;
+}
+
+abbrev pub decreases-up : goal.decreases-up
+decreases-up g l = end_in l.fn.group.group - l.group.group.position

@@ -1,0 +1,9 @@
+pub mod Moves
+pub mod Keys
+pub mod Own
+pub mod Targets
+pub mod Stops
+pub mod Costs
+pub mod Sights
+pub mod Motion
+pub mod Again

@@ -1,0 +1,102 @@
+//! Searches forward.
+ghost use Rattle.std.specs.Prelude.{◌≡◌, ◌≤◌, ◌+◌, ◌-◌, ◌||◌, ℕ, Some, IfOk, OnOk, max};
+ghost use Rattle.spv_group.specs.Group.{Held, end_in, entries_in, group_at, window_in};
+ghost use Rattle.spv_group.specs.Run.{happening_before};
+ghost use Rattle.spv_search.specs.Costs.{forward_cost};
+ghost use Rattle.spv_search.specs.Keys.{IsFocus, key_in, named_key};
+ghost use Rattle.spv_search.specs.Motion.{IsForth};
+ghost use Rattle.spv_search.specs.Moves.{moves_between};
+ghost use Rattle.spv_search.specs.Own.{own_forward};
+ghost use Rattle.spv_search.specs.Stops.{IsLooked, IsTold, done_forward};
+ghost use Rattle.spv_search.specs.Targets.{forward_target};
+
+use crate::commands::{Forward, Stopped};
+use crate::focus::{Focus, Key};
+use crate::hits::{Hits, Looked};
+use crate::moves::{counted, moves};
+use crate::own::holds_forward;
+use spv_base::{Happening, NoMemory, Steps};
+use spv_group::{Forth, Group};
+use std::sync::ledger::Ledger;
+
+/// Notes the position, and makes the next event; there is none at the end.
+pub(crate) fn go_on<H: Hits, L: Ledger>(
+    group: &mut Group,
+    hits: &mut H,
+    steps: &mut Steps<L>,
+) -> Result<Option<Happening>, NoMemory>
+    ensures goes { IsForth result group.old group.new }
+    ensures same { (g : Held) → H.hits hits.new g ≡ H.hits hits.old g }
+    ensures noted { OnOk result (H.noted hits.new group.old.group) }
+    ensures most { group.old.group.position ≤ 4194304 }
+    ensures counted { steps.old + (group.new.group.position - group.old.group.position) ≤ steps.new }
+    ensures cost { steps.new ≤ steps.old + 1 }
+{
+    let _position = group.position();
+    hits.note(group)?;
+    match group.forth(steps)? {
+        Forth::Went(happening) => Ok(Some(happening)),
+        Forth::AtEnd(_) => Ok(None),
+    }
+}
+
+/// Whether the position behind this event, the group's, passes, where so many events moved the invocation since the position searched from.
+fn look_here<H: Hits>(
+    group: &Group,
+    focus: &Focus<'_>,
+    command: Forward,
+    from: &Key,
+    count: u64,
+    hits: &H,
+    happening: &Happening,
+) -> Result<Looked, NoMemory>
+    requires focus { IsFocus group.now.group focus.now.inv focus.now.tables.now focus.now.lines.now }
+    requires event { happening_before group.now.group.program (entries_in group.now.group) group.now.group.position ≡ Some happening.now }
+    requires noted { H.noted hits.now (group_at (group.now.group.position - 1) group.now.group) }
+    ensures { IfOk result (λ looked. (g : Held) → named_key focus.now.tables.now from.now ≡ key_in g focus.now.inv
+        → count ≡ moves_between g focus.now.inv g.position group.now.group.position
+        → IsLooked (H.hits hits.now group.now.group) (own_forward command focus.now.inv g group.now.group) looked) }
+{
+    let done = holds_forward(command, focus, group, from, count, happening)?;
+    let passes = done || hits.hits_here(group, happening)?;
+    Ok(Looked { passes, done })
+}
+
+/// Goes to the next position where something hits or what the command asks for holds, or to the end where there is none. It takes a step
+/// for each event, and one more at most. After want of memory the group is at some position on the way.
+pub fn search_forward<H: Hits, L: Ledger>(
+    group: &mut Group,
+    focus: &Focus<'_>,
+    command: Forward,
+    hits: &mut H,
+    steps: &mut Steps<L>,
+) -> Result<Stopped, NoMemory>
+    requires { IsFocus group.old.group focus.now.inv focus.now.tables.now focus.now.lines.now }
+    ensures target { OnOk result (group.new.group.position ≡ forward_target (H.hits hits.old) command focus.now.inv group.old.group) }
+    ensures done { IfOk result (λ stopped. stopped.done ≡ done_forward command focus.now.inv group.old.group group.new.group) }
+    ensures event { IfOk result (λ stopped. IsTold (H.noted hits.new) (H.hits hits.old) group.old.group group.new.group stopped.event) }
+    ensures same { group.new.group ≡ group_at group.new.group.position group.old.group }
+    ensures limit { group.new.limit ≡ group.old.limit }
+    ensures within { group.new.group.position ≤ end_in group.old.group }
+    ensures kept { group.new.kept ≤ max group.old.kept (window_in group.new) }
+    ensures counted { steps.old ≤ steps.new }
+    ensures cost { steps.new ≤ steps.old + forward_cost group.old.group.position (forward_target (H.hits hits.old) command focus.now.inv group.old.group) }
+    ensures hits { (g : Held) → H.hits hits.new g ≡ H.hits hits.old g }
+{
+    let _position = group.position();
+    let from = focus.key(group)?;
+    let mut count = 0u64;
+    'up: while let Some(happening) = go_on(group, hits, steps)? {
+        count = counted(count, moves(focus.inv, &happening));
+        let looked = look_here(group, focus, command, &from, count, hits, &happening)?;
+        if looked.passes {
+            let event = Some(happening);
+            let done = looked.done;
+            return Ok(Stopped { done, event });
+        }
+    }
+    Ok(Stopped {
+        done: false,
+        event: None,
+    })
+}
