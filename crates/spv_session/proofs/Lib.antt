@@ -2,7 +2,7 @@ mod CostLemmas
 mod ReplyLemmas
 mod RegisterLemmas
 mod ShownLemmas
-mod FrameLemmas
 mod InfoLemmas
 mod SightLemmas
+mod SearchLemmas
 pub mod Exports

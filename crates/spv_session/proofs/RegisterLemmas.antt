@@ -16,7 +16,8 @@ use Rattle.spv_types.specs.Rows.{leaves}
 use Rattle.spv_types.specs.Shapes.{HasShape}
 use Rattle.spv_valid.specs.Acceptance.{Accepted}
 use Rattle.spv_session.specs.Frames.{IsShown}
-use Rattle.spv_session.specs.Texts.{type_of, with_any, with_shown}
+use Rattle.spv_ids.specs.Texts.{type_of}
+use Rattle.spv_session.specs.Texts.{with_any, with_shown}
 
 -- the text of a register
 abbrev Text : Type 0

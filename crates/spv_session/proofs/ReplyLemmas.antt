@@ -1,5 +1,5 @@
 -- The texts of all invocations, one after the other, a view of its own position, and the text of a refusal.
-use Rattle.std.proofs.Common.{◌≡◌, ◌∙◌, ℕ, ◌+◌, List, [], ◌∷◌, ◌++◌, Some, Result, Ok, Err, OnErr, sym, ap, subst, refl, arith, add-one, append-nil}
+use Rattle.std.proofs.Common.{◌≡◌, ◌∙◌, ℕ, ◌+◌, List, [], ◌∷◌, ◌++◌, Bool, true, false, cond, Some, None, Result, Ok, Err, OnErr, sym, ap, subst, refl, arith, add-one, append-nil}
 use Rattle.std.specs.List.{flat_map, range_with_len}
 use Rattle.std.proofs.lemmas.List.{flat_map_more}
 use Rattle.spv_base.specs.declared.causes.CmdRefusal.{CmdRefusal}
@@ -7,7 +7,7 @@ use Rattle.spv_base.specs.Prefix.{IsPrefixOf}
 use Rattle.spv_cmd.specs.declared.command.Command.{Command}
 use Rattle.spv_cmd.specs.Commands.{command_of}
 use Rattle.spv_group.proofs.Exports.{range_more}
-use Rattle.spv_session.specs.Reply.{Told, tells, refuses, Act, nothing, quits, shows, goes, act_of, reply_by, refusal_by, refusal_of, told_refusal, told_reply}
+use Rattle.spv_session.specs.Reply.{Told, tells, refuses, Act, nothing, quits, shows, goes, walks, act_of, focus_finished, is_over, motion_reply, reply_by, refusal_by, refusal_of, told_refusal, told_reply}
 use Rattle.spv_session.specs.Texts.{refusal_line}
 use Rattle.spv_session.specs.View.{View, view_at}
 
@@ -28,12 +28,17 @@ refused_told : (v : View) (told : Told) (code : ℕ) → told_refusal told ≡ S
 refused_told v (tells text w) code e = absurd (cc)
 refused_told v (refuses n) code e = let same : n ≡ code = cc in ap refusal_line same
 
+refused_walk : (b : Bool) (v : View) (moved : List ℕ × View) (code : ℕ) → cond b (Some focus_finished) None ≡ Some code → (cond b (told_reply v (refuses focus_finished)) moved).0 ≡ refusal_line code
+refused_walk true v moved code e = let same : focus_finished ≡ code = cc in ap refusal_line same
+refused_walk false v moved code e = absurd (cc)
+
 -- what is refused has its refusal's line
 pub refused_text : (v : View) (a : Act) (code : ℕ) → refusal_by v a ≡ Some code → (reply_by v a).0 ≡ refusal_line code
 refused_text v nothing code e = absurd (cc)
 refused_text v quits code e = absurd (cc)
 refused_text v (shows told) code e = refused_told v (told v) code e
 refused_text v (goes motion) code e = absurd (cc)
+refused_text v (walks motion) code e = refused_walk (is_over v) v (motion_reply v (motion v)) code e
 
 -- a line that is refused, as the command that was read
 pub refused_as : (v : View) (line : List ℕ) (it : Result Command CmdRefusal) (code : ℕ) → it ≡ command_of line → refusal_of v line ≡ Some code → refusal_by v (act_of it) ≡ Some code

@@ -21,7 +21,7 @@ use Rattle.spv_print.specs.Leaves.{Bits, bits_in, unbound}
 use Rattle.spv_print.specs.Pieces.{pieces_end, text_of}
 use Rattle.spv_group.specs.Group.{state_in}
 use Rattle.spv_session.specs.Reply.{part_told, told_reply}
-use Rattle.spv_session.specs.Shown.{tables_in}
+use Rattle.spv_search.specs.Keys.{tables_in}
 use Rattle.spv_session.specs.Variables.{focus_calls, line_in, named, named_in, part_text, selected, value_line, variable_line}
 use Rattle.spv_session.specs.View.{View}
 

@@ -1,5 +1,6 @@
 pub mod View
 pub mod Texts
+pub mod Motions
 pub mod Reply
 pub mod Costs
 pub mod Frames
@@ -7,3 +8,5 @@ pub mod Shown
 pub mod Variables
 pub mod Info
 pub mod Happenings
+pub mod Typing
+pub mod Sights

@@ -1,5 +1,5 @@
 -- The reply to a line, and the view after it. How a position was reached doesn't matter to it.
-use Rattle.std.specs.Prelude.{◌≡◌, ℕ, ◌==◌, ◌+◌, ◌-◌, min, nat_lt, ◌&&◌, ◌||◌, not, Bool, true, false, List, [], ◌∷◌, ◌++◌, length, slice_get, Option, Some, None, if◌then◌else◌, Result, Ok, Err}
+use Rattle.std.specs.Prelude.{◌≡◌, ℕ, ◌==◌, nat_lt, Bool, true, false, List, [], ◌∷◌, ◌++◌, length, slice_get, Option, Some, None, if◌then◌else◌, Result, Ok, Err}
 use Rattle.std.specs.List.{enumerate_from, flat_map, range_with_len}
 use Rattle.std.specs.Option.{option_map_or}
 use Rattle.spv_base.specs.declared.causes.CmdRefusal.{CmdRefusal}
@@ -12,11 +12,14 @@ use Rattle.spv_dbg.specs.declared.frames.ShownFrame.{ShownFrame}
 use Rattle.spv_paths.specs.Paths.{Named}
 use Rattle.spv_paths.specs.Variables.{globals, locals}
 use Rattle.spv_group.specs.Group.{Held as Group, entries_in, invocations_in, state_in, status_of, end_in, end_cause_in}
-use Rattle.spv_group.specs.Positions.{least_of, greatest_of}
 use Rattle.spv_source.specs.Frames.{frame_line}
 use Rattle.spv_source.specs.Windows.{source_lines}
+use Rattle.spv_search.specs.Keys.{has_finished, tables_in}
+use Rattle.spv_search.specs.declared.commands.Forward.TheVariants as on
+use Rattle.spv_search.specs.declared.commands.Backward.TheVariants as back
 use Rattle.spv_session.specs.Info.{module_words}
-use Rattle.spv_session.specs.Shown.{focus_frames, innermost, real_frame, source_text, tables_in}
+use Rattle.spv_session.specs.Motions.{Motion, goto_motion, fwd_motion, back_motion, search_on, search_back, hits, target, is_done}
+use Rattle.spv_session.specs.Shown.{focus_frames, innermost, real_frame, source_text}
 use Rattle.spv_session.specs.Texts.{refusal_line, registers_text, position_line, invocation_line, stop_line, info_line}
 use Rattle.spv_session.specs.Variables.{id_line, id_told, line_in, named, path_line, selected}
 use Rattle.spv_session.specs.View.{View, moved_to, focus_on, frame_on}
@@ -72,21 +75,14 @@ pub data Told : Type 0 where
   tells : List ℕ → View → Told
   refuses : ℕ → Told
 
--- a motion, and at which positions what it was asked for is done
-pub data Motion : Type 0 where
-  -- to the position that a number names, whatever hits before
-  straight : (number : ℕ) → (done : ℕ → Bool) → Motion
-  -- to the first position behind the view's with a hit or where this holds, else to the end
-  forward : (ℕ → Bool) → Motion
-  -- to the last position before the view's with a hit or where this holds, else to the start
-  backward : (ℕ → Bool) → Motion
-
 -- what a command does
 pub data Act : Type 0 where
   nothing : Act
   quits : Act
   shows : (View → Told) → Act
   goes : (View → Motion) → Act
+  -- the same, of a focus that isn't finished; else it is refused
+  walks : (View → Motion) → Act
 
 -- a line for each shown frame of the focus; a finished one has none
 abbrev pub frames_told : View → List ShownFrame → Told
@@ -132,24 +128,20 @@ print_told (Name name parts) v = part_told v (Name name parts) (named v name par
 abbrev pub focus_told : ℕ → View → Told
 focus_told i v = if nat_lt i (invocations_in v.group) then tells (place_reply (focus_on i v)) (focus_on i v) else refuses no_such_invocation
 
--- the position is another than the view's
-abbrev pub has_moved : View → ℕ → Bool
-has_moved v m = not (m == v.group.position)
-
--- Done is what met its number exactly: the position asked for, or so many events forward or back. Where nothing moved, only `goto` is.
-abbrev pub goto_motion : ℕ → View → Motion
-goto_motion n v = straight n (λ m. m == n)
-
-abbrev pub fwd_motion : ℕ → View → Motion
-fwd_motion n v = straight (v.group.position + n) (λ m. has_moved v m && m == v.group.position + n)
-
-abbrev pub back_motion : ℕ → View → Motion
-back_motion n v = straight (v.group.position - n) (λ m. has_moved v m && m + n == v.group.position)
-
 abbrev pub act : Command → Act
 act (command.Goto n) = goes (goto_motion n)
 act (command.Fwd n) = goes (fwd_motion n)
 act (command.Back n) = goes (back_motion n)
+act (command.Stepi n) = walks (search_on (on.Stepi n))
+act (command.Rstepi n) = goes (search_back (back.Rstepi n))
+act command.Step = walks (search_on on.Step)
+act command.Next = walks (search_on on.Next)
+act command.Finish = walks (search_on on.Finish)
+act command.Rstep = goes (search_back back.Rstep)
+act command.Rnext = walks (search_back back.Rnext)
+act command.Rfinish = walks (search_back back.Rfinish)
+act command.Continue = goes (search_on on.Continue)
+act command.Rcontinue = goes (search_back back.Rcontinue)
 act command.Group = shows (λ v. tells (group_reply v.group) v)
 act (command.Focus i) = shows (focus_told i)
 act command.Place = shows (λ v. tells (place_reply v) v)
@@ -169,23 +161,6 @@ abbrev pub act_of : Result Command CmdRefusal → Act
 act_of (Err refusal) = shows (λ v. refuses refusal.code)
 act_of (Ok it) = act it
 
--- ---- where motions lead
-
--- whether a break, a watch or a halt hits at a position; there are none so far
-abbrev pub hits : View → ℕ → Bool
-hits v m = false
-
--- the position that a motion leads to, where these hit
-abbrev pub target : (View → ℕ → Bool) → View → Motion → ℕ
-target hit v (straight n done) = min n (end_in v.group)
-target hit v (forward own) = least_of (λ m. hit v m || own m) (v.group.position + 1) (end_in v.group)
-target hit v (backward own) = greatest_of (λ m. hit v m || own m) 0 v.group.position
-
-abbrev pub is_done : View → Motion → ℕ → Bool
-is_done v (straight n done) m = done m
-is_done v (forward own) m = has_moved v m && own m
-is_done v (backward own) m = has_moved v m && own m
-
 -- ---- what is read from the table
 
 -- a motion stops at a position, and what it was asked for is done there or not
@@ -195,6 +170,10 @@ stopped v m done = (stop_reply done (moved_to m v), moved_to m v)
 abbrev pub motion_reply : View → Motion → List ℕ × View
 motion_reply v motion = stopped v (target hits v motion) (is_done v motion (target hits v motion))
 
+-- the focus is finished
+abbrev pub is_over : View → Bool
+is_over v = has_finished v.group v.focus
+
 abbrev pub told_reply : View → Told → List ℕ × View
 told_reply v (tells text w) = (text, w)
 told_reply v (refuses code) = (refusal_line code, v)
@@ -202,6 +181,7 @@ told_reply v (refuses code) = (refusal_line code, v)
 abbrev pub reply_by : View → Act → List ℕ × View
 reply_by v (shows told) = told_reply v (told v)
 reply_by v (goes motion) = motion_reply v (motion v)
+reply_by v (walks motion) = if is_over v then told_reply v (refuses focus_finished) else motion_reply v (motion v)
 reply_by v _ = ([], v)
 
 unfoldable pub reply : View → List ℕ → List ℕ × View
@@ -221,6 +201,7 @@ told_refusal (refuses code) = Some code
 
 abbrev pub refusal_by : View → Act → Option ℕ
 refusal_by v (shows told) = told_refusal (told v)
+refusal_by v (walks motion) = if is_over v then Some focus_finished else None
 refusal_by v _ = None
 
 unfoldable pub refusal_of : View → List ℕ → Option ℕ

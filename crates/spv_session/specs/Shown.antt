@@ -1,29 +1,20 @@
 -- Where invocations stand in the source: the frames that are shown of their calls.
 use Rattle.std.specs.Prelude.{ℕ, List, Option, slice_get}
 use Rattle.spv_dbg.specs.declared.frames.ShownFrame.{ShownFrame}
-use Rattle.spv_dbg.specs.Tables.{Tables, tables_of, text_of_file}
+use Rattle.spv_dbg.specs.Tables.{text_of_file}
 use Rattle.spv_frame.specs.Frames.{Held as Frame}
-use Rattle.spv_scopes.specs.Shown.{shown_of}
-use Rattle.spv_scopes.specs.Spots.{spots_of}
 use Rattle.spv_state.specs.State.{frames_of}
 use Rattle.spv_group.specs.Group.{Held as Group, state_in}
+use Rattle.spv_search.specs.Keys.{shown_in, tables_in}
 use Rattle.spv_session.specs.View.{View}
 
--- the debug tables of the group's module
-abbrev pub tables_in : Group → Tables
-tables_in g = tables_of g.program.accepted
-
--- the frames that are shown of an invocation, the innermost first; a finished one has none
-abbrev pub shown_frames : Group → ℕ → List ShownFrame
-shown_frames g i = shown_of g.program.accepted (tables_in g) (spots_of g.program.accepted (tables_in g)) (frames_of (state_in g) i)
-
--- the innermost
+-- the innermost of the frames that are shown of an invocation
 abbrev pub innermost : Group → ℕ → Option ShownFrame
-innermost g i = slice_get (shown_frames g i) 0
+innermost g i = slice_get (shown_in g i) 0
 
--- those of the focus
+-- those that are shown of the focus
 abbrev pub focus_frames : View → List ShownFrame
-focus_frames v = shown_frames v.group v.focus
+focus_frames v = shown_in v.group v.focus
 
 -- the call of the focus that a shown frame is of
 abbrev pub real_frame : View → ShownFrame → Option Frame

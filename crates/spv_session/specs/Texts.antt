@@ -1,5 +1,5 @@
 -- The texts of replies. Each line ends with a line feed.
-use Rattle.std.specs.Prelude.{ℕ, Bool, if◌then◌else◌, List, [], ◌∷◌, ◌++◌, codes, decimal, Option, Some, None, fold, slice_index_or, unwrap_or}
+use Rattle.std.specs.Prelude.{ℕ, Bool, if◌then◌else◌, List, [], ◌∷◌, ◌++◌, codes, decimal, Option, Some, None, fold, slice_index_or}
 use Rattle.std.specs.List.{filter_map, flat_map, join_by}
 use Rattle.std.specs.BTreeMap.{insert_entry}
 use Rattle.std.specs.Option.{option_and_then, option_map, option_map_or}
@@ -10,11 +10,11 @@ use Rattle.spv_base.specs.declared.happenings.Status4.{Status4}
 use Rattle.spv_base.specs.declared.happenings.Status4.TheVariants as status
 use Rattle.spv_base.specs.declared.values.Pointer.{Pointer}
 use Rattle.spv_base.specs.declared.values.Value.{Value, Ptr}
-use Rattle.spv_index.specs.Definitions.{result_type}
 use Rattle.spv_valid.specs.Acceptance.{Accepted}
 use Rattle.spv_dbg.specs.declared.frames.ShownFrame.{ShownFrame}
 use Rattle.spv_frame.specs.Frames.{Held as Frame}
 use Rattle.spv_show.specs.Texts.{value_text}
+use Rattle.spv_ids.specs.Texts.{type_of}
 use Rattle.spv_source.specs.Frames.{place_text}
 
 -- ---- refusals
@@ -31,10 +31,6 @@ abbrev pub refusal_line : ℕ → List ℕ
 refusal_line code = codes "refused: " ++ slice_index_or refusals code [] ++ codes "\n"
 
 -- ---- registers
-
--- the type of the result with an id
-abbrev pub type_of : Accepted → ℕ → ℕ
-type_of a id = unwrap_or (result_type a.insts id) 0
 
 -- the text of what a register holds, by the type of its id
 abbrev pub register_text : Accepted → ℕ → Value → List ℕ

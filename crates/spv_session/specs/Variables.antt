@@ -18,7 +18,8 @@ use Rattle.spv_paths.specs.Paths.{Named, part_due, variable_due}
 use Rattle.spv_print.specs.Layouts as print
 use Rattle.spv_source.specs.Frames.{shown_bytes}
 use Rattle.spv_group.specs.Group.{state_in}
-use Rattle.spv_session.specs.Shown.{focus_frames, tables_in}
+use Rattle.spv_search.specs.Keys.{tables_in}
+use Rattle.spv_session.specs.Shown.{focus_frames}
 use Rattle.spv_session.specs.View.{View}
 
 -- `NAME = TEXT`

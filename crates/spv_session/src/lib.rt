@@ -8,9 +8,11 @@ mod info;
 mod kit;
 mod motions;
 mod registers;
+mod searches;
 mod session;
 mod sights;
 mod texts;
+mod variables;
 
 pub use kit::Kit;
 pub use registers::shown_registers_ascend;

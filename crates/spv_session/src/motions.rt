@@ -1,11 +1,12 @@
 //! Motions to a position of the run.
-ghost use Rattle.std.specs.Prelude.{◌≡◌, ◌==◌, ◌≤◌, ◌+◌, ◌-◌, ◌&&◌, ℕ, OnOk, max, min, nat_lt, not, if◌then◌else◌};
+ghost use Rattle.std.specs.Prelude.{◌≡◌, ◌==◌, ◌≤◌, ◌+◌, ◌-◌, ◌&&◌, ℕ, OnOk, max, min, not};
 ghost use Rattle.spv_group.specs.Costs.{run_cost};
 ghost use Rattle.spv_group.specs.Group.{end_in, group_at, window_in};
 ghost use Rattle.spv_session.specs.Costs.{straight_cost};
 
 use spv_base::{NoMemory, Steps};
-use spv_group::{Forth, Group, Nobody};
+use spv_group::{Forth, Group};
+use spv_search::return_to;
 use std::sync::ledger::Ledger;
 
 /// Where a motion is asked to lead.
@@ -73,43 +74,8 @@ fn go_on<L: Ledger>(group: &mut Group, target: u64, steps: &mut Steps<L>) -> Res
     Ok(())
 }
 
-/// Goes back to a position from which on all events are kept, by undoing. Does nothing where it isn't before the present one.
-fn undo_to<L: Ledger>(group: &mut Group, target: u64, steps: &mut Steps<L>) -> Result<(), NoMemory>
-    requires { group.old.kept ≤ target }
-    ensures target { OnOk result (group.new.group.position ≡ min group.old.group.position target) }
-    ensures same { group.new.group ≡ group_at group.new.group.position group.old.group }
-    ensures limit { group.new.limit ≡ group.old.limit }
-    ensures within { group.new.group.position ≤ end_in group.old.group }
-    ensures kept { group.new.kept ≡ group.old.kept }
-    ensures cost { steps.new ≡ steps.old }
-{
-    'down: while target < group.position() {
-        group.back(steps)?;
-    }
-    Ok(())
-}
-
-/// Goes back to a position before the present one: by undoing, or by a run from the start on where the events from there on aren't
-/// kept. The events that are taken back are told to nobody so far. Only that run takes steps.
-fn go_back<L: Ledger>(group: &mut Group, target: u64, steps: &mut Steps<L>) -> Result<(), NoMemory>
-    ensures target { OnOk result (group.new.group.position ≡ min group.old.group.position target) }
-    ensures same { group.new.group ≡ group_at group.new.group.position group.old.group }
-    ensures limit { group.new.limit ≡ group.old.limit }
-    ensures within { group.new.group.position ≤ end_in group.old.group }
-    ensures kept { group.new.kept ≤ group.old.kept }
-    ensures counted { steps.old ≤ steps.new }
-    ensures cost { steps.new ≤ steps.old + (if nat_lt target group.old.kept then group.old.group.position else 0) }
-    ensures reached { group.old.kept ≤ group.old.group.position }
-{
-    if target < group.first_kept() {
-        group.back_to(target, &mut Nobody, steps)
-    } else {
-        undo_to(group, target, steps)
-    }
-}
-
-/// Goes to a position, or to the end where that comes first. One before the present is reached by undoing, or by running again from
-/// the start where the events from there on aren't kept. After want of memory the group is at some position of its run.
+/// Goes to a position, or to the end where that comes first. One before the present is reached by undoing, or by a run from the start
+/// on where the events from there on aren't kept. After want of memory the group is at some position of its run.
 pub fn go_to<L: Ledger>(
     group: &mut Group,
     target: u64,
@@ -123,6 +89,8 @@ pub fn go_to<L: Ledger>(
     ensures counted { steps.old ≤ steps.new }
     ensures cost { steps.new ≤ steps.old + straight_cost group.old.kept group.old.group target }
 {
-    go_back(group, target, steps)?;
+    if target < group.position() {
+        return return_to(group, target, steps);
+    }
     go_on(group, target, steps)
 }

@@ -8,11 +8,13 @@ ghost use Rattle.spv_operands.specs.Shapes.{target_in};
 ghost use Rattle.spv_types.specs.Rows.{leaves};
 ghost use Rattle.spv_types.specs.Shapes.{HasShape};
 ghost use Rattle.spv_show.specs.Rows.{IsRowOf};
+ghost use Rattle.spv_ids.specs.Texts.{type_of};
 ghost use Rattle.spv_session.specs.Frames.{IsShown};
-ghost use Rattle.spv_session.specs.Texts.{ascending, register_text, registers_text, shown_in, shown_line, shown_pointer, shown_value, type_of, with_any, with_shown};
+ghost use Rattle.spv_session.specs.Texts.{ascending, register_text, registers_text, shown_in, shown_line, shown_pointer, shown_value, with_any, with_shown};
 
 use spv_base::{NoMemory, Pointer, Text};
 use spv_frame::Frame;
+use spv_ids::type_of;
 use spv_line::push_number;
 use spv_plans::laws::registers_have_types;
 use spv_show::{pointer_text, value_text};
@@ -20,13 +22,6 @@ use spv_state::Runnable;
 use spv_values::Part;
 use std::alloc::Global;
 use std::collections::BTreeMap;
-
-/// The type of the result with an id.
-fn type_of(m: &Runnable, id: u32) -> u32
-    ensures { result ≡ type_of m.now.accepted id }
-{
-    m.accepted().type_of_id(id).unwrap_or(0)
-}
 
 /// Puts the text of a value under the id of its register.
 fn show_value(
@@ -40,7 +35,14 @@ fn show_value(
     ensures { OnOk result (shown.new.entries ≡ with_shown shown.old.entries (id, register_text m.now.accepted id part.now)) }
 {
     let mut text = Vec::new(alloc);
-    value_text(alloc, m.accepted().types(), type_of(m, id), part, &mut text)?;
+    let accepted = m.accepted();
+    value_text(
+        alloc,
+        accepted.types(),
+        type_of(accepted, id),
+        part,
+        &mut text,
+    )?;
     shown.insert(id, Text::from_vec(text))?;
     Ok(())
 }

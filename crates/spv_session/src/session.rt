@@ -1,40 +1,34 @@
 //! A kit of probes beside a group, and the replies to lines of input.
-ghost use Rattle.std.specs.Prelude.{◌≡◌, [], ℕ, ◌==◌, ◌<◌, ◌≤◌, ◌+◌, ◌++◌, ◌&&◌, ◌⊎◌, List, All, IfOk, Ok, Some, OnOk, OnErr, max, min, option_copied, slice_get, vec_len, if◌then◌else◌};
-ghost use Rattle.std.specs.List.{flat_map};
+ghost use Rattle.std.specs.Prelude.{◌≡◌, [], ℕ, ◌==◌, ◌<◌, ◌≤◌, ◌+◌, ◌++◌, ◌&&◌, ◌⊎◌, List, All, IfOk, Ok, Some, OnOk, OnErr, max, min, slice_get, vec_len, if◌then◌else◌};
 ghost use Rattle.std.specs.Option.{option_map_or};
 ghost use Rattle.spv_base.specs.Prefix.{IsPrefixOf};
 ghost use Rattle.spv_cmd.specs.Commands.{command_of};
 ghost use Rattle.spv_group.specs.Group.{end_in, group_at, invocations_in, state_in, window_in};
 ghost use Rattle.spv_state.specs.State.{frames_of};
+ghost use Rattle.spv_search.specs.Keys.{shown_in};
 ghost use Rattle.spv_session.specs.Costs.{act_cost, line_cost, straight_cost};
 ghost use Rattle.spv_session.specs.Happenings.{lined};
-ghost use Rattle.spv_session.specs.Reply.{act_of, does_quit, focus_told, frame_told, frames_told, group_reply, globals_reply, info_reply, invocation_reply, is_quit, IsRefused, lines_told, locals_told, part_told, place_reply, print_told, refusal_by, registers_told, reply, reply_by, select_told, stop_reply, told_refusal, told_reply};
-ghost use Rattle.spv_cmd.specs.declared.command.PathText.TheVariants as path;
-ghost use Rattle.spv_paths.specs.Variables.{locals};
+ghost use Rattle.spv_session.specs.Reply.{act_of, does_quit, focus_told, frame_told, frames_told, group_reply, info_reply, invocation_reply, is_quit, IsRefused, lines_told, place_reply, refusal_by, registers_told, reply, reply_by, select_told, stop_reply, told_refusal, told_reply};
 ghost use Rattle.spv_session.specs.Shown as spec;
-ghost use Rattle.spv_session.specs.Shown.{focus_frames, shown_frames, tables_in};
-ghost use Rattle.spv_session.specs.Variables.{focus_calls, line_in, named, selected};
+ghost use Rattle.spv_session.specs.Shown.{focus_frames};
 ghost use Rattle.spv_session.specs.Texts.{refusal_line, registers_text};
 ghost use Rattle.spv_session.specs.View.{first_viewing, focus_on, moved_to, undoing_in, view_at};
 ghost use Rattle.spv_session.specs.declared.session.Next.TheVariants as answers;
 
 use crate::debug_info::DebugInfo;
-use crate::frames::{
-    FOCUS_FINISHED, NO_SOURCE_TEXT, NO_SUCH_NAME, frame_at, frame_with, push_frame_lines,
-};
+use crate::frames::{FOCUS_FINISHED, NO_SOURCE_TEXT, frame_with, push_frame_lines};
 use crate::happenings::lined;
 use crate::info::{Info, module_words, push_info};
 use crate::kit::Kit;
 use crate::motions::{Aim, go_to};
 use crate::registers::push_registers;
-use crate::sights::{Sight, push_id_line};
 use crate::texts::{push_invocation, push_position, push_stop, refusal_line};
 use spv_base::{CmdRefusal, Fail, Happening, NoMemory, Probe, Steps};
-use spv_cmd::{Command, PathParts, PathText, ValuePath, parse_built};
+use spv_cmd::{Command, parse_built};
 use spv_dbg::ShownFrame;
 use spv_group::Group;
-use spv_ids::id_text;
 use spv_scopes::{innermost, shown};
+use spv_search::{Backward, Forward};
 use spv_source::{frame_line, source_lines};
 use spv_state::laws::top_frames_are_sound;
 use std::alloc::Global;
@@ -65,11 +59,11 @@ fn read(alloc: Global, line: &[u8]) -> Result<Result<Command, CmdRefusal>, NoMem
 /// A group, about which lines of input ask, the debug information of its module, and the invocation and the shown frame that replies
 /// speak of.
 pub struct Core {
-    alloc: Global,
-    group: Group,
-    info: DebugInfo,
-    focus: u32,
-    frame: u32,
+    pub(crate) alloc: Global,
+    pub(crate) group: Group,
+    pub(crate) info: DebugInfo,
+    pub(crate) focus: u32,
+    pub(crate) frame: u32,
 }
 
 // Written out, so that it is proved once: a derived drop is proved again in each function that lets go of such a value.
@@ -92,7 +86,8 @@ impl Model for Core {
     ghost use Rattle.spv_group.specs.Group.{end_in, invocations_in};
     ghost use Rattle.spv_paths.specs.Variables.{variables_of};
     ghost use Rattle.spv_scopes.specs.Lines.{lines_of};
-    ghost use Rattle.spv_session.specs.Shown.{tables_in};
+    ghost use Rattle.spv_search.specs.Keys.{tables_in};
+    ghost use Rattle.spv_session.specs.Typing.{typing_in};
     ghost use Rattle.spv_session.specs.View.{Viewing, first_view};
 
     ghost Value = { Viewing };
@@ -101,7 +96,7 @@ impl Model for Core {
 
     ghost invariant = { λ s. (s.group.group.position ≤ end_in s.group.group) × (s.focus < invocations_in s.group.group)
         × (s.info.tables ≡ tables_in s.group.group) × (s.info.lines ≡ lines_of s.group.group.program.accepted (tables_in s.group.group))
-        × (s.info.variables ≡ variables_of (tables_in s.group.group)) };
+        × (s.info.variables ≡ variables_of (tables_in s.group.group)) × (s.info.sizes ≡ typing_in s.group.group.program.accepted) };
 }
 
 impl Core {
@@ -188,6 +183,18 @@ impl Core {
             Ok(Command::Goto(position)) => self.go(Aim::at(*position), text, steps)?,
             Ok(Command::Fwd(count)) => self.go(Aim::forward(from, count.get()), text, steps)?,
             Ok(Command::Back(count)) => self.go(Aim::back(from, count.get()), text, steps)?,
+            Ok(Command::Stepi(count)) => self.walk_on(Forward::Stepi(count.get()), text, steps)?,
+            Ok(Command::Rstepi(count)) => {
+                self.search_back(Backward::Rstepi(count.get()), text, steps)?
+            }
+            Ok(Command::Step) => self.walk_on(Forward::Step, text, steps)?,
+            Ok(Command::Next) => self.walk_on(Forward::Next, text, steps)?,
+            Ok(Command::Finish) => self.walk_on(Forward::Finish, text, steps)?,
+            Ok(Command::Rstep) => self.search_back(Backward::Rstep, text, steps)?,
+            Ok(Command::Rnext) => self.walk_back(Backward::Rnext, text, steps)?,
+            Ok(Command::Rfinish) => self.walk_back(Backward::Rfinish, text, steps)?,
+            Ok(Command::Continue) => self.search_on(Forward::Continue, text, steps)?,
+            Ok(Command::Rcontinue) => self.search_back(Backward::Rcontinue, text, steps)?,
             Ok(_) => {}
         }
         Ok(Next::Go)
@@ -212,6 +219,18 @@ impl Core {
     {
         go_to(&mut self.group, aim.position, steps)?;
         let done = aim.exact && self.group.position() == aim.position;
+        self.stop(text, done)
+    }
+
+    /// Appends why a motion stopped here, and where the focus stands. The innermost frame is selected then.
+    pub(crate) fn stop(&mut self, text: &mut Vec<u8>, done: bool) -> Result<(), NoMemory>
+        ensures text { OnOk result (text.new.items ≡ text.old.items ++ stop_reply done self.new.view) }
+        ensures view { OnOk result (self.new.view ≡ moved_to self.old.view.group.position self.old.view) }
+        ensures err { OnErr result (self.new ≡ self.old) }
+        ensures group { self.new.view.group ≡ self.old.view.group }
+        ensures kept { self.new.kept ≡ self.old.kept }
+        ensures limit { self.new.limit ≡ self.old.limit }
+    {
         self.push_stop(text, done)?;
         self.frame = 0;
         Ok(())
@@ -260,9 +279,9 @@ impl Core {
     }
 
     /// The frames that are shown of an invocation.
-    fn frames(&self, inv: u32) -> Result<Vec<ShownFrame>, NoMemory>
+    pub(crate) fn frames(&self, inv: u32) -> Result<Vec<ShownFrame>, NoMemory>
         requires { inv < invocations_in self.now.view.group }
-        ensures { IfOk result (λ frames. frames.items ≡ shown_frames self.now.view.group inv) }
+        ensures { IfOk result (λ frames. frames.items ≡ shown_in self.now.view.group inv) }
     {
         let module = self.group.module().accepted();
         let stack = self.group.world().whole().stack(inv);
@@ -350,116 +369,6 @@ impl Core {
             text.extend_from_slice(refusal_line(NO_SOURCE_TEXT))?;
         }
         Ok(())
-    }
-
-    /// Where variables of the focus are read, with a shown frame or none.
-    fn sight<'a>(&'a self, frame: Option<&'a ShownFrame>) -> Sight<'a>
-        ensures tables { result.tables.now ≡ tables_in self.now.view.group }
-        ensures memory { result.memory.now ≡ (state_in self.now.view.group).memory }
-        ensures inv { result.inv ≡ self.now.view.focus }
-        ensures stack { result.stack.now ≡ focus_calls self.now.view }
-        ensures frame { result.frame ≡ frame.entry }
-    {
-        let state = self.group.world().whole();
-        Sight {
-            tables: &self.info.tables,
-            memory: state.memory(),
-            stack: state.stack(self.focus),
-            inv: self.focus,
-            frame,
-        }
-    }
-
-    /// Appends the variables that are seen from the selected frame.
-    fn push_locals(&self, text: &mut Vec<u8>) -> Result<(), NoMemory>
-        ensures { OnOk result (text.new.items ≡ text.old.items
-            ++ (told_reply self.now.view (frame_told (locals_told self.now.view) (focus_frames self.now.view) self.now.view.frame)).0) }
-    {
-        let frames = self.frames(self.focus)?;
-        match frame_with(frames.as_slice(), self.frame) {
-            Err(refusal) => text.extend_from_slice(refusal_line(refusal))?,
-            Ok(frame) => self.push_locals_of(text, frame)?,
-        }
-        Ok(())
-    }
-
-    /// Appends the variables that are seen from a shown frame.
-    fn push_locals_of(&self, text: &mut Vec<u8>, frame: &ShownFrame) -> Result<(), NoMemory>
-        ensures { OnOk result (text.new.items ≡ text.old.items ++ flat_map (line_in self.now.view (Some frame.now)) (locals (tables_in self.now.view.group) frame.now.scope)) }
-    {
-        let ids = self
-            .info
-            .variables
-            .locals(self.alloc, &self.info.tables, frame.scope)?;
-        self.sight(Some(frame))
-            .push_variables(self.alloc, text, ids.as_slice())
-    }
-
-    /// Appends the globals.
-    fn push_globals(&self, text: &mut Vec<u8>) -> Result<(), NoMemory>
-        ensures { OnOk result (text.new.items ≡ text.old.items ++ globals_reply self.now.view) }
-    {
-        let frames = self.frames(self.focus)?;
-        let frame = frame_at(frames.as_slice(), self.frame);
-        self.sight(frame)
-            .push_variables(self.alloc, text, self.info.variables.globals())
-    }
-
-    /// Appends what a path names, or why it names nothing.
-    fn push_path(&self, text: &mut Vec<u8>, path: &ValuePath) -> Result<(), NoMemory>
-        ensures { OnOk result (text.new.items ≡ text.old.items ++ (told_reply self.now.view (print_told path.now self.now.view)).0) }
-    {
-        let frames = self.frames(self.focus)?;
-        let frame = frame_at(frames.as_slice(), self.frame);
-        match path.text() {
-            PathText::Id(id) => self.push_id(text, frame, *id),
-            PathText::Name { name, parts } => {
-                self.push_part(text, frame, path.text(), name.as_slice(), parts)
-            }
-        }
-    }
-
-    /// Appends the part of a variable that the parts of a path name, or why there is none.
-    fn push_part(
-        &self,
-        text: &mut Vec<u8>,
-        frame: Option<&ShownFrame>,
-        path: &PathText,
-        name: &[u8],
-        parts: &PathParts,
-    ) -> Result<(), NoMemory>
-        requires { option_copied frame ≡ selected self.now.view }
-        ensures { OnOk result (text.new.items ≡ text.old.items ++ (told_reply self.now.view (part_told self.now.view path.now (named self.now.view name.now parts.now))).0) }
-    {
-        let sight = self.sight(frame);
-        match sight.named(&self.info.variables, name, parts)? {
-            Err(refusal) => Ok(text.extend_from_slice(refusal_line(refusal))?),
-            Ok(named) => sight.push_path(self.alloc, text, path, named),
-        }
-    }
-
-    /// Appends what an id stands for in the call of a frame, or that it stands for nothing there.
-    fn push_id(
-        &self,
-        text: &mut Vec<u8>,
-        frame: Option<&ShownFrame>,
-        id: u32,
-    ) -> Result<(), NoMemory>
-        requires { option_copied frame ≡ selected self.now.view }
-        ensures { OnOk result (text.new.items ≡ text.old.items ++ (told_reply self.now.view (print_told (path.Id id) self.now.view)).0) }
-    {
-        let depth = match frame {
-            Some(frame) => Some(frame.depth),
-            None => None,
-        };
-        let mut value = Vec::new(self.alloc);
-        let module = self.group.module();
-        let state = self.group.world().whole();
-        if !id_text(self.alloc, module, state, self.focus, depth, id, &mut value)? {
-            text.extend_from_slice(refusal_line(NO_SUCH_NAME))?;
-            return Ok(());
-        }
-        push_id_line(self.alloc, text, id, value.as_slice())
     }
 
     /// Appends what the module and its run have in numbers.
@@ -550,10 +459,10 @@ impl Session {
         })
     }
 
-    /// Answers a line: appends the reply. Only a motion takes steps: to a position before it none where the events from there on are
-    /// kept, else at most as many as the old position's number; else as many as it goes forth, and at most one more. After want of
-    /// memory a front of the reply was appended, the group is at some position of its run, and all else of the view is the old one's or
-    /// the reply's.
+    /// Answers a line: appends the reply. Only a motion takes steps: forth one for each event, and at most one more; back none to a number
+    /// and at most one else, where the events that it looks at are kept. Else it makes events from the start on: those before the number,
+    /// or twice as many as aren't kept. After want of memory a front of the reply was appended, the group is at some position of its run,
+    /// and all else of the view is the old one's or the reply's.
     pub fn command<L: Ledger>(
         &mut self,
         line: &[u8],

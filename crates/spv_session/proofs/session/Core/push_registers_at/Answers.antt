@@ -3,7 +3,7 @@ use Rattle.spv_state.specs.Program.{Program}
 use Rattle.spv_state.specs.State.{frames_of}
 use Rattle.std.specs.Prelude.{option_copied}
 use Rattle.spv_session.specs.Frames.{IsShown}
-use Rattle.spv_session.proofs.FrameLemmas.{frame_sound}
+use Rattle.spv_ids.proofs.Exports.{frame_sound}
 use Rattle.spv_session.proofs.session.Core.push_registers_at.Goals as goal
 
 pub push_registers-requires : goal.push_registers-requires
