@@ -11,6 +11,7 @@ or a module with a change, whose debug records are counted by records.py. Each o
 """
 import os
 import struct
+import debug_types
 import records
 import rules_of_blocks
 import rules_of_sections
@@ -161,6 +162,8 @@ def changes():
 def main():
     with open(os.path.join(DATA, "first-big.spv"), "wb") as file:
         file.write(swapped(read("first.spv")))
+    with open(os.path.join(DATA, "types.spv"), "wb") as file:
+        file.write(debug_types.module())
     out, names = "", ACCEPTED + ["first-big.spv"]
     for name in ACCEPTED:
         out += "%s: %s\n" % (name, line_for(None, counted(read(name))))

@@ -9,6 +9,7 @@ the texts of replies of it.
 """
 import os
 import struct
+import values
 from listings import TOP
 
 DATA = os.path.join(TOP, "crates", "spv_modules", "data")
@@ -35,7 +36,7 @@ SOURCE, OP_SOURCE, NO_TEXT = range(3)
 class Module:
     def __init__(self, words):
         self.words, self.strings, self.numbers = words, {}, {}
-        self.marks, self.records, self.malformed, self.inlined, self.texts = {}, [], [], 0, []
+        self.marks, self.records, self.malformed, self.inlined, self.texts, self.order = {}, [], [], 0, [], {}
         # what a SourceContinued continues, and what an OpSourceContinued does
         self.source = self.op_source = [NO_TEXT, b"", b""]
         integers, self.set, self.inside, self.in_force, at = set(), None, False, 0, 5
@@ -79,6 +80,7 @@ class Module:
             self.malformed.append((at, number))
             return
         self.marks[ident] = (number, ids, *measure)
+        self.order[ident] = len(self.records)
         self.records.append((at, ident, number, ids))
         if number in (23, 24):
             self.in_force = ids[1] if len(ids) > 1 else 0
@@ -136,7 +138,7 @@ class Module:
     # ---- where instructions stand in the source: what is in force is read off the block before each of them
 
     def show(self):
-        self.lines, self.heads, self.frames, self.stands, op_names, function = [], [], [], {}, {}, 0
+        self.lines, self.heads, self.heads_at, self.frames, self.stands, op_names, function = [], [], {}, [], {}, {}, 0
         by_word = {at: (number, ids) for at, _, number, ids in self.records}
         for _, op, rest in self.insts:
             if op == 5:
@@ -156,6 +158,7 @@ class Module:
                 key = (file, line, inlined) if line else None
                 if key is not None and key != before:
                     self.heads.append((file, line))
+                    self.heads_at[at] = (file, line)
                 before = key
             frames = self.shown(scope, inlined, file, line, op_name)
             self.frames += frames
@@ -213,16 +216,28 @@ class Module:
                 files.setdefault(file, data)
         return files
 
+    def values(self):
+        """The texts of all types, each of a value whose bits are a pattern, which has 100 bits more than the type."""
+        types = [ident for _, ident, number, _ in self.records if number in TYPES]
+        return [values.text(self, ident, lambda k, size=self.marks[ident][2] + 100: pattern(k) if k < size else None, self.marks[ident][2] + 100) for ident in types]
+
     def counts(self):
         operands = [ident for _, _, _, ids in self.records for ident in ids]
         strings = sum(len(self.strings[ident]) for ident in operands if ident in self.strings)
         numbers = sum(self.numbers.get(ident, 0) for ident in operands)
         files = self.files()
         texts = sum(len(files.get(name, b"")) for name in self.strings.values())
+        written = self.values()
         return (f"records {len(self.records)}, found {len(self.marks)}, ignored {len(self.malformed)}, strings {strings}, numbers {numbers}, "
                 f"inlined {self.inlined}, text {texts}, lines {len(self.lines)} of sum {sum(self.lines)}, "
                 f"heads {len(self.heads)} and {sum(self.heads.count(head) for head in self.heads)}, "
-                f"frames {len(self.frames)} of sum {sum(row[2] for row in self.frames)} and {sum(len(row[0]) + len(row[1]) for row in self.frames)} bytes")
+                f"frames {len(self.frames)} of sum {sum(row[2] for row in self.frames)} and {sum(len(row[0]) + len(row[1]) for row in self.frames)} bytes, "
+                f"values {len(written)} of {sum(map(len, written))} bytes and sum {sum(map(sum, written))}, {len(written)} alike")
+
+
+def pattern(k):
+    """Bit k of a value: each 131st isn't there, each 97th is undefined."""
+    return None if k % 131 == 130 else "u" if k % 97 == 96 else int((k // 5 + k) % 3 == 0)
 
 
 def text(words):
@@ -258,7 +273,7 @@ def words_of(name):
 
 def rows():
     """The modules, and those with a word exchanged, as lines `NAME` and `NAME WORD NUMBER LENGTH`, each with what is due."""
-    for name in NAMES:
+    for name in NAMES + ["types"]:
         yield f"{name}.spv", Module(words_of(name)).counts()
     for row in EXCHANGES:
         name, word, number = exchange(*row)

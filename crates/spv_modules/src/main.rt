@@ -1,7 +1,7 @@
 //! Runs `check` on each module of data/, as a user would, and says what it writes and how it ends: shaders as compilers
 //! and the optimizer give them, whose sources stand in examples/check, modules with one word changed, and modules with one
 //! rule broken; lists single instructions; and reads the debug records of modules, as they are and with one operand exchanged, with
-//! the lines and frames that they give. Each module that is checked and decoded is also read back from its listing. What is due is worked out by bench/modules.py.
+//! the lines and frames that they give and the texts of values of their types. Each module that is checked and decoded is also read back from its listing. What is due is worked out by bench/modules.py.
 //!
 //! No record of a compiler is malformed but those that `spirv-opt -O` puts behind the end of a block, where none has a meaning: a
 //! NoScope in shared, structs and widths, and a NoLine in structs.
@@ -13,6 +13,7 @@ mod lines;
 mod read_back;
 mod records;
 mod rules;
+mod values;
 
 use crate::calls::{check, check_in};
 use crate::changes::Change;
@@ -20,6 +21,7 @@ use crate::lines::Shown;
 use crate::read_back::{is_read_back, listing_of};
 use crate::records::{Counts, read_of};
 use crate::rules::{module_of, module_of_words};
+use crate::values::Values;
 use spv_base::{Fail, RealFiles, Refusal};
 use std::alloc::Global;
 use std::io::Write;
@@ -135,7 +137,13 @@ fn print_shown<R: Print>(rt: &R, shown: &Shown) -> io::Result<()> {
     print!(rt; ", lines {} of sum {}", shown.lines, shown.numbers)?;
     print!(rt; ", heads {} and {}", shown.heads, shown.same)?;
     let (frames, outer, names) = (shown.frames, shown.outer, shown.names);
-    println!(rt; ", frames {frames} of sum {outer} and {names} bytes")
+    print!(rt; ", frames {frames} of sum {outer} and {names} bytes")
+}
+
+/// Says how values of the debug types are written.
+fn print_values<R: Print>(rt: &R, values: &Values) -> io::Result<()> {
+    let (types, bytes, sum, same) = (values.types, values.bytes, values.sum, values.same);
+    println!(rt; ", values {types} of {bytes} bytes and sum {sum}, {same} alike")
 }
 
 /// Says what the debug records of each module of a list hold, what the look-ups give, and where the instructions stand in the source.
@@ -149,6 +157,7 @@ fn report_records<R: rt::Files + Print + AllocGlobal>(rt: &R, list: &str) -> io:
             Ok(read) => {
                 print_counts(rt, &read.counts)?;
                 print_shown(rt, &read.shown)?;
+                print_values(rt, &read.values)?;
             }
             Err(_) => println!(rt; "refused")?,
         }

@@ -2,6 +2,7 @@
 //! summed up.
 
 use crate::lines::{Asked, Shown};
+use crate::values::Values;
 use spv_app::acceptance::accepted;
 use spv_base::{Fail, Inst, NoMemory, Refusal};
 use spv_dbg::{DebugInst, DebugTables, SourceText};
@@ -105,9 +106,10 @@ impl Counts {
 pub struct Read {
     pub counts: Counts,
     pub shown: Shown,
+    pub values: Values,
 }
 
-/// What the debug records of a module hold and give, and where its instructions stand in the source.
+/// What the debug records of a module hold and give, where its instructions stand in the source, and how values of its types are written.
 fn read_in(alloc: Global, module: &Module) -> Result<Read, NoMemory> {
     let tables = DebugTables::build(alloc, module)?;
     let lines = Lines::build(alloc, module, &tables)?;
@@ -120,6 +122,7 @@ fn read_in(alloc: Global, module: &Module) -> Result<Read, NoMemory> {
     Ok(Read {
         counts: Counts::of(&tables, module.insts()),
         shown: Shown::of(&asked)?,
+        values: Values::of(alloc, &tables)?,
     })
 }
 
