@@ -320,8 +320,6 @@ def setup_of(numbers, lines):
 ASCENDING = ["move %d 100" % k for k in range(4)]
 BARRIER = ["goto 33", "group", "goto 36", "group", "fwd 1", "group", "goto 148", "regs", "fwd 5", "back 1"]
 STUCK = ["goto 20", "group", "back 1", "group", "focus 1", "regs", "focus 2", "fwd 5", "back 9", "back 1"]
-with open(os.path.join(TOP, "examples", "shares", "commands")) as lines:
-    SESSION = lines.read().splitlines()
 # The run of examples/shares up to its fault, and what the fault's invocation shows there and before, of each of its frames.
 FAULT = ["goto 4000", "focus 3", "bt", "list"]
 FRAMES = FAULT + ["regs", "frame 1", "list", "regs", "where", "group", "frame 2", "list", "regs", "frame 3", "list", "info"]
@@ -341,7 +339,6 @@ RUNS = [
     ("undefined", "undefined", [0, 3, 1, 4, 9], *TURNS, ["goto %d" % END, "back 2", "regs"]),
     ("rounding", "rounding", TEN, *FOURS, ["goto %d" % END, "group", "focus 3", "regs", "bt", "list"]),
     ("rounding with its lines", "rounding-lines", TEN, *FOURS, FAULT + ["frame 0", "regs", "back 100", "list", "goto 0", "where", "list"]),
-    ("the session of shares", "shares", TEN, *FOURS, SESSION),
     ("shares", "shares", TEN, *FOURS, BEFORE + ["goto 36", "bt"]),
     ("shares before spirv-opt -O", "shares-calls", TEN, *FOURS, BEFORE),
     ("shares without its text", "shares-textless", TEN, *FOURS, FRAMES),

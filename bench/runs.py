@@ -6,9 +6,9 @@
 A call of a file `*.runs` is a line `== WHAT: MODULE: WORDS`, the text of the setup, and behind `-- commands` the input. The
 transcripts are worked out by hand from the manual, docs/SETUP.md and the standard; the numbers in runs_of_values.py and
 arithmetic.py by Python, and those of memory.runs, flow.runs and group.runs, and of the runs that docs/MANUAL.md speaks of, by the
-interpreters memory_runs.py, flow.py, group_runs.py and manual_runs.py; those of source.runs by hand in source_runs.py, those of
-traces.runs by sessions.py, and those of variables.runs by hand in
-variable_runs.py and by variables_told.py. None is taken from the program that is tested.
+interpreters memory_runs.py, flow.py, group_runs.py and manual_runs.py; those of source.runs by hand in source_runs.py and
+stop_runs.py, those of traces.runs by sessions.py and random_sessions.py, and those of variables.runs by hand in variable_runs.py and
+by variables_told.py; those of `make` by stops.py. None is taken from the program that is tested.
 """
 import os
 import struct
@@ -18,28 +18,46 @@ import group_runs
 import make
 import manual_runs
 import memory_runs
+import random_sessions
 import runs_of_places as places
 import runs_of_setups as setups
 import runs_of_values as values
 import source_runs
+import stop_runs
 import traces
 import variable_runs
 import variables_told
 from listings import TOP, Inst, laid_out
 from places import Places
+from sessions import Shaped
+from stops import NOT_BUILT, Built
 
 FOLDER = os.path.join(TOP, "crates", "spv_runs")
 DATA = os.path.join(FOLDER, "data")
 DONE, USAGE, MODULE, SETUP, FILE = 0, 2, 3, 4, 5
 DEBUG = "spvdbg debug module setup"
 TEN_ROUNDS = "spvdbg-setup 1\nrounds 10\n"
+# Whether the program has `make`: as long as it hasn't, these words are faulty.
+MAKES = False
 USAGE_LINE = "usage: spvdbg debug MODULE SETUP | check MODULE | make N | text MODULE\n"
 UNKNOWN = "refused: C1 unknown command\n"
 ARGUMENTS = "refused: C2 arguments\n"
 NO_FRAME, NO_TEXT, FINISHED = "refused: C4 no such frame\n", "refused: C10 no source text\n", "refused: C12 focus finished\n"
-NO_NAME = "refused: C5 no such name\n"
+NO_NAME, NO_NUMBER, NO_CODE = "refused: C5 no such name\n", "refused: C7 no such number\n", "refused: C8 no code at that line\n"
 # What `info` and, at the end, `where` reply of the shader that adds 40 and 2, under ten rounds.
 INFO, OVER = "words 67, instructions 18, ignored 0, invocations 1, entries 10\n", "@4 i=0 finished\n"
+# The replies to motions that go to the end by what they ask for, and to the start for want of it.
+ENDED, BEGUN = "stop: done, all finished\n" + OVER, "stop: start\n@0 i=0 %7 word 53\n"
+
+# The commands to it that set and remove breaks and watches, and all that is written, once they are built and before.
+STOPS = [
+    ("break\nbreak :5\nbreak x\nbreak x:\nbreak 1 2\ndelete\ndelete x\nwatch\nwatch x[\nwatch %9[0]\nunwatch\nunwatch 1 2\n", 12 * ARGUMENTS),
+    (
+        "break 1\nbreak x:1\ndelete 0\ndelete 1\nunwatch 1\nwatch %10\nwatch %9\nwatch x\nwatch x.y\ngoto 4\nbreak 1\nbreak x:1\nwatch x\nwatch %5\n",
+        2 * NO_CODE + 3 * NO_NUMBER + 4 * NO_NAME + ENDED + 2 * NO_CODE + 2 * NO_NAME,
+    ),
+]
+NO_STOPS = [("break 1\nbreak\nbreak x:1\ndelete 1\ndelete\nwatch %9\nwatch\nunwatch 1\nunwatch\n", 9 * UNKNOWN)]
 
 # The commands to the shader that adds 40 and 2, under ten rounds, and all that is written.
 COMMANDS = [
@@ -48,7 +66,7 @@ COMMANDS = [
         "goto 4\nregs\ngoto 0\nwhere\n",
         "stop: done, all finished\n@4 i=0 finished\nrefused: C12 focus finished\nstop: done, start\n" + 2 * "@0 i=0 %7 word 53\n",
     ),
-    ("jump\nGoto 1\nstep\nwatch %10\nbreak\n", 5 * UNKNOWN),
+    ("jump\nGoto 1\ntally\ndrop 1\nhalt 1 1\norder 1 2\n", 6 * UNKNOWN),
     # a module without debug records has no variables, but ids
     (
         "print %10\nprint %9\nprint %5\nlocals\nglobals\nprint x\ngoto 3\nprint %10\nprint %9\nprint %7\ngoto 4\nprint %10\nprint %9\nprint %5\nlocals\nglobals\n",
@@ -79,6 +97,15 @@ COMMANDS = [
     ("goto 1\r\n", ARGUMENTS),
     ("regs 1\n", ARGUMENTS),
     ("fwd\nback\nfwd 0\nback 0\n", 4 * ARGUMENTS),
+    ("stepi 0\nrstepi 0\nstepi x\nstep 1\nrstep 1\nnext 1\nrnext 1\nfinish 1\nrfinish 1\ncontinue 1\nrcontinue x\n", 11 * ARGUMENTS),
+    # without lines no instruction begins one, and a step ends where its invocation does
+    ("continue\ncontinue\nrcontinue\nrcontinue\n", 2 * ("stop: all finished\n" + OVER) + 2 * BEGUN),
+    *[("%s\n%s\nr%s\nrstep\nr%s\n" % (3 * (word,) + (word,)), ENDED + FINISHED + (BEGUN if word == "step" else FINISHED) + 2 * BEGUN) for word in ("step", "next", "finish")],
+    ("stepi\nstepi 2\nstepi\nstepi\n", "stop: done\n@1 i=0 %7 word 56\nstop: done\n@3 i=0 %7 word 65\n" + ENDED + FINISHED),
+    ("stepi 4\nrstepi\nrstepi 3\nrstepi\n", ENDED + "stop: done\n@3 i=0 %7 word 65\nstop: done, start\n@0 i=0 %7 word 53\n" + BEGUN),
+    ("stepi 5\nrstepi 4\nstepi 4294967295\nrstepi 5\n", "stop: all finished\n" + OVER + "stop: done, start\n@0 i=0 %7 word 53\nstop: all finished\n" + OVER + BEGUN),
+    ("goto 4\nstepi\nstep\nnext\nfinish\nrnext\nrfinish\ncontinue\nrstep\n", ENDED + 6 * FINISHED + "stop: all finished\n" + OVER + BEGUN),
+    *(NO_STOPS if NOT_BUILT else STOPS),
     ("quit now\nquit\ngoto 1\n", ARGUMENTS),
     (" " * 4096 + "\n", ""),
     (" " * 4097 + "\n", "refused: C11 line too long\n"),
@@ -98,9 +125,16 @@ SCHEDULES = [
         "goto 1\ngoto 0\nregs\n",
         "stop: start, schedule ended\n@0 i=0 %7 word 53\nstop: done, start, schedule ended\n@0 i=0 %7 word 53\n",
     ),
+    ("spvdbg-setup 1\nrounds 0", "continue\nstep\nstepi\nrcontinue\nrstepi\nfinish\n", 6 * "stop: start, schedule ended\n@0 i=0 %7 word 53\n"),
+    (
+        "spvdbg-setup 1\nrounds 2",
+        "continue\nstepi\nfinish\nrfinish\nstepi 2\nrstepi 2\nstep\n",
+        3 * "stop: schedule ended\n@2 i=0 %7 word 60\n" + BEGUN + "stop: done, schedule ended\n@2 i=0 %7 word 60\nstop: done, start\n@0 i=0 %7 word 53\nstop: schedule ended\n@2 i=0 %7 word 60\n",
+    ),
     (TEN_ROUNDS, "goto 0\n", "stop: done, start\n@0 i=0 %7 word 53\n"),
 ]
 
+AT_FAULT = "stop: fault F4 i=0 word 60\n@2 i=0 %7 word 60\n"
 # Modules of spirv-as, commands under twenty rounds, and all that is written.
 ASSEMBLED = [
     (
@@ -116,6 +150,11 @@ ASSEMBLED = [
         "fault.spv",
         "goto 9\ngoto 2\n",
         "stop: fault F4 i=0 word 60\n@2 i=0 %7 word 60\nstop: done, fault F4 i=0 word 60\n@2 i=0 %7 word 60\n",
+    ),
+    (
+        "fault.spv",
+        "continue\ncontinue\nstepi\nstep\nrcontinue\nstepi 2\nrstepi\nstepi 2\n",
+        4 * AT_FAULT + BEGUN + "stop: done, fault F4 i=0 word 60\n@2 i=0 %7 word 60\nstop: done\n@1 i=0 %7 word 56\n" + AT_FAULT,
     ),
     # OpUnreachable in the place of the return
     ("unreachable.spv", "goto 9\n", "stop: fault F5 i=0 word 65\n@3 i=0 %7 word 65\n"),
@@ -170,7 +209,13 @@ def calls():
     ] + [("assembled", name, DEBUG, "spvdbg-setup 1\nrounds 20\n", commands, DONE, out) for name, commands, out in ASSEMBLED] + [
         (what, name, DEBUG, *row) for what, name, *row in places.calls()
     ] + list(manual_runs.calls())
+    # what is made for a number, and the session over it
+    lines = [debugged(n) for n in (1, 64)]
     yield "words.runs", [("words", "first.spv", words, TEN_ROUNDS, "goto 1\n", status, out) for words, status, out in WORDS] + [
+        ("made", "first.spv", "spvdbg make %d" % n, "", "goto 1\n", *((DONE, line) if MAKES else (USAGE, USAGE_LINE))) for n, (line, _) in zip((1, 64), lines)
+    ] + [
+        ("what is made for %d" % n, made_file(n), DEBUG, make.setup(n), make.commands(n), DONE, transcript) for n, (_, transcript) in zip((1, 64), lines)
+    ] + [
         ("a listing", "first.spv", "spvdbg text module", "", "goto 1\n", DONE, LISTING)
     ] + [
         ("refused", name, words, TEN_ROUNDS, "goto 1\n", MODULE, "module refused: %s\n" % due)
@@ -183,7 +228,7 @@ def calls():
         ("several", "blocks.spv", DEBUG, setup, "goto 1\n", DONE, out) for setup, out in setups.OF_TWO
     ]
     by_file = [
-        ("memory.runs", [memory_runs]), ("flow.runs", [flow]), ("group.runs", [group_runs]), ("source.runs", [source_runs]), ("traces.runs", [traces]),
+        ("memory.runs", [memory_runs]), ("flow.runs", [flow]), ("group.runs", [group_runs]), ("source.runs", [source_runs, stop_runs]), ("traces.runs", [traces, random_sessions]),
         ("variables.runs", [variable_runs, variables_told]),
     ]
     for file, runs in by_file:
@@ -347,6 +392,22 @@ def modules():
     yield from places.modules()
     yield from source_runs.modules()
     yield from variable_runs.modules()
+    yield from stop_runs.modules_in_gate()
+    for n in (1, 64):
+        yield made_file(n), make.module(n)
+
+
+def made_file(n):
+    return "made-%d.spv" % n
+
+
+def debugged(n):
+    """What `make` writes for a number, and the transcript that it speaks of."""
+    schedule = [number for _ in range(make.rounds(n)) for number in range(make.INVOCATIONS)]
+    session, commands = Built(Shaped(make.module(n)), {0: make.INVOCATIONS * [0]}, schedule), make.commands(n)
+    transcript = "".join(line + "\n" for command in commands.splitlines() if command != "quit" for line in session.answer(command))
+    assert (len(transcript), sum(transcript.encode())) == make.TRANSCRIPTS[n]
+    return make.told(n), transcript
 
 
 def made(n):

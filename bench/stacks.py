@@ -2,7 +2,7 @@
 invocation is of, which instruction comes next in it, and what its registers hold.
 
 An event is one executable instruction of the invocation that the schedule names next, or nothing where that one is finished or waits
-at a barrier. Integers have 32 bits, and undefined ones are None; a pointer is a variable's room and a path. Opcodes are those of
+at a barrier. A run ends before an access that finds no part of memory. Integers have 32 bits, and undefined ones are None; a pointer is a variable's room and a path. Opcodes are those of
 SPIR-V 1.6, section 3.42; debug instructions are passed.
 """
 import struct
@@ -14,6 +14,10 @@ WORKGROUPS, WORKGROUP_ID, LOCAL_ID, GLOBAL_ID, LOCAL_INDEX = 24, 26, 27, 28, 29
 PASSED = {0, 8, 59, 245, 246, 247, 317}
 ENDS = {249, 250, 251, 253, 254, 255}
 MASK = 0xFFFFFFFF
+
+
+class Fault(Exception):
+    pass
 
 
 def signed(number):
@@ -129,6 +133,12 @@ def text(module, ty, value):
     return str(signed(value) if args[1] else value)
 
 
+def part(value, index):
+    if not 0 <= index < len(value):
+        raise Fault(3)
+    return value[index]
+
+
 class Room(list):
     """What stands in a variable, as its one element."""
 
@@ -154,7 +164,7 @@ class Group:
     """A workgroup whose buffers have words, under a schedule."""
 
     def __init__(self, module, buffers, schedule):
-        self.m, self.schedule, self.events, self.rooms = module, schedule, 0, {}
+        self.m, self.schedule, self.events, self.rooms, self.fault = module, schedule, 0, {}, None
         x, y, z = module.size
         self.invocations = [Invocation(number) for number in range(x * y * z)]
         for id, (storage, ty, start) in module.variables.items():
@@ -163,9 +173,14 @@ class Group:
                     one.rooms[id] = Room(id, self.built_in(id, one.number) if storage == INPUT else self.started(ty, start))
             elif storage != FUNCTION:
                 words = iter(buffers.get(module.decorations.get((id, BINDING)), ()))
-                self.rooms[id] = Room(id, module.filled(ty, (lambda: next(words)) if storage == BUFFER else (lambda: None)))
+                self.rooms[id] = Room(id, self.block(ty, words) if storage == BUFFER else module.filled(ty, lambda: None))
         for one in self.invocations:
             self.enter(one, module.main, ())
+
+    def block(self, ty, words):
+        """A block of some words, of which a last member without a length takes all that are left."""
+        _, *parts = self.m.types[ty]
+        return [list(words) if self.m.types[part][0] == RUNTIME_ARRAY else self.m.filled(part, lambda: next(words)) for part in parts]
 
     def started(self, ty, start):
         return self.m.filled(ty, lambda: None) if start is None else copied(self.m.constants[start])
@@ -190,7 +205,7 @@ class Group:
         room, path = pointer
         value = room[0]
         for index in path:
-            value = value[index]
+            value = part(value, index)
         return copied(value)
 
     @staticmethod
@@ -199,6 +214,7 @@ class Group:
         place, key = room, 0
         for index in path:
             place, key = place[key], index
+            part(place, index)
         place[key] = copied(value)
 
     def computed(self, op, values):
@@ -218,6 +234,9 @@ class Group:
             whole = Room(0, copied(self.value(one, args[3])))
             self.store((whole, tuple(args[4:])), self.value(one, args[2]))
             return whole[0]
+        if op == 68:
+            room, path = self.value(one, args[2])
+            return len(self.load((room, path + (args[3],))))
         values = [self.value(one, id) for id in args[2:]]
         if op == 61:
             return self.load(values[0])
@@ -294,12 +313,26 @@ class Group:
             frame.word = self.m.after[frame.word]
 
     def event(self):
-        """Makes an event; gives the invocation that the schedule names."""
+        """Makes an event, or finds that it can't be made; gives the invocation that the schedule names."""
         one = self.invocations[self.schedule[self.events]]
         if one.status in ("ready", "passed"):
-            self.step(one)
+            try:
+                self.step(one)
+            except Fault as fault:
+                self.fault = "fault F%d i=%d word %d" % (fault.args[0], one.number, one.frames[-1].word)
+                return one.number
         self.events += 1
         return one.number
+
+    def causes(self):
+        """Why the run is at its end, if it is; a fault once it was found."""
+        if self.is_over():
+            return ["all finished"]
+        if all(one.status in ("finished", "arrived") for one in self.invocations):
+            return ["stuck"]
+        if self.fault:
+            return [self.fault]
+        return ["schedule ended"] * (self.events == len(self.schedule))
 
     def is_over(self):
         return all(one.status == "finished" for one in self.invocations)

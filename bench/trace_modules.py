@@ -16,12 +16,14 @@ from listings import TOP
 
 FOLDER = os.path.join(TOP, "bench", "traces")
 DATA = os.path.join(TOP, "crates", "spv_runs", "data")
-NAMES = ["levels", "exchange", "loops", "cases", "parts", "files", "early", "sides", "tallies", "dense"]
+NAMES = ["levels", "exchange", "loops", "cases", "parts", "files", "early", "sides", "tallies", "dense", "own"]
 FORMS = ["gVS", "gVS-opt", "g", "g-opt"]
 # The modules of which the gate has whole runs.
 IN_GATE = [("levels", "gVS-opt"), ("exchange", "gVS-opt"), ("files", "gVS-opt"), ("files", "g")]
 # The module of which the gate has a run with its variables.
 VARIABLES_IN_GATE = ("parts", "gVS-opt")
+# The module with variables of each invocation's own, over which the gate has sessions that are drawn at random.
+OWN_IN_GATE = ("own", "gVS")
 COMPILERS = {
     "gVS": ["glslangValidator", "-V", "-gVS", "--target-env", "spirv1.6"],
     "g": ["glslc", "-g", "--target-env=vulkan1.2", "-DFAR"],
@@ -34,7 +36,7 @@ def file_of(name, form):
 
 
 def path_of(name, form):
-    return os.path.join(DATA if (name, form) in IN_GATE + [VARIABLES_IN_GATE] else FOLDER, file_of(name, form))
+    return os.path.join(DATA if (name, form) in IN_GATE + [VARIABLES_IN_GATE, OWN_IN_GATE] else FOLDER, file_of(name, form))
 
 
 def insts(words):

@@ -18,7 +18,7 @@ def phi():
     return module(described, [], body)
 
 
-def stored():
+def stored(size=1):
     """A Workgroup integer in which -5 is stored; `x` is what a pointer leads to, `y` the pointer itself, `z` is declared there."""
     described = Described()
     signed = described.basic(32, SIGNED)
@@ -31,7 +31,7 @@ def stored():
         ("main", "Function", "void", 0, "fn"), ("-", "Label"), scope("dmain"), *told, add(), (None, "Store", "w", "minus5"), add(), (None, "Return",),
         (None, "FunctionEnd",),
     ]
-    return module(described, declared, body, 1, ("w",))
+    return module(described, declared, body, size, ("w",))
 
 
 def nested():
@@ -82,3 +82,21 @@ def made():
     ]
     declared = [("fuint", "TypeFunction", "uint", "uint"), ("to_local", "TypePointer", FUNCTION, "uint")]
     return module(described, declared, body, functions=(("dmain", "main", "unit"), ("df", "f", "unit")))
+
+
+def deeper():
+    """main calls f, and h which calls f: f is the second call of the invocation, and then the third one behind h."""
+    described = Described()
+    number = described.basic(32, UNSIGNED)
+    p, q = described.local("p", number, "df"), described.local("q", number, "dh")
+    called = lambda name, scope_of, at, parameter, variable: [
+        (name, "Function", "uint", 0, "fuint"), (parameter, "FunctionParameter", "uint"), ("-", "Label"), scope(scope_of), line("source", at), described.told(variable, *event(parameter)),
+    ]
+    body = [
+        *called("f", "df", 5, "to_f", p), ("twice", "IAdd", "uint", "to_f", "to_f"), (None, "ReturnValue", "twice"), (None, "FunctionEnd",),
+        *called("h", "dh", 6, "to_h", q), ("inner", "FunctionCall", "uint", "f", "to_h"), (None, "ReturnValue", "inner"), (None, "FunctionEnd",),
+        ("main", "Function", "void", 0, "fn"), ("-", "Label"), scope("dmain"), line("source", 9), ("first", "FunctionCall", "uint", "f", "c7"), ("second", "FunctionCall", "uint", "h", "c8"),
+        (None, "Return",), (None, "FunctionEnd",),
+    ]
+    functions = (("dmain", "main", "unit"), ("df", "f", "unit"), ("dh", "h", "unit"))
+    return module(described, [("fuint", "TypeFunction", "uint", "uint")], body, functions=functions)

@@ -40,12 +40,12 @@ def main():
     program = os.path.abspath(sys.argv[1])
     for in_loop in (100, 1):
         sessions = debug_size.Sessions(program, many_events(in_loop), 100_000)
-        print("locals, 100 variables, 100,000 events, the last of %d: %.2f ms (bar 50)" % (in_loop, 1000 * sessions.one("locals", 5, "goto 16\n")), flush=True)
+        print("locals, 100 variables, 100,000 events, the last of %d: %.2f ms (bar 50)" % (in_loop, 1000 * sessions.one("locals", 40, "goto 16\n")), flush=True)
     sessions = debug_size.Sessions(program, large_array(), 10)
     with open(os.path.join(sessions.folder.name, "setup"), "w") as file:
         file.write("spvdbg-setup 1\nbuffer 0 0 zero 16000000\nrounds 10\n")
     for command in ("print b", "print b.v", "print b.v[3999999]", "globals"):
-        print("%s of 4,000,000 elements: %.2f ms (bar 10)" % (command, 1000 * sessions.one(command, 40)))
+        print("%s of 4,000,000 elements: %.2f ms (bar 10)" % (command, 1000 * sessions.one(command, 2_000)))
 
 
 if __name__ == "__main__":

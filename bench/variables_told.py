@@ -273,16 +273,14 @@ class Group(stacks.Group):
 class Variables(Session):
     """A session with `locals`, `globals` and `print` of names."""
 
-    def __init__(self, shaped, buffers, schedule):
+    def __init__(self, shaped, buffers, schedule, run=None):
         self.told = Told(shaped.data)
-        super().__init__(shaped, buffers, schedule)
+        super().__init__(shaped, buffers, schedule, run)
 
     def made(self, code, buffers, schedule):
         return Group(self.told, code, buffers, schedule)
 
     def answer(self, command):
-        if command == "locals" and not self.words(self.focus):
-            return ["refused: C12 focus finished"]
         if command.startswith("print "):
             return self.printed(command[6:])
         return super().answer(command)
@@ -307,32 +305,43 @@ class Variables(Session):
         return "%s = %s" % (plain(self.told.name(variable)), self.told.text((self.told.ids[variable][1][1], ()), *self.bits(variable)))
 
     def do_locals(self):
+        if not self.words(self.focus):
+            return ["refused: C12 focus finished"]
         return [self.line(variable) for variable in self.told.locals(self.selected()[1])]
 
     def do_globals(self):
         return [self.line(variable) for variable in self.told.globals()]
 
-    def printed(self, path):
-        if path.startswith("%"):
-            return self.of_id(int(path[1:]))
+    def found(self, path):
+        """What a path names: the variable, its first bit and how many, its type and whether its last part may be open; or a refusal."""
         name, *parts = path.replace("[", ".[").split(".")
         of_name = [variable for variable in self.told.locals(self.selected()[1]) + self.told.globals() if self.told.name(variable) == name.encode()]
         if not of_name:
-            return [NO_NAME]
-        bits, is_open = self.bits(of_name[0])
-        ty = (self.told.ids[of_name[0]][1][1], ())
+            return NO_NAME
+        variable, first, ty = of_name[0], 0, (self.told.ids[of_name[0]][1][1], ())
+        bits, is_open = self.bits(variable)
+        count = len(bits)
         for part in parts:
-            ranges = list(self.told.ranges(ty, len(bits) if is_open else None))
+            ranges = list(self.told.ranges(ty, count if is_open else None))
             index = int(part[1:-1]) if part.startswith("[") else next((k for k, each in enumerate(ranges) if each[0] == part.encode()), len(ranges))
             if index >= len(ranges) or part.startswith("[") != (ranges[index][0] is None):
-                return [NO_PART]
+                return NO_PART
             _, ty, at, count, last = ranges[index]
-            bits, is_open = bits[at : at + count], is_open and last
-        return ["%s = %s" % (path, self.told.text(ty, bits, is_open))]
+            first, is_open = first + at, is_open and last
+        return variable, first, count, ty, is_open
+
+    def printed(self, path):
+        if path.startswith("%"):
+            return self.of_id(int(path[1:]))
+        found = self.found(path)
+        return [found] if isinstance(found, str) else ["%s = %s" % (plain(path.encode()), self.text_of(*found))]
+
+    def text_of(self, variable, first, count, ty, is_open):
+        return self.told.text(ty, self.bits(variable)[0][first : first + count], is_open)
 
     def of_id(self, id):
         frame, group, code = self.selected()[0], self.group, self.shaped.code
-        rooms = [frame.rooms] * (frame is not None) + [group.invocations[self.focus].rooms, group.rooms]
+        rooms = ([frame.rooms] if frame else []) + [group.invocations[self.focus].rooms, group.rooms]
         for each in rooms:
             if id in each:
                 return ["%%%d = &%%%d -> %s" % (id, id, stacks.text(code, code.variables[id][1], each[id][0]))]
