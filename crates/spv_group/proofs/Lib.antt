@@ -4,5 +4,6 @@ mod PositionsLemmas
 mod Reaches
 mod Runs
 mod Tellings
+mod TouchLemmas
 mod WindowLemmas
 pub mod Exports

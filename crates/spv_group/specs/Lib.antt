@@ -4,3 +4,4 @@ pub mod History
 pub mod Group
 pub mod Motion
 pub mod Costs
+pub mod Touches

@@ -1,5 +1,5 @@
 //! A run of a module that goes forth and back along its schedule.
-ghost use Rattle.std.specs.Prelude.{◌≡◌, ◌≤◌, ◌<◌, ◌-◌, ◌+◌, ◌++◌, List, Some, Ok, IfOk, IsOk, OnOk, OnErr, length};
+ghost use Rattle.std.specs.Prelude.{◌≡◌, ◌≤◌, ◌<◌, ◌-◌, ◌+◌, ◌++◌, List, Some, Ok, IfOk, IfSome, IsOk, OnOk, OnErr, length};
 ghost use Rattle.spv_base.specs.declared.happenings.Happening.{Happening as AnyHappening};
 ghost use Rattle.spv_journal.specs.Events.{size};
 ghost use Rattle.spv_state.specs.Program.{schedule_for};
@@ -9,12 +9,14 @@ ghost use Rattle.spv_group.specs.Costs.{ForthCounts, ForthKeeps, BackCounts, Bac
 ghost use Rattle.spv_group.specs.Group.{first_undoing, group_at, entries_in, invocations_in, state_in, status_of, end_in, end_cause_in, window_in};
 ghost use Rattle.spv_group.specs.Motion.{Goes, IsOpened, Returns, kept_in};
 ghost use Rattle.spv_group.specs.Run.{happening_before, happenings_between};
+ghost use Rattle.spv_group.specs.Touches.{IsTouch};
 
 use crate::ends::cause_here;
 use crate::motion::{Back, Forth};
 use crate::run::Run;
 use crate::witness::Witness;
 use spv_base::{EndCause, Happening, NoMemory, Status4, Steps};
+use spv_journal::Touch;
 use spv_machine::{Runnable, World};
 use spv_setup::Schedule;
 use spv_state::laws::runs_start_with_all;
@@ -171,6 +173,16 @@ impl Group {
     {
         runs_start_with_all();
         &self.run.world
+    }
+
+    /// What the event before the position did, told without undoing it; none at the start, where that event isn't kept, and where its changes
+    /// are of another form. Inlined: it is called once an event.
+    #[inline(always)]
+    pub fn touch(&self) -> Option<Touch>
+        ensures touch { IfSome result (λ t. (h : AnyHappening) → happening_before self.now.group.program (entries_in self.now.group) self.now.group.position ≡ Some h
+            → IsTouch t h.inv (state_in (group_at (self.now.group.position - 1) self.now.group)) (state_in self.now.group)) }
+    {
+        self.run.world.touch()
     }
 
     /// How far an invocation is.

@@ -13,5 +13,6 @@ pub use ends::end_is_least;
 pub use group::{Group, LIMIT};
 pub use motion::{Back, Forth};
 pub use positions::positions_are_found;
+pub use spv_journal::{FrameChange, Touch};
 pub use windows::windows_are_least;
 pub use witness::{Nobody, Witness};

@@ -1,4 +1,6 @@
 mod UndoLemmas
 mod RingLemmas
+mod TouchLemmas
 mod RecordLemmas
 mod CellLemmas
+mod ListLemmas

@@ -4,3 +4,4 @@ pub mod Rings
 pub mod Undo
 pub mod Entries
 pub mod Held
+pub mod Touches

@@ -51,6 +51,11 @@ abbrev pub is_change : Change → Bool
 is_change Nothing = false
 is_change _ = true
 
+-- whether it is one of a variable
+abbrev pub is_store : Change → Bool
+is_store (Variable root) = true
+is_store _ = false
+
 -- the entry of a register of one cell, by the value that it had, if a mark says that it had one
 abbrev pub register_item : ℕ → Value → Bool → Entry
 register_item number tree false = NoValue number

@@ -1,14 +1,16 @@
 //! The journal: the newest events that there is room for, each with what undoes it.
-ghost use Rattle.std.specs.Prelude.{◌≡◌, ◌<◌, ◌≤◌, ◌∷◌, [], IfErr, IfOk, IsSome, None, OnErr, OnOk, length, option_map};
-ghost use Rattle.std.specs.Option.{option_map_or};
+ghost use Rattle.std.specs.Prelude.{◌≡◌, ◌<◌, ◌≤◌, ◌∷◌, [], IfErr, IfOk, IfSome, IsSome, None, OnErr, OnOk, length, option_map};
+ghost use Rattle.std.specs.Option.{IsSomeAnd, option_map_or};
 ghost use Rattle.std.specs.VecDeque.{deque_capacity, deque_len};
 ghost use Rattle.spv_journal.specs.Events.{begun, fitting, newest, older, opened, pushed, size};
 ghost use Rattle.spv_journal.specs.Rings.{event_of};
+ghost use Rattle.spv_journal.specs.Touches.{IsTouchOf};
 ghost use Rattle.spv_journal.specs.Undo.{CanUndoNewest, before};
 ghost use Rattle.spv_undo.specs.declared.entries.Entry.TheVariants.{CellRegister, PcMoved, StatusChanged};
 
 use crate::marks::Mark;
 use crate::rings::Ring;
+use crate::touches::Touch;
 use spv_base::{Happening, Kind, NoMemory};
 use spv_state::Whole;
 use spv_statuses::Status;
@@ -210,6 +212,15 @@ impl Journal {
         } else {
             self.ring.undo(whole)
         }
+    }
+
+    /// What the newest event that is kept did; none where there is none, and where its changes are of another form. Inlined: it is called
+    /// once an event.
+    #[inline(always)]
+    pub(crate) fn touch(&self) -> Option<Touch>
+        ensures { IfSome result (λ t. IsSomeAnd (newest self.now.ring) (λ v. IsTouchOf v.changes t)) }
+    {
+        self.ring.touch()
     }
 
     /// How much the marks and entries that are kept count.

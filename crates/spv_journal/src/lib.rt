@@ -7,6 +7,8 @@ mod marks;
 mod noting;
 pub mod recorded;
 mod rings;
+mod touches;
 
 pub use journal::Journal;
 pub use recorded::Recorded;
+pub use touches::{FrameChange, Touch};

@@ -3,13 +3,15 @@ ghost use Rattle.std.specs.Prelude.{◌≡◌, ◌<◌, ◌≤◌, ◌∷◌, �
 ghost use Rattle.std.specs.Option.{option_to_list};
 ghost use Rattle.std.specs.VecDeque.{deque_capacity, deque_len};
 ghost use Rattle.spv_base.specs.Cell.{IsCell};
-ghost use Rattle.spv_journal.specs.Marks.{cell_in, happening_in, is_change, items_of, data_of, register_item, with_item};
+ghost use Rattle.spv_journal.specs.Marks.{cell_in, happening_in, is_change, is_store, items_of, data_of, register_item, with_item};
 ghost use Rattle.spv_undo.specs.Entries.{variable_item};
 ghost use Rattle.spv_journal.specs.Rings.{mark_size};
+ghost use Rattle.spv_journal.specs.Touches.{IsTouchOf};
 ghost use Rattle.spv_undo.specs.Undo.{CanUndoAll, undo_all};
 ghost use Rattle.spv_undo.specs.declared.entries.Entry.TheVariants.{CellRegister, PcMoved, StatusChanged};
 ghost use Rattle.spv_types.specs.Rows.{leaves};
 
+use crate::touches::{FrameChange, Touch};
 use spv_base::{Cell, Ghost, Happening, Kind, NoMemory, Root, Value};
 use spv_state::Whole;
 use spv_statuses::Status;
@@ -46,6 +48,17 @@ impl Change {
             Change::Nothing => false,
             Change::Blank(_) | Change::Register(_) | Change::Variable(_) | Change::Status(_) =>
                 true,
+        }
+    }
+
+    /// Whether it is one of a variable.
+    #[inline(always)]
+    fn is_store(&self) -> bool
+        ensures { result ≡ is_store self.now }
+    {
+        match self {
+            Change::Variable(_) => true,
+            Change::Nothing | Change::Blank(_) | Change::Register(_) | Change::Status(_) => false,
         }
     }
 }
@@ -292,6 +305,18 @@ impl Mark {
         ensures { self.new ≡ record self.old { beside = beside } }
     {
         self.data.beside = beside;
+    }
+
+    /// What its changes did.
+    #[inline(always)]
+    pub(crate) fn touch(&self) -> Touch
+        ensures { IsTouchOf self.now.items result }
+    {
+        Touch {
+            stores: self.data.change.is_store(),
+            events: 0,
+            frames: FrameChange::Same,
+        }
     }
 
     /// Takes a move of the pc from where it was, where there is room for it, and says whether it did.

@@ -1,8 +1,10 @@
 //! A state whose changes are recorded, event by event.
-ghost use Rattle.std.specs.Prelude.{◌≡◌, ◌≤◌, ◌∷◌, [], IfOk, IsSome, None, OnErr, OnOk, option_map, ◌<◌, ◌+◌, ℕ, Some, length, slice_get, true};
+ghost use Rattle.std.specs.Prelude.{◌≡◌, ◌≤◌, ◌∷◌, [], IfOk, IfSome, IsSome, None, OnErr, OnOk, option_map, ◌<◌, ◌+◌, ℕ, Some, length, slice_get, true};
 ghost use Rattle.std.specs.Option.{MatchOption, IsSomeAnd};
 ghost use Rattle.spv_journal.specs.Events.{newest, opened, size};
 ghost use Rattle.spv_journal.specs.Held.{marked, past_of, sealed, unwound, IsMaking, Records, KeepsEvent};
+ghost use Rattle.spv_journal.specs.Touches.{IsTouch};
+ghost use Rattle.spv_journal.specs.Undo.{before};
 ghost use Rattle.spv_base.specs.declared.values.Value.{Ptr, out-Value};
 ghost use Rattle.spv_frame.specs.Stacks.{Stacked};
 ghost use Rattle.spv_index.specs.Definitions.{result_type};
@@ -23,6 +25,7 @@ use crate::changes::{exchange_leaf, named_leaf, put_pointer};
 use crate::journal::Journal;
 use crate::marks::Mark;
 use crate::noting::{keep_frame, keep_held, keep_part, pointer_entry};
+use crate::touches::Touch;
 use spv_base::{Happening, NoMemory, Pointer, Root};
 use spv_frame::{DebugEvent, Frame};
 use spv_mem::Locals;
@@ -141,6 +144,16 @@ impl Recorded {
             (λ h. past_of self.old ≡ record { happening = h; state = self.new.state } ∷ past_of self.new) }
     {
         self.journal.unwind(&mut self.whole)
+    }
+
+    /// What the newest event did, told without undoing it; none where no event is kept, and where its changes are of another form. Inlined:
+    /// it is called once an event.
+    #[inline(always)]
+    pub fn touch(&self) -> Option<Touch>
+        requires { self.now.gathered ≡ None }
+        ensures { IfSome result (λ t. IsSomeAnd (newest self.now.ring) (λ v. IsTouch t v.happening.inv (before v self.now.state) self.now.state)) }
+    {
+        self.journal.touch()
     }
 
     /// Puts a value where a pointer of an invocation leads; the old one is in the row then.

@@ -1,13 +1,16 @@
 //! The rings of a journal: the marks of its events, and beside them their changes, the newest first.
-ghost use Rattle.std.specs.Prelude.{◌≡◌, ◌<◌, ◌≤◌, ◌+◌, ◌-◌, ◌^◌, ◌++◌, ◌∷◌, [], IfOk, IfSome, None, drop, length, option_map, take};
-ghost use Rattle.std.specs.Option.{option_map_or};
+ghost use Rattle.std.specs.Prelude.{◌≡◌, ◌<◌, ◌≤◌, ◌+◌, ◌-◌, ◌^◌, ◌++◌, ◌∷◌, [], IfOk, IfSome, List, None, drop, length, option_map, take};
+ghost use Rattle.std.specs.Option.{IsSomeAnd, option_map_or};
 ghost use Rattle.spv_undo.specs.Entries.{count};
 ghost use Rattle.spv_journal.specs.Events.{fitting, newest, older, size, size_of};
 ghost use Rattle.spv_journal.specs.Rings.{but_oldest, event_of};
+ghost use Rattle.spv_journal.specs.Touches.{IsTouchOf};
 ghost use Rattle.spv_undo.specs.Undo.{CanUndoAll, undo_all};
+ghost use Rattle.spv_undo.specs.declared.entries.Entry.{Entry as AnyEntry};
 ghost use Rattle.spv_journal.specs.Undo.{CanUndoNewest, before};
 
 use crate::marks::Mark;
+use crate::touches::Touch;
 use circular_buffer::HeapCircularBuffer;
 use spv_base::{Happening, NoMemory};
 use spv_state::Whole;
@@ -107,6 +110,19 @@ fn room_beside(limit: usize, mark: &Mark, gathered: &VecDeque<Entry>) -> Option<
         room = room.checked_sub(entry.count())?;
     }
     Some(room)
+}
+
+/// What changes of an event did of which the newer ones did this, and so many of the older ones stand first here; none where they are of
+/// another form. Apart, as `drop_one` is.
+#[inline(never)]
+fn touch_beside(newer: Touch, entries: &HeapCircularBuffer<Entry>, many: usize) -> Option<Touch>
+    ensures { IfSome result (λ t. (es : List AnyEntry) → IsTouchOf es newer → IsTouchOf (es ++ take many entries.now.items) t) }
+{
+    let mut touch = newer;
+    for number in 0..many {
+        touch = touch.with(entries.get(number)?)?;
+    }
+    Some(touch)
 }
 
 /// The marks of events, and the changes that don't lie in them in another ring, so that an event is dropped by its mark. Contracts see the
@@ -242,6 +258,19 @@ impl Ring {
             self.make_room(limit - need);
             self.held += need;
             self.marks.push_front(mark);
+        }
+    }
+
+    /// What the newest event did; none where there is none, and where its changes are of another form. Inlined: it is called once an event.
+    #[inline(always)]
+    pub(crate) fn touch(&self) -> Option<Touch>
+        ensures { IfSome result (λ t. IsSomeAnd (newest self.now.events) (λ v. IsTouchOf v.changes t)) }
+    {
+        let mark = self.marks.front()?;
+        let touch = mark.touch();
+        match mark.beside() {
+            0 => Some(touch),
+            many => touch_beside(touch, &self.entries, many),
         }
     }
 

@@ -1,11 +1,14 @@
 //! The world that a run changes.
-ghost use Rattle.std.specs.Prelude.{◌≡◌, ◌≤◌, [], IfOk, None};
-ghost use Rattle.spv_journal.specs.Events.{size};
+ghost use Rattle.std.specs.Prelude.{◌≡◌, ◌≤◌, [], IfOk, IfSome, None};
+ghost use Rattle.std.specs.Option.{IsSomeAnd};
+ghost use Rattle.spv_journal.specs.Events.{newest, size};
+ghost use Rattle.spv_journal.specs.Touches.{IsTouch};
+ghost use Rattle.spv_journal.specs.Undo.{before};
 ghost use Rattle.spv_state.specs.Sound.{IsSound};
 ghost use Rattle.spv_state.specs.Start.{start_of};
 
 use spv_base::NoMemory;
-use spv_journal::{Journal, Recorded};
+use spv_journal::{Journal, Recorded, Touch};
 use spv_state::{Runnable, Whole};
 use spv_values::Row;
 use std::alloc::Global;
@@ -81,5 +84,14 @@ impl World {
         ensures some { 1 ≤ self.now.limit }
     {
         self.recorded.journal()
+    }
+
+    /// What the newest event did, told without undoing it; none where no event is kept, and where its changes are of another form. Inlined:
+    /// it is called once an event.
+    #[inline(always)]
+    pub fn touch(&self) -> Option<Touch>
+        ensures { IfSome result (λ t. IsSomeAnd (newest self.now.ring) (λ v. IsTouch t v.happening.inv (before v self.now.state) self.now.state)) }
+    {
+        self.recorded.touch()
     }
 }
