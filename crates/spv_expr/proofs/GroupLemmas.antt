@@ -1,5 +1,5 @@
 -- The events of a variable alone tell of it what all events tell.
-use Rattle.std.proofs.Common.{◌≡◌, ◌∙◌, ℕ, ◌+◌, ◌<◌, ◌==◌, ◌&&◌, Bool, true, false, List, [], ◌∷◌, ◌++◌, get_or, length, reverse, take, Option, Some, None, refl, sym, ap, subst}
+use Rattle.std.proofs.Common.{◌≡◌, ◌∙◌, ℕ, suc, ◌+◌, ◌<◌, ◌==◌, ◌&&◌, Bool, true, false, List, [], ◌∷◌, ◌++◌, get_or, length, reverse, take, Option, Some, None, refl, sym, ap, subst, arith}
 use Rattle.std.specs.Prelude.{filter, find, if◌then◌else◌, slice_index, IfOk, Result, Ok, Err, Vec}
 use Rattle.std.specs.declared.alloc.Global.{Global}
 use Rattle.spv_base.specs.declared.causes.NoMemory.{NoMemory}
@@ -11,12 +11,14 @@ use Rattle.std.proofs.lemmas.List.Folds.{find-append}
 use Rattle.spv_base.specs.Options.{holds}
 use Rattle.spv_base.specs.declared.values.PassedEvent.{PassedEvent}
 use Rattle.spv_dbg.specs.declared.frames.Bit.{Bit}
+use Rattle.spv_dbg.specs.declared.frames.ShownFrame.{ShownFrame}
 use Rattle.spv_dbg.specs.declared.insts.DebugInst.{DebugInst}
 use Rattle.spv_dbg.specs.Tables.{Tables, inlined_at, with_id}
+use Rattle.spv_frame.specs.Stacks.{Stacked}
 use Rattle.spv_mem.specs.Memory.{Held as Memory}
 use Rattle.spv_expr.specs.declared.events.Instance.{Instance}
-use Rattle.spv_expr.specs.Bits.{AreBits, local_bit, told, unbound}
-use Rattle.spv_expr.specs.Groups.{IsGroup, chosen, is_about, variable_of}
+use Rattle.spv_expr.specs.Bits.{AreBits, events_in, global_bit, if_global, inlined_in, local_bit, told, unbound, variable_bit}
+use Rattle.spv_expr.specs.Groups.{IsGroup, chosen, is_about, is_event_of, variable_at, variable_of}
 use Rattle.spv_expr.specs.Picks.{blank, picked}
 use Rattle.spv_expr.specs.Variables.{event_at, if_of, is_of, meant, meant_by, is_within, ranged, tells, type_of}
 
@@ -83,6 +85,35 @@ about t v j e is = by (event_at t e.word) is
 pub local_picked : (m : Memory) (inv : ℕ) (t : Tables) (v : Instance) (events : List PassedEvent) (j : ℕ)
     → local_bit m inv t (filter (is_about t v.variable) events) v j ≡ local_bit m inv t events v j
 local_picked m inv t v events j = ap (λ (o : Option PassedEvent). option_map_or (told m inv t v j) o unbound) (find_picked (tells t v j) (is_about t v.variable) (about t v j) events)
+
+-- ---- events of other variables tell nothing
+
+none_pass : {X : Type 0} (p : X → Bool) (xs : List X) → All (λ x. p x ≡ false) xs → filter p xs ≡ []
+none_pass p [] h = refl
+none_pass p (x ∷ xs) h =
+    let first : p x ≡ false = h 0 x (omega arith) in
+    rw first (none_pass p xs (λ k d lt. h (suc k) d (omega (arith, lt))))
+
+local_others : (m : Memory) (inv : ℕ) (t : Tables) (v : Instance) (events more : List PassedEvent) → All (λ e. is_about t v.variable e ≡ false) more → (j : ℕ)
+    → local_bit m inv t events v j ≡ local_bit m inv t (events ++ more) v j
+local_others m inv t v events more others j =
+    let test = is_about t v.variable in
+    let same : filter test (events ++ more) ≡ filter test events =
+    filter-append test events more ∙ ap (λ (es : List PassedEvent). filter test events ++ es) (none_pass test more others) ∙ append-nil (filter test events) in
+    sym (local_picked m inv t v events j) ∙ ap (λ (es : List PassedEvent). local_bit m inv t es v j) (sym same) ∙ local_picked m inv t v (events ++ more) j
+
+-- the bits of a variable, where a frame has passed other events
+pub variable_by_events : (m : Memory) (inv : ℕ) (t : Tables) (s u : Stacked) (f : Option ShownFrame) (id j : ℕ)
+    → local_bit m inv t (events_in s f) (meant t (inlined_in f) id) j ≡ local_bit m inv t (events_in u f) (meant t (inlined_in f) id) j → variable_bit m inv t s f id j ≡ variable_bit m inv t u f id j
+variable_by_events m inv t s u f id j same = ap (option_map_or (λ d. global_bit m inv t d j) (option_and_then if_global (with_id t id))) same
+
+pub variable_others : (m : Memory) (inv : ℕ) (t : Tables) (s u : Stacked) (f : Option ShownFrame) (id : ℕ) (more : List PassedEvent) → events_in u f ≡ events_in s f ++ more
+    → All (λ e. is_event_of t id e.word ≡ false) more → (j : ℕ) → variable_bit m inv t s f id j ≡ variable_bit m inv t u f id j
+variable_others m inv t s u f id more longer others j =
+    let v = meant t (inlined_in f) id in
+    let own : All (λ e. is_about t v.variable e ≡ false) more =
+    subst (λ (n : ℕ). All (λ e. holds n (variable_at t e.word) ≡ false) more) (meant_variable t 0 (inlined_in f) id) others in
+    variable_by_events m inv t s u f id j (local_others m inv t v (events_in s f) more own j ∙ ap (λ (es : List PassedEvent). local_bit m inv t es v j) (sym longer))
 
 -- ---- one number more
 

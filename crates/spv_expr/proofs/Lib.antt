@@ -6,3 +6,5 @@ mod ValueLemmas
 mod GroupLemmas
 mod SizeLemmas
 mod TypedLemmas
+mod SourceLemmas
+mod LookLemmas

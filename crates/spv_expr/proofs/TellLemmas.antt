@@ -1,5 +1,5 @@
 -- What an event tells of the bits of a variable, and what the events tell that were passed before it.
-use Rattle.std.proofs.Common.{◌≡◌, ◌∙◌, ℕ, ◌+◌, ◌-◌, ◌^◌, ◌<◌, ◌&&◌, ◌==◌, nat_le, nat_lt, Bool, true, false, List, [], ◌∷◌, ◌++◌, length, get_or, take, reverse, Option, Some, None, refl, sym, ap, arith}
+use Rattle.std.proofs.Common.{◌≡◌, ◌∙◌, ℕ, ◌+◌, ◌-◌, ◌^◌, ◌<◌, ◌&&◌, ◌==◌, nat_le, nat_lt, Bool, true, false, List, [], ◌∷◌, ◌++◌, length, get_or, take, reverse, Option, Some, None, refl, sym, ap, subst, arith}
 use Rattle.std.specs.Prelude.{find, not, option_map, if◌then◌else◌}
 use Rattle.std.specs.Option.{option_map_or}
 use Rattle.std.proofs.lemmas.List.{reverse-append, take_more}
@@ -12,7 +12,7 @@ use Rattle.spv_mem.specs.Memory.{Held as Memory}
 use Rattle.spv_expr.specs.declared.events.Instance.{Instance}
 use Rattle.spv_expr.specs.declared.events.Telling.{Telling}
 use Rattle.spv_expr.specs.declared.ranges.Range.{Range}
-use Rattle.spv_expr.specs.Bits.{bits_of, entry_cells, local_bit, shown, told, unbound}
+use Rattle.spv_expr.specs.Bits.{bits_of, entry_cells, local_bit, piece_bits, shown, told, unbound}
 use Rattle.spv_expr.specs.Expressions.{Entry, piece}
 use Rattle.spv_expr.specs.Kept.{bounds, is_in, is_in_any, kept_bounds, kept_telling, saturated_telling}
 use Rattle.spv_expr.specs.Rests.{AreOpen, ArePutIn, AreTold, AreWithin, bit_in}
@@ -50,11 +50,23 @@ is_telling (Some x) k e = record {
   range = ap (λ (y : Option (DebugInst × (ℕ × ℕ))). option_map_or (λ (z : DebugInst × (ℕ × ℕ)). z.1) y (kept_bounds k.range)) e;
 }
 
+pub tells_at : (t : Tables) (v : Instance) (e : PassedEvent) (k : Telling) → Some (kept_telling k) ≡ option_map saturated_telling (telling t v e.word) → (j : ℕ) → j < 2 ^ 64 - 1
+    → tells t v j e ≡ is_in j k.range
+tells_at t v e k told_is j lt =
+    let f = is_telling (telling t v e.word) k told_is in
+    rw f.is (sym (in_saturated j k.range f.x.1 lt f.range))
+
+-- in two memories it tells the same of a bit where its piece has the same bits
+pub told_same : (t : Tables) (v : Instance) (e : PassedEvent) (k : Telling) → Some (kept_telling k) ≡ option_map saturated_telling (telling t v e.word) → (inv : ℕ) (m n : Memory)
+    → piece_bits m inv t k.debug.now e ≡ piece_bits n inv t k.debug.now e → (j : ℕ) → told m inv t v j e ≡ told n inv t v j e
+told_same t v e k told_is inv m n same j =
+    let f = is_telling (telling t v e.word) k told_is in
+    let same_x : piece_bits m inv t f.x.0 e ≡ piece_bits n inv t f.x.0 e = subst (λ (d : DebugInst). piece_bits m inv t d e ≡ piece_bits n inv t d e) f.debug same in
+    rw f.is (ap (λ (o : Option (List (Option Bool))). option_map_or (λ bits. shown bits (j - f.x.1.0)) o unbound) same_x)
+
 module _ (m : Memory) (inv : ℕ) (t : Tables) (v : Instance) (e : PassedEvent) (k : Telling) (told_is : Some (kept_telling k) ≡ option_map saturated_telling (telling t v e.word)) where
   tells_is : (j : ℕ) → j < 2 ^ 64 - 1 → tells t v j e ≡ is_in j k.range
-  tells_is j lt =
-      let f = is_telling (telling t v e.word) k told_is in
-      rw f.is (sym (in_saturated j k.range f.x.1 lt f.range))
+  tells_is = tells_at t v e k told_is
 
   told_read : (entry : Entry) → piece m inv t k.debug.now e ≡ Some entry → (j : ℕ) → j < 2 ^ 64 - 1 → is_in j k.range ≡ true
       → told m inv t v j e ≡ shown (bits_of (entry_cells entry)) (j - k.range.start)

@@ -30,6 +30,10 @@ variable_at t word = option_map (variable_of t) (event_at t word)
 abbrev pub is_about : Tables → ℕ → PassedEvent → Bool
 is_about t variable e = holds variable (variable_at t e.word)
 
+-- the event at a word is of the variable that an id stands for
+abbrev pub is_event_of : Tables → ℕ → ℕ → Bool
+is_event_of t id word = holds (meant t 0 id).variable (variable_at t word)
+
 -- ---- as the code keeps them
 
 -- the numbers under a variable

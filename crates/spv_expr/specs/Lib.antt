@@ -7,3 +7,5 @@ pub mod Groups
 pub mod Rests
 pub mod Sizes
 pub mod Typing
+pub mod Sources
+pub mod Looks

@@ -1,5 +1,5 @@
 //! The bits of values: those of their leaves in order, the lowest first.
-ghost use Rattle.std.specs.Prelude.{◌≡◌, ◌+◌, ◌-◌, ◌<◌, ◌≤◌, ◌^◌, ℕ, ◌++◌, IfOk, OnOk, length, map, slice_get};
+ghost use Rattle.std.specs.Prelude.{◌≡◌, ◌+◌, ◌-◌, ◌<◌, ◌≤◌, ◌^◌, ℕ, ◌++◌, IfOk, IfSome, OnOk, length, map, slice_get};
 ghost use Rattle.spv_base.specs.Bits.{cell_bits};
 ghost use Rattle.spv_expr.specs.Bits as spec;
 ghost use Rattle.spv_expr.specs.Rests.{ArePut, IsSettled};
@@ -99,6 +99,30 @@ fn bit_at(rest: Rest<'_>) -> Bit
         [cell, ..] => cell_bit(*cell, rest.bit),
         [] => UNBOUND,
     }
+}
+
+/// Bits that lie in one cell: the cell, and the number of the first of them there.
+#[derive(Clone, Copy)]
+pub struct InCell {
+    pub cell: Cell,
+    pub bit: u64,
+}
+
+/// Where so many bits from one on lie, if one cell has them all.
+pub(crate) fn in_cell(rest: Rest<'_>, count: u64) -> Option<InCell>
+    ensures { IfSome result (λ found. (j : ℕ) → j < count → spec.shown (spec.bits_of rest.entry.cells.now) (rest.entry.bit + j) ≡ spec.shown (cell_bits found.cell) (found.bit + j)) }
+{
+    let rest = settled(rest);
+    let [cell, ..] = rest.cells else {
+        return None;
+    };
+    if bit_count(*cell) - rest.bit < count {
+        return None;
+    }
+    Some(InCell {
+        cell: *cell,
+        bit: rest.bit,
+    })
 }
 
 /// Puts the bits of a row from one on into a slice, from a place to before another one. Bits that the row doesn't have are unbound.

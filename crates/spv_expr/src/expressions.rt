@@ -1,10 +1,12 @@
 //! Expressions of debug events, evaluated in the memory as it is now.
 ghost use Rattle.std.specs.Prelude.{◌≡◌, IfOk, option_copied, option_map, slice_index};
+ghost use Rattle.std.specs.List.{list_all};
 ghost use Rattle.std.specs.Option.{option_and_then};
 ghost use Rattle.spv_base.specs.Cell.{defined_cell};
 ghost use Rattle.spv_dbg.specs.Tables.{with_id};
 ghost use Rattle.spv_expr.specs.Expressions as spec;
 ghost use Rattle.spv_expr.specs.Kept.{kept_entry, kept_stack, number_in};
+ghost use Rattle.spv_expr.specs.Looks.{is_plain};
 
 use crate::entries::{Entry, captured, loaded};
 use crate::views::View;
@@ -245,8 +247,28 @@ fn result_of<'a>(
     }
 }
 
+/// Whether the Operation with an id makes of a pointer at most what depends on the leaves alone that it leads to.
+fn is_plain(tables: &DebugTables, id: u32) -> bool
+    ensures { result ≡ is_plain tables.now id }
+{
+    match tables.get(id) {
+        Some(debug) => matches!(
+            literal(tables, operand(debug, 0)),
+            DEREF | STACK_VALUE | FRAGMENT
+        ),
+        None => false,
+    }
+}
+
+/// Whether all of these do.
+pub(crate) fn are_plain(tables: &DebugTables, ids: &[u32]) -> bool
+    ensures { result ≡ list_all (is_plain tables.now) ids.now }
+{
+    ids.iter().all(|id| is_plain(tables, *id))
+}
+
 /// The ids of the Operations of the Expression of an event, where there is one.
-fn operations_of<'a>(tables: &'a DebugTables, debug: &DebugInst) -> Option<&'a [u32]>
+pub(crate) fn operations_of<'a>(tables: &'a DebugTables, debug: &DebugInst) -> Option<&'a [u32]>
     ensures { option_copied result ≡ option_map (λ x. x.operands) (with_id tables.now (slice_index debug.now.operands 2)) }
 {
     Some(tables.get(operand(debug, 2))?.operands.as_slice())

@@ -32,6 +32,16 @@ fn variable_at(tables: &DebugTables, word: u32) -> Option<u32>
     Some(variable_of(tables, debug))
 }
 
+/// Whether the event at a word is of the variable that an id stands for, whatever its InlinedAt is.
+pub fn is_of_variable(tables: &DebugTables, word: u32, variable: u32) -> bool
+    ensures { result ≡ spec.is_event_of tables.now variable word }
+{
+    match variable_at(tables, word) {
+        Some(of) => of == meant(tables, 0, variable).variable,
+        None => false,
+    }
+}
+
 /// Adds a number to those of a variable.
 fn add(
     alloc: Global,

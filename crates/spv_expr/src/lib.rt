@@ -12,12 +12,15 @@ mod lists;
 mod locals;
 mod ranges;
 mod sizes;
+mod sources;
 mod spans;
 mod typed;
 mod variables;
 mod views;
 
-pub use groups::Events;
-pub use laws::bits_are_those_of_leaves;
+pub use cells::InCell;
+pub use groups::{Events, is_of_variable};
+pub use laws::{bits_are_by_events, bits_are_those_of_leaves, other_events_tell_nothing};
+pub use sources::{Source, source_of};
 pub use typed::Sizes;
 pub use variables::{eval, global_size, variable_bits};

@@ -35,6 +35,13 @@ pub(crate) fn meets(gaps: &[Range], range: Range) -> bool
     false
 }
 
+/// Whether a range has all bits of another one.
+pub(crate) fn has_all(range: Range, span: Range) -> bool
+    ensures { result ≡ true → (j : ℕ) → is_in j span ≡ true → is_in j range ≡ true }
+{
+    range.start <= span.start && span.end <= range.end
+}
+
 /// Adds a range, if it has bits.
 fn push(spans: &mut Vec<Range>, range: Range) -> Result<(), NoMemory>
     ensures { OnOk result ((j : ℕ) → is_in_any j spans.new.items ≡ is_in_any j spans.old.items || is_in j range) }

@@ -1,16 +1,19 @@
 //! The bits of a variable as they are shown.
-ghost use Rattle.std.specs.Prelude.{◌≡◌, ◌+◌, ◌<◌, ◌^◌, [], IfOk, IfSome, None, Some, option_copied, option_map};
+ghost use Rattle.std.specs.Prelude.{◌≡◌, ◌+◌, ◌<◌, ◌^◌, ℕ, [], IfOk, IfSome, None, Option, Some, option_copied, option_map};
 ghost use Rattle.std.specs.Option.{MatchOption, option_and_then, option_map_or};
 ghost use Rattle.spv_base.specs.Entries.{reads};
 ghost use Rattle.spv_dbg.specs.declared.constants.Constant.{Constant};
 ghost use Rattle.spv_dbg.specs.Tables.{with_id};
+ghost use Rattle.spv_base.specs.Bits.{cell_bits};
+ghost use Rattle.spv_dbg.specs.declared.frames.ShownFrame.{ShownFrame as AnyFrame};
 ghost use Rattle.spv_expr.specs.Bits as spec;
 ghost use Rattle.spv_expr.specs.Rests.{IsRest, IsSomeRest};
 ghost use Rattle.spv_expr.specs.Typing.{typing_of};
+ghost use Rattle.spv_frame.specs.Stacks.{Stacked};
 ghost use Rattle.spv_mem.specs.Memory.{root_value};
 ghost use Rattle.spv_types.specs.Rows.{leaves};
 
-use crate::cells::{Rest, UNBOUND, count_bits, put_bits};
+use crate::cells::{InCell, Rest, UNBOUND, count_bits, in_cell, put_bits};
 use crate::events::meant;
 use crate::lists::EventList;
 use crate::locals::{event_bits, local_bits};
@@ -279,6 +282,30 @@ impl Sizes {
             first,
             count,
         )
+    }
+
+    /// Where so many bits of a global from one on lie now, if one cell has them all.
+    pub fn global_cell(
+        &self,
+        tables: &DebugTables,
+        memory: &Memory,
+        inv: u32,
+        variable: u32,
+        first: u64,
+        count: u64,
+    ) -> Option<InCell>
+        requires typed { self.now ≡ typing_of memory.now }
+        ensures cell { IfSome result (λ found. (s : Stacked) (f : Option AnyFrame) (j : ℕ) → j < count
+            → spec.variable_bit memory.now inv tables.now s f variable (first + j) ≡ spec.shown (cell_bits found.cell) (found.bit + j)) }
+    {
+        let view = View {
+            tables,
+            memory,
+            inv,
+        };
+        let debug = global(tables, variable)?;
+        let rest = global_rest(&view, Some(self), operand(debug, 7), first);
+        in_cell(rest, count)
     }
 }
 
