@@ -74,6 +74,14 @@ impl Breaks {
         self.stops.remove(number)
     }
 
+    /// The breaks that are kept, each after its number, ascending.
+    pub fn list(&self) -> &[(u32, Breakpoint)]
+        ensures list { result.now ≡ self.now.0 }
+        ensures ascending { AreStops 64 self.now }
+    {
+        self.stops.list()
+    }
+
     /// The numbers of the breaks with this head, ascending.
     pub fn hit(&self, alloc: Global, pc: u32) -> Result<Places, NoMemory>
         ensures hits { IfOk result (λ numbers. numbers ≡ hits_at pc self.now) }

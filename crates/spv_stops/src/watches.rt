@@ -7,7 +7,8 @@ use std::marker::Model;
 /// What a watch looks at: a range of bits of a variable.
 ///
 /// `local` is false for a global, and then `depth`, `function` and `inlined` are 0. A local is one of the invocation `inv`,
-/// in the real frame at this depth if it is one of this function, under this InlinedAt.
+/// in the real frame at this depth if it is one of this function, under this InlinedAt. The range is `count` bits from `first` on, and a
+/// `u64` counts the bits up to its end: there is no variable with more.
 #[derive(Clone, Copy)]
 pub struct WatchKey {
     pub local: bool,
@@ -20,6 +21,37 @@ pub struct WatchKey {
     pub count: u64,
 }
 
+impl Model for WatchKey {
+    ghost use Rattle.std.specs.Prelude.{◌+◌, ◌<◌, ◌^◌};
+    ghost use Rattle.spv_stops.specs.Watches as spec;
+
+    ghost Value = { spec.WatchKey };
+
+    ghost view = { λ k. record {
+      local = k.local;
+      inv = k.inv;
+      depth = k.depth;
+      function = k.function;
+      variable = k.variable;
+      inlined = k.inlined;
+      first = k.first;
+      count = k.count;
+    } };
+
+    ghost invariant = { λ k. k.first + k.count < 2 ^ 64 };
+
+    ghost inverse = { λ k. record {
+      local = k.local;
+      inv = k.inv;
+      depth = k.depth;
+      function = k.function;
+      variable = k.variable;
+      inlined = k.inlined;
+      first = k.first;
+      count = k.count;
+    } };
+}
+
 /// At most 32 watches.
 #[derive(Drop)]
 pub struct Watches {
@@ -28,7 +60,7 @@ pub struct Watches {
 
 impl Model for Watches {
     ghost use Rattle.spv_stops.specs.Stops.{Stops as AnyStops};
-    ghost use Rattle.spv_stops.specs.declared.watches.WatchKey.{WatchKey};
+    ghost use Rattle.spv_stops.specs.Watches.{WatchKey};
 
     ghost Value = { AnyStops WatchKey };
 
@@ -73,6 +105,14 @@ impl Watches {
         ensures { option_copied result ≡ key_of number self.now }
     {
         find_entry(self.stops.list(), number)
+    }
+
+    /// The watches that are kept, each after its number, ascending.
+    pub fn list(&self) -> &[(u32, WatchKey)]
+        ensures list { result.now ≡ self.now.0 }
+        ensures ascending { AreStops 32 self.now }
+    {
+        self.stops.list()
     }
 
     /// The numbers of the watches, ascending.
