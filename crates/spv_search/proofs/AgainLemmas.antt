@@ -18,9 +18,6 @@ use Rattle.spv_search.proofs.CountLemmas.{none_between, one, one_behind}
 pub lt_is : (a b : ℕ) → a < b → nat_lt a b ≡ true
 lt_is a b l = grind arith
 
-pub lt_not : (a b : ℕ) → b ≤ a → nat_lt a b ≡ false
-lt_not a b l = grind arith
-
 index_end : (ms : List ℕ) (n : ℕ) → slice_index (ms ++ n ∷ []) (length ms) ≡ n
 index_end [] n = refl
 index_end (m ∷ ms) n = index_end ms n

@@ -113,12 +113,6 @@ module _ (test : ℕ → Bool) (i : ℕ) (from : Undoing) where
     pub onward_kept : next.kept ≤ max from.kept (window_in next)
     onward_kept = kept_on
 
-    pub onward_within : next.group.position ≤ end_in from.group
-    onward_within = within_on
-
-    pub onward_limit : next.limit ≡ from.limit
-    onward_limit = gone.limit ∙ is.limit
-
   -- where nothing more is made
   module _ (now : Undoing) (passed before steps : ℕ) (is : IsOnward test i from now passed before steps) where
     ends : now.group.position ≤ least_of test (from.group.position + 1) (end_in from.group)

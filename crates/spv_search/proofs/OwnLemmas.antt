@@ -12,7 +12,6 @@ use Rattle.spv_search.specs.Keys.{at_head, depth_in, key_in, same_key}
 use Rattle.spv_search.specs.Moves.{has_landed, has_moved, is_arrival, moves}
 use Rattle.spv_search.specs.Own.{own_backward, own_before, own_next}
 use Rattle.spv_search.specs.Sights.{asks_before, compares, differs, is_such, stands_for}
-use Rattle.spv_search.specs.Targets.{passes_backward}
 use Rattle.spv_search.proofs.MoveLemmas.{other_entry}
 
 -- ---- events
@@ -60,9 +59,6 @@ parts Rcontinue i p g = and_false (such Rcontinue i g)
 none_such : (command : Backward) (i : ℕ) (p g : Group) → such command i g ≡ false → own_before command i p g ≡ false
 none_such command i p g e = parts command i p g ∙ ap (λ b. b && (stands_for command i p g && differs command i g)) e
 
-pub not_standing : (command : Backward) (i : ℕ) (p g : Group) → stands_for command i p g ≡ false → own_before command i p g ≡ false
-not_standing command i p g e = parts command i p g ∙ ap (λ b. such command i g && (b && differs command i g)) e ∙ sym (and_false (such command i g))
-
 such_before : (command : Backward) (i : ℕ) (g : Group) (h : Happening) → happening_before g.program (entries_in g) g.position ≡ Some h → such command i g ≡ is_such command i h
 such_before command i g h is = ap (λ o. option_map_or (is_such command i) o false) is
 
@@ -76,9 +72,6 @@ module _ (command : Backward) (i : ℕ) (p g : Group) (h : Happening) (event : h
         parts command i p g
         ∙ ap (λ b. b && (stands_for command i p g && differs command i g)) (such_before command i g h event ∙ is)
         ∙ ap (λ b. b && differs command i g) stands
-
-    pub not_compared : compares command ≡ false → true ≡ own_before command i p g
-    not_compared e = sym (rest ∙ ap (λ b. not b || not (same_key (key_in g i) (key_in (group_at (g.position - 1) g) i))) e)
 
     pub by_keys : compares command ≡ true → not (same_key (key_in g i) (key_in (group_at (g.position - 1) g) i)) ≡ own_before command i p g
     by_keys e = sym (rest ∙ ap (λ b. not b || not (same_key (key_in g i) (key_in (group_at (g.position - 1) g) i))) e)
@@ -134,18 +127,6 @@ module _ (command : Backward) (i : ℕ) (p g : Group) where
   pub own_by_before : (b : Bool) → own_next command i p g ≡ false → b ≡ own_before command i p g → b ≡ own_backward command i p g
   own_by_before b e is = is ∙ sym (either_way command i p g ∙ ap (λ c. c || own_before command i p g) e)
 
-module _ (hit : Group → Bool) (command : Backward) (i : ℕ) (g : Group) (m : ℕ) where
-  by_parts : passes_backward hit command i g m ≡ (hit (group_at m g) || (own_next command i g (group_at m g) || own_before command i g (group_at m g)))
-  by_parts = ap (λ b. hit (group_at m g) || b) (either_way command i g (group_at m g))
-
-  first : (a b c : Bool) → b ≡ true → true ≡ (a || (b || c))
-  first true b c e = refl
-  first false true c e = refl
-  first false false c e = absurd (cc)
-
-  pub passes_next : own_next command i g (group_at m g) ≡ true → true ≡ passes_backward hit command i g m
-  passes_next e = first (hit (group_at m g)) (own_next command i g (group_at m g)) (own_before command i g (group_at m g)) e ∙ sym by_parts
-
 pub if_ok : {T E : Type 0} (r : Result T E) (P Q : T → Type 0) → ((x : T) → P x → Q x) → IfOk r P → IfOk r Q
 if_ok (Ok x) P Q f is = f x is
 if_ok (Err e) P Q f is = is
@@ -154,6 +135,8 @@ pub either_is : (hit own : Bool) → own ≡ true → true ≡ (hit || own)
 either_is true own e = refl
 either_is false own e = sym e
 
-pub hit_alone : (hit own : Bool) → own ≡ false → hit ≡ (hit || own)
-hit_alone true own e = refl
-hit_alone false own e = sym e
+pub turned : (hit own done : Bool) → done ≡ own → (done || hit) ≡ (hit || own)
+turned true own true e = refl
+turned true own false e = refl
+turned false own true e = e
+turned false own false e = e

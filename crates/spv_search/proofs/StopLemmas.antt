@@ -49,9 +49,6 @@ same_position a b e = subst (λ n. (a == n) ≡ true) e (same_number a)
 pub still_forward : (command : Forward) (i : ℕ) (from to : Group) → to.position ≡ from.position → false ≡ done_forward command i from to
 still_forward command i from to e = sym (ap (λ c. not c && own_forward command i from to) (same_position to.position from.position e))
 
-pub still_backward : (command : Backward) (i : ℕ) (from to : Group) → to.position ≡ from.position → false ≡ done_backward command i from to
-still_backward command i from to e = sym (ap (λ c. not c && own_backward command i from to) (same_position to.position from.position e))
-
 -- ---- at the start
 
 next_alone : (a b c : Bool) → a ≡ (b || c) → c ≡ false → b ≡ a

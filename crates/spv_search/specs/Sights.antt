@@ -6,7 +6,7 @@ use Rattle.spv_group.specs.Group.{Held as Group, Undoing, entries_in, group_at}
 use Rattle.spv_group.specs.Run.{happening_at}
 use Rattle.spv_search.specs.Keys.{at_head, depth_in, key_in, named_key, same_key}
 use Rattle.spv_search.specs.Moves.{lands, moves, moves_between, moves_next}
-use Rattle.spv_search.specs.Own.{is_step, own_before, own_next}
+use Rattle.spv_search.specs.Own.{is_step, own_before}
 use Rattle.spv_search.specs.declared.commands.Backward.{Backward}
 use Rattle.spv_search.specs.declared.commands.Backward.TheVariants as backward
 use Rattle.spv_search.specs.declared.focus.Key.{Key}

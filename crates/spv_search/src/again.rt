@@ -8,11 +8,12 @@ ghost use Rattle.spv_search.specs.Keys.{IsFocus, depth_in};
 ghost use Rattle.spv_search.specs.Sights.{IsLeft, IsSeen};
 ghost use Rattle.spv_search.specs.Own.{own_next};
 ghost use Rattle.spv_search.specs.Targets.{passes_backward};
+ghost use Rattle.spv_state.specs.Program.{Program};
 
 use crate::backward::{Search, Way, make};
 use crate::commands::Backward;
 use crate::focus::Key;
-use crate::hits::{Hits, Looked};
+use crate::hits::{Hits, Looked, passes_here};
 use crate::moves::moves;
 use crate::own::{holds_here, holds_next, seen};
 use spv_base::{Happening, NoMemory, Steps};
@@ -97,22 +98,29 @@ fn add(found: &mut Found, event: u64, looked: Looked, moved: bool) -> Result<(),
     Ok(())
 }
 
-/// Whether this position, behind an event, is before the one searched from, and passes, but for what the command asks for of the event at it. What was seen before it is told.
+/// Whether this position, behind an event, is before the one searched from, and passes, but for what the command asks for of the event at it.
+/// What was seen before it is told, and the position before it was noted. This position is noted then.
 fn look_here<H: Hits>(
     group: &Group,
     search: &Search<'_>,
     before: Option<Key>,
-    hits: &H,
+    hits: &mut H,
     happening: &Happening,
 ) -> Result<Looked, NoMemory>
     requires focus { IsFocus group.now.group search.now.focus.inv search.now.focus.tables.now search.now.focus.lines.now }
+    requires suits { H.suits hits.old group.now.group.program }
     requires event { happening_before group.now.group.program (entries_in group.now.group) group.now.group.position ≡ Some happening.now }
     requires seen { IsSeen search.now.focus.tables.now search.now.command search.now.focus.inv (group_at (group.now.group.position - 1) group.now.group) before }
-    requires noted { H.noted hits.now (group_at (group.now.group.position - 1) group.now.group) }
-    ensures { IfOk result (λ looked. (p : Held) → search.now.depth ≡ depth_in p search.now.focus.inv
-        → IsLookedBefore (H.hits hits.now) search.now.command search.now.focus.inv p search.now.position group.now.group looked) }
+    requires noted { H.noted hits.old (group_at (group.now.group.position - 1) group.now.group) }
+    ensures looked { IfOk result (λ looked. (p : Held) → search.now.depth ≡ depth_in p search.now.focus.inv
+        → IsLookedBefore (H.hits hits.old) search.now.command search.now.focus.inv p search.now.position group.now.group looked) }
+    ensures noted { OnOk result (H.noted hits.new group.now.group) }
+    ensures hits { (g : Held) → H.hits hits.new g ≡ H.hits hits.old g }
+    ensures told { (g : Held) → H.told hits.new g ≡ H.told hits.old g }
+    ensures suits { (p : Program) → H.suits hits.old p → H.suits hits.new p }
 {
     if group.position() >= search.position {
+        hits.note(group)?;
         return Ok(Looked {
             passes: false,
             done: false,
@@ -126,11 +134,11 @@ fn look_here<H: Hits>(
         before,
         happening,
     )?;
-    let passes = done || hits.hits_here(group, happening)?;
+    let passes = passes_here(hits, group, done, happening)?;
     Ok(Looked { passes, done })
 }
 
-/// Makes the next event, and adds it to what was found.
+/// Makes the next event, and adds it to what was found. The position before it was noted, and that behind it is then.
 fn go_past<H: Hits, L: Ledger>(
     group: &mut Group,
     search: &Search<'_>,
@@ -139,6 +147,8 @@ fn go_past<H: Hits, L: Ledger>(
     steps: &mut Steps<L>,
 ) -> Result<(), NoMemory>
     requires focus { IsFocus group.old.group search.now.focus.inv search.now.focus.tables.now search.now.focus.lines.now }
+    requires suits { H.suits hits.old group.old.group.program }
+    requires noted { H.noted hits.old group.old.group }
     requires before { group.old.group.position < end_in group.old.group }
     ensures same { group.new.group ≡ group_at group.new.group.position group.old.group }
     ensures limit { group.new.limit ≡ group.old.limit }
@@ -149,14 +159,16 @@ fn go_past<H: Hits, L: Ledger>(
         → group.old.group ≡ group_at group.old.group.position first
         → IsFoundOf hit search.now.command search.now.focus.inv p search.now.position first group.old.group.position found.old
         → IsFoundOf hit search.now.command search.now.focus.inv p search.now.position first group.new.group.position found.new) }
+    ensures noted { OnOk result (H.noted hits.new group.new.group) }
     ensures hits { (g : Held) → H.hits hits.new g ≡ H.hits hits.old g }
+    ensures told { (g : Held) → H.told hits.new g ≡ H.told hits.old g }
+    ensures suits { (p : Program) → H.suits hits.old p → H.suits hits.new p }
     ensures counted { steps.old ≤ steps.new }
     ensures cost { steps.new ≤ steps.old + 1 }
     ensures exact { OnOk result (steps.new ≡ steps.old + 1) }
 {
     let event = group.position();
     let before = seen(search.command, &search.focus, group)?;
-    hits.note(group)?;
     let happening = make(group, steps)?;
     let looked = look_here(group, search, before, hits, &happening)?;
     let moved = asks_for_next(search.command) && moves(search.focus.inv, &happening);
@@ -173,7 +185,8 @@ fn find_again<H: Hits, L: Ledger>(
     hits: &mut H,
     steps: &mut Steps<L>,
 ) -> Result<Target, NoMemory>
-    requires { IsFocus group.old.group search.now.focus.inv search.now.focus.tables.now search.now.focus.lines.now }
+    requires focus { IsFocus group.old.group search.now.focus.inv search.now.focus.tables.now search.now.focus.lines.now }
+    requires suits { H.suits hits.old group.old.group.program }
     ensures target { IfOk result (λ target. (from : Undoing) → search.now.position ≡ from.group.position → search.now.depth ≡ depth_in from.group search.now.focus.inv
         → IsLeft (passes_backward (H.hits hits.old) search.now.command search.now.focus.inv from.group) search.now.focus.inv from group.old way
         → (group.old.group.position < from.group.position → own_next search.now.command search.now.focus.inv from.group group.old.group ≡ false)
@@ -184,11 +197,14 @@ fn find_again<H: Hits, L: Ledger>(
     ensures within { group.new.group.position ≤ end_in group.old.group }
     ensures kept { group.new.kept ≤ max group.old.kept (window_in group.new) }
     ensures hits { (g : Held) → H.hits hits.new g ≡ H.hits hits.old g }
+    ensures told { (g : Held) → H.told hits.new g ≡ H.told hits.old g }
+    ensures suits { (p : Program) → H.suits hits.old p → H.suits hits.new p }
     ensures counted { steps.old ≤ steps.new }
     ensures cost { steps.new ≤ steps.old + group.old.group.position }
 {
     let end = group.position();
     group.restart()?;
+    hits.note(group)?;
     let mut found = Found {
         last: 0,
         done: false,
@@ -211,7 +227,8 @@ pub(crate) fn target_before<H: Hits, L: Ledger>(
     hits: &mut H,
     steps: &mut Steps<L>,
 ) -> Result<Target, NoMemory>
-    requires { IsFocus group.old.group search.now.focus.inv search.now.focus.tables.now search.now.focus.lines.now }
+    requires focus { IsFocus group.old.group search.now.focus.inv search.now.focus.tables.now search.now.focus.lines.now }
+    requires suits { H.suits hits.old group.old.group.program }
     ensures target { IfOk result (λ target. (from : Undoing) → search.now.position ≡ from.group.position → search.now.depth ≡ depth_in from.group search.now.focus.inv
         → IsLeft (passes_backward (H.hits hits.old) search.now.command search.now.focus.inv from.group) search.now.focus.inv from group.old way
         → IsTarget (H.hits hits.old) search.now.command search.now.focus.inv from.group target) }
@@ -221,6 +238,8 @@ pub(crate) fn target_before<H: Hits, L: Ledger>(
     ensures within { group.new.group.position ≤ end_in group.old.group }
     ensures kept { group.new.kept ≤ max group.old.kept (window_in group.new) }
     ensures hits { (g : Held) → H.hits hits.new g ≡ H.hits hits.old g }
+    ensures told { (g : Held) → H.told hits.new g ≡ H.told hits.old g }
+    ensures suits { (p : Program) → H.suits hits.old p → H.suits hits.new p }
     ensures counted { steps.old ≤ steps.new }
     ensures cost { steps.new ≤ steps.old + group.old.group.position }
 {

@@ -9,11 +9,12 @@ ghost use Rattle.spv_search.specs.Sights.{IsLeft, IsNoted, IsWay};
 ghost use Rattle.spv_search.specs.Own.{own_backward};
 ghost use Rattle.spv_search.specs.Stops.{IsLooked, IsStop, IsTold, done_backward};
 ghost use Rattle.spv_search.specs.Targets.{backward_target, passes_backward};
+ghost use Rattle.spv_state.specs.Program.{Program};
 
 use crate::again::target_before;
 use crate::commands::{Backward, Stopped};
 use crate::focus::{Focus, Key};
-use crate::hits::{Hits, Looked};
+use crate::hits::{Hits, Looked, passes_behind};
 use crate::lead::lead_to;
 use crate::moves::{counted, moves};
 use crate::own::{holds_behind, holds_next, noted};
@@ -72,30 +73,35 @@ pub struct Search<'a> {
     pub depth: u64,
 }
 
-/// Whether the position behind this event passes, where what was noted there is told.
+/// Whether the position behind this event passes, where what was noted there is told, and it was left. This position is noted then.
 fn look_behind<H: Hits>(
     group: &Group,
     search: &Search<'_>,
     way: &Way,
     noted: Option<Key>,
-    hits: &H,
+    hits: &mut H,
     happening: &Happening,
 ) -> Result<Looked, NoMemory>
     requires focus { IsFocus group.now.group search.now.focus.inv search.now.focus.tables.now search.now.focus.lines.now }
+    requires suits { H.suits hits.old group.now.group.program }
     requires event { happening_at group.now.group.program (entries_in group.now.group) group.now.group.position ≡ Some happening.now }
-    requires noted { H.noted hits.now (group_at (group.now.group.position + 1) group.now.group) }
-    ensures { IfOk result (λ looked. (p : ℕ)
+    requires left { H.left hits.old (group_at (group.now.group.position + 1) group.now.group) }
+    ensures looked { IfOk result (λ looked. (p : ℕ)
         → IsNoted search.now.focus.tables.now search.now.command search.now.focus.inv (group_at p group.now.group) (group_at (group.now.group.position + 1) group.now.group) noted
         → IsWay search.now.focus.inv p (group_at (group.now.group.position + 1) group.now.group) way.now → group.now.group.position + 1 < p
-        → IsLooked (H.hits hits.now (group_at (group.now.group.position + 1) group.now.group)) (own_backward search.now.command search.now.focus.inv (group_at p group.now.group) (group_at (group.now.group.position + 1) group.now.group)) looked) }
+        → IsLooked (H.hits hits.old (group_at (group.now.group.position + 1) group.now.group)) (own_backward search.now.command search.now.focus.inv (group_at p group.now.group) (group_at (group.now.group.position + 1) group.now.group)) looked) }
+    ensures noted { OnOk result (H.noted hits.new group.now.group) }
+    ensures hits { (g : Held) → H.hits hits.new g ≡ H.hits hits.old g }
+    ensures told { (g : Held) → H.told hits.new g ≡ H.told hits.old g }
+    ensures suits { (p : Program) → H.suits hits.old p → H.suits hits.new p }
 {
     let done = holds_next(search.command, way)
         || holds_behind(search.command, &search.focus, group, noted, happening)?;
-    let passes = done || hits.hits_behind(group, happening)?;
+    let passes = passes_behind(hits, group, done, happening)?;
     Ok(Looked { passes, done })
 }
 
-/// Takes back the last event, which is kept. Whether the position that is left passes.
+/// Takes back the last event, which is kept. Whether the position that is left passes, which was noted. The one before it is noted then.
 fn take_back<H: Hits, L: Ledger>(
     group: &mut Group,
     search: &Search<'_>,
@@ -104,6 +110,8 @@ fn take_back<H: Hits, L: Ledger>(
     steps: &mut Steps<L>,
 ) -> Result<Looked, NoMemory>
     requires focus { IsFocus group.old.group search.now.focus.inv search.now.focus.tables.now search.now.focus.lines.now }
+    requires suits { H.suits hits.old group.old.group.program }
+    requires noted { H.noted hits.old group.old.group }
     requires kept { group.old.kept < group.old.group.position }
     requires few { way.old.count + group.old.group.position ≤ 4194304 }
     ensures same { group.new.group ≡ group_at group.new.group.position group.old.group }
@@ -116,11 +124,14 @@ fn take_back<H: Hits, L: Ledger>(
         → IsLooked (H.hits hits.old group.old.group) (own_backward search.now.command search.now.focus.inv (group_at p group.old.group) group.old.group) looked) }
     ensures way { OnOk result ((p : ℕ) → IsWay search.now.focus.inv p group.old.group way.old → group.old.group.position ≤ p → IsWay search.now.focus.inv p group.new.group way.new) }
     ensures few { OnOk result (way.new.count + group.new.group.position ≤ 4194304) }
+    ensures noted { OnOk result (H.noted hits.new group.new.group) }
     ensures hits { (g : Held) → H.hits hits.new g ≡ H.hits hits.old g }
+    ensures told { (g : Held) → H.told hits.new g ≡ H.told hits.old g }
+    ensures suits { (p : Program) → H.suits hits.old p → H.suits hits.new p }
     ensures cost { steps.new ≡ steps.old }
 {
     let here = noted(search.command, &search.focus, group, search.depth)?;
-    hits.note(group)?;
+    hits.leave(group)?;
     let happening = undo(group, steps)?;
     let looked = look_behind(group, search, way, here, hits, &happening)?;
     let moved = moves(search.focus.inv, &happening);
@@ -141,6 +152,7 @@ fn search_kept<H: Hits, L: Ledger>(
     steps: &mut Steps<L>,
 ) -> Result<Option<Stopped>, NoMemory>
     requires focus { IsFocus group.old.group search.now.focus.inv search.now.focus.tables.now search.now.focus.lines.now }
+    requires suits { H.suits hits.old group.old.group.program }
     requires depth { search.now.depth ≡ depth_in group.old.group search.now.focus.inv }
     requires begun { way.old.count ≡ 0 }
     ensures stops { IfOk result (λ found. MatchOption found
@@ -151,16 +163,18 @@ fn search_kept<H: Hits, L: Ledger>(
     ensures within { group.new.group.position ≤ end_in group.old.group }
     ensures kept { group.new.kept ≤ max group.old.kept (window_in group.new) }
     ensures hits { (g : Held) → H.hits hits.new g ≡ H.hits hits.old g }
+    ensures told { (g : Held) → H.told hits.new g ≡ H.told hits.old g }
+    ensures suits { (p : Program) → H.suits hits.old p → H.suits hits.new p }
     ensures counted { steps.old ≤ steps.new }
     ensures cost { steps.new ≤ steps.old + 1 }
     ensures none { IfOk result (λ found. IsNone found → steps.new ≡ steps.old) }
 {
     let from = group.position();
+    hits.note(group)?;
     'down: while group.first_kept() < group.position() {
         let left = group.position();
         let looked = take_back(group, search, way, hits, steps)?;
         if looked.passes && left < from {
-            hits.note(group)?;
             let event = Some(make(group, steps)?);
             let done = looked.done;
             return Ok(Some(Stopped { done, event }));
@@ -185,7 +199,8 @@ pub fn search_backward<H: Hits, L: Ledger>(
     hits: &mut H,
     steps: &mut Steps<L>,
 ) -> Result<Stopped, NoMemory>
-    requires { IsFocus group.old.group focus.now.inv focus.now.tables.now focus.now.lines.now }
+    requires focus { IsFocus group.old.group focus.now.inv focus.now.tables.now focus.now.lines.now }
+    requires suits { H.suits hits.old group.old.group.program }
     ensures target { OnOk result (group.new.group.position ≡ backward_target (H.hits hits.old) command focus.now.inv group.old.group) }
     ensures done { IfOk result (λ stopped. stopped.done ≡ done_backward command focus.now.inv group.old.group group.new.group) }
     ensures event { IfOk result (λ stopped. IsTold (H.noted hits.new) (H.hits hits.old) group.old.group group.new.group stopped.event) }
@@ -196,6 +211,8 @@ pub fn search_backward<H: Hits, L: Ledger>(
     ensures counted { steps.old ≤ steps.new }
     ensures cost { steps.new ≤ steps.old + backward_cost group.old.kept (backward_target (H.hits hits.old) command focus.now.inv group.old.group) }
     ensures hits { (g : Held) → H.hits hits.new g ≡ H.hits hits.old g }
+    ensures told { (g : Held) → H.told hits.new g ≡ H.told hits.old g }
+    ensures suits { (p : Program) → H.suits hits.old p → H.suits hits.new p }
 {
     let search = Search {
         command,

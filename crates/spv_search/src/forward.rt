@@ -1,5 +1,5 @@
 //! Searches forward.
-ghost use Rattle.std.specs.Prelude.{◌≡◌, ◌≤◌, ◌+◌, ◌-◌, ◌||◌, ℕ, Some, IfOk, OnOk, max};
+ghost use Rattle.std.specs.Prelude.{◌≡◌, ◌≤◌, ◌+◌, ◌-◌, ◌||◌, ℕ, Some, IfOk, OnOk, if◌then◌else◌, max};
 ghost use Rattle.spv_group.specs.Group.{Held, end_in, entries_in, group_at, window_in};
 ghost use Rattle.spv_group.specs.Run.{happening_before};
 ghost use Rattle.spv_search.specs.Costs.{forward_cost};
@@ -9,6 +9,7 @@ ghost use Rattle.spv_search.specs.Moves.{moves_between};
 ghost use Rattle.spv_search.specs.Own.{own_forward};
 ghost use Rattle.spv_search.specs.Stops.{IsLooked, IsTold, done_forward};
 ghost use Rattle.spv_search.specs.Targets.{forward_target};
+ghost use Rattle.spv_state.specs.Program.{Program};
 
 use crate::commands::{Forward, Stopped};
 use crate::focus::{Focus, Key};
@@ -19,43 +20,45 @@ use spv_base::{Happening, NoMemory, Steps};
 use spv_group::{Forth, Group};
 use std::sync::ledger::Ledger;
 
-/// Notes the position, and makes the next event; there is none at the end.
-pub(crate) fn go_on<H: Hits, L: Ledger>(
+/// Makes the next event; there is none at the end.
+pub(crate) fn go_on<L: Ledger>(
     group: &mut Group,
-    hits: &mut H,
     steps: &mut Steps<L>,
 ) -> Result<Option<Happening>, NoMemory>
     ensures goes { IsForth result group.old group.new }
-    ensures same { (g : Held) → H.hits hits.new g ≡ H.hits hits.old g }
-    ensures noted { OnOk result (H.noted hits.new group.old.group) }
     ensures most { group.old.group.position ≤ 4194304 }
     ensures counted { steps.old + (group.new.group.position - group.old.group.position) ≤ steps.new }
     ensures cost { steps.new ≤ steps.old + 1 }
 {
     let _position = group.position();
-    hits.note(group)?;
     match group.forth(steps)? {
         Forth::Went(happening) => Ok(Some(happening)),
         Forth::AtEnd(_) => Ok(None),
     }
 }
 
-/// Whether the position behind this event, the group's, passes, where so many events moved the invocation since the position searched from.
+/// Whether the position behind this event, the group's, passes, where so many events moved the invocation since the position searched from
+/// and the position before the event was noted. Where it doesn't pass, it is noted then.
 fn look_here<H: Hits>(
     group: &Group,
     focus: &Focus<'_>,
     command: Forward,
     from: &Key,
     count: u64,
-    hits: &H,
+    hits: &mut H,
     happening: &Happening,
 ) -> Result<Looked, NoMemory>
     requires focus { IsFocus group.now.group focus.now.inv focus.now.tables.now focus.now.lines.now }
+    requires suits { H.suits hits.old group.now.group.program }
     requires event { happening_before group.now.group.program (entries_in group.now.group) group.now.group.position ≡ Some happening.now }
-    requires noted { H.noted hits.now (group_at (group.now.group.position - 1) group.now.group) }
-    ensures { IfOk result (λ looked. (g : Held) → named_key focus.now.tables.now from.now ≡ key_in g focus.now.inv
+    requires noted { H.noted hits.old (group_at (group.now.group.position - 1) group.now.group) }
+    ensures looked { IfOk result (λ looked. (g : Held) → named_key focus.now.tables.now from.now ≡ key_in g focus.now.inv
         → count ≡ moves_between g focus.now.inv g.position group.now.group.position
-        → IsLooked (H.hits hits.now group.now.group) (own_forward command focus.now.inv g group.now.group) looked) }
+        → IsLooked (H.hits hits.old group.now.group) (own_forward command focus.now.inv g group.now.group) looked) }
+    ensures noted { IfOk result (λ looked. H.noted hits.new (if looked.passes then group_at (group.now.group.position - 1) group.now.group else group.now.group)) }
+    ensures hits { (g : Held) → H.hits hits.new g ≡ H.hits hits.old g }
+    ensures told { (g : Held) → H.told hits.new g ≡ H.told hits.old g }
+    ensures suits { (p : Program) → H.suits hits.old p → H.suits hits.new p }
 {
     let done = holds_forward(command, focus, group, from, count, happening)?;
     let passes = done || hits.hits_here(group, happening)?;
@@ -71,7 +74,8 @@ pub fn search_forward<H: Hits, L: Ledger>(
     hits: &mut H,
     steps: &mut Steps<L>,
 ) -> Result<Stopped, NoMemory>
-    requires { IsFocus group.old.group focus.now.inv focus.now.tables.now focus.now.lines.now }
+    requires focus { IsFocus group.old.group focus.now.inv focus.now.tables.now focus.now.lines.now }
+    requires suits { H.suits hits.old group.old.group.program }
     ensures target { OnOk result (group.new.group.position ≡ forward_target (H.hits hits.old) command focus.now.inv group.old.group) }
     ensures done { IfOk result (λ stopped. stopped.done ≡ done_forward command focus.now.inv group.old.group group.new.group) }
     ensures event { IfOk result (λ stopped. IsTold (H.noted hits.new) (H.hits hits.old) group.old.group group.new.group stopped.event) }
@@ -82,11 +86,14 @@ pub fn search_forward<H: Hits, L: Ledger>(
     ensures counted { steps.old ≤ steps.new }
     ensures cost { steps.new ≤ steps.old + forward_cost group.old.group.position (forward_target (H.hits hits.old) command focus.now.inv group.old.group) }
     ensures hits { (g : Held) → H.hits hits.new g ≡ H.hits hits.old g }
+    ensures told { (g : Held) → H.told hits.new g ≡ H.told hits.old g }
+    ensures suits { (p : Program) → H.suits hits.old p → H.suits hits.new p }
 {
     let _position = group.position();
     let from = focus.key(group)?;
+    hits.note(group)?;
     let mut count = 0u64;
-    'up: while let Some(happening) = go_on(group, hits, steps)? {
+    'up: while let Some(happening) = go_on(group, steps)? {
         count = counted(count, moves(focus.inv, &happening));
         let looked = look_here(group, focus, command, &from, count, hits, &happening)?;
         if looked.passes {

@@ -3,6 +3,7 @@ ghost use Rattle.std.specs.Prelude.{◌≡◌, ◌≤◌, ◌+◌, OnOk, IfOk, m
 ghost use Rattle.spv_group.specs.Group.{Held, end_in, group_at, window_in};
 ghost use Rattle.spv_search.specs.Costs.{return_cost};
 ghost use Rattle.spv_search.specs.Stops.{IsLed};
+ghost use Rattle.spv_state.specs.Program.{Program};
 
 use crate::backward::{make, undo};
 use crate::hits::Hits;
@@ -48,7 +49,8 @@ pub(crate) fn lead_to<H: Hits, L: Ledger>(
     hits: &mut H,
     steps: &mut Steps<L>,
 ) -> Result<Option<Happening>, NoMemory>
-    requires { target ≤ group.old.group.position }
+    requires within { target ≤ group.old.group.position }
+    requires suits { H.suits hits.old group.old.group.program }
     ensures target { OnOk result (group.new.group.position ≡ target) }
     ensures led { IfOk result (λ event. IsLed (H.noted hits.new) group.new.group event) }
     ensures same { group.new.group ≡ group_at group.new.group.position group.old.group }
@@ -57,6 +59,8 @@ pub(crate) fn lead_to<H: Hits, L: Ledger>(
     ensures kept { group.new.kept ≤ max group.old.kept (window_in group.new) }
     ensures reached { group.old.kept ≤ group.old.group.position }
     ensures hits { (g : Held) → H.hits hits.new g ≡ H.hits hits.old g }
+    ensures told { (g : Held) → H.told hits.new g ≡ H.told hits.old g }
+    ensures suits { (p : Program) → H.suits hits.old p → H.suits hits.new p }
     ensures counted { steps.old ≤ steps.new }
     ensures cost { steps.new ≤ steps.old + target }
 {

@@ -21,7 +21,10 @@ up-init g c =
       until = omega (arith, start);
       kept = omega (arith, c.in_ok-restart.ensures.kept);
       counted = omega (arith, start);
-      hits = λ x. refl;
+      hits = c.in_ok-note.ensures.same;
+      told = c.in_ok-note.ensures.told;
+      suits = c.in_ok-note.ensures.suits;
+      noted = c.in_ok-note.ensures.noted;
       found = λ p depth. again_begins (passes_before (g.H.Hits.hits c.args.hits.now) command i p first) (λ m. own_before command i p (group_at m first)) (asks_for_next command) c.args.search.now.position first i
           c.restart.new.self.group.position (record { last = 0; done = false; movers = c.new.result }) start refl refl (none_at_start command i p (group_at 0 first) refl) c.new.ensures.items;
     }
@@ -40,6 +43,9 @@ up-preserved g c =
       kept = omega (arith, done.kept, up.kept, rises);
       counted = omega (arith, done.exact, up.counted, on);
       hits = λ x. done.hits x ∙ up.hits x;
+      told = λ x. done.told x ∙ up.told x;
+      suits = λ p is. done.suits p (up.suits p is);
+      noted = done.noted;
       found = λ p depth. done.found p c.args.group.now.group hit up.hits depth up.same (up.found p depth);
     }
 

@@ -1,5 +1,6 @@
 use Rattle.std.proofs.Common.{◌≡◌, ◌≤◌, ◌-◌, ◌+◌}
 use Rattle.spv_group.specs.Group.{Held, group_at, window_in}
+use Rattle.spv_state.specs.Program.{Program}
 use Rattle.spv_search.specs.Again.{IsFoundOf}
 use Rattle.spv_search.specs.Keys.{depth_in}
 use Rattle.spv_search.proofs.again.find_again.Given as goal
@@ -12,6 +13,9 @@ invariant-up g l = record {
   kept : l.group.kept ≤ window_in l.group;
   counted : l.steps ≡ l.fn.steps + l.group.group.position;
   hits : (x : Held) → g.H.Hits.hits l.hits x ≡ g.H.Hits.hits l.fn.hits x;
+  told : (x : Held) → g.H.Hits.told l.hits x ≡ g.H.Hits.told l.fn.hits x;
+  suits : (p : Program) → g.H.Hits.suits l.fn.hits p → g.H.Hits.suits l.hits p;
+  noted : g.H.Hits.noted l.hits l.group.group;
   found : (p : Held) → l.search.depth ≡ depth_in p l.search.focus.inv
       → IsFoundOf (g.H.Hits.hits l.fn.hits) l.search.command l.search.focus.inv p l.search.position l.fn.group.group l.group.group.position l.found;
 }

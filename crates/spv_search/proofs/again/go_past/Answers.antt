@@ -29,11 +29,11 @@ returns-clause-found g c =
     (λ added. λ p first hit same depth here is. (
     let there : c.make.new.group.group ≡ group_at (n + 1) first = gone.same ∙ ap (λ (x : Group). group_at (n + 1) x) here in
     let event : happening_at first.program (entries_in first) n ≡ Some h = subst (λ (x : Group). happening_at x.program (entries_in x) n ≡ Some h) here gone.event in
-    let looked = c.in_ok-looked.ensures p depth in
-    let other = g.H.Hits.hits c.note.new.self in
+    let looked = c.in_ok-looked.ensures.looked p depth in
+    let other = g.H.Hits.hits c.args.hits.now in
     subst (λ k. IsFoundOf hit command i p from first k c.add.new.found) (sym on)
     (again_more (passes_before hit command i p first) (λ m. own_before command i p (group_at m first)) (asks_for_next command) from first i n c.args.found.now c.add.new.found is h l c.if-asks_for_next.moved event
-    (here_passes other hit command i from (n + 1) p first c.make.new.group.group l there looked (λ x. c.in_ok-note.ensures.same x ∙ same x))
+    (here_passes other hit command i from (n + 1) p first c.make.new.group.group l there looked same)
     (here_done other hit command i from (n + 1) p first c.make.new.group.group l there looked) moved
     (added_at c.position-event.result n l c.if-asks_for_next.moved c.args.found.now c.add.new.found c.position-event.ensures.position added))))
     c.add.ensures

@@ -1,4 +1,4 @@
-use Rattle.std.proofs.Common.{◌≡◌, ◌<◌, ◌∙◌, ℕ, true, false, ap, refl, sym, arith}
+use Rattle.std.proofs.Common.{◌≡◌, ◌<◌, ◌∙◌, true, ap, refl, sym, arith}
 use Rattle.spv_group.specs.Group.{Held as Group, group_at}
 use Rattle.spv_search.specs.Own.{own_next}
 use Rattle.spv_search.proofs.BackLemmas.{first_group}

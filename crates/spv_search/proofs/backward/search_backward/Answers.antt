@@ -1,5 +1,5 @@
-use Rattle.std.proofs.Common.{◌≡◌, ◌∙◌, ◌+◌, ◌*◌, ◌≤◌, ◌<◌, ℕ, ap, max, refl, arith}
-use Rattle.spv_group.specs.Group.{Held as Group, group_at, window_in}
+use Rattle.std.proofs.Common.{◌≡◌, ◌∙◌, ◌+◌, ◌*◌, ◌≤◌, ◌<◌, ℕ, ap, refl, arith}
+use Rattle.spv_group.specs.Group.{Held as Group, group_at}
 use Rattle.spv_group.specs.Positions.{greatest_of}
 use Rattle.spv_search.specs.Targets.{passes_backward}
 use Rattle.spv_search.proofs.BackLemmas.{same_test}
@@ -27,8 +27,8 @@ returns-in_err-target-clause-cost g c =
     let first : c.search_kept.new.steps ≡ c.args.steps.now = none refl in
     again_costs from.kept (greatest_of test 0 p) c.args.steps.now c.target_before.new.steps some (omega (arith, before, here)) (omega (arith, first, here, c.in_err-target.ensures.cost))
 
-pub lead_to-requires : goal.lead_to-requires
-lead_to-requires g c =
+pub lead_to-requires-clause-within : goal.lead_to-requires-clause-within
+lead_to-requires-clause-within g c =
     let other = g.H.Hits.hits c.search_kept.new.hits in
     let hit = g.H.Hits.hits c.args.hits.now in
     let i = c.args.focus.now.inv in

@@ -1,4 +1,4 @@
-use Rattle.std.proofs.Common.{◌≡◌, ◌∙◌, ◌+◌, ◌<◌, ◌≤◌, ℕ, false, refl, sym, ap, arith}
+use Rattle.std.proofs.Common.{◌≡◌, ◌∙◌, ◌<◌, ◌≤◌, ℕ, false, refl, sym, ap, arith}
 use Rattle.spv_group.specs.Group.{Held as Group, group_at}
 use Rattle.spv_search.specs.Keys.{depth_in}
 use Rattle.spv_search.specs.Own.{own_next}
@@ -16,7 +16,14 @@ down-init g c =
     let p : ℕ = from.group.position in
     let test = passes_backward hit c.args.search.now.command i from.group in
     let few : p ≤ 4194304 = omega (arith, c.position-from.ensures.position, c.position-from.ensures.most) in
-    record { back = back_begins test i from c.args.way.now c.requires.begun few; hits = λ x. refl; counted = refl }
+    record {
+      back = back_begins test i from c.args.way.now c.requires.begun few;
+      hits = c.in_ok-note.ensures.same;
+      told = c.in_ok-note.ensures.told;
+      suits = c.in_ok-note.ensures.suits;
+      noted = c.in_ok-note.ensures.noted;
+      counted = refl;
+    }
 
 pub returns-then-left-from-clause-stops : goal.returns-then-left-from-clause-stops
 returns-then-left-from-clause-stops g c =
@@ -32,8 +39,8 @@ returns-then-left-from-clause-stops g c =
     let below : down.group.position < p = omega (arith, c.if-left-from.true, c.position-left.ensures.position, c.position-from.ensures.position) in
     let done = c.in_ok-looked.ensures in
     let looked = looked_from (g.H.Hits.hits c.down.hits) hit command i p from.group down.group c.in_ok-looked.looked back.same same c.down.invariant.hits (done.looked p depth back.way below) in
-    stop_found (g.H.Hits.noted c.note.new.self) hit command i from down c.take_back.new.group c.make.new.group c.down.way c.in_ok-looked.looked c.in_ok-make.field-0 back below done.same done.position
-    c.in_ok-make.ensures.gone c.in_ok-note.ensures.noted looked c.if-looked.true
+    stop_found (g.H.Hits.noted c.take_back.new.hits) hit command i from down c.take_back.new.group c.make.new.group c.down.way c.in_ok-looked.looked c.in_ok-make.field-0 back below done.same done.position
+    c.in_ok-make.ensures.gone done.noted looked c.if-looked.true
 
 pub down-preserved : goal.down-preserved
 down-preserved g c =
@@ -56,6 +63,9 @@ down-preserved g c =
     record {
       back = back_goes_on test i from down c.take_back.new.group c.down.way c.take_back.new.way back done.same done.limit done.kept done.position (done.way p back.way back.earlier) done.few fails;
       hits = λ x. done.hits x ∙ c.down.invariant.hits x;
+      told = λ x. done.told x ∙ c.down.invariant.told x;
+      suits = λ p is. done.suits p (c.down.invariant.suits p is);
+      noted = done.noted;
       counted = done.cost ∙ c.down.invariant.counted;
     }
 

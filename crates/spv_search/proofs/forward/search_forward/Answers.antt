@@ -1,4 +1,4 @@
-use Rattle.std.proofs.Common.{◌≡◌, ◌∙◌, ◌+◌, ◌≤◌, ap, refl, arith}
+use Rattle.std.proofs.Common.{◌≡◌, ◌∙◌, ◌+◌, ◌≤◌, ap, arith}
 use Rattle.spv_group.specs.Group.{Held as Group, Undoing, end_in}
 use Rattle.spv_search.specs.Targets.{passes_forward}
 use Rattle.spv_search.proofs.CountLemmas.{one}
@@ -14,7 +14,10 @@ up-init g c =
     let within : from.group.position ≤ end_in from.group = omega (arith, c.position-position.ensures.position, c.position-position.ensures.within) in
     record {
       on = onward_begins (passes_forward hit c.args.command i from.group) i from c.args.steps.now within;
-      hits = λ x. refl;
+      hits = c.in_ok-note.ensures.same;
+      told = c.in_ok-note.ensures.told;
+      suits = c.in_ok-note.ensures.suits;
+      noted = c.in_ok-note.ensures.noted;
       from = c.in_ok-from.ensures;
     }
 
@@ -71,8 +74,8 @@ returns-then-looked-clause-target g c =
     let here : next.group.position ≡ c.up.group.group.position + 1 = position_on test i from c.up.group next c.up.count c.args.steps.now c.up.steps h on gone c.counted-count.result counted in
     let more : c.go_on.new.steps ≡ c.up.steps + 1 = omega (arith, here, c.in_ok-happening.ensures.counted, c.in_ok-happening.ensures.cost) in
     let same = same_on test i from c.up.group next c.up.count c.args.steps.now c.up.steps h on gone c.counted-count.result counted in
-    let looked = c.in_ok-looked.ensures from.group c.up.invariant.from (count_on test i from c.up.group next c.up.count c.args.steps.now c.up.steps h on gone c.counted-count.result counted) in
-    let passes = test_there (g.H.Hits.hits c.go_on.new.hits) hit c.args.command i from.group next.group c.in_ok-looked.looked.passes same (λ x. c.in_ok-happening.ensures.same x ∙ c.up.invariant.hits x)
+    let looked = c.in_ok-looked.ensures.looked from.group c.up.invariant.from (count_on test i from c.up.group next c.up.count c.args.steps.now c.up.steps h on gone c.counted-count.result counted) in
+    let passes = test_there (g.H.Hits.hits c.up.hits) hit c.args.command i from.group next.group c.in_ok-looked.looked.passes same c.up.invariant.hits
     looked.passes in
     onward_found test i from c.up.group next c.up.count c.args.steps.now c.up.steps h on gone c.counted-count.result counted (passes ∙ c.if-looked.true)
 
@@ -118,7 +121,7 @@ returns-then-looked-clause-done g c =
     let counted = c.counted-count.ensures ∙ ap (λ b. c.up.count + one b) c.moves.ensures in
     let next = c.go_on.new.group in
     let here : next.group.position ≡ c.up.group.group.position + 1 = position_on test i from c.up.group next c.up.count c.args.steps.now c.up.steps h on gone c.counted-count.result counted in
-    let looked = c.in_ok-looked.ensures from.group c.up.invariant.from (count_on test i from c.up.group next c.up.count c.args.steps.now c.up.steps h on gone c.counted-count.result counted) in
+    let looked = c.in_ok-looked.ensures.looked from.group c.up.invariant.from (count_on test i from c.up.group next c.up.count c.args.steps.now c.up.steps h on gone c.counted-count.result counted) in
     moved_forward c.args.command i from.group next.group c.in_ok-looked.looked.done (omega (arith, here, on.later)) looked.done
 
 pub up-preserved : goal.up-preserved
@@ -135,12 +138,15 @@ up-preserved g c =
     let here : next.group.position ≡ c.up.group.group.position + 1 = position_on test i from c.up.group next c.up.count c.args.steps.now c.up.steps h on gone c.counted-count.result counted in
     let more : c.go_on.new.steps ≡ c.up.steps + 1 = omega (arith, here, c.in_ok-happening.ensures.counted, c.in_ok-happening.ensures.cost) in
     let same = same_on test i from c.up.group next c.up.count c.args.steps.now c.up.steps h on gone c.counted-count.result counted in
-    let looked = c.in_ok-looked.ensures from.group c.up.invariant.from (count_on test i from c.up.group next c.up.count c.args.steps.now c.up.steps h on gone c.counted-count.result counted) in
-    let passes = test_there (g.H.Hits.hits c.go_on.new.hits) hit c.args.command i from.group next.group c.in_ok-looked.looked.passes same (λ x. c.in_ok-happening.ensures.same x ∙ c.up.invariant.hits x)
+    let looked = c.in_ok-looked.ensures.looked from.group c.up.invariant.from (count_on test i from c.up.group next c.up.count c.args.steps.now c.up.steps h on gone c.counted-count.result counted) in
+    let passes = test_there (g.H.Hits.hits c.up.hits) hit c.args.command i from.group next.group c.in_ok-looked.looked.passes same c.up.invariant.hits
     looked.passes in
     record {
       on = onward_goes_on test i from c.up.group next c.up.count c.args.steps.now c.up.steps h on gone c.counted-count.result counted c.go_on.new.steps more (passes ∙ c.if-looked.false);
-      hits = λ x. c.in_ok-happening.ensures.same x ∙ c.up.invariant.hits x;
+      hits = λ x. c.in_ok-looked.ensures.hits x ∙ c.up.invariant.hits x;
+      told = λ x. c.in_ok-looked.ensures.told x ∙ c.up.invariant.told x;
+      suits = λ p is. c.in_ok-looked.ensures.suits p (c.up.invariant.suits p is);
+      noted = rw c.if-looked.false at c.in_ok-looked.ensures.noted;
       from = c.up.invariant.from;
     }
 
@@ -178,4 +184,4 @@ returns-clause-event g c =
     let i = c.args.focus.now.inv in
     let from = c.args.group.now in
     let stays = rw c.in_default.is at c.in_ok-happening.ensures.goes in
-    ended_told (g.H.Hits.noted c.go_on.new.hits) hit c.args.command i from c.up.group c.go_on.new.group c.up.count c.args.steps.now c.up.steps c.up.invariant.on stays.1
+    ended_told (g.H.Hits.noted c.up.hits) hit c.args.command i from c.up.group c.go_on.new.group c.up.count c.args.steps.now c.up.steps c.up.invariant.on stays.1

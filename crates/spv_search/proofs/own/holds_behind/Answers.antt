@@ -1,4 +1,4 @@
-use Rattle.std.proofs.Common.{◌+◌, ◌-◌, ◌≡◌, ◌∙◌, Bool, not, sym, ap}
+use Rattle.std.proofs.Common.{◌+◌, ◌∙◌, not, sym, ap}
 use Rattle.spv_group.specs.Group.{entries_in, group_at}
 use Rattle.spv_search.specs.Keys.{key_in, named_key, same_key}
 use Rattle.spv_search.proofs.OwnLemmas.{back_again, by_keys, event_behind, not_such}

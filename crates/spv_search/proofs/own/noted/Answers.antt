@@ -1,4 +1,4 @@
-use Rattle.std.proofs.Common.{◌-◌, ◌+◌, ◌≡◌, suc, sym, ◌∙◌, add-one, arith}
+use Rattle.std.proofs.Common.{◌-◌, ◌≡◌, suc, sym, ◌∙◌, arith}
 use Rattle.spv_search.proofs.OwnLemmas.{not_asked, other_before}
 use Rattle.spv_search.proofs.own.noted.Goals as goal
 use Rattle.spv_search.proofs.own.noted.Goals.{then-not-asks_before-via-then-not-asks_before, then-not-asks_before-via-else-not-asks_before+then-not-is_entry}
