@@ -1,0 +1,6 @@
+mod SameLemmas
+mod NumberLemmas
+mod ReadLemmas
+mod PlaceLemmas
+mod AlikeLemmas
+mod HitLemmas

@@ -1,0 +1,4 @@
+pub mod Breaks
+pub mod Watches
+pub mod Hits
+pub mod Kept
