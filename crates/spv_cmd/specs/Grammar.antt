@@ -65,7 +65,8 @@ spelling keyword = (row keyword).0
 abbrev pub built : List Keyword
 built =
     the.Goto ∷ the.Fwd ∷ the.Back ∷ the.Stepi ∷ the.Rstepi ∷ the.Step ∷ the.Next ∷ the.Finish ∷ the.Rstep ∷ the.Rnext ∷ the.Rfinish ∷ the.Continue ∷ the.Rcontinue
-    ∷ the.Where ∷ the.Group ∷ the.Focus ∷ the.Bt ∷ the.Frame ∷ the.Locals ∷ the.Globals ∷ the.Print ∷ the.Regs ∷ the.List ∷ the.Info ∷ the.Quit ∷ []
+    ∷ the.Where ∷ the.Group ∷ the.Focus ∷ the.Bt ∷ the.Frame ∷ the.Locals ∷ the.Globals ∷ the.Print ∷ the.Regs ∷ the.List
+    ∷ the.Break ∷ the.Delete ∷ the.Watch ∷ the.Unwatch ∷ the.Info ∷ the.Quit ∷ []
 
 -- the keyword among these that a word is
 abbrev pub keyword_in : List Keyword → List ℕ → Option Keyword

@@ -7,3 +7,4 @@ pub mod CommandLoop
 pub mod Stops
 pub mod FileStatus
 pub mod StatusNumbers
+pub mod Sessions

@@ -8,4 +8,6 @@ pub mod lines;
 pub mod status;
 
 pub use command_loop::run;
+pub use spv_group::{Group, LIMIT};
+pub use spv_session::Session;
 pub use status::Status;

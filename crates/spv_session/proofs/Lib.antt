@@ -5,4 +5,5 @@ mod ShownLemmas
 mod InfoLemmas
 mod SightLemmas
 mod SearchLemmas
+mod CauseLemmas
 pub mod Exports

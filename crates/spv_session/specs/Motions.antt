@@ -1,11 +1,22 @@
 -- Motions: where they lead, and whether what was asked for is done there.
-use Rattle.std.specs.Prelude.{ℕ, ◌==◌, ◌+◌, ◌-◌, min, ◌&&◌, ◌||◌, not, Bool, false}
-use Rattle.spv_group.specs.Group.{end_in, group_at}
+use Rattle.std.specs.Prelude.{ℕ, ◌==◌, ◌+◌, ◌-◌, min, ◌&&◌, ◌||◌, not, Bool, if◌then◌else◌, [], Option, Some, None, unwrap_or}
+use Rattle.spv_group.specs.Group.{Held as Group, end_in, group_at}
 use Rattle.spv_group.specs.Positions.{least_of, greatest_of}
 use Rattle.spv_search.specs.Own.{own_forward, own_backward}
 use Rattle.spv_search.specs.declared.commands.Forward.{Forward}
 use Rattle.spv_search.specs.declared.commands.Backward.{Backward}
-use Rattle.spv_session.specs.View.{View}
+use Rattle.spv_search.specs.Keys.{tables_in}
+use Rattle.spv_base.specs.declared.happenings.Happening.{Happening}
+use Rattle.spv_dbg.specs.Tables.{Tables}
+use Rattle.spv_stops.specs.Stops.{Stops}
+use Rattle.spv_stops.specs.Watches.{WatchKey}
+use Rattle.spv_stops.specs.declared.breaks.Breakpoint.{Breakpoint}
+use Rattle.spv_hits.specs.Breaks.{break_numbers, hitter}
+use Rattle.spv_hits.specs.Watches.{watch_numbers}
+use Rattle.spv_hits.specs.Hits as stops
+use Rattle.spv_hits.specs.Hits.{has_some}
+use Rattle.spv_session.specs.declared.causes.Hit.{Hit}
+use Rattle.spv_session.specs.View.{View, moved_to}
 
 -- a motion, and at which positions what it was asked for is done
 pub data Motion : Type 0 where
@@ -41,9 +52,13 @@ search_back command v = backward (λ m. own_backward command v.focus v.group (gr
 
 -- ---- where motions lead
 
--- whether a break, a watch or a halt hits at a position; there are none so far
+-- whether a break or a watch hits at a group's position; there are no halts so far
+abbrev pub hits_in : Stops Breakpoint → Stops WatchKey → Group → Bool
+hits_in breaks watches g = stops.hits (tables_in g) breaks watches g
+
+-- whether one of a view's hits at a position
 abbrev pub hits : View → ℕ → Bool
-hits v m = false
+hits v m = hits_in v.breaks v.watches (group_at m v.group)
 
 -- the position that a motion leads to, where these hit
 abbrev pub target : (View → ℕ → Bool) → View → Motion → ℕ
@@ -55,3 +70,35 @@ abbrev pub is_done : View → Motion → ℕ → Bool
 is_done v (straight n done) m = done m
 is_done v (forward own) m = has_moved v m && own m
 is_done v (backward own) m = has_moved v m && own m
+
+-- ---- what motions stop for
+
+abbrev pub no_hit : Hit
+no_hit = record { breaks = []; watches = [] }
+
+-- the numbers of the breaks and of the watches that hit at a group's position
+abbrev pub hit_of : Tables → Stops Breakpoint → Stops WatchKey → Group → Hit
+hit_of t breaks watches g = record { breaks = break_numbers breaks g; watches = watch_numbers t watches g }
+
+abbrev pub hit_at : View → ℕ → Hit
+hit_at v m = hit_of (tables_in v.group) v.breaks v.watches (group_at m v.group)
+
+-- Those that a motion stops for there. One to a number looks for none, and none is told where nothing moved.
+abbrev pub hit_by : View → Motion → ℕ → Hit
+hit_by v (straight n done) m = no_hit
+hit_by v _ m = if has_moved v m then hit_at v m else no_hit
+
+-- the focus where a motion stops: where a break hit, the invocation of the event before, else as it was
+abbrev pub focus_by : Hit → Group → ℕ → ℕ
+focus_by hit g focus = if has_some hit.breaks then unwrap_or (hitter g) focus else focus
+
+-- the view where a motion stops
+abbrev pub stopped_at : ℕ → Hit → View → View
+stopped_at m hit v = record (moved_to m v) { focus = focus_by hit (group_at m v.group) v.focus }
+
+-- ---- as a search finds it
+
+-- what hits where a search from a position stopped, by the event before that it tells; where it tells none, nothing does
+abbrev pub hit_told : (from : ℕ) → Option Happening → (Group → Hit) → Group → Hit
+hit_told from None hit g = no_hit
+hit_told from (Some h) hit g = if not (g.position == from) then hit g else no_hit

@@ -1,7 +1,7 @@
 -- The reply to a line, and the view after it. How a position was reached doesn't matter to it.
 use Rattle.std.specs.Prelude.{◌≡◌, ℕ, ◌==◌, nat_lt, Bool, true, false, List, [], ◌∷◌, ◌++◌, length, slice_get, Option, Some, None, if◌then◌else◌, Result, Ok, Err}
 use Rattle.std.specs.List.{enumerate_from, flat_map, range_with_len}
-use Rattle.std.specs.Option.{option_map_or}
+use Rattle.std.specs.Option.{option_and_then, option_map_or}
 use Rattle.spv_base.specs.declared.causes.CmdRefusal.{CmdRefusal}
 use Rattle.spv_cmd.specs.declared.command.Command.{Command}
 use Rattle.spv_cmd.specs.declared.command.Command.TheVariants as command
@@ -11,18 +11,23 @@ use Rattle.spv_cmd.specs.Commands.{command_of}
 use Rattle.spv_dbg.specs.declared.frames.ShownFrame.{ShownFrame}
 use Rattle.spv_paths.specs.Paths.{Named}
 use Rattle.spv_paths.specs.Variables.{globals, locals}
-use Rattle.spv_group.specs.Group.{Held as Group, entries_in, invocations_in, state_in, status_of, end_in, end_cause_in}
+use Rattle.spv_group.specs.Group.{Held as Group, entries_in, invocations_in, state_in, status_of, end_cause_in}
 use Rattle.spv_source.specs.Frames.{frame_line}
 use Rattle.spv_source.specs.Windows.{source_lines}
-use Rattle.spv_search.specs.Keys.{has_finished, tables_in}
+use Rattle.spv_scopes.specs.Heads.{heads_with}
+use Rattle.spv_stops.specs.Breaks.{break_number}
+use Rattle.spv_stops.specs.Stops.{is_kept, next_number}
+use Rattle.spv_stops.specs.Watches.{WatchKey}
+use Rattle.spv_search.specs.Keys.{has_finished, heads_in, tables_in}
 use Rattle.spv_search.specs.declared.commands.Forward.TheVariants as on
 use Rattle.spv_search.specs.declared.commands.Backward.TheVariants as back
+use Rattle.spv_session.specs.declared.causes.Hit.{Hit}
 use Rattle.spv_session.specs.Info.{module_words}
-use Rattle.spv_session.specs.Motions.{Motion, goto_motion, fwd_motion, back_motion, search_on, search_back, hits, target, is_done}
-use Rattle.spv_session.specs.Shown.{focus_frames, innermost, real_frame, source_text}
-use Rattle.spv_session.specs.Texts.{refusal_line, registers_text, position_line, invocation_line, stop_line, info_line}
-use Rattle.spv_session.specs.Variables.{id_line, id_told, line_in, named, path_line, selected}
-use Rattle.spv_session.specs.View.{View, moved_to, focus_on, frame_on}
+use Rattle.spv_session.specs.Motions.{Motion, goto_motion, fwd_motion, back_motion, search_on, search_back, hits, target, is_done, hit_by, stopped_at}
+use Rattle.spv_session.specs.Shown.{focus_frames, innermost, line_file, real_frame, source_text}
+use Rattle.spv_session.specs.Texts.{refusal_line, registers_text, position_line, invocation_line, stop_line, info_line, break_line, deleted_line, watch_line, unwatched_line}
+use Rattle.spv_session.specs.Variables.{id_line, id_told, line_in, named, path_line, selected, watch_key}
+use Rattle.spv_session.specs.View.{View, focus_on, frame_on, with_break, without_break, with_watch, without_watch}
 
 -- ---- refusals
 
@@ -37,6 +42,14 @@ no_such_frame = 4
 -- of one that names an id which stands for nothing there
 abbrev pub no_such_name : ℕ
 no_such_name = 5
+
+-- of one that names a break or a watch which isn't kept
+abbrev pub no_such_number : ℕ
+no_such_number = 7
+
+-- of one that names no line at which code begins
+abbrev pub no_code : ℕ
+no_code = 8
 
 -- of one that asks for lines of the source where there are none
 abbrev pub no_source_text : ℕ
@@ -65,8 +78,8 @@ abbrev pub info_reply : Group → List ℕ
 info_reply g = info_line (module_words g.program.accepted.insts) (length g.program.accepted.insts) (tables_in g).ignored (invocations_in g) (length (entries_in g))
 
 -- why a motion stopped at the view's position, and where the focus stands there
-abbrev pub stop_reply : Bool → View → List ℕ
-stop_reply done v = stop_line done (v.group.position == 0) (end_cause_in v.group) ++ place_reply v
+abbrev pub stop_reply : Hit → Bool → View → List ℕ
+stop_reply hit done v = stop_line hit.breaks hit.watches done (v.group.position == 0) (end_cause_in v.group) ++ place_reply v
 
 -- ---- the table of commands
 
@@ -124,6 +137,52 @@ abbrev pub print_told : PathText → View → Told
 print_told (Id id) v = option_map_or (λ text. tells (id_line id text) v) (id_told v id) (refuses no_such_name)
 print_told (Name name parts) v = part_told v (Name name parts) (named v name parts)
 
+-- what is told with what was found, or why there is none
+abbrev pub told_with : {T : Type 0} → (T → Told) → Result T CmdRefusal → Told
+told_with told (Err refusal) = refuses refusal.code
+told_with told (Ok x) = told x
+
+-- ---- breaks and watches
+
+-- the file of a line: the one that is named, else that of a shown frame
+abbrev pub file_with : Option ShownFrame → Option (List ℕ) → Option (List ℕ)
+file_with f (Some file) = Some file
+file_with f None = option_and_then line_file f
+
+-- a break at a line of a file, at the heads of which it hits, by its number
+abbrev pub broken_at : (file : List ℕ) → (line : ℕ) → (heads : List ℕ) → View → ℕ → Told
+broken_at file line heads v k = tells (break_line k file line) (with_break (record { file = file; line = line; heads = heads }) v)
+
+abbrev pub break_in : View → (line : ℕ) → (file : List ℕ) → Told
+break_in v line file =
+    told_with (broken_at file line (heads_with (heads_in v.group) (file, line)) v) (break_number (heads_with (heads_in v.group) (file, line)) v.breaks)
+
+abbrev pub break_told : Option (List ℕ) × ℕ → View → Told
+break_told place v = option_map_or (break_in v place.1) (file_with (selected v) place.0) (refuses no_code)
+
+abbrev pub delete_told : ℕ → View → Told
+delete_told k v = if is_kept k v.breaks then tells (deleted_line k) (without_break k v) else refuses no_such_number
+
+-- a watch, shown by a line, by its number
+abbrev pub watched_as : View → WatchKey → (line : List ℕ) → ℕ → Told
+watched_as v key line k = tells (watch_line k line) (with_watch key v)
+
+abbrev pub watch_with : View → WatchKey → (line : List ℕ) → Told
+watch_with v key line = told_with (watched_as v key line) (next_number 32 v.watches)
+
+abbrev pub watch_in : View → PathText → Named → Told
+watch_in v path n = watch_with v (watch_key v n) (path_line v path n)
+
+-- a part of a variable alone can be watched
+abbrev pub watch_told : PathText → View → Told
+watch_told (Id id) v = refuses no_such_name
+watch_told (Name name parts) v = told_with (watch_in v (Name name parts)) (named v name parts)
+
+abbrev pub unwatch_told : ℕ → View → Told
+unwatch_told k v = if is_kept k v.watches then tells (unwatched_line k) (without_watch k v) else refuses no_such_number
+
+-- ---- the rows
+
 -- the focus becomes an invocation that exists
 abbrev pub focus_told : ℕ → View → Told
 focus_told i v = if nat_lt i (invocations_in v.group) then tells (place_reply (focus_on i v)) (focus_on i v) else refuses no_such_invocation
@@ -153,6 +212,10 @@ act command.Info = shows (λ v. tells (info_reply v.group) v)
 act command.Locals = shows (λ v. frame_told (locals_told v) (focus_frames v) v.frame)
 act command.Globals = shows (λ v. tells (globals_reply v) v)
 act (command.Print path) = shows (print_told path)
+act (command.Break place) = shows (break_told place)
+act (command.Delete k) = shows (delete_told k)
+act (command.Watch path) = shows (watch_told path)
+act (command.Unwatch k) = shows (unwatch_told k)
 act command.Quit = quits
 act _ = nothing
 
@@ -163,12 +226,12 @@ act_of (Ok it) = act it
 
 -- ---- what is read from the table
 
--- a motion stops at a position, and what it was asked for is done there or not
-abbrev pub stopped : View → ℕ → Bool → List ℕ × View
-stopped v m done = (stop_reply done (moved_to m v), moved_to m v)
+-- a motion stops at a position, where these hit, and what it was asked for is done there or not
+abbrev pub stopped : View → ℕ → Hit → Bool → List ℕ × View
+stopped v m hit done = (stop_reply hit done (stopped_at m hit v), stopped_at m hit v)
 
 abbrev pub motion_reply : View → Motion → List ℕ × View
-motion_reply v motion = stopped v (target hits v motion) (is_done v motion (target hits v motion))
+motion_reply v motion = stopped v (target hits v motion) (hit_by v motion (target hits v motion)) (is_done v motion (target hits v motion))
 
 -- the focus is finished
 abbrev pub is_over : View → Bool

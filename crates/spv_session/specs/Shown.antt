@@ -1,5 +1,5 @@
 -- Where invocations stand in the source: the frames that are shown of their calls.
-use Rattle.std.specs.Prelude.{ℕ, List, Option, slice_get}
+use Rattle.std.specs.Prelude.{ℕ, ◌==◌, if◌then◌else◌, List, Option, Some, None, slice_get}
 use Rattle.spv_dbg.specs.declared.frames.ShownFrame.{ShownFrame}
 use Rattle.spv_dbg.specs.Tables.{text_of_file}
 use Rattle.spv_frame.specs.Frames.{Held as Frame}
@@ -23,3 +23,7 @@ real_frame v f = slice_get (frames_of (state_in v.group) v.focus) f.depth
 -- the text of the file that a shown frame stands in
 abbrev pub source_text : View → ShownFrame → Option (List ℕ)
 source_text v f = text_of_file (tables_in v.group) f.file
+
+-- the file of the line where a shown frame stands, where it has one
+abbrev pub line_file : ShownFrame → Option (List ℕ)
+line_file f = if f.line == 0 then None else Some f.file

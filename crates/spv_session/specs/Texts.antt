@@ -1,5 +1,5 @@
 -- The texts of replies. Each line ends with a line feed.
-use Rattle.std.specs.Prelude.{ℕ, Bool, if◌then◌else◌, List, [], ◌∷◌, ◌++◌, codes, decimal, Option, Some, None, fold, slice_index_or}
+use Rattle.std.specs.Prelude.{ℕ, Bool, if◌then◌else◌, List, [], ◌∷◌, ◌++◌, codes, decimal, Option, Some, None, fold, map, slice_index_or}
 use Rattle.std.specs.List.{filter_map, flat_map, join_by}
 use Rattle.std.specs.BTreeMap.{insert_entry}
 use Rattle.std.specs.Option.{option_and_then, option_map, option_map_or}
@@ -15,7 +15,7 @@ use Rattle.spv_dbg.specs.declared.frames.ShownFrame.{ShownFrame}
 use Rattle.spv_frame.specs.Frames.{Held as Frame}
 use Rattle.spv_show.specs.Texts.{value_text}
 use Rattle.spv_ids.specs.Texts.{type_of}
-use Rattle.spv_source.specs.Frames.{place_text}
+use Rattle.spv_source.specs.Frames.{place_text, shown_bytes}
 
 -- ---- refusals
 
@@ -107,9 +107,40 @@ abbrev pub end_causes : Option EndCause → List (List ℕ)
 end_causes None = []
 end_causes (Some cause) = cause_text cause ∷ []
 
--- all that hold: the number was met exactly, the start, the end's cause
-abbrev pub stop_causes : Bool → Bool → Option EndCause → List (List ℕ)
-stop_causes done start cause = (if done then codes "done" ∷ [] else []) ++ (if start then codes "start" ∷ [] else []) ++ end_causes cause
+abbrev pub numbered_text : List ℕ → ℕ → List ℕ
+numbered_text word k = word ++ decimal k
 
-abbrev pub stop_line : Bool → Bool → Option EndCause → List ℕ
-stop_line done start cause = codes "stop: " ++ join_by (λ text. text) (codes ", ") (stop_causes done start cause) ++ codes "\n"
+-- the breaks and the watches that hit
+abbrev pub hit_causes : (breaks watches : List ℕ) → List (List ℕ)
+hit_causes breaks watches = map (numbered_text (codes "break ")) breaks ++ map (numbered_text (codes "watch ")) watches
+
+-- what was asked for is done, the start, the end's cause
+abbrev pub place_causes : Bool → Bool → Option EndCause → List (List ℕ)
+place_causes done start cause = (if done then codes "done" ∷ [] else []) ++ (if start then codes "start" ∷ [] else []) ++ end_causes cause
+
+-- all that hold
+abbrev pub stop_causes : (breaks watches : List ℕ) → Bool → Bool → Option EndCause → List (List ℕ)
+stop_causes breaks watches done start cause = hit_causes breaks watches ++ place_causes done start cause
+
+-- a cause behind those before it
+abbrev pub behind_comma : List ℕ → List ℕ
+behind_comma text = codes ", " ++ text
+
+abbrev pub stop_line : (breaks watches : List ℕ) → Bool → Bool → Option EndCause → List ℕ
+stop_line breaks watches done start cause = codes "stop: " ++ join_by (λ text. text) (codes ", ") (stop_causes breaks watches done start cause) ++ codes "\n"
+
+-- ---- lists of stops
+
+-- `break K at FILE:LINE`
+abbrev pub break_line : (k : ℕ) → (file : List ℕ) → (line : ℕ) → List ℕ
+break_line k file line = codes "break " ++ decimal k ++ codes " at " ++ shown_bytes file ++ codes ":" ++ decimal line ++ codes "\n"
+
+-- `watch K: ` before the line of what is watched
+abbrev pub watch_line : ℕ → List ℕ → List ℕ
+watch_line k line = codes "watch " ++ decimal k ++ codes ": " ++ line
+
+abbrev pub deleted_line : ℕ → List ℕ
+deleted_line k = codes "deleted " ++ decimal k ++ codes "\n"
+
+abbrev pub unwatched_line : ℕ → List ℕ
+unwatched_line k = codes "unwatched " ++ decimal k ++ codes "\n"

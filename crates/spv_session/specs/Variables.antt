@@ -1,5 +1,5 @@
 -- What variables of the source and ids hold where a view stands, as it is told.
-use Rattle.std.specs.Prelude.{ℕ, ◌+◌, ◌-◌, List, [], ◌++◌, codes, decimal, Option, Result, Ok, Err, slice_get, unwrap_or}
+use Rattle.std.specs.Prelude.{ℕ, ◌+◌, ◌-◌, if◌then◌else◌, true, false, List, [], ◌++◌, codes, decimal, Option, Result, Ok, Err, slice_get, unwrap_or}
 use Rattle.std.specs.Option.{option_map, option_map_or}
 use Rattle.spv_base.specs.Answers.{after}
 use Rattle.spv_base.specs.declared.causes.CmdRefusal.{CmdRefusal}
@@ -16,6 +16,7 @@ use Rattle.spv_mem.specs.Memory.{Held as Memory}
 use Rattle.spv_parts.specs.Composites.{name_of}
 use Rattle.spv_paths.specs.Paths.{Named, part_due, variable_due}
 use Rattle.spv_print.specs.Layouts as print
+use Rattle.spv_stops.specs.Watches.{WatchKey}
 use Rattle.spv_source.specs.Frames.{shown_bytes}
 use Rattle.spv_group.specs.Group.{state_in}
 use Rattle.spv_search.specs.Keys.{tables_in}
@@ -70,6 +71,20 @@ named v name parts = named_in (tables_in v.group) (state_in v.group).memory v.fo
 
 abbrev pub path_line : View → PathText → Named → List ℕ
 path_line v path n = value_line (path_text path) (part_text (tables_in v.group) (state_in v.group).memory v.focus (focus_calls v) (selected v) n)
+
+-- What a watch of it looks at: the bits of a global, as the focus has it, or those of a local in the call of a frame, under its InlinedAt.
+-- A local is found where a frame is shown.
+abbrev pub global_key : ℕ → Named → WatchKey
+global_key i n = record { local = false; inv = i; depth = 0; function = 0; variable = n.variable; inlined = 0; first = n.start; count = n.end - n.start }
+
+abbrev pub local_key : ℕ → Named → ShownFrame → WatchKey
+local_key i n f = record { local = true; inv = i; depth = f.depth; function = f.function; variable = n.variable; inlined = f.inlined; first = n.start; count = n.end - n.start }
+
+abbrev pub key_in : ℕ → Option ShownFrame → Named → WatchKey
+key_in i f n = if n.is_local then option_map_or (local_key i n) f (global_key i n) else global_key i n
+
+abbrev pub watch_key : View → Named → WatchKey
+watch_key v n = key_in v.focus (selected v) n
 
 -- the line of a variable where a frame is shown
 abbrev pub line_in : View → Option ShownFrame → ℕ → List ℕ

@@ -1,9 +1,9 @@
 -- A view: all that replies depend on. A group at a position of its run, the invocation and the frame that replies speak of, and what
--- motions stop at. No command changes the stops or the probes so far.
-use Rattle.std.specs.Prelude.{ℕ, List, []}
+-- motions stop at. No command changes the halts or the probes so far.
+use Rattle.std.specs.Prelude.{◌≡◌, ◌⊎◌, ℕ, List, []}
 use Rattle.spv_stops.specs.declared.breaks.Breakpoint.{Breakpoint}
-use Rattle.spv_stops.specs.declared.watches.WatchKey.{WatchKey}
-use Rattle.spv_stops.specs.Stops.{Stops}
+use Rattle.spv_stops.specs.Watches.{WatchKey}
+use Rattle.spv_stops.specs.Stops.{Stops, with_stop, without_stop}
 use Rattle.spv_group.specs.Group.{Held as Group, Undoing, group_at}
 
 pub record View : Type 0 where
@@ -23,6 +23,10 @@ first_view g = record { group = g; focus = 0; frame = 0; breaks = ([], 0); watch
 abbrev pub view_at : ℕ → View → View
 view_at n v = record v { group = group_at n v.group }
 
+-- all but the position is as in one of two views
+abbrev pub IsEither : View → (old due : View) → Type 0
+IsEither v old due = (v ≡ view_at v.group.position old) ⊎ (v ≡ view_at v.group.position due)
+
 -- after a motion to a position; the innermost frame is selected then
 abbrev pub moved_to : ℕ → View → View
 moved_to n v = record v { group = group_at n v.group; frame = 0 }
@@ -34,6 +38,19 @@ focus_on i v = record v { focus = i; frame = 0 }
 -- the same position and focus, with another of its shown frames
 abbrev pub frame_on : ℕ → View → View
 frame_on k v = record v { frame = k }
+
+-- the same, with one break or watch more, or with one less
+abbrev pub with_break : Breakpoint → View → View
+with_break b v = record v { breaks = with_stop b v.breaks }
+
+abbrev pub without_break : ℕ → View → View
+without_break k v = record v { breaks = without_stop k v.breaks }
+
+abbrev pub with_watch : WatchKey → View → View
+with_watch w v = record v { watches = with_stop w v.watches }
+
+abbrev pub without_watch : ℕ → View → View
+without_watch k v = record v { watches = without_stop k v.watches }
 
 -- ---- what no reply depends on
 

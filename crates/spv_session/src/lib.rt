@@ -1,6 +1,7 @@
 //! A group, the invocation that is looked at, and the replies to lines of input.
 #![tactic(auto)]
 
+mod causes;
 mod debug_info;
 mod frames;
 mod happenings;
@@ -11,6 +12,7 @@ mod registers;
 mod searches;
 mod session;
 mod sights;
+mod stops;
 mod texts;
 mod variables;
 

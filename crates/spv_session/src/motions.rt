@@ -1,9 +1,14 @@
-//! Motions to a position of the run.
-ghost use Rattle.std.specs.Prelude.{◌≡◌, ◌==◌, ◌≤◌, ◌+◌, ◌-◌, ◌&&◌, ℕ, OnOk, max, min, not};
+//! Motions to a position of the run, and where motions stop.
+ghost use Rattle.std.specs.Prelude.{◌≡◌, ◌==◌, ◌<◌, ◌≤◌, ◌+◌, ◌-◌, ◌++◌, ◌&&◌, ℕ, OnOk, OnErr, max, min, not};
 ghost use Rattle.spv_group.specs.Costs.{run_cost};
-ghost use Rattle.spv_group.specs.Group.{end_in, group_at, window_in};
+ghost use Rattle.spv_group.specs.Group.{end_in, group_at, invocations_in, window_in};
 ghost use Rattle.spv_session.specs.Costs.{straight_cost};
+ghost use Rattle.spv_session.specs.Motions.{no_hit};
+ghost use Rattle.spv_session.specs.Reply.{stop_reply};
+ghost use Rattle.spv_session.specs.View.{focus_on, moved_to, undoing_in, view_at};
 
+use crate::causes::{Hit, push_stop};
+use crate::session::Core;
 use spv_base::{NoMemory, Steps};
 use spv_group::{Forth, Group};
 use spv_search::return_to;
@@ -93,4 +98,60 @@ pub fn go_to<L: Ledger>(
         return return_to(group, target, steps);
     }
     go_on(group, target, steps)
+}
+
+impl Core {
+    /// Goes where a motion is asked to lead, and appends why it stopped. The innermost frame is selected then.
+    pub(crate) fn go<L: Ledger>(
+        &mut self,
+        aim: Aim,
+        text: &mut Vec<u8>,
+        steps: &mut Steps<L>,
+    ) -> Result<(), NoMemory>
+        ensures text { OnOk result (text.new.items ≡ text.old.items ++ stop_reply no_hit (aim.exact && self.new.view.group.position == aim.position) self.new.view) }
+        ensures view { OnOk result (self.new.view ≡ moved_to (min aim.position (end_in self.old.view.group)) self.old.view) }
+        ensures group { self.new.view.group ≡ group_at self.new.view.group.position self.old.view.group }
+        ensures same { OnErr result (self.new.view ≡ view_at self.new.view.group.position self.old.view) }
+        ensures limit { self.new.limit ≡ self.old.limit }
+        ensures kept { self.new.kept ≤ max self.old.kept (window_in (undoing_in self.new)) }
+        ensures within { self.new.view.group.position ≤ end_in self.old.view.group }
+        ensures counted { steps.old ≤ steps.new }
+        ensures cost { steps.new ≤ steps.old + straight_cost self.old.kept self.old.view.group aim.position }
+    {
+        go_to(&mut self.group, aim.position, steps)?;
+        let done = aim.exact && self.group.position() == aim.position;
+        let hit = Hit::none(self.alloc);
+        let focus = self.focus;
+        self.stop(text, &hit, focus, done)
+    }
+
+    /// Appends why a motion stopped here, and where the invocation stands that becomes the focus. Its innermost frame is selected then.
+    pub(crate) fn stop(
+        &mut self,
+        text: &mut Vec<u8>,
+        hit: &Hit,
+        focus: u32,
+        done: bool,
+    ) -> Result<(), NoMemory>
+        requires { focus < invocations_in self.old.view.group }
+        ensures text { OnOk result (text.new.items ≡ text.old.items ++ stop_reply hit.now done self.new.view) }
+        ensures view { OnOk result (self.new.view ≡ focus_on focus self.old.view) }
+        ensures err { OnErr result (self.new ≡ self.old) }
+        ensures kept { self.new.kept ≡ self.old.kept }
+        ensures limit { self.new.limit ≡ self.old.limit }
+    {
+        let cause = self.group.end_cause()?;
+        push_stop(
+            self.alloc,
+            text,
+            hit,
+            done,
+            self.group.position() == 0,
+            cause,
+        )?;
+        self.push_place(text, focus)?;
+        self.focus = focus;
+        self.frame = 0;
+        Ok(())
+    }
 }

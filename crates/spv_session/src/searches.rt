@@ -1,17 +1,197 @@
 //! Motions that search: to the first position, on or back, where something hits or a command has what it asks for.
-ghost use Rattle.std.specs.Prelude.{◌≡◌, ◌≤◌, ◌+◌, ◌++◌, ℕ, OnOk, OnErr, Some, max};
-ghost use Rattle.spv_group.specs.Group.{end_in, group_at, window_in};
+ghost use Rattle.std.specs.Prelude.{◌≡◌, ◌==◌, ◌<◌, ◌≤◌, ◌+◌, ◌-◌, ◌++◌, ℕ, IfOk, OnOk, OnErr, Some, if◌then◌else◌, max, not};
+ghost use Rattle.spv_base.specs.declared.happenings.Happening.{Happening as AnyHappening};
+ghost use Rattle.spv_group.specs.Group.{end_in, entries_in, group_at, invocations_in, window_in};
+ghost use Rattle.spv_group.specs.Run.{happening_before};
+ghost use Rattle.spv_hits.specs.Hits.{has_some};
+ghost use Rattle.spv_hits.specs.Kept.{IsNoted};
+ghost use Rattle.spv_search.specs.Costs.{backward_cost, forward_cost};
+ghost use Rattle.spv_search.specs.Keys.{IsFocus, tables_in};
+ghost use Rattle.spv_search.specs.Stops.{done_backward, done_forward};
+ghost use Rattle.spv_search.specs.Targets.{backward_target, forward_target};
 ghost use Rattle.spv_session.specs.Costs.{act_cost, motion_cost};
-ghost use Rattle.spv_session.specs.Motions.{search_back, search_on};
+ghost use Rattle.spv_session.specs.Motions.{focus_by, hit_of, hit_told, hits_in, no_hit, search_back, search_on};
 ghost use Rattle.spv_session.specs.Reply.{is_over, motion_reply, refusal_by, reply_by, walks};
+ghost use Rattle.spv_session.specs.Typing.{typing_in};
 ghost use Rattle.spv_session.specs.View.{undoing_in, view_at};
 
+use crate::causes::Hit;
+use crate::debug_info::DebugInfo;
 use crate::frames::FOCUS_FINISHED;
 use crate::session::Core;
 use crate::texts::refusal_line;
-use spv_base::{NoMemory, Status4, Steps};
-use spv_search::{Backward, Focus, Forward, Never, search_backward, search_forward};
+use spv_base::{Happening, NoMemory, Places, Status4, Steps};
+use spv_group::Group;
+use spv_hits::StopHits;
+use spv_search::{Backward, Focus, Forward, Stopped, search_backward, search_forward};
+use spv_stops::{Breaks, Watches};
+use std::alloc::Global;
 use std::sync::ledger::Ledger;
+
+/// What a search goes by: the focus, the debug information of the module, and what motions stop at.
+#[derive(Clone, Copy)]
+struct Seeking<'a> {
+    inv: u32,
+    info: &'a DebugInfo,
+    breaks: &'a Breaks,
+    watches: &'a Watches,
+}
+
+impl<'a> Seeking<'a> {
+    /// The invocation that is the focus.
+    fn focus(&self) -> Focus<'a>
+        ensures inv { result.inv ≡ self.now.inv }
+        ensures tables { result.tables.now ≡ self.now.info.now.tables }
+        ensures lines { result.lines.now ≡ self.now.info.now.lines }
+    {
+        Focus {
+            inv: self.inv,
+            tables: &self.info.tables,
+            lines: &self.info.lines,
+        }
+    }
+
+    /// The breaks and the watches.
+    fn hits(&self, alloc: Global) -> Result<StopHits<'a>, NoMemory>
+        ensures breaks { IfOk result (λ hits. hits.breaks ≡ self.now.breaks.now) }
+        ensures watches { IfOk result (λ hits. hits.watches ≡ self.now.watches.now) }
+        ensures tables { IfOk result (λ hits. hits.tables ≡ self.now.info.now.tables) }
+        ensures sizes { IfOk result (λ hits. hits.sizes ≡ self.now.info.now.sizes) }
+    {
+        let info = self.info;
+        StopHits::of(alloc, self.breaks, self.watches, &info.tables, &info.sizes)
+    }
+}
+
+/// Where a search stopped: what hits there, whether what was asked for is done, and the invocation that becomes the focus.
+#[derive(Drop)]
+struct Found {
+    hit: Hit,
+    done: bool,
+    focus: u32,
+}
+
+/// The invocation that becomes the focus behind an event: its own, where it hits breaks.
+fn focus_behind(breaks: &Places, event: &Happening, focus: u32) -> u32
+    ensures { result ≡ (if has_some breaks.now then event.now.inv else focus) }
+{
+    if breaks.len() > 0 { event.inv } else { focus }
+}
+
+/// What hits behind an event, and the invocation that becomes the focus there.
+fn found_behind(
+    group: &Group,
+    hits: &StopHits<'_>,
+    event: &Happening,
+    focus: u32,
+    done: bool,
+) -> Result<Found, NoMemory>
+    requires event { happening_before group.now.group.program (entries_in group.now.group) group.now.group.position ≡ Some event.now }
+    requires noted { IsNoted hits.now (group_at (group.now.group.position - 1) group.now.group) }
+    requires focus { focus < invocations_in group.now.group }
+    ensures hit { IfOk result (λ found. found.hit ≡ hit_of hits.now.tables hits.now.breaks hits.now.watches group.now.group) }
+    ensures done { IfOk result (λ found. found.done ≡ done) }
+    ensures focus { IfOk result (λ found. found.focus ≡ focus_by found.hit group.now.group focus) }
+    ensures exists { IfOk result (λ found. found.focus < invocations_in group.now.group) }
+{
+    let breaks = hits.break_numbers(group, event)?;
+    let watches = hits.watch_numbers(group, event)?;
+    let focus = focus_behind(&breaks, event, focus);
+    Ok(Found {
+        hit: Hit { breaks, watches },
+        done,
+        focus,
+    })
+}
+
+/// What hits where a search from a position stopped, behind the event that it tells, if it tells one.
+fn found_at(
+    alloc: Global,
+    group: &Group,
+    from: u64,
+    hits: &StopHits<'_>,
+    stopped: Stopped,
+    focus: u32,
+) -> Result<Found, NoMemory>
+    requires event { (h : AnyHappening) → stopped.event ≡ Some h
+        → (happening_before group.now.group.program (entries_in group.now.group) group.now.group.position ≡ Some h) × IsNoted hits.now (group_at (group.now.group.position - 1) group.now.group) }
+    requires focus { focus < invocations_in group.now.group }
+    ensures hit { IfOk result (λ found. found.hit ≡ hit_told from stopped.event (hit_of hits.now.tables hits.now.breaks hits.now.watches) group.now.group) }
+    ensures done { IfOk result (λ found. found.done ≡ stopped.done) }
+    ensures focus { IfOk result (λ found. found.focus ≡ focus_by found.hit group.now.group focus) }
+    ensures exists { IfOk result (λ found. found.focus < invocations_in group.now.group) }
+{
+    match stopped.event {
+        Some(event) if group.position() != from => {
+            found_behind(group, hits, &event, focus, stopped.done)
+        }
+        _ => Ok(Found {
+            hit: Hit::none(alloc),
+            done: stopped.done,
+            focus,
+        }),
+    }
+}
+
+/// Goes to the next position where something hits or what a command asks for holds, else to the end.
+fn seek_on<L: Ledger>(
+    alloc: Global,
+    group: &mut Group,
+    seeking: &Seeking<'_>,
+    command: Forward,
+    steps: &mut Steps<L>,
+) -> Result<Found, NoMemory>
+    requires focus { IsFocus group.old.group seeking.now.inv seeking.now.info.now.tables seeking.now.info.now.lines }
+    requires typed { seeking.now.info.now.sizes ≡ typing_in group.old.group.program.accepted }
+    ensures target { OnOk result (group.new.group.position ≡ forward_target (hits_in seeking.now.breaks.now seeking.now.watches.now) command seeking.now.inv group.old.group) }
+    ensures done { IfOk result (λ found. found.done ≡ done_forward command seeking.now.inv group.old.group group.new.group) }
+    ensures hit { IfOk result (λ found. found.hit ≡ (if not (group.new.group.position == group.old.group.position)
+        then hit_of (tables_in group.old.group) seeking.now.breaks.now seeking.now.watches.now group.new.group else no_hit)) }
+    ensures focus { IfOk result (λ found. found.focus ≡ focus_by found.hit group.new.group seeking.now.inv) }
+    ensures exists { IfOk result (λ found. found.focus < invocations_in group.new.group) }
+    ensures same { group.new.group ≡ group_at group.new.group.position group.old.group }
+    ensures limit { group.new.limit ≡ group.old.limit }
+    ensures within { group.new.group.position ≤ end_in group.old.group }
+    ensures kept { group.new.kept ≤ max group.old.kept (window_in group.new) }
+    ensures counted { steps.old ≤ steps.new }
+    ensures cost { steps.new ≤ steps.old + forward_cost group.old.group.position (forward_target (hits_in seeking.now.breaks.now seeking.now.watches.now) command seeking.now.inv group.old.group) }
+{
+    let from = group.position();
+    let focus = seeking.focus();
+    let mut hits = seeking.hits(alloc)?;
+    let stopped = search_forward(group, &focus, command, &mut hits, steps)?;
+    found_at(alloc, group, from, &hits, stopped, seeking.inv)
+}
+
+/// Goes to the last position before this one where something hits or what a command asks for holds, else to the start.
+fn seek_back<L: Ledger>(
+    alloc: Global,
+    group: &mut Group,
+    seeking: &Seeking<'_>,
+    command: Backward,
+    steps: &mut Steps<L>,
+) -> Result<Found, NoMemory>
+    requires focus { IsFocus group.old.group seeking.now.inv seeking.now.info.now.tables seeking.now.info.now.lines }
+    requires typed { seeking.now.info.now.sizes ≡ typing_in group.old.group.program.accepted }
+    ensures target { OnOk result (group.new.group.position ≡ backward_target (hits_in seeking.now.breaks.now seeking.now.watches.now) command seeking.now.inv group.old.group) }
+    ensures done { IfOk result (λ found. found.done ≡ done_backward command seeking.now.inv group.old.group group.new.group) }
+    ensures hit { IfOk result (λ found. found.hit ≡ (if not (group.new.group.position == group.old.group.position)
+        then hit_of (tables_in group.old.group) seeking.now.breaks.now seeking.now.watches.now group.new.group else no_hit)) }
+    ensures focus { IfOk result (λ found. found.focus ≡ focus_by found.hit group.new.group seeking.now.inv) }
+    ensures exists { IfOk result (λ found. found.focus < invocations_in group.new.group) }
+    ensures same { group.new.group ≡ group_at group.new.group.position group.old.group }
+    ensures limit { group.new.limit ≡ group.old.limit }
+    ensures within { group.new.group.position ≤ end_in group.old.group }
+    ensures kept { group.new.kept ≤ max group.old.kept (window_in group.new) }
+    ensures counted { steps.old ≤ steps.new }
+    ensures cost { steps.new ≤ steps.old + backward_cost group.old.kept (backward_target (hits_in seeking.now.breaks.now seeking.now.watches.now) command seeking.now.inv group.old.group) }
+{
+    let from = group.position();
+    let focus = seeking.focus();
+    let mut hits = seeking.hits(alloc)?;
+    let stopped = search_backward(alloc, group, &focus, command, &mut hits, steps)?;
+    found_at(alloc, group, from, &hits, stopped, seeking.inv)
+}
 
 impl Core {
     /// Whether the focus is finished.
@@ -38,13 +218,15 @@ impl Core {
         ensures counted { steps.old ≤ steps.new }
         ensures cost { steps.new ≤ steps.old + motion_cost self.old.kept self.old.view (search_on command self.old.view) }
     {
-        let focus = Focus {
+        let alloc = self.alloc;
+        let seeking = Seeking {
             inv: self.focus,
-            tables: &self.info.tables,
-            lines: &self.info.lines,
+            info: &self.info,
+            breaks: &self.breaks,
+            watches: &self.watches,
         };
-        let stopped = search_forward(&mut self.group, &focus, command, &mut Never, steps)?;
-        self.stop(text, stopped.done)
+        let found = seek_on(alloc, &mut self.group, &seeking, command, steps)?;
+        self.stop(text, &found.hit, found.focus, found.done)
     }
 
     /// Goes to the last position before this one where something hits or what a command asks for holds, else to the start, and appends why
@@ -65,14 +247,15 @@ impl Core {
         ensures counted { steps.old ≤ steps.new }
         ensures cost { steps.new ≤ steps.old + motion_cost self.old.kept self.old.view (search_back command self.old.view) }
     {
-        let focus = Focus {
-            inv: self.focus,
-            tables: &self.info.tables,
-            lines: &self.info.lines,
-        };
         let alloc = self.alloc;
-        let stopped = search_backward(alloc, &mut self.group, &focus, command, &mut Never, steps)?;
-        self.stop(text, stopped.done)
+        let seeking = Seeking {
+            inv: self.focus,
+            info: &self.info,
+            breaks: &self.breaks,
+            watches: &self.watches,
+        };
+        let found = seek_back(alloc, &mut self.group, &seeking, command, steps)?;
+        self.stop(text, &found.hit, found.focus, found.done)
     }
 
     /// The same forward, of a focus that isn't finished; else a refusal.

@@ -1,18 +1,18 @@
 //! A kit of probes beside a group, and the replies to lines of input.
-ghost use Rattle.std.specs.Prelude.{◌≡◌, [], ℕ, ◌==◌, ◌<◌, ◌≤◌, ◌+◌, ◌++◌, ◌&&◌, ◌⊎◌, List, All, IfOk, Ok, Some, OnOk, OnErr, max, min, slice_get, vec_len, if◌then◌else◌};
+ghost use Rattle.std.specs.Prelude.{◌≡◌, [], ℕ, ◌<◌, ◌≤◌, ◌+◌, ◌++◌, List, All, IfOk, Ok, Some, OnOk, OnErr, max, slice_get, vec_len, if◌then◌else◌};
 ghost use Rattle.std.specs.Option.{option_map_or};
 ghost use Rattle.spv_base.specs.Prefix.{IsPrefixOf};
 ghost use Rattle.spv_cmd.specs.Commands.{command_of};
 ghost use Rattle.spv_group.specs.Group.{end_in, group_at, invocations_in, state_in, window_in};
 ghost use Rattle.spv_state.specs.State.{frames_of};
 ghost use Rattle.spv_search.specs.Keys.{shown_in};
-ghost use Rattle.spv_session.specs.Costs.{act_cost, line_cost, straight_cost};
+ghost use Rattle.spv_session.specs.Costs.{act_cost, line_cost};
 ghost use Rattle.spv_session.specs.Happenings.{lined};
-ghost use Rattle.spv_session.specs.Reply.{act_of, does_quit, focus_told, frame_told, frames_told, group_reply, info_reply, invocation_reply, is_quit, IsRefused, lines_told, place_reply, refusal_by, registers_told, reply, reply_by, select_told, stop_reply, told_refusal, told_reply};
+ghost use Rattle.spv_session.specs.Reply.{act_of, does_quit, focus_told, frame_told, frames_told, group_reply, info_reply, invocation_reply, is_quit, IsRefused, lines_told, place_reply, refusal_by, registers_told, reply, reply_by, select_told, told_refusal, told_reply};
 ghost use Rattle.spv_session.specs.Shown as spec;
 ghost use Rattle.spv_session.specs.Shown.{focus_frames};
 ghost use Rattle.spv_session.specs.Texts.{refusal_line, registers_text};
-ghost use Rattle.spv_session.specs.View.{first_viewing, focus_on, moved_to, undoing_in, view_at};
+ghost use Rattle.spv_session.specs.View.{IsEither, first_viewing, focus_on, undoing_in};
 ghost use Rattle.spv_session.specs.declared.session.Next.TheVariants as answers;
 
 use crate::debug_info::DebugInfo;
@@ -20,9 +20,9 @@ use crate::frames::{FOCUS_FINISHED, NO_SOURCE_TEXT, frame_with, push_frame_lines
 use crate::happenings::lined;
 use crate::info::{Info, module_words, push_info};
 use crate::kit::Kit;
-use crate::motions::{Aim, go_to};
+use crate::motions::Aim;
 use crate::registers::push_registers;
-use crate::texts::{push_invocation, push_position, push_stop, refusal_line};
+use crate::texts::{push_invocation, push_position, refusal_line};
 use spv_base::{CmdRefusal, Fail, Happening, NoMemory, Probe, Steps};
 use spv_cmd::{Command, parse_built};
 use spv_dbg::ShownFrame;
@@ -31,6 +31,7 @@ use spv_scopes::{innermost, shown};
 use spv_search::{Backward, Forward};
 use spv_source::{frame_line, source_lines};
 use spv_state::laws::top_frames_are_sound;
+use spv_stops::{Breaks, Watches};
 use std::alloc::Global;
 use std::marker::Model;
 use std::sync::ledger::Ledger;
@@ -56,14 +57,16 @@ fn read(alloc: Global, line: &[u8]) -> Result<Result<Command, CmdRefusal>, NoMem
     }
 }
 
-/// A group, about which lines of input ask, the debug information of its module, and the invocation and the shown frame that replies
-/// speak of.
+/// A group, about which lines of input ask, the debug information of its module, the invocation and the shown frame that replies speak of,
+/// and what motions stop at.
 pub struct Core {
     pub(crate) alloc: Global,
     pub(crate) group: Group,
     pub(crate) info: DebugInfo,
     pub(crate) focus: u32,
     pub(crate) frame: u32,
+    pub(crate) breaks: Breaks,
+    pub(crate) watches: Watches,
 }
 
 // Written out, so that it is proved once: a derived drop is proved again in each function that lets go of such a value.
@@ -75,9 +78,13 @@ impl Drop for Core {
             info,
             focus: _,
             frame: _,
+            breaks,
+            watches,
         } = self;
         drop(group);
         drop(info);
+        drop(breaks);
+        drop(watches);
     }
 }
 
@@ -92,7 +99,7 @@ impl Model for Core {
 
     ghost Value = { Viewing };
 
-    ghost view = { λ s. record { view = record (first_view s.group.group) { focus = s.focus; frame = s.frame }; kept = s.group.kept; limit = s.group.limit } };
+    ghost view = { λ s. record { view = record (first_view s.group.group) { focus = s.focus; frame = s.frame; breaks = s.breaks; watches = s.watches }; kept = s.group.kept; limit = s.group.limit } };
 
     ghost invariant = { λ s. (s.group.group.position ≤ end_in s.group.group) × (s.focus < invocations_in s.group.group)
         × (s.info.tables ≡ tables_in s.group.group) × (s.info.lines ≡ lines_of s.group.group.program.accepted (tables_in s.group.group))
@@ -113,6 +120,8 @@ impl Core {
             info,
             focus: 0,
             frame: 0,
+            breaks: Breaks::new(alloc),
+            watches: Watches::new(alloc),
         })
     }
 
@@ -131,8 +140,7 @@ impl Core {
         ensures group { self.new.view.group ≡ group_at self.new.view.group.position self.old.view.group }
         ensures limit { self.new.limit ≡ self.old.limit }
         ensures kept { self.new.kept ≤ max self.old.kept (window_in (undoing_in self.new)) }
-        ensures same { (self.new.view ≡ view_at self.new.view.group.position self.old.view)
-            ⊎ (self.new.view ≡ view_at self.new.view.group.position (reply self.old.view line.now).1) }
+        ensures same { IsEither self.new.view self.old.view (reply self.old.view line.now).1 }
         ensures within { self.new.view.group.position ≤ end_in self.old.view.group }
         ensures refused { (code : ℕ) → IsRefused self.old.view line.now code
             → (self.new ≡ self.old) × OnOk result (out.new.items ≡ out.old.items ++ refusal_line code) }
@@ -159,7 +167,7 @@ impl Core {
         ensures group { self.new.view.group ≡ group_at self.new.view.group.position self.old.view.group }
         ensures limit { self.new.limit ≡ self.old.limit }
         ensures kept { self.new.kept ≤ max self.old.kept (window_in (undoing_in self.new)) }
-        ensures same { OnErr result (self.new.view ≡ view_at self.new.view.group.position self.old.view) }
+        ensures same { OnErr result (IsEither self.new.view self.old.view (reply_by self.old.view (act_of command.now)).1) }
         ensures within { self.new.view.group.position ≤ end_in self.old.view.group }
         ensures refused { (code : ℕ) → refusal_by self.old.view (act_of command.now) ≡ Some code → self.new ≡ self.old }
         ensures counted { steps.old ≤ steps.new }
@@ -180,6 +188,10 @@ impl Core {
             Ok(Command::Locals) => self.push_locals(text)?,
             Ok(Command::Globals) => self.push_globals(text)?,
             Ok(Command::Print(path)) => self.push_path(text, path)?,
+            Ok(Command::Break(place)) => self.add_break(place, text)?,
+            Ok(Command::Delete(number)) => self.delete_break(*number, text)?,
+            Ok(Command::Watch(path)) => self.add_watch(path, text)?,
+            Ok(Command::Unwatch(number)) => self.delete_watch(*number, text)?,
             Ok(Command::Goto(position)) => self.go(Aim::at(*position), text, steps)?,
             Ok(Command::Fwd(count)) => self.go(Aim::forward(from, count.get()), text, steps)?,
             Ok(Command::Back(count)) => self.go(Aim::back(from, count.get()), text, steps)?,
@@ -198,42 +210,6 @@ impl Core {
             Ok(_) => {}
         }
         Ok(Next::Go)
-    }
-
-    /// Goes where a motion is asked to lead, and appends why it stopped. The innermost frame is selected then.
-    fn go<L: Ledger>(
-        &mut self,
-        aim: Aim,
-        text: &mut Vec<u8>,
-        steps: &mut Steps<L>,
-    ) -> Result<(), NoMemory>
-        ensures text { OnOk result (text.new.items ≡ text.old.items ++ stop_reply (aim.exact && self.new.view.group.position == aim.position) self.new.view) }
-        ensures view { OnOk result (self.new.view ≡ moved_to (min aim.position (end_in self.old.view.group)) self.old.view) }
-        ensures group { self.new.view.group ≡ group_at self.new.view.group.position self.old.view.group }
-        ensures same { OnErr result (self.new.view ≡ view_at self.new.view.group.position self.old.view) }
-        ensures limit { self.new.limit ≡ self.old.limit }
-        ensures kept { self.new.kept ≤ max self.old.kept (window_in (undoing_in self.new)) }
-        ensures within { self.new.view.group.position ≤ end_in self.old.view.group }
-        ensures counted { steps.old ≤ steps.new }
-        ensures cost { steps.new ≤ steps.old + straight_cost self.old.kept self.old.view.group aim.position }
-    {
-        go_to(&mut self.group, aim.position, steps)?;
-        let done = aim.exact && self.group.position() == aim.position;
-        self.stop(text, done)
-    }
-
-    /// Appends why a motion stopped here, and where the focus stands. The innermost frame is selected then.
-    pub(crate) fn stop(&mut self, text: &mut Vec<u8>, done: bool) -> Result<(), NoMemory>
-        ensures text { OnOk result (text.new.items ≡ text.old.items ++ stop_reply done self.new.view) }
-        ensures view { OnOk result (self.new.view ≡ moved_to self.old.view.group.position self.old.view) }
-        ensures err { OnErr result (self.new ≡ self.old) }
-        ensures group { self.new.view.group ≡ self.old.view.group }
-        ensures kept { self.new.kept ≡ self.old.kept }
-        ensures limit { self.new.limit ≡ self.old.limit }
-    {
-        self.push_stop(text, done)?;
-        self.frame = 0;
-        Ok(())
     }
 
     /// Makes an invocation the focus, and appends where it stands; or a refusal, where there is no such invocation.
@@ -407,7 +383,7 @@ impl Core {
     }
 
     /// Appends the position, and where an invocation stands there.
-    fn push_place(&self, text: &mut Vec<u8>, inv: u32) -> Result<(), NoMemory>
+    pub(crate) fn push_place(&self, text: &mut Vec<u8>, inv: u32) -> Result<(), NoMemory>
         requires { inv < invocations_in self.now.view.group }
         ensures { OnOk result (text.new.items ≡ text.old.items ++ place_reply (focus_on inv self.now.view)) }
     {
@@ -420,15 +396,6 @@ impl Core {
         ensures { result ≡ lined self.now.view.group.program.accepted happening }
     {
         lined(self.group.module().accepted(), &self.info.lines, happening)
-    }
-
-    /// Appends why a motion stopped where the group is, and where the focus stands.
-    fn push_stop(&self, text: &mut Vec<u8>, done: bool) -> Result<(), NoMemory>
-        ensures { OnOk result (text.new.items ≡ text.old.items ++ stop_reply done self.now.view) }
-    {
-        let cause = self.group.end_cause()?;
-        push_stop(self.alloc, text, done, self.group.position() == 0, cause)?;
-        self.push_place(text, self.focus)
     }
 }
 
@@ -476,8 +443,7 @@ impl Session {
         ensures group { self.new.core.view.group ≡ group_at self.new.core.view.group.position self.old.core.view.group }
         ensures limit { self.new.core.limit ≡ self.old.core.limit }
         ensures kept { self.new.core.kept ≤ max self.old.core.kept (window_in (undoing_in self.new.core)) }
-        ensures same { (self.new.core.view ≡ view_at self.new.core.view.group.position self.old.core.view)
-            ⊎ (self.new.core.view ≡ view_at self.new.core.view.group.position (reply self.old.core.view line.now).1) }
+        ensures same { IsEither self.new.core.view self.old.core.view (reply self.old.core.view line.now).1 }
         ensures within { self.new.core.view.group.position ≤ end_in self.old.core.view.group }
         ensures refused { (code : ℕ) → IsRefused self.old.core.view line.now code
             → (self.new.core ≡ self.old.core) × OnOk result (out.new.items ≡ out.old.items ++ refusal_line code) }

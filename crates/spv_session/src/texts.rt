@@ -1,11 +1,11 @@
 //! The texts of replies.
 ghost use Rattle.std.specs.Prelude.{◌≡◌, ◌++◌, OnOk, option_copied};
-ghost use Rattle.spv_session.specs.Texts.{refusal_line, standing_text, position_line, status_text, invocation_line, cause_text, stop_line};
+ghost use Rattle.spv_session.specs.Texts.{refusal_line, standing_text, position_line, status_text, invocation_line, break_line, deleted_line, watch_line, unwatched_line};
 
-use spv_base::{CmdRefusal, EndCause, NoMemory, Status4};
+use spv_base::{CmdRefusal, NoMemory, Status4};
 use spv_dbg::ShownFrame;
 use spv_line::push_number;
-use spv_source::place_text;
+use spv_source::{place_text, push_shown};
 use std::alloc::Global;
 
 /// The line of a refusal. Its code is 1 to 13.
@@ -104,52 +104,58 @@ pub fn push_invocation(
     Ok(())
 }
 
-/// Appends why the run ends.
-fn push_cause(alloc: Global, text: &mut Vec<u8>, cause: EndCause) -> Result<(), NoMemory>
-    ensures { OnOk result (text.new.items ≡ text.old.items ++ cause_text cause) }
+/// Appends the number of a new break, and the line of a file where it is.
+pub(crate) fn push_break(
+    alloc: Global,
+    text: &mut Vec<u8>,
+    number: u32,
+    file: &[u8],
+    line: u32,
+) -> Result<(), NoMemory>
+    ensures { OnOk result (text.new.items ≡ text.old.items ++ break_line number file.now line) }
 {
-    match cause {
-        EndCause::Finished => text.extend_from_slice(b"all finished")?,
-        EndCause::Stuck => text.extend_from_slice(b"stuck")?,
-        EndCause::Schedule => text.extend_from_slice(b"schedule ended")?,
-        EndCause::Fault(fault) => {
-            text.extend_from_slice(b"fault F")?;
-            push_number(alloc, text, fault.code as u64)?;
-            text.extend_from_slice(b" i=")?;
-            push_number(alloc, text, fault.inv as u64)?;
-            text.extend_from_slice(b" word ")?;
-            push_number(alloc, text, fault.word as u64)?;
-        }
-    }
+    text.extend_from_slice(b"break ")?;
+    push_number(alloc, text, u64::from(number))?;
+    text.extend_from_slice(b" at ")?;
+    push_shown(text, file)?;
+    text.extend_from_slice(b":")?;
+    push_number(alloc, text, u64::from(line))?;
+    text.extend_from_slice(b"\n")?;
     Ok(())
 }
 
-/// Appends why a motion stopped: the number was met, the start, and why the run ends there.
-pub fn push_stop(
+/// Appends the number of a new watch, before the line of what it watches.
+pub(crate) fn push_watch(
     alloc: Global,
     text: &mut Vec<u8>,
-    done: bool,
-    start: bool,
-    cause: Option<EndCause>,
+    number: u32,
+    line: &[u8],
 ) -> Result<(), NoMemory>
-    ensures { OnOk result (text.new.items ≡ text.old.items ++ stop_line done start cause) }
+    ensures { OnOk result (text.new.items ≡ text.old.items ++ watch_line number line.now) }
 {
-    text.extend_from_slice(b"stop: ")?;
-    if done {
-        text.extend_from_slice(b"done")?;
-    }
-    if done && (start || cause.is_some()) {
-        text.extend_from_slice(b", ")?;
-    }
-    if start {
-        text.extend_from_slice(b"start")?;
-    }
-    if start && cause.is_some() {
-        text.extend_from_slice(b", ")?;
-    }
-    if let Some(cause) = cause {
-        push_cause(alloc, text, cause)?;
-    }
+    text.extend_from_slice(b"watch ")?;
+    push_number(alloc, text, u64::from(number))?;
+    text.extend_from_slice(b": ")?;
+    text.extend_from_slice(line)?;
+    Ok(())
+}
+
+/// Appends that a break is gone.
+pub(crate) fn push_deleted(alloc: Global, text: &mut Vec<u8>, number: u32) -> Result<(), NoMemory>
+    ensures { OnOk result (text.new.items ≡ text.old.items ++ deleted_line number) }
+{
+    text.extend_from_slice(b"deleted ")?;
+    push_number(alloc, text, u64::from(number))?;
+    text.extend_from_slice(b"\n")?;
+    Ok(())
+}
+
+/// Appends that a watch is gone.
+pub(crate) fn push_unwatched(alloc: Global, text: &mut Vec<u8>, number: u32) -> Result<(), NoMemory>
+    ensures { OnOk result (text.new.items ≡ text.old.items ++ unwatched_line number) }
+{
+    text.extend_from_slice(b"unwatched ")?;
+    push_number(alloc, text, u64::from(number))?;
     text.extend_from_slice(b"\n")?;
     Ok(())
 }

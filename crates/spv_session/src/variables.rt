@@ -22,7 +22,7 @@ use spv_ids::id_text;
 
 impl Core {
     /// Where variables of the focus are read, with a shown frame or none.
-    fn sight<'a>(&'a self, frame: Option<&'a ShownFrame>) -> Sight<'a>
+    pub(crate) fn sight<'a>(&'a self, frame: Option<&'a ShownFrame>) -> Sight<'a>
         ensures tables { result.tables.now ≡ tables_in self.now.view.group }
         ensures typed { result.sizes.now ≡ typing_of result.memory.now }
         ensures memory { result.memory.now ≡ (state_in self.now.view.group).memory }
