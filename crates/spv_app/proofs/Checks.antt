@@ -1,7 +1,5 @@
 -- What is due of `check` and `text` where nothing fails, from what each status says.
-use Rattle.std.proofs.Common.{Bool, ◌≡◌, ◌≢◌, ◌↔◌, true, if◌then◌else◌, ◌∷◌, get_or, String, string_bytes, inl, inr, ℕ, ◌≤◌, ◌<◌, List, [], ◌++◌, length, sym, ap, ◌∙◌, subst, Option, Some, None, Err, refl, arith}
-use Rattle.std.specs.Str.{bytes_eq}
-use Rattle.std.specs.declared.alloc.Global.{Global}
+use Rattle.std.proofs.Common.{◌≡◌, ◌≢◌, ◌↔◌, inl, inr, ℕ, ◌≤◌, ◌<◌, List, ◌++◌, length, sym, ap, ◌∙◌, subst, Option, Some, Err, refl}
 use Rattle.std.specs.Io.KnownBytes.{Appends}
 use Rattle.spv_base.specs.Outside.{Told, Asked, Holds, HoldsMore, Asks, Reads, CountsFailure}
 use Rattle.spv_base.specs.declared.causes.FileErr.{FileErr}
@@ -9,7 +7,6 @@ use Rattle.spv_base.specs.declared.causes.FileErr.TheVariants.{Failed, TooLong}
 use Rattle.spv_base.specs.declared.causes.FileErr.TheVariants as error
 use Rattle.spv_loop.specs.declared.status.Status.{Status}
 use Rattle.spv_loop.specs.declared.status.Status.TheVariants.{FileFault, ReadFault, WriteFault, NoMemory}
-use Rattle.spv_app.specs.CommandLine.{name_after}
 use Rattle.spv_app.specs.Debug.{SaysLine}
 use Rattle.spv_loop.specs.FileStatus.{status_of_file}
 use Rattle.spv_app.specs.Limits.{binary_limit}
@@ -53,33 +50,6 @@ pub answered_headline : (due : List ℕ → Status) (line : List ℕ → List �
 answered_headline due line name read_name before after held_before held_after status m binary held same_name answered ok told binary_is few held_is =
     due_of due line m name before after held_before held_after held status told held_is binary binary_is few ok
     (subst (λ n. Answered due line n before after held_before held_after status) same_name answered)
-
--- ---- the words
-
-some_is : (x y : List ℕ) → Some x ≡ Some y → x ≡ y
-some_is x y p = cc
-
--- three words of which the second is this one
-name_of_three : (word : List ℕ) (words : List (String Global)) (command binary : String Global) (name : List ℕ) → 3 ≤ length words → length words < 4
-    → command ≡ get_or words 1 command → binary ≡ get_or words 2 binary
-    → bytes_eq (string_bytes command) word ≡ true → name_after word words ≡ Some name → string_bytes binary ≡ name
-name_of_three word [] command binary name low high c b e n = absurd (omega arith)
-name_of_three word (w ∷ []) command binary name low high c b e n = absurd (omega arith)
-name_of_three word (w ∷ x ∷ []) command binary name low high c b e n = absurd (omega arith)
-name_of_three word (w ∷ x ∷ y ∷ []) command binary name low high c b e n =
-    let is : bytes_eq (string_bytes x) word ≡ true = ap (λ t. bytes_eq (string_bytes t) word) (sym c) ∙ e in
-    ap (λ t. string_bytes t) b ∙ some_is _ _ (sym (ap (λ q. if q then Some (string_bytes y) else None) is) ∙ n)
-name_of_three word (w ∷ x ∷ y ∷ (v ∷ more)) command binary name low high c b e n = absurd (omega arith)
-
--- the name as it was lent
-pub name_lent : (word : List ℕ) (words : List (String Global)) (command binary : String Global) (name command_text binary_name : List ℕ) (is_word : Bool)
-    → 3 ≤ length words → length words < 4
-    → command ≡ get_or words 1 command → binary ≡ get_or words 2 binary
-    → command_text ≡ string_bytes command → is_word ≡ bytes_eq command_text word → is_word ≡ true
-    → binary_name ≡ string_bytes binary
-    → name_after word words ≡ Some name → binary_name ≡ name
-name_lent word words command binary name command_text binary_name is_word low high c b text test holds binary_is n =
-    binary_is ∙ name_of_three word words command binary name low high c b (ap (λ t. bytes_eq t word) (sym text) ∙ sym test ∙ holds) n
 
 -- ---- the calls
 

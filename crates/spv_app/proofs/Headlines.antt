@@ -1,18 +1,14 @@
 -- What is due where nothing fails, from what each status says.
-use Rattle.std.proofs.Common.{Bool, ◌≡◌, ◌≢◌, ◌↔◌, true, if◌then◌else◌, ◌∷◌, get_or, String, string_bytes, codes, inl, inr, ℕ, ◌+◌, ◌≤◌, ◌<◌, List, [], ◌++◌, length, length-append, refl, sym, ap, ◌∙◌, subst, Option, Some, None, unwrap_or, Result, arith}
+use Rattle.std.proofs.Common.{◌≡◌, ◌≢◌, ◌↔◌, inl, inr, ℕ, ◌+◌, ◌≤◌, ◌<◌, List, [], ◌++◌, length, length-append, refl, sym, ap, ◌∙◌, subst, Option, Some, None, unwrap_or, Result, arith}
 use Rattle.std.specs.Io.KnownBytes.{Appends, Consumes}
-use Rattle.std.specs.Str.{bytes_eq}
-use Rattle.std.specs.declared.alloc.Global.{Global}
 use Rattle.spv_base.specs.Outside.{Holds, HoldsMore}
-use Rattle.spv_group.specs.Group.{Held as Group}
-use Rattle.spv_session.specs.View.{View, first_view}
-use Rattle.spv_session.specs.Reply.{reply}
+use Rattle.spv_loop.specs.Sessions.{Held as Group, View, first_view, reply}
 use Rattle.spv_loop.specs.declared.status.Status.{Status}
 use Rattle.spv_loop.specs.declared.status.Status.TheVariants.{Done, Usage, ModuleRefused, SetupRefused, FileFault, ReadFault, WriteFault, NoMemory, InputTooLong, FileTooLong}
 use Rattle.spv_app.specs.declared.opening.OpeningRefusal.{OpeningRefusal}
 use Rattle.spv_loop.specs.Lines.{lines_of}
 use Rattle.spv_loop.specs.Transcript.{Reply, transcript}
-use Rattle.spv_app.specs.CommandLine.{PairNames, debug_names}
+use Rattle.spv_arguments.specs.Requests.{PairNames}
 use Rattle.spv_loop.specs.CommandLoop.{Says, with_rest}
 use Rattle.spv_app.specs.Opening.{opening, refusal_line}
 use Rattle.spv_app.specs.Limits.{binary_limit, setup_limit}
@@ -33,7 +29,7 @@ held_now before put None h = absurd h
 held_now before put (Some ys) h = ap Some h
 
 -- all that was left is what was taken and what is left now
-all_of : (xs got : List ℕ) (left : Option (List ℕ)) → Consumes (Some xs) left got → with_rest got left ≡ xs
+pub all_of : (xs got : List ℕ) (left : Option (List ℕ)) → Consumes (Some xs) left got → with_rest got left ≡ xs
 all_of xs got None h = absurd h
 all_of xs got (Some ys) h = sym h
 
@@ -130,35 +126,3 @@ pub headline : (names read_names : PairNames) (before after : Outside) (unread :
 headline names read_names before after unread status m binary setup xs held same_names debugged ok told binary_is setup_is few_binary few_setup left_is few held_is =
     due_of m names before after unread xs held status told left_is held_is binary setup binary_is setup_is few_binary few_setup few ok
     (subst (λ n. Debugged n before after unread status) same_names debugged)
-
--- ---- the words
-
-some_is : (x y : PairNames) → Some x ≡ Some y → x ≡ y
-some_is x y p = cc
-
--- four words of which the second is `debug`
-names_of_four : (words : List (String Global)) (command binary setup : String Global) (names : PairNames) → 4 ≤ length words → length words < 5
-    → command ≡ get_or words 1 command → binary ≡ get_or words 2 binary → setup ≡ get_or words 3 setup
-    → bytes_eq (string_bytes command) (codes "debug") ≡ true → debug_names words ≡ Some names → record { binary = string_bytes binary; setup = string_bytes setup } ≡ names
-names_of_four [] command binary setup names low high c b s e n = absurd (omega arith)
-names_of_four (w ∷ []) command binary setup names low high c b s e n = absurd (omega arith)
-names_of_four (w ∷ x ∷ []) command binary setup names low high c b s e n = absurd (omega arith)
-names_of_four (w ∷ x ∷ y ∷ []) command binary setup names low high c b s e n = absurd (omega arith)
-names_of_four (w ∷ x ∷ y ∷ z ∷ []) command binary setup names low high c b s e n =
-    let is : bytes_eq (string_bytes x) (codes "debug") ≡ true = ap (λ t. bytes_eq (string_bytes t) (codes "debug")) (sym c) ∙ e in
-    let first : Some (record { binary = string_bytes binary; setup = string_bytes setup }) ≡ Some (record { binary = string_bytes y; setup = string_bytes z }) =
-    ap (λ t. Some (record { binary = string_bytes t; setup = string_bytes setup })) b ∙ ap (λ t. Some (record { binary = string_bytes y; setup = string_bytes t })) s in
-    some_is _ _ (first ∙ sym (ap (λ q. if q then Some (record { binary = string_bytes y; setup = string_bytes z }) else None) is) ∙ n)
-names_of_four (w ∷ x ∷ y ∷ z ∷ (v ∷ more)) command binary setup names low high c b s e n = absurd (omega arith)
-
--- the names as they were lent
-pub names_lent : (words : List (String Global)) (command binary setup : String Global) (names : PairNames) (command_text binary_name setup_name : List ℕ) (is_debug : Bool)
-    → 4 ≤ length words → length words < 5
-    → command ≡ get_or words 1 command → binary ≡ get_or words 2 binary → setup ≡ get_or words 3 setup
-    → command_text ≡ string_bytes command → is_debug ≡ bytes_eq command_text (codes "debug") → is_debug ≡ true
-    → binary_name ≡ string_bytes binary → setup_name ≡ string_bytes setup
-    → debug_names words ≡ Some names → record { binary = binary_name; setup = setup_name } ≡ names
-names_lent words command binary setup names command_text binary_name setup_name is_debug low high c b s text test holds binary_is setup_is n =
-    let first : record { binary = binary_name; setup = setup_name } ≡ record { binary = string_bytes binary; setup = string_bytes setup } =
-    ap (λ t. record { binary = t; setup = setup_name }) binary_is ∙ ap (λ t. record { binary = string_bytes binary; setup = t }) setup_is in
-    first ∙ names_of_four words command binary setup names low high c b s (ap (λ t. bytes_eq t (codes "debug")) (sym text) ∙ sym test ∙ holds) n

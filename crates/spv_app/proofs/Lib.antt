@@ -4,3 +4,5 @@ mod Checks
 mod Readings
 mod Decodings
 mod OpeningLemmas
+mod Makings
+mod Servings

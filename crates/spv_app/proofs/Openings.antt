@@ -1,13 +1,12 @@
 -- Sessions that are opened over a pair.
 use Rattle.std.proofs.Common.{◌≡◌, ◌∙◌, ℕ, Result, Ok, Err, refl, ap, sym, subst}
-use Rattle.spv_group.specs.Group.{Held as Group, Undoing}
+use Rattle.spv_loop.specs.Sessions.{Held as Group, Undoing, Viewing, first_viewing}
 use Rattle.spv_app.specs.declared.opening.OpeningRefusal.{OpeningRefusal}
 use Rattle.spv_loop.specs.declared.status.Status.{Status}
 use Rattle.spv_loop.specs.CommandLoop.{Ran}
 use Rattle.spv_loop.specs.Transcript.{Reply, Cost}
 use Rattle.spv_app.specs.Opening.{journaled, viewed, with_journal}
 use Rattle.spv_loop.specs.Streams.{Streams}
-use Rattle.spv_session.specs.View.{Viewing, first_viewing}
 
 -- the first view of what a pair is opened as
 pub viewed_as : (n : ℕ) (r : Result Group OpeningRefusal) (u : Undoing) (v : Viewing) → journaled n r ≡ Ok u → v ≡ first_viewing u → viewed n r ≡ Ok v

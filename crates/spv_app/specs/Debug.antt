@@ -3,10 +3,7 @@ use Rattle.std.specs.Prelude.{◌≡◌, ◌⊎◌, ℕ, ◌≤◌, ◌<◌, Lis
 use Rattle.std.specs.Io.KnownBytes.{Appends, Keeps}
 use Rattle.spv_base.specs.Prefix.{IsProperPrefixOf}
 use Rattle.spv_base.specs.Outside.{Told, AsksFor, Holds, HoldsMore}
-use Rattle.spv_group.specs.Group.{Held as Group}
-use Rattle.spv_session.specs.View.{first_view, first_viewing}
-use Rattle.spv_session.specs.Reply.{reply}
-use Rattle.spv_session.specs.Costs.{line_cost}
+use Rattle.spv_loop.specs.Sessions.{Held as Group, first_view, first_viewing, reply, line_cost}
 use Rattle.spv_loop.specs.declared.status.Status.{Status}
 use Rattle.spv_loop.specs.declared.status.Status.TheVariants.{Done, ModuleRefused, SetupRefused, FileFault, WriteFault, NoMemory, FileTooLong}
 use Rattle.spv_app.specs.declared.opening.OpeningRefusal.{OpeningRefusal}
@@ -15,7 +12,7 @@ use Rattle.spv_app.specs.Limits.{binary_limit, setup_limit}
 use Rattle.spv_loop.specs.Lines.{lines_of}
 use Rattle.spv_app.specs.Outside.{Library, Outside}
 use Rattle.spv_loop.specs.Transcript.{transcript}
-use Rattle.spv_app.specs.CommandLine.{PairNames}
+use Rattle.spv_arguments.specs.Requests.{PairNames}
 use Rattle.spv_loop.specs.CommandLoop.{Ran}
 use Rattle.spv_app.specs.Opening.{opening, refusal_line, with_journal}
 

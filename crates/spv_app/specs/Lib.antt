@@ -6,3 +6,7 @@ pub mod Checking
 pub mod Texting
 pub mod CommandLine
 pub mod Debug
+pub mod Making
+pub mod Untaken
+pub mod Serving
+pub mod Statuses

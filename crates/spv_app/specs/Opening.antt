@@ -8,8 +8,7 @@ use Rattle.spv_valid.specs.Acceptance.{Accepted}
 use Rattle.spv_setup.specs.declared.settings.Settings.{Settings}
 use Rattle.spv_setup.specs.Settings.{settings_of}
 use Rattle.spv_state.specs.Program.{schedule_for}
-use Rattle.spv_group.specs.Group.{Held as Group, Undoing, first_group}
-use Rattle.spv_session.specs.View.{Viewing, first_viewing}
+use Rattle.spv_loop.specs.Sessions.{Held as Group, Undoing, first_group, Viewing, first_viewing}
 use Rattle.spv_app.specs.declared.opening.OpeningRefusal.{OpeningRefusal}
 use Rattle.spv_app.specs.declared.opening.OpeningRefusal.TheVariants.{Module, Setup}
 use Rattle.spv_app.specs.Acceptance.{accepted_as}

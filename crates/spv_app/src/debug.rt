@@ -1,13 +1,15 @@
 //! The top call.
-ghost use Rattle.std.specs.Prelude.{◌≡◌, ◌≢◌, ◌↔◌, ◌⊎◌, ◌<◌, ◌≤◌, ◌+◌, ◌-◌, ◌^◌, [], ◌∷◌, ◌++◌, List, ℕ, Option, Some, None, Ok, All, vec_len, length, IfOk, IfErr, IsOk, IsErrOf};
+ghost use Rattle.std.specs.Prelude.{◌≡◌, ◌≢◌, ◌↔◌, ◌⊎◌, ◌<◌, ◌≤◌, ◌+◌, ◌-◌, ◌^◌, [], ◌∷◌, ◌++◌, false, true, List, ℕ, Option, Some, Ok, All, vec_len, length, IfOk, IfErr, IsOk, IsErrOf};
 ghost use Rattle.std.specs.Io.KnownBytes.{Appends};
-ghost use Rattle.spv_app.specs.CommandLine.{PairNames, debug_names, check_name, text_name, usage_line};
-ghost use Rattle.spv_app.specs.Opening.{opening, refusal_line, viewed};
+ghost use Rattle.spv_arguments.specs.Requests.{PairNames, are_taken, check_name, debug_names, make_number, text_name, texts_of, AreFaulty};
+ghost use Rattle.spv_app.specs.CommandLine.{AskOne, usage_line};
+ghost use Rattle.spv_app.specs.Making.{Made, making, make_line, make_status};
+ghost use Rattle.spv_app.specs.Serving.{CanServe, Reads, Served};
+ghost use Rattle.spv_app.specs.Untaken.{Untaken};
+ghost use Rattle.spv_app.specs.Opening.{opening, refusal_line};
 ghost use Rattle.spv_app.specs.Outside.{library};
 ghost use Rattle.spv_app.specs.Debug.{Debugged, IsPair, IsOneOf, SaysLine, SaysUnopened, status_of_refusal, due_text, due_status};
-ghost use Rattle.spv_base.specs.Answers.{Answers};
 ghost use Rattle.spv_base.specs.Outside.{AsksFor};
-ghost use Rattle.spv_ops.specs.Steps.{seen};
 ghost use Rattle.spv_loop.specs.FileStatus.{status_of_file};
 ghost use Rattle.spv_app.specs.Limits.{binary_limit, setup_limit};
 ghost use Rattle.spv_loop.specs.Limits.{input_limit};
@@ -16,11 +18,12 @@ ghost use Rattle.spv_app.specs.Texting.{Texted, texting, text_line, text_status}
 
 use crate::checking::{Report, check_bytes};
 use crate::limits::{BINARY_LIMIT, SETUP_LIMIT};
-use crate::opening::{OpeningRefusal, open};
+use crate::making::{MadeReport, making};
+use crate::opening::{OpeningRefusal, open_session};
 use crate::texting::text_of_bytes;
+use spv_arguments::{Request, read};
 use spv_base::{Fail, Failed, FileErr, Files, Probe, Sink, Source, Steps, write_all};
 use spv_loop::{Status, run};
-use spv_session::Session;
 use std::alloc::Global;
 use std::sync::ledger::Ledger;
 
@@ -82,23 +85,6 @@ fn read_pair<F: Files>(
     let binary = files.read_all(alloc, binary_name, BINARY_LIMIT)?;
     let setup = files.read_all(alloc, setup_name, SETUP_LIMIT)?;
     Ok((binary, setup))
-}
-
-/// A session over a pair, at its first view. The probes are dropped at once.
-#[tactic(auto, using(crate::proofs::Openings::viewed_as, crate::proofs::Openings::unviewed_as))]
-fn open_session(
-    alloc: Global,
-    binary: Vec<u8>,
-    setup: Vec<u8>,
-    kit: Vec<Box<dyn Probe>>,
-) -> Result<Session, Fail<OpeningRefusal>>
-    requires fits { length setup.items ≤ setup_limit }
-    requires few { vec_len kit ≤ 16 }
-    requires unused { All (λ p. tally p ≡ 0) kit.items }
-    ensures { Answers (viewed 1048576 (opening binary.items setup.items)) (seen (λ session. session.core) result) }
-{
-    let group = open(alloc, binary, setup)?;
-    Ok(Session::open(alloc, group, kit)?)
 }
 
 /// Reads a module and a setup, and answers the input's lines about them.
@@ -199,6 +185,45 @@ fn text<F: Files, K: Sink>(alloc: Global, binary_name: &str, files: &mut F, out:
     }
 }
 
+/// Writes the line that tells how long made inputs and the transcript of their run are.
+fn tell_made<K: Sink>(alloc: Global, report: MadeReport, out: &mut K) -> Status
+    requires { K.faults out.old < 2 ^ 64 - 1 }
+    ensures says { (put : List ℕ) × Appends (K.taken out.old) (K.taken out.new) put × SaysLine Status.Done (make_line (Ok report)) result put }
+    ensures count { (result ≡ Status.WriteFault) ↔ (K.faults out.old < K.faults out.new) }
+    ensures counted { K.faults out.old ≤ K.faults out.new }
+{
+    match format!(in alloc; "{report}\n") {
+        Ok(line) => tell(out, line.as_bytes(), Status::Done),
+        Err(_) => Status::NoMemory,
+    }
+}
+
+/// Runs the inputs that are made for a number in memory, and tells how long they and the transcript are.
+fn make<K: Sink, L: Ledger>(
+    alloc: Global,
+    number: u32,
+    out: &mut K,
+    kit: Vec<Box<dyn Probe>>,
+    steps: &mut Steps<L>,
+) -> Status
+    requires low { 1 ≤ number }
+    requires high { number ≤ 64 }
+    requires few { vec_len kit ≤ 16 }
+    requires unused { All (λ p. tally p ≡ 0) kit.items }
+    requires out { K.faults out.old < 2 ^ 64 - 1 }
+    ensures made { Made number (K.taken out.old) (K.taken out.new) steps.old steps.new result }
+    ensures no_file { result ≢ Status.FileFault }
+    ensures no_read { result ≢ Status.ReadFault }
+    ensures count { (result ≡ Status.WriteFault) ↔ (K.faults out.old < K.faults out.new) }
+    ensures counted { K.faults out.old ≤ K.faults out.new }
+{
+    match making(alloc, number, kit, steps) {
+        Ok(report) => tell_made(alloc, report, out),
+        Err(Fail::Refused(refusal)) => tell_refusal(alloc, refusal, out),
+        Err(Fail::NoMemory) => Status::NoMemory,
+    }
+}
+
 /// Writes the line that says which words there are.
 fn tell_usage<K: Sink>(out: &mut K) -> Status
     requires { K.faults out.old < 2 ^ 64 - 1 }
@@ -210,9 +235,47 @@ fn tell_usage<K: Sink>(out: &mut K) -> Status
     tell(out, line.as_bytes(), Status::Usage)
 }
 
+/// Does what was asked for.
+fn serve<F: Files, I: Source, K: Sink, L: Ledger>(
+    alloc: Global,
+    request: Request,
+    files: &mut F,
+    input: &mut I,
+    out: &mut K,
+    kit: Vec<Box<dyn Probe>>,
+    steps: &mut Steps<L>,
+) -> Status
+    requires number { CanServe request }
+    requires few { vec_len kit ≤ 16 }
+    requires unused { All (λ p. tally p ≡ 0) kit.items }
+    requires files { F.faults files.old < 2 ^ 64 - 1 }
+    requires input { I.faults input.old < 2 ^ 64 - 1 }
+    requires out { K.faults out.old < 2 ^ 64 - 1 }
+    ensures served { Served request.entry
+        (record { files = library F.contents F.asked F.taken F.failed_name files.old; streams = record { left = I.left input.old; held = K.taken out.old; offers = K.offers out.old; steps = steps.old } })
+        (record { files = library F.contents F.asked F.taken F.failed_name files.new; streams = record { left = I.left input.new; held = K.taken out.new; offers = K.offers out.new; steps = steps.new } }) (files.new ≡ files.old) (input.new ≡ input.old) result }
+    ensures file_fault { (result ≡ Status.FileFault) ↔ (F.faults files.old < F.faults files.new) }
+    ensures file_name { result ≡ Status.FileFault → Reads request.entry (F.failed_name files.new) }
+    ensures read_fault { (result ≡ Status.ReadFault) ↔ (I.faults input.old < I.faults input.new) }
+    ensures write_fault { (result ≡ Status.WriteFault) ↔ (K.faults out.old < K.faults out.new) }
+    ensures counted { (F.faults files.old ≤ F.faults files.new) × (I.faults input.old ≤ I.faults input.new) × (K.faults out.old ≤ K.faults out.new) }
+    ensures ends { I.ends input.new ≤ I.ends input.old + 1 }
+{
+    match request {
+        Request::Debug { binary, setup } => {
+            debug(alloc, binary, setup, files, input, out, kit, steps)
+        }
+        Request::Check { binary } => check(alloc, binary, files, out),
+        Request::Make { number } => make(alloc, number, out, kit, steps),
+        Request::Text { binary } => text(alloc, binary, files, out),
+        Request::Help { text } => tell(out, text.as_bytes(), Status::Done),
+    }
+}
+
 /// Does what the words say: `debug MODULE SETUP` reads the module and the setup, opens the pair, and answers the lines of the
-/// input, to its end or to `quit`; `check MODULE` reads the module, and tells whether it is accepted; `text MODULE`
-/// reads it, and writes its listing. The first word is the program's name. Each answer is named by its status.
+/// input, to its end or to `quit`; `check MODULE` reads the module, and tells whether it is accepted; `make N` runs the inputs
+/// that are made for the number, and tells how long they and the transcript are; `text MODULE` reads the module, and writes its
+/// listing. The first word is the program's name. Each answer is named by its status.
 pub fn debug_main<F: Files, I: Source, K: Sink, L: Ledger>(
     alloc: Global,
     words: &[String],
@@ -251,6 +314,11 @@ pub fn debug_main<F: Files, I: Source, K: Sink, L: Ledger>(
         → F.faults files.new ≡ F.faults files.old → K.faults out.new ≡ K.faults out.old → result ≢ Status.NoMemory
         → (K.taken out.new ≡ Some (before ++ text_line (texting binary))) × (result ≡ text_status (texting binary)) }
 
+    // For `make` it is the line that is due for the number: how long its inputs and their transcript are, or their refusal.
+    ensures make_headline { (n : ℕ) (before : List ℕ) → make_number words.now ≡ Some n → K.taken out.old ≡ Some before
+        → K.faults out.new ≡ K.faults out.old → result ≢ Status.NoMemory
+        → (K.taken out.new ≡ Some (before ++ make_line (making n))) × (result ≡ make_status (making n)) }
+
     // What each status says, whatever was told and whatever failed.
     ensures debugged { (names : PairNames) → debug_names words.now ≡ Some names
         → Debugged names
@@ -266,9 +334,15 @@ pub fn debug_main<F: Files, I: Source, K: Sink, L: Ledger>(
         × Texted name
         (library F.contents F.asked F.taken F.failed_name files.old)
         (library F.contents F.asked F.taken F.failed_name files.new) (K.taken out.old) (K.taken out.new) result }
-    ensures usage { debug_names words.now ≡ None → check_name words.now ≡ None → text_name words.now ≡ None
+    ensures made { (n : ℕ) → make_number words.now ≡ Some n
+        → (files.new ≡ files.old) × (input.new ≡ input.old)
+        × Made n (K.taken out.old) (K.taken out.new) steps.old steps.new result }
+    ensures untaken { are_taken (texts_of words.now) ≡ false
         → (files.new ≡ files.old) × (input.new ≡ input.old) × (steps.new ≡ steps.old)
-        × ((put : List ℕ) × Appends (K.taken out.old) (K.taken out.new) put × SaysLine Status.Usage usage_line result put) }
+        × Untaken words.now (K.taken out.old) (K.taken out.new) result }
+    ensures usage { result ≡ Status.Usage → AreFaulty words.now }
+    // So these are all words there are.
+    ensures taken { are_taken (texts_of words.now) ≡ true → result ≢ Status.NoMemory → AskOne words.now }
 
     // Faults are told exactly where they were counted.
     ensures file_fault { (result ≡ Status.FileFault) ↔ (F.faults files.old < F.faults files.new) }
@@ -281,23 +355,9 @@ pub fn debug_main<F: Files, I: Source, K: Sink, L: Ledger>(
     // The input isn't read again once its end was told.
     ensures ends { I.ends input.new ≤ I.ends input.old + 1 }
 {
-    match words {
-        [_, command, binary, setup] if command.as_str() == "debug" => debug(
-            alloc,
-            binary.as_str(),
-            setup.as_str(),
-            files,
-            input,
-            out,
-            kit,
-            steps,
-        ),
-        [_, command, binary] if command.as_str() == "check" => {
-            check(alloc, binary.as_str(), files, out)
-        }
-        [_, command, binary] if command.as_str() == "text" => {
-            text(alloc, binary.as_str(), files, out)
-        }
-        _ => tell_usage(out),
+    match read(alloc, words) {
+        Ok(request) => serve(alloc, request, files, input, out, kit, steps),
+        Err(Fail::Refused(_)) => tell_usage(out),
+        Err(Fail::NoMemory) => Status::NoMemory,
     }
 }

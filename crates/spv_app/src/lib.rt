@@ -5,6 +5,7 @@ pub mod acceptance;
 pub mod checking;
 pub mod debug;
 pub mod limits;
+pub mod making;
 pub mod opening;
 pub mod texting;
 

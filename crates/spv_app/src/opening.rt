@@ -1,17 +1,18 @@
 //! The opening of a pair of a module and a setup.
-ghost use Rattle.std.specs.Prelude.{◌≡◌, ◌≤◌, ◌<◌, IfOk, length};
+ghost use Rattle.std.specs.Prelude.{◌≡◌, ◌≤◌, ◌<◌, All, IfOk, length, vec_len};
 ghost use Rattle.spv_base.specs.Answers.{Answers};
 ghost use Rattle.spv_setup.specs.Settings.{settings_of};
 ghost use Rattle.spv_valid.specs.Validity.{IsValid};
 ghost use Rattle.spv_valid.specs.Acceptance.{invocations};
 ghost use Rattle.spv_app.specs.Limits.{setup_limit};
-ghost use Rattle.spv_app.specs.Opening.{opening, accepted_in, journaled, started, of_setup, of_module};
+ghost use Rattle.spv_app.specs.Opening.{opening, accepted_in, journaled, started, of_setup, of_module, viewed};
+ghost use Rattle.spv_ops.specs.Steps.{seen};
 ghost use Rattle.spv_state.specs.Program.{schedule_for};
 
 use crate::acceptance::accepted_as;
-use spv_base::{Fail, Refusal, SetupRefusal};
+use spv_base::{Fail, Probe, Refusal, SetupRefusal};
 use spv_fit::fit;
-use spv_group::{Group, LIMIT};
+use spv_loop::{Group, LIMIT, Session};
 use spv_setup::{Schedule, Setup};
 use spv_state::Runnable;
 use spv_valid::Module;
@@ -163,4 +164,21 @@ pub fn open_limited(
     let setup = parse_setup(alloc, &setup)?;
     let accepted = read_module(alloc, &binary, &setup)?;
     start(alloc, accepted, setup, limit)
+}
+
+/// A session over a pair, at its first view. The probes are dropped at once.
+#[tactic(auto, using(crate::proofs::Openings::viewed_as, crate::proofs::Openings::unviewed_as))]
+pub fn open_session(
+    alloc: Global,
+    binary: Vec<u8>,
+    setup: Vec<u8>,
+    kit: Vec<Box<dyn Probe>>,
+) -> Result<Session, Fail<OpeningRefusal>>
+    requires fits { length setup.items ≤ setup_limit }
+    requires few { vec_len kit ≤ 16 }
+    requires unused { All (λ p. tally p ≡ 0) kit.items }
+    ensures { Answers (viewed 1048576 (opening binary.items setup.items)) (seen (λ session. session.core) result) }
+{
+    let group = open(alloc, binary, setup)?;
+    Ok(Session::open(alloc, group, kit)?)
 }

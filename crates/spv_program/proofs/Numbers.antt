@@ -1,8 +1,6 @@
 -- The number of a status tells it.
 use Rattle.std.proofs.Common.{◌≡◌, ◌↔◌, ◌<◌, ℕ, ◌==◌, if◌then◌else◌, refl, sym, ap, ◌∙◌}
-use Rattle.spv_loop.specs.StatusNumbers.{status_number}
-use Rattle.spv_loop.specs.declared.status.Status.{Status}
-use Rattle.spv_loop.specs.declared.status.Status.TheVariants.{Done, Usage, ModuleRefused, SetupRefused, FileFault, ReadFault, WriteFault, NoMemory, InputTooLong, FileTooLong}
+use Rattle.spv_app.specs.Statuses.{status_number, Status, Done, Usage, ModuleRefused, SetupRefused, FileFault, ReadFault, WriteFault, NoMemory, InputTooLong, FileTooLong}
 
 abbrev status_at : ℕ → Status
 status_at n =

@@ -1,6 +1,8 @@
 //! What the program says on standard error where it gave up: what failed, with which file, past which limit.
 use spv_app::Status;
 use spv_app::limits::{BINARY_LIMIT, INPUT_LIMIT, SETUP_LIMIT};
+use spv_arguments::{Request, read};
+use std::alloc::Global;
 use std::fmt;
 
 /// Why the program gave up, by the statuses from 5 to 10.
@@ -47,18 +49,20 @@ impl fmt::Display for Complaint<'_> {
     }
 }
 
-fn word_at(words: &[String], place: usize) -> &str {
-    match words.get(place) {
-        Some(word) => word.as_str(),
-        None => "",
+/// The names of the module and of the setup that the words give; empty where they give none.
+pub fn names_in<'a>(alloc: Global, words: &'a [String]) -> (&'a str, &'a str) {
+    match read(alloc, words) {
+        Ok(Request::Debug { binary, setup }) => (binary, setup),
+        Ok(Request::Check { binary }) | Ok(Request::Text { binary }) => (binary, ""),
+        _ => ("", ""),
     }
 }
 
-/// Why the program gave up with a status; none below 5. The command line's words, the name whose reading failed last and the
-/// number of bytes that the last reading took say which file it was: a module is read no further than a block past its limit.
+/// Why the program gave up with a status; none below 5. The names of the module and of the setup, the name whose reading failed last
+/// and the number of bytes that the last reading took say which file it was: a module is read no further than a block past its limit.
 pub fn complaint_at<'a>(
     status: Status,
-    words: &'a [String],
+    names: (&'a str, &'a str),
     failed_name: &'a str,
     taken: u64,
 ) -> Option<Complaint<'a>> {
@@ -69,10 +73,8 @@ pub fn complaint_at<'a>(
         Status::WriteFault => Some(Complaint::WriteFault),
         Status::NoMemory => Some(Complaint::NoMemory),
         Status::InputTooLong => Some(Complaint::InputTooLong),
-        Status::FileTooLong if taken > SETUP_LIMIT => {
-            Some(Complaint::SetupTooLong(word_at(words, 3)))
-        }
-        Status::FileTooLong => Some(Complaint::ModuleTooLong(word_at(words, 2))),
+        Status::FileTooLong if taken > SETUP_LIMIT => { Some(Complaint::SetupTooLong(names.1)) }
+        Status::FileTooLong => Some(Complaint::ModuleTooLong(names.0)),
     }
 }
 
@@ -85,9 +87,10 @@ mod tests {
     fn names_what_failed(rt: HostRuntime) -> Result<(), Fail> {
         let alloc = rt.alloc();
         let mut words = Vec::new(alloc);
-        for word in ["spvdbg", "debug", "a.spv", "a.setup"] {
+        for word in ["spvdbg", "debug", "a.spv", "--", "a.setup"] {
             words.push(String::from_str(alloc, word)?)?;
         }
+        let names = names_in(alloc, words.as_slice());
         let rows: [(Status, u64, &str); 11] = [
             (Status::Done, 0, ""),
             (Status::Usage, 0, ""),
@@ -118,7 +121,7 @@ mod tests {
             ),
         ];
         for (status, taken, text) in rows {
-            let said = match complaint_at(status, words.as_slice(), "x", taken) {
+            let said = match complaint_at(status, names, "x", taken) {
                 Some(complaint) => format!(in alloc; "{complaint}")?,
                 None => String::new(alloc),
             };

@@ -2,13 +2,13 @@
 ghost use Rattle.std.specs.Prelude.{◌≡◌, ◌≢◌, ◌↔◌, ◌<◌, ◌≤◌, ◌-◌, ◌^◌, List, ℕ, Option, Some, length};
 ghost use Rattle.std.specs.Process.{exit_status};
 ghost use Rattle.spv_app.specs.Checking.{checking, check_status};
-ghost use Rattle.spv_app.specs.CommandLine.{PairNames, debug_names, check_name, text_name};
+ghost use Rattle.spv_arguments.specs.Requests.{PairNames, check_name, debug_names, make_number, text_name};
+ghost use Rattle.spv_app.specs.Making.{make_status, making};
 ghost use Rattle.spv_app.specs.Debug.{due_status};
 ghost use Rattle.spv_app.specs.Limits.{binary_limit, setup_limit};
 ghost use Rattle.spv_app.specs.Opening.{opening};
 ghost use Rattle.spv_app.specs.Texting.{texting, text_status};
-ghost use Rattle.spv_loop.specs.Limits.{input_limit};
-ghost use Rattle.spv_loop.specs.StatusNumbers.{status_number};
+ghost use Rattle.spv_app.specs.Statuses.{input_limit, status_number};
 
 use spv_app::{Status, debug_main};
 use spv_base::{Files, Probe, Sink, Source, Steps};
@@ -49,7 +49,7 @@ pub fn end<F: Files, I: Source, K: Sink, L: Ledger>(
     ensures read_fault { (exit_status result.code ≡ 6) ↔ (I.faults input.old < I.faults input.new) }
     ensures write_fault { (exit_status result.code ≡ 7) ↔ (K.faults out.old < K.faults out.new) }
 
-    // Where nothing fails and memory suffices, the number is the one that is due for the files.
+    // Where nothing fails and memory suffices, the number is the one that is due for the files, or for the number.
     ensures debugged { (names : PairNames) (m : List ℕ → Option (List ℕ)) (binary setup xs before : List ℕ)
         → debug_names words.now ≡ Some names → F.contents files.old ≡ Some m → m names.binary ≡ Some binary → m names.setup ≡ Some setup
         → length binary ≤ binary_limit → length setup ≤ setup_limit
@@ -67,6 +67,9 @@ pub fn end<F: Files, I: Source, K: Sink, L: Ledger>(
         → K.taken out.old ≡ Some before
         → F.faults files.new ≡ F.faults files.old → K.faults out.new ≡ K.faults out.old → result.status ≢ Status.NoMemory
         → exit_status result.code ≡ status_number (text_status (texting binary)) }
+    ensures made { (n : ℕ) (before : List ℕ) → make_number words.now ≡ Some n → K.taken out.old ≡ Some before
+        → K.faults out.new ≡ K.faults out.old → result.status ≢ Status.NoMemory
+        → exit_status result.code ≡ status_number (make_status (making n)) }
 {
     let kit: Vec<Box<dyn Probe>> = Vec::new(alloc);
     let status = debug_main(alloc, words, files, input, out, kit, steps);

@@ -1,7 +1,7 @@
 //! A run with what the system gives.
 ghost use Rattle.std.specs.Prelude.{◌≡◌, ◌<◌};
 
-use crate::complaints::{Complaint, complaint_at};
+use crate::complaints::{Complaint, complaint_at, names_in};
 use crate::ending::{end, exit_code};
 use spv_app::Status;
 use spv_base::{FromRead, NoMemory, RealFiles, Steps, ToWrite};
@@ -51,7 +51,7 @@ pub fn run<L: Ledger, R: rt::Files + Input + Print + Eprint + Env + AllocGlobal>
     let ending = end(alloc, &words, &mut files, &mut input, &mut out, &mut steps);
     if let Some(complaint) = complaint_at(
         ending.status,
-        &words,
+        names_in(alloc, &words),
         files.failed_name(),
         files.taken(),
     ) {

@@ -1,5 +1,6 @@
-//! The debugger as a program: `spvdbg debug MODULE SETUP` answers the commands of standard input on standard output, and
-//! `spvdbg check MODULE` tells whether a module is accepted. Where it gives up, a line on standard error says why.
+//! The debugger as a program: `spvdbg debug MODULE SETUP` answers the commands of standard input on standard output,
+//! `spvdbg check MODULE` tells whether a module is accepted, `spvdbg text MODULE` lists it, and `spvdbg make N` runs made inputs. Where it
+//! gives up, a line on standard error says why.
 #![tactic(auto)]
 
 use spv_program::run;

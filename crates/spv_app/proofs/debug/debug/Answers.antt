@@ -3,9 +3,7 @@ use Rattle.std.proofs.KnownBytes.{Keeps-refl}
 use Rattle.spv_app.specs.Debug.{Unopened, Refused, Opened}
 use Rattle.spv_loop.specs.FileStatus.{status_of_file}
 use Rattle.spv_app.specs.Opening.{opening, with_journal}
-use Rattle.spv_session.specs.View.{first_viewing}
-use Rattle.spv_session.specs.Reply.{reply}
-use Rattle.spv_session.specs.Costs.{line_cost}
+use Rattle.spv_loop.specs.Sessions.{first_viewing, reply, line_cost}
 use Rattle.spv_app.proofs.Openings.{viewed_is, refused_is, ran_as}
 use Rattle.spv_app.proofs.debug.debug.Goals as goal
 

@@ -1,6 +1,5 @@
 use Rattle.std.proofs.Common.{ap, ◌∙◌}
-use Rattle.spv_loop.specs.StatusNumbers.{status_number}
-use Rattle.spv_loop.specs.declared.status.Status.TheVariants.{FileFault, ReadFault, WriteFault}
+use Rattle.spv_app.specs.Statuses.{status_number, FileFault, ReadFault, WriteFault}
 use Rattle.spv_program.proofs.Numbers.{code_counts}
 use Rattle.spv_program.proofs.ending.end.Goals as goal
 
@@ -25,3 +24,7 @@ returns-clause-checked g c name m binary before word_is told binary_is few held 
 pub returns-clause-texted : goal.returns-clause-texted
 returns-clause-texted g c name m binary before word_is told binary_is few held files writes memory =
     c.exit_code.ensures ∙ ap status_number (c.debug_main-status.ensures.text_headline name m binary before word_is told binary_is few held files writes memory).1
+
+pub returns-clause-made : goal.returns-clause-made
+returns-clause-made g c n before number_is held writes memory =
+    c.exit_code.ensures ∙ ap status_number (c.debug_main-status.ensures.make_headline n before number_is held writes memory).1
