@@ -9,6 +9,7 @@ input may have. What is written, how the call ends and what it asks for is worke
 those of the replies, and of what the output left of one.
 """
 import os
+import make
 from listings import TOP
 
 FOLDER = os.path.join(TOP, "crates", "spv_rows")
@@ -23,6 +24,9 @@ COMMANDS = "goto 3\nregs\ngoto 9\n"
 FIRST = "stop: done\n@3 i=0 %7 word 65\n"
 ALL = FIRST + "%10 = 40\n%11 = 42\nstop: all finished\n@4 i=0 finished\n"
 ACCEPTED = "accepted: words 67, instructions 18\n"
+USAGE_LINE = "usage: spvdbg debug MODULE SETUP | check MODULE | make N | text MODULE\n"
+HELP_OF_CHECK = "Usage: spvdbg check <MODULE>\n\nArguments:\n  <MODULE>  \n\nOptions:\n  -h, --help  Print help\n"
+MADE = make.told(1)
 
 
 def down(*lengths):
@@ -67,6 +71,11 @@ FILES = [
     ("one file is read and one piece written", CHECK, TEN_ROUNDS, "readings that fail: 1\nwrites that fail: 1\n", DONE, ACCEPTED, "", [36]),
     ("the module to be checked isn't read", CHECK, TEN_ROUNDS, "readings that fail: 0\n", FILE, "", "module.spv", []),
     ("the line of a check isn't written", CHECK, TEN_ROUNDS, "writes that fail: 0\n", WRITE, "", "", [36]),
+    ("the usage line isn't written", "spvdbg check", TEN_ROUNDS, "writes that fail: 0\n", WRITE, "", "", [len(USAGE_LINE)]),
+    ("the text of help isn't written", "spvdbg check --help", TEN_ROUNDS, "writes that fail: 0\n", WRITE, "", "", [len(HELP_OF_CHECK)]),
+    ("a write fails in the text of help", "spvdbg help check", TEN_ROUNDS, "bytes of a write: 1\nwrites that fail: 6\n", WRITE, "Usage:", "", down(len(HELP_OF_CHECK))[:7]),
+    ("nothing is read for made inputs", "spvdbg make 1", TEN_ROUNDS, "readings that fail: 0\nreads that fail: 0\n", DONE, MADE, "", [len(MADE)]),
+    ("a write fails in the line of made inputs", "spvdbg make 1", TEN_ROUNDS, "bytes of a write: 1\nwrites that fail: 7\n", WRITE, "make 1:", "", down(len(MADE))[:8]),
     ("a write fails in the line of a check", CHECK, TEN_ROUNDS, "bytes of a write: 1\nwrites that fail: 8\n", WRITE, "accepted", "", down(36)[:9]),
 ]
 

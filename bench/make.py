@@ -13,11 +13,10 @@ import os
 import struct
 import sys
 from spirv import inst, text
-from stops import NOT_BUILT
 
 INVOCATIONS = 64
-# How many bytes the transcripts for 1 and 64 have, and their sums, as stops.py works them out: as long as `break 4` is refused, and with it.
-TRANSCRIPTS = {1: (357, 29960), 64: (2883, 235178)} if NOT_BUILT else {1: (328, 25838), 64: (2923, 226418)}
+# How many bytes the transcripts for 1 and 64 have, and their sums, as stops.py works them out.
+TRANSCRIPTS = {1: (328, 25838), 64: (2923, 226418)}
 
 # By name: the number of an opcode, and whether it has a type and a result.
 PLAIN = {

@@ -361,7 +361,7 @@ RUNS = [
 ]
 GLSLANG = ["glslangValidator", "-V", "--target-env", "spirv1.6"]
 SHADERS = [("manual", "either"), ("manual", "either_set"), ("manual", "alarm"), ("manual", "chosen"), ("manual", "sources"), ("manual", "shown")]
-EXAMPLES = ["rounding", "race", "undefined", "exchange", "barrier", "stuck", "shares"]
+EXAMPLES = ["rounding", "race", "undefined", "exchange", "barrier", "stuck", "shares", "overwritten"]
 # Modules with lines, of the sources of examples, whose names are part of them.
 WITH_LINES = [
     ("rounding-lines", "rounding", GLSLANG + ["-g"]),
@@ -466,6 +466,7 @@ def main():
     for name in EXAMPLES:
         shutil.copy(os.path.join(TOP, "examples", name, "module.spv"), path_of(name))
     shutil.copy(os.path.join(TOP, "examples", "shares", "calls.spv"), path_of("shares-calls"))
+    shutil.copy(os.path.join(TOP, "examples", "overwritten", "inlined.spv"), path_of("overwritten-inlined"))
     for name, example, command in WITH_LINES:
         with tempfile.TemporaryDirectory() as room:
             shutil.copy(os.path.join(TOP, "examples", example, example + ".comp"), room)

@@ -6,8 +6,7 @@
 
 A row is what a motion costs, by how many times that of `fwd` or `back` over the same events, and the bar. A cost is the difference
 between sessions with and without the motion, so opening and the way there don't count. The bars: steps within 2 times, `continue`
-with 64 breaks within 2, with a watch on a global of 32 bits within 4, and with 32 watches on locals within 10. The rows with breaks and
-watches are left out as long as these aren't built (NOT_BUILT of stops.py).
+with 64 breaks within 2, with a watch on a global of 32 bits within 4, and with 32 watches on locals within 10.
 """
 import os
 import re
@@ -15,7 +14,6 @@ import subprocess
 import sys
 import debug_size
 from source_modules import FUNCTION, INPUT, LOCAL_INDEX, WORKGROUP, line, scope
-from stops import NOT_BUILT
 from variable_modules import UNSIGNED, Described, event, module
 
 EVENTS, KEPT, TENTH, LOCALS, BREAKS, FIRST_LINE = 1_000_000, 200_000, 10, 32, 64, 100
@@ -148,8 +146,7 @@ def main():
     events = EVENTS // TENTH if in_instructions else EVENTS
     print("| motion | events | an event | by `fwd` or `back` | times | bar |\n|---|---|---|---|---|---|")
     steps(program, events, in_instructions)
-    if not NOT_BUILT:
-        stops(program, events, in_instructions)
+    stops(program, events, in_instructions)
 
 
 if __name__ == "__main__":

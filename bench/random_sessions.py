@@ -4,8 +4,6 @@
     bench/random_sessions.py PROGRAM COUNT [SEED]                so many sessions over each module under each schedule
     bench/random_sessions.py PROGRAM COUNT SEED motions          without breaks and watches
 
-As long as a program hasn't these (NOT_BUILT of stops.py), no session has them.
-
 The modules are the four of each shader of bench/traces/, those of examples, and those by hand of source_runs.py, variable_runs.py and
 stop_runs.py. A schedule lets all invocations go in rounds, or lets each of them go on for a while in turn, or ends early. What is asked
 for is drawn from what there is: lines that have code, names that are seen, invocations and frames, now and then one past them. Some
@@ -22,7 +20,7 @@ import trace_modules
 import traces
 import variable_runs
 from sessions import Shaped
-from stops import NOT_BUILT, OF_STOPS, Debugger
+from stops import OF_STOPS, Debugger
 
 COMMANDS = 40
 MOTIONS = ["step", "next", "finish", "rstep", "rnext", "rfinish", "continue", "rcontinue"]
@@ -31,7 +29,7 @@ IN_GATE, SESSIONS, SHORT = trace_modules.IN_GATE + [trace_modules.VARIABLES_IN_G
 BY_HAND = ["inlined", "both", "exchange", "stuck", "called", "with-text"]
 VARIABLES_BY_HAND = ["phi", "nested", "made"]
 # Examples, and the numbers of their buffers.
-EXAMPLES = [("shares", manual_runs.TEN), ("shares-calls", manual_runs.TEN)]
+EXAMPLES = [("overwritten", 64 * [0]), ("overwritten-inlined", 64 * [0]), ("shares", manual_runs.TEN), ("shares-calls", manual_runs.TEN)]
 
 
 class Place:
@@ -159,7 +157,7 @@ def calls():
     drawn = random.Random(1)
     for what, path, at in places(compiled(IN_GATE), drawn):
         for _ in range(SESSIONS // 3):
-            made = asked(drawn, at, SHORT, NOT_BUILT)
+            made = asked(drawn, at, SHORT, ())
             written = "".join(line + "\n" for reply in made.replies for line in reply)
             yield "drawn of " + what, os.path.basename(path), at.setup(), "".join(c + "\n" for c in made.commands), 0, written
 
@@ -167,7 +165,7 @@ def calls():
 def main():
     program, count, seed = os.path.abspath(sys.argv[1]), int(sys.argv[2]), int(sys.argv[3]) if len(sys.argv) > 3 else 1
     drawn, wrong, sessions, commands = random.Random(seed), 0, 0, 0
-    left_out = OF_STOPS if "motions" in sys.argv else NOT_BUILT
+    left_out = OF_STOPS if "motions" in sys.argv else ()
     every = [(name, form) for name in trace_modules.NAMES for form in trace_modules.FORMS]
     for name, _, at in itertools.chain(by_hand(drawn), places(compiled(every), drawn)):
         for _ in range(count):

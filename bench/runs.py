@@ -30,15 +30,13 @@ import variables_told
 from listings import TOP, Inst, laid_out
 from places import Places
 from sessions import Shaped
-from stops import NOT_BUILT, Built
+from stops import Debugger
 
 FOLDER = os.path.join(TOP, "crates", "spv_runs")
 DATA = os.path.join(FOLDER, "data")
 DONE, USAGE, MODULE, SETUP, FILE = 0, 2, 3, 4, 5
 DEBUG = "spvdbg debug module setup"
 TEN_ROUNDS = "spvdbg-setup 1\nrounds 10\n"
-# Whether the program has `make`: as long as it hasn't, these words are faulty.
-MAKES = False
 USAGE_LINE = "usage: spvdbg debug MODULE SETUP | check MODULE | make N | text MODULE\n"
 UNKNOWN = "refused: C1 unknown command\n"
 ARGUMENTS = "refused: C2 arguments\n"
@@ -57,7 +55,6 @@ STOPS = [
         2 * NO_CODE + 3 * NO_NUMBER + 4 * NO_NAME + ENDED + 2 * NO_CODE + 2 * NO_NAME,
     ),
 ]
-NO_STOPS = [("break 1\nbreak\nbreak x:1\ndelete 1\ndelete\nwatch %9\nwatch\nunwatch 1\nunwatch\n", 9 * UNKNOWN)]
 
 # The commands to the shader that adds 40 and 2, under ten rounds, and all that is written.
 COMMANDS = [
@@ -105,7 +102,7 @@ COMMANDS = [
     ("stepi 4\nrstepi\nrstepi 3\nrstepi\n", ENDED + "stop: done\n@3 i=0 %7 word 65\nstop: done, start\n@0 i=0 %7 word 53\n" + BEGUN),
     ("stepi 5\nrstepi 4\nstepi 4294967295\nrstepi 5\n", "stop: all finished\n" + OVER + "stop: done, start\n@0 i=0 %7 word 53\nstop: all finished\n" + OVER + BEGUN),
     ("goto 4\nstepi\nstep\nnext\nfinish\nrnext\nrfinish\ncontinue\nrstep\n", ENDED + 6 * FINISHED + "stop: all finished\n" + OVER + BEGUN),
-    *(NO_STOPS if NOT_BUILT else STOPS),
+    *STOPS,
     ("quit now\nquit\ngoto 1\n", ARGUMENTS),
     (" " * 4096 + "\n", ""),
     (" " * 4097 + "\n", "refused: C11 line too long\n"),
@@ -160,6 +157,30 @@ ASSEMBLED = [
     ("unreachable.spv", "goto 9\n", "stop: fault F5 i=0 word 65\n@3 i=0 %7 word 65\n"),
 ]
 
+ACCEPTED, FIRST_EVENT = "accepted: words 67, instructions 18\n", "stop: done\n@1 i=0 %7 word 56\n"
+
+# What clap says of four subcommands without a text of their own, and of one of them.
+HELP = """Usage: spvdbg <COMMAND>
+
+Commands:
+  debug  
+  check  
+  make   
+  text   
+  help   Print this message or the help of the given subcommand(s)
+
+Options:
+  -h, --help  Print help
+"""
+HELP_OF_CHECK = """Usage: spvdbg check <MODULE>
+
+Arguments:
+  <MODULE>  
+
+Options:
+  -h, --help  Print help
+"""
+
 # The words of the command line; a file that isn't there.
 WORDS = [
     ("", USAGE, USAGE_LINE),
@@ -175,7 +196,41 @@ WORDS = [
     ("spvdbg Check module", USAGE, USAGE_LINE),
     ("check module", USAGE, USAGE_LINE),
     ("spvdbg check nothing", FILE, ""),
-    ("spvdbg check module", DONE, "accepted: words 67, instructions 18\n"),
+    ("spvdbg check module", DONE, ACCEPTED),
+    # no abbreviation, no option but help, and nothing behind the names
+    ("spvdbg chec module", USAGE, USAGE_LINE),
+    ("spvdbg check --all module", USAGE, USAGE_LINE),
+    ("spvdbg check -a module", USAGE, USAGE_LINE),
+    ("spvdbg --version", USAGE, USAGE_LINE),
+    ("spvdbg -V", USAGE, USAGE_LINE),
+    ("spvdbg help nothing", USAGE, USAGE_LINE),
+    ("spvdbg --help", DONE, HELP),
+    ("spvdbg -h", DONE, HELP),
+    ("spvdbg help", DONE, HELP),
+    ("spvdbg check --help", DONE, HELP_OF_CHECK),
+    ("spvdbg check module -h", DONE, HELP_OF_CHECK),
+    ("spvdbg help check", DONE, HELP_OF_CHECK),
+    # `--` ends the options, and is a name behind another one
+    ("spvdbg --", USAGE, USAGE_LINE),
+    ("spvdbg -- check module", USAGE, USAGE_LINE),
+    ("spvdbg check --", USAGE, USAGE_LINE),
+    ("spvdbg check -- module", DONE, ACCEPTED),
+    ("spvdbg check module --", DONE, ACCEPTED),
+    ("spvdbg debug -- module setup", DONE, FIRST_EVENT),
+    ("spvdbg debug module -- setup", DONE, FIRST_EVENT),
+    ("spvdbg check -- --", FILE, ""),
+    ("spvdbg check -- --help", FILE, ""),
+    ("spvdbg check -", FILE, ""),
+    # numbers from 1 to 64, as Rust reads them
+    ("spvdbg make", USAGE, USAGE_LINE),
+    ("spvdbg make 0", USAGE, USAGE_LINE),
+    ("spvdbg make 65", USAGE, USAGE_LINE),
+    ("spvdbg make -1", USAGE, USAGE_LINE),
+    ("spvdbg make -- -1", USAGE, USAGE_LINE),
+    ("spvdbg make one", USAGE, USAGE_LINE),
+    ("spvdbg make 1.0", USAGE, USAGE_LINE),
+    ("spvdbg make 1 1", USAGE, USAGE_LINE),
+    ("spvdbg make 4294967297", USAGE, USAGE_LINE),
 ]
 
 # The listing of the shader, as the manual has it.
@@ -212,15 +267,15 @@ def calls():
     # what is made for a number, and the session over it
     lines = [debugged(n) for n in (1, 64)]
     yield "words.runs", [("words", "first.spv", words, TEN_ROUNDS, "goto 1\n", status, out) for words, status, out in WORDS] + [
-        ("made", "first.spv", "spvdbg make %d" % n, "", "goto 1\n", *((DONE, line) if MAKES else (USAGE, USAGE_LINE))) for n, (line, _) in zip((1, 64), lines)
-    ] + [
-        ("what is made for %d" % n, made_file(n), DEBUG, make.setup(n), make.commands(n), DONE, transcript) for n, (_, transcript) in zip((1, 64), lines)
-    ] + [
         ("a listing", "first.spv", "spvdbg text module", "", "goto 1\n", DONE, LISTING)
     ] + [
         ("refused", name, words, TEN_ROUNDS, "goto 1\n", MODULE, "module refused: %s\n" % due)
         for name, due in REFUSED
         for words in (DEBUG, "spvdbg check module", "spvdbg text module")
+    ] + [
+        ("made", "first.spv", "spvdbg make %s" % n, "", "goto 1\n", DONE, lines[place][0]) for n, place in (("1", 0), ("+001", 0), ("64", 1))
+    ] + [
+        ("what is made for %d" % n, made_file(n), DEBUG, make.setup(n), make.commands(n), DONE, transcript) for n, (_, transcript) in zip((1, 64), lines)
     ]
     yield "setups.runs", [(what, name, DEBUG, *row) for what, name, *row in setups.calls()]
     yield "values.runs", [(what, name, DEBUG, *row) for what, name, *row in values.calls()]
@@ -404,7 +459,7 @@ def made_file(n):
 def debugged(n):
     """What `make` writes for a number, and the transcript that it speaks of."""
     schedule = [number for _ in range(make.rounds(n)) for number in range(make.INVOCATIONS)]
-    session, commands = Built(Shaped(make.module(n)), {0: make.INVOCATIONS * [0]}, schedule), make.commands(n)
+    session, commands = Debugger(Shaped(make.module(n)), {0: make.INVOCATIONS * [0]}, schedule), make.commands(n)
     transcript = "".join(line + "\n" for command in commands.splitlines() if command != "quit" for line in session.answer(command))
     assert (len(transcript), sum(transcript.encode())) == make.TRANSCRIPTS[n]
     return make.told(n), transcript

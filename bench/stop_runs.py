@@ -3,8 +3,7 @@
 
     bench/stop_runs.py      says where what is written here by hand differs from what stops.py works out
 
-The runs are written by bench/runs.py, but for those with a command that the program hasn't (NOT_BUILT of stops.py). Comments say where
-invocations stand at which positions, from which the rest follows.
+The runs are written by bench/runs.py. Comments say where invocations stand at which positions, from which the rest follows.
 """
 import os
 import manual_runs
@@ -16,10 +15,11 @@ from sessions import Shaped
 from source_modules import add, function, line, scope, start, strings, types, unit
 from source_runs import BUFFER, C2, C12, ROUNDS, STUCK, schedule_of
 from source_runs import file_of as source_file
-from stops import FULL, NO_CODE, NO_NUMBER, Built, Debugger, is_built
+from stops import FULL, NO_CODE, NO_NUMBER, Debugger
 from variable_runs import C5, C6, VALUES_SETUP
 from variable_runs import file_of as variable_file
 
+STORE = 62
 C3, C4 = "refused: C3 no such invocation", "refused: C4 no such frame"
 
 
@@ -304,7 +304,7 @@ BY_NAME = [
     ("rcontinue", in_places(30, "f???g d.comp:2", "break 6, break 7")),
 ]
 
-# ---- the examples of docs/MANUAL.md, over examples/shares
+# ---- the examples of docs/MANUAL.md, over examples/shares and examples/overwritten
 
 
 def in_shares(m, i, where, causes="done"):
@@ -322,6 +322,12 @@ BREAKS_OF_MANUAL = [
     ("break 6", ["break 1 at shares.comp:6"]), ("break 9", [NO_CODE]), ("continue", in_shares(113, 0, "number:6", "break 1")), ("continue", in_shares(114, 1, "number:6", "break 1")),
     ("rcontinue", in_shares(113, 0, "number:6", "break 1")), ("finish", in_shares(114, 1, "number:6", "break 1")), ("delete 1", ["deleted 1"]), ("finish", in_shares(130, 1, "sum:12")),
 ]
+WHO = [
+    ("goto 9000", stop("all finished", 2688, 0, "finished")), ("print b.results[23]", ["b.results[23] = 2401"]), ("watch s[23]", ["watch 1: s[23] = 2401"]),
+    ("rcontinue", stop("watch 1", 1970, 0, "main overwritten.comp:17")), ("focus 49", ["@1970 i=49 put overwritten.comp:7"]), ("back 1", stop("done", 1969, 49, "put overwritten.comp:7")),
+    ("bt", ["#0 put overwritten.comp:7", "#1 main overwritten.comp:16"]), ("print s[23]", ["s[23] = 24"]), ("print number", ["number = 2401"]),
+]
+OVERWRITTEN_SETUP = "spvdbg-setup 1\nbuffer 0 0 zero 256\nrounds 200\n"
 
 # What each run is, its module, the setup, and commands with what is due.
 RUNS = [
@@ -346,8 +352,33 @@ RUNS = [
     ("breaks by files", source_file("places"), "spvdbg-setup 1\nrounds 100\n", BY_NAME),
     ("steps of the manual", manual_runs.file_of("shares-calls"), manual_runs.setup_of(manual_runs.TEN, ["rounds 1000"]), STEPS_OF_MANUAL),
     ("a break of the manual", manual_runs.file_of("shares-calls"), manual_runs.setup_of(manual_runs.TEN, ["rounds 1000"]), BREAKS_OF_MANUAL),
+    ("a watch of the manual", manual_runs.file_of("overwritten"), OVERWRITTEN_SETUP, WHO),
     ("steps to a barrier that never opens", source_file("stuck"), "spvdbg-setup 1\nrounds 20\n", NEVER),
 ]
+
+
+# ---- a compiled shader of 64, in which 16 invocations each overwrite a number of another one: 49 stores 2401 in `s[23]`, where 23 has stored
+# 24. The stores are two copies of one, where the calls were inlined.
+
+OVERWRITTEN = [
+    "goto 9000", "print b.results[23]", "print s[23]", "watch s[23]", "rcontinue", "focus 49", "where", "back 1", "list", "bt", "print s[23]", "print number", "fwd 1", "print s[23]",
+    "rcontinue", "rcontinue", "print s[23]", "focus 23", "continue", "continue", "continue", "break overwritten.comp:7", "goto 0", *["continue"] * 83, *["rcontinue"] * 84,
+    "delete 1", "focus 50", "finish", "step", "step", "step", "next", "next", "next", "next", "rnext", "rstep", "rstep", "rfinish", "watch place", "watch number", "focus 3",
+    "continue", "rcontinue", "continue",
+]
+
+
+def overwritten(name):
+    """The session, in which the watch stops behind the store of invocation 49 and behind that of 23, and nowhere else."""
+    with open(manual_runs.path_of(name), "rb") as file:
+        session, replies = Debugger(Shaped(file.read()), {0: 64 * [0]}, [k for _ in range(200) for k in range(64)]), []
+    for command in OVERWRITTEN:
+        replies.append(session.answer(command))
+        if "watch 1" in replies[-1][0] and command.endswith("continue"):
+            at = session.group.events - 1
+            opcode, _ = session.shaped.code.insts[session.run.stands[at][session.schedule[at]][0]]
+            assert opcode == STORE and session.schedule[at] in (49, 23)
+    return "a watch and a break in a shader of 64, " + name, manual_runs.file_of(name), OVERWRITTEN_SETUP, OVERWRITTEN, replies
 
 
 def example(name, numbers):
@@ -359,7 +390,7 @@ def example(name, numbers):
     with open(manual_runs.path_of(name), "rb") as file:
         shaped = Shaped(file.read())
     x, y, z = shaped.code.size
-    session = Built(shaped, {0: numbers}, schedule_of(setup, x * y * z))
+    session = Debugger(shaped, {0: numbers}, schedule_of(setup, x * y * z))
     return "the session of " + name, manual_runs.file_of(name), setup, commands, [session.answer(command) for command in commands if command != "quit"]
 
 
@@ -369,21 +400,17 @@ def modules():
     yield "stop-shared.spv", SHARED.data
 
 
-def built():
-    """The runs of which the program has all commands."""
-    return [run for run in RUNS if all(is_built(command) for command, _ in run[3])]
-
-
 def modules_in_gate():
-    used = [module for _, module, *_ in built()]
+    used = [module for _, module, *_ in RUNS]
     return [each for each in modules() if each[0] in used]
 
 
 def calls():
     """What each run is, its module, setup and commands, the status and what is written."""
-    for what, module, setup, rows in built():
+    for what, module, setup, rows in RUNS:
         yield what, module, setup, "".join(command + "\n" for command, _ in rows), 0, "".join(line + "\n" for _, due in rows for line in due)
-    for what, module, setup, commands, replies in [example("shares", manual_runs.TEN)]:
+    told = [overwritten("overwritten"), overwritten("overwritten-inlined"), example("overwritten", 64 * [0])]
+    for what, module, setup, commands, replies in [example("shares", manual_runs.TEN), *told]:
         yield what, module, setup, "".join(command + "\n" for command in commands), 0, "".join(line + "\n" for due in replies for line in due)
 
 

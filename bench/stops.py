@@ -6,11 +6,7 @@ bits of which variable. At which positions one of them hits is looked up in the 
 from places import plain
 from variables_told import NO_NAME, UNBOUND, Variables
 
-# The commands that are worked out here, and those of them that the program hasn't yet, to which they are unknown. `NOT_BUILT = ()`
-# brings back the rows of the gate that use them, and what `make` writes with them.
 OF_STOPS = ("break", "delete", "watch", "unwatch")
-NOT_BUILT = OF_STOPS
-UNKNOWN = "refused: C1 unknown command"
 MOST_BREAKS, MOST_WATCHES = 64, 32
 NO_NUMBER, NO_CODE, FULL = "refused: C7 no such number", "refused: C8 no code at that line", "refused: C9 list full"
 
@@ -101,14 +97,3 @@ class Debugger(Variables):
 
     def do_unwatch(self, number):
         return ["unwatched %d" % number] if self.watches.pop(number, None) else [NO_NUMBER]
-
-
-class Built(Debugger):
-    """A session with the commands that the program has."""
-
-    def answer(self, command):
-        return super().answer(command) if is_built(command) else [UNKNOWN]
-
-
-def is_built(command):
-    return command.split()[0] not in NOT_BUILT
