@@ -76,6 +76,23 @@ head_marked kept breaks items marks g i pc marked same heads lie stands is =
     is ∙ ap (λ ms. slice_index_or ms pc false) lie ∙ heads pc ∙ ap (λ (k : Stops Breakpoint). list_any (has_head pc) k.0) same
     ∙ sym (heads_some pc breaks) ∙ ap has_some (sym (under_is breaks (top_of (state_in g) i) pc stands))
 
+module _ (breaks : Stops Breakpoint) (heads : AreHeads breaks.0 []) where
+  -- where no word is marked, no break has a head
+  pub no_head : (g : Group) (i : ℕ) → has_some (breaks_under breaks g i) ≡ false
+  no_head g i = under (top_of (state_in g) i)
+    where
+      under : (o : Option Frame) → has_some (option_map_or (λ (f : Frame). hits_at f.pc breaks) o []) ≡ false
+      under None = refl
+      under (Some f) = heads_some f.pc breaks ∙ sym (heads f.pc)
+
+-- and none stands at one
+pub not_at_break : (breaks : Stops Breakpoint) (g : Group) → ((g : Group) (i : ℕ) → has_some (breaks_under breaks g i) ≡ false) → at_break breaks g ≡ false
+not_at_break breaks g none = by_entry (slice_get (entries_in g) (g.position - 1))
+  where
+    by_entry : (o : Option ℕ) → option_map_or (λ i. has_some (breaks_under breaks g i)) o false ≡ false
+    by_entry None = refl
+    by_entry (Some i) = none g i
+
 -- ---- watches
 
 -- behind an event the numbers are those of the watches that have changed
@@ -95,12 +112,17 @@ module _ (t : Tables) (watches : Stops WatchKey) (g : Group) where
       subst (λ (x : State). not (same_bits (watched_in t k s.memory (frames_of s k.inv)) (watched_in t k x.memory (frames_of x k.inv))) ≡ false) e
       (ap not (bits_itself (watched_in t k s.memory (frames_of s k.inv))))
 
+  none_by_test : (b : Bool) (ns : List ℕ) → ns ≡ [] → cond b ns [] ≡ []
+  none_by_test true ns e = e
+  none_by_test false ns e = refl
+
+  -- where nothing is watched, nothing has changed
+  pub unwatched_here : watches.0 ≡ [] → watch_numbers t watches g ≡ []
+  unwatched_here none =
+      none_by_test (nat_lt 0 g.position) (map number_of (filter (has_changed t g) watches.0)) (ap (λ ws. map number_of (filter (has_changed t g) ws)) none)
+
   nothing_hit : ((w : ℕ × WatchKey) → has_changed t g w ≡ false) → watch_numbers t watches g ≡ []
-  nothing_hit none = by_test (nat_lt 0 g.position) (map number_of (filter (has_changed t g) watches.0)) (ap (map number_of) (none_pass (has_changed t g) watches.0 none))
-    where
-      by_test : (b : Bool) (ns : List ℕ) → ns ≡ [] → cond b ns [] ≡ []
-      by_test true ns e = e
-      by_test false ns e = refl
+  nothing_hit none = none_by_test (nat_lt 0 g.position) (map number_of (filter (has_changed t g) watches.0)) (ap (map number_of) (none_pass (has_changed t g) watches.0 none))
 
   -- behind an idle event nothing has changed
   pub idle_here : (h : Happening) → event_before g ≡ Some h → is_idle h.kind ≡ true → watch_numbers t watches g ≡ []
@@ -185,6 +207,13 @@ same_turned t watches same s u is = record {
 }
 
 -- ---- what is noted of one of them
+
+-- where nothing is watched, what is noted of any position is noted of each
+pub noted_unwatched : (s : Stopping) (o g : Group) → s.watches.0 ≡ [] → IsNoted s o → IsNoted s g
+noted_unwatched s o g none noted = record {
+  bits = noted.bits ∙ ap (λ ws. watched_by s.tables ws o) none ∙ sym (ap (λ ws. watched_by s.tables ws g) none);
+  places = λ n w place at there. absurd (cc (sym (ap (λ ws. slice_get ws n) none) ∙ at));
+}
 
 module _ (s : Stopping) (o g : Group) (noted : IsNoted s o) where
   -- nothing differs, and the other one is noted too

@@ -1,7 +1,8 @@
 -- Whether some elements of a list pass a test, and none.
-use Rattle.std.proofs.Common.{◌≡◌, ◌≢◌, ◌∙◌, ◌⊎◌, inl, inr, ℕ, zero, suc, Some, Bool, true, false, cond, ◌||◌, ◌+◌, ◌<◌, ◌≤◌, ◌++◌, take, get_or, List, [], ◌∷◌, length, map, refl, ap, sym, subst, arith}
+use Rattle.std.proofs.Common.{◌≡◌, ◌≢◌, ◌∙◌, ◌⊎◌, inl, inr, ℕ, zero, suc, Some, Bool, true, false, cond, ◌||◌, ◌==◌, ◌+◌, ◌<◌, ◌≤◌, ◌++◌, take, get_or, List, [], ◌∷◌, length, map, refl, ap, sym, subst, arith}
 use Rattle.std.proofs.lemmas.Bool.{cases_lt}
-use Rattle.std.proofs.lemmas.List.{append-nil, get_or-map, map-append, take_more}
+use Rattle.std.proofs.lemmas.Bool.Decides.{nat_tests}
+use Rattle.std.proofs.lemmas.List.{append-nil, get_or-map, map-append, nil_from_length, take_more}
 use Rattle.std.proofs.lemmas.List.Elements.{filter-append}
 use Rattle.std.specs.Prelude.{filter, slice_get, slice_set}
 use Rattle.std.proofs.lemmas.Option.{get_or_from_slice_get}
@@ -26,6 +27,12 @@ none_pass p (x ∷ xs) fails = none_by (p x) x (filter p xs) (fails x) (none_pas
 pub filter_same : {X : Type 0} (p q : X → Bool) (xs : List X) → ((x : X) → p x ≡ q x) → filter p xs ≡ filter q xs
 filter_same p q [] same = refl
 filter_same p q (x ∷ xs) same = ap (λ b. cond b (x ∷ filter p xs) (filter p xs)) (same x) ∙ ap (λ r. cond (q x) (x ∷ r) r) (filter_same p q xs same)
+
+pub none_there : {X : Type 0} (xs : List X) → (length xs == 0) ≡ true → xs ≡ []
+none_there xs e = nil_from_length xs (zero_is (length xs) e)
+  where
+    zero_is : (n : ℕ) → (n == 0) ≡ true → n ≡ 0
+    zero_is n e = grind (arith, nat_tests)
 
 -- ---- as a list is gone through
 

@@ -1,5 +1,5 @@
 -- What is kept between two positions that stand next to each other. Clauses of private calls alone cite this, and the type's.
-use Rattle.std.specs.Prelude.{◌≡◌, ◌⊎◌, ℕ, ◌-◌, not, Bool, true, false, List, drop, length, map, Option, Some, IfSome, Vec, ⊤, slice_get, slice_index_or}
+use Rattle.std.specs.Prelude.{◌≡◌, ◌≢◌, ◌⊎◌, ℕ, ◌-◌, not, Bool, true, false, List, [], drop, length, map, Option, Some, IfSome, Vec, ⊤, slice_get, slice_index_or}
 use Rattle.std.specs.List.{list_any, range_with_len}
 use Rattle.std.specs.Option.{option_map, option_map_or}
 use Rattle.std.specs.declared.alloc.Global.{Global}
@@ -137,8 +137,8 @@ pub record IsNoted (s : Stopping) (g : Group) : Type 0 where
   pub bits : s.bits ≡ watched_by s.tables s.watches.0 g
   pub places : AllLie s.tables s.watches.0 s.places g
 
--- and what the event before it did
+-- and what the event before it did, unless nothing is watched
 pub record IsLeft (s : Stopping) (g : Group) : Type 0 where
   pub noted : IsNoted s g
   pub landed : s.landed ≡ at_break s.breaks g
-  pub same : IsSame s.tables s.watches.0 s.same (state_in (group_at (g.position - 1) g)) (state_in g)
+  pub same : s.watches.0 ≢ [] → IsSame s.tables s.watches.0 s.same (state_in (group_at (g.position - 1) g)) (state_in g)

@@ -1,5 +1,5 @@
 //! Breaks and watches as searches ask for them.
-ghost use Rattle.std.specs.Prelude.{◌≡◌, ◌+◌, ◌-◌, ◌<◌, ℕ, Some, IfOk, IfSome, IsSome, OnOk, false, if◌then◌else◌, option_map, slice_get, true};
+ghost use Rattle.std.specs.Prelude.{◌≡◌, ◌≢◌, ◌+◌, ◌-◌, ◌<◌, ℕ, [], Some, IfOk, IfSome, IsSome, OnOk, false, if◌then◌else◌, option_map, slice_get, true};
 ghost use Rattle.std.specs.List.{list_any};
 ghost use Rattle.spv_group.specs.Group.{Held, entries_in, group_at, invocations_in, state_in};
 ghost use Rattle.spv_group.specs.Run.{happening_at, happening_before};
@@ -131,11 +131,31 @@ impl<'a> StopHits<'a> {
         })
     }
 
+    /// Whether nothing is watched.
+    #[inline(always)]
+    fn watches_nothing(&self) -> bool
+        ensures none { result ≡ true → self.now.watches.0 ≡ [] }
+        ensures some { result ≡ false → self.now.watches.0 ≢ [] }
+    {
+        self.watches.list().is_empty()
+    }
+
+    /// Whether no break has a head.
+    #[inline(always)]
+    fn has_no_head(&self) -> bool
+        ensures { result ≡ true → (g : Held) (i : ℕ) → has_some (breaks.breaks_under self.now.breaks g i) ≡ false }
+    {
+        self.heads.as_slice().is_empty()
+    }
+
     /// Whether an invocation stands at a head of a break.
     #[inline(always)]
     fn is_at_head(&self, group: &Group, inv: u32) -> bool
         ensures { result ≡ has_some (breaks.breaks_under self.now.breaks group.now.group inv) }
     {
+        if self.has_no_head() {
+            return false;
+        }
         match pc_of(group, inv) {
             Some(pc) => is_marked(self.heads.as_slice(), pc),
             None => false,
@@ -208,6 +228,7 @@ impl<'a> StopHits<'a> {
     }
 
     /// Looks at the event before the position, which is one of this invocation.
+    #[inline(always)]
     fn look(&mut self, group: &Group, inv: Option<u32>)
         requires some { 0 < group.now.group.position }
         requires entry { IfSome inv (λ i. slice_get (entries_in group.now.group) (group.now.group.position - 1) ≡ Some i) }
@@ -269,8 +290,27 @@ impl<'a> StopHits<'a> {
         )
     }
 
-    /// Whether a watch's bits differ from those of the position that was noted, which is next to this one, where it is known what is the
-    /// same there. If none does, this one is noted then.
+    /// Whether a watch's bits differ from those of the position that was noted, which is next to this one, where it isn't known that all is
+    /// the same there. If none does, this one is noted then. Apart, since most events leave all as it was.
+    #[inline(never)]
+    fn reading_hits(&mut self, group: &Group) -> Result<bool, NoMemory>
+        requires sizes { self.old.sizes ≡ typing_in group.now.group.program }
+        requires some { self.old.same.all ≡ false }
+        ensures stops { AreStopsOf self.old self.new }
+        ensures hit { IfOk result (λ hit. (o : Held) → IsNoted self.old o → IsSame self.old.tables self.old.watches.0 self.old.same (state_in o) (state_in group.now.group)
+            → hit ≡ list_any (differs self.old.tables o group.now.group) self.old.watches.0) }
+        ensures noted { IfOk result (λ hit. (o : Held) → IsNoted self.old o → IsSame self.old.tables self.old.watches.0 self.old.same (state_in o) (state_in group.now.group)
+            → IsNoted self.new (if hit then o else group.now.group)) }
+    {
+        if self.any_changed(group)? {
+            return Ok(true);
+        }
+        self.note_places(group)?;
+        Ok(false)
+    }
+
+    /// The same, where it is known what is the same there.
+    #[inline(always)]
     fn watch_hits(&mut self, group: &Group) -> Result<bool, NoMemory>
         requires { self.old.sizes ≡ typing_in group.now.group.program }
         ensures stops { AreStopsOf self.old self.new }
@@ -282,11 +322,7 @@ impl<'a> StopHits<'a> {
         if self.same.all {
             return Ok(false);
         }
-        if self.any_changed(group)? {
-            return Ok(true);
-        }
-        self.note_places(group)?;
-        Ok(false)
+        self.reading_hits(group)
     }
 }
 
@@ -309,6 +345,9 @@ impl<'a> Hits for StopHits<'a> {
         if self.breaks_here(group, happening) {
             return Ok(true);
         }
+        if self.watches_nothing() {
+            return Ok(false);
+        }
         if is_idle(happening) {
             return Ok(false);
         }
@@ -317,15 +356,25 @@ impl<'a> Hits for StopHits<'a> {
     }
 
     fn leave(&mut self, group: &Group) -> Result<(), NoMemory> {
+        let nothing = self.watches_nothing();
+        if nothing && self.has_no_head() {
+            self.landed = false;
+            return Ok(());
+        }
         let inv = group.schedule().at(group.position().saturating_sub(1));
         self.landed = self.has_landed(group, inv);
-        self.look(group, inv);
+        if !nothing {
+            self.look(group, inv);
+        }
         Ok(())
     }
 
     fn hits_behind(&mut self, group: &Group, happening: &Happening) -> Result<bool, NoMemory> {
         if self.breaks_behind(group, happening) {
             return Ok(true);
+        }
+        if self.watches_nothing() {
+            return Ok(false);
         }
         if is_idle(happening) {
             return Ok(false);

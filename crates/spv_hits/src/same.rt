@@ -24,6 +24,7 @@ pub(crate) struct EventTouch {
 }
 
 /// What the event before a position did, where that is known. It is one of this invocation.
+#[inline(always)]
 fn touch_before(group: &Group, inv: Option<u32>) -> Option<EventTouch>
     requires some { 0 < group.now.group.position }
     requires entry { IfSome inv (λ i. slice_get (entries_in group.now.group) (group.now.group.position - 1) ≡ Some i) }
@@ -159,7 +160,8 @@ fn is_alike(
     }
 }
 
-/// Marks the watches of which the calls of their invocations tell the same as before an event.
+/// Marks the watches of which the calls of their invocations tell the same as before an event. Apart, since most events leave all as it was.
+#[inline(never)]
 fn mark_alike(
     tables: &DebugTables,
     watches: &[(u32, WatchKey)],
@@ -199,6 +201,7 @@ impl Same {
     }
 
     /// Looks at the event before a position, which is one of this invocation.
+    #[inline(always)]
     pub(crate) fn look(
         &mut self,
         tables: &DebugTables,
