@@ -1,8 +1,9 @@
 -- Rows whose number of words is wrong.
-use Rattle.std.proofs.Common.{◌≡◌, ◌≢◌, ℕ, ◌<◌, List, [], ◌∷◌, length, Err, false, refl, ap, arith}
+use Rattle.std.proofs.Common.{◌≡◌, ◌≢◌, ℕ, ◌<◌, List, [], ◌∷◌, length, Err, None, refl, ap, arith}
 use Rattle.spv_setup.specs.declared.line.LineFault.TheVariants.{Words}
-use Rattle.spv_setup.specs.Settings.{is_head}
-use Rattle.spv_setup.specs.Rows.{entry_row, group_row, spec_row, zero_row, buffer_row, move_row, rounds_row}
+use Rattle.spv_setup.specs.declared.line.Version.TheVariants.{Two}
+use Rattle.spv_setup.specs.Settings.{version_of}
+use Rattle.spv_setup.specs.Rows.{entry_row, group_row, spec_row, zero_row, buffer_row, move_row, rounds_row, barrier_row}
 
 pub not_two : (words rest : List (List ℕ)) (first : List ℕ) → words ≡ first ∷ rest → ((word : List ℕ) → rest ≢ word ∷ []) → length words ≢ 2
 not_two words [] first e h k = absurd (omega (arith, k, ap length e))
@@ -53,8 +54,13 @@ no_group (a ∷ b ∷ c ∷ d ∷ e ∷ f ∷ []) h = refl
 no_group (a ∷ b ∷ c ∷ d ∷ e ∷ f ∷ g ∷ []) h = absurd (h (omega arith))
 no_group (a ∷ b ∷ c ∷ d ∷ e ∷ f ∷ g ∷ more ∷ words) h = refl
 
-pub no_head : (words : List (List ℕ)) → length words ≢ 2 → is_head words ≡ false
-no_head [] h = refl
-no_head (name ∷ []) h = refl
-no_head (name ∷ version ∷ []) h = absurd (h (omega arith))
-no_head (name ∷ version ∷ more ∷ words) h = refl
+pub no_barrier : (words : List (List ℕ)) → ((word : List ℕ) → words ≢ word ∷ []) → barrier_row Two words ≡ Err Words
+no_barrier [] h = refl
+no_barrier (kind ∷ []) h = absurd (h kind refl)
+no_barrier (kind ∷ more ∷ words) h = refl
+
+pub no_version : (words : List (List ℕ)) → length words ≢ 2 → version_of words ≡ None
+no_version [] h = refl
+no_version (name ∷ []) h = refl
+no_version (name ∷ version ∷ []) h = absurd (h (omega arith))
+no_version (name ∷ version ∷ more ∷ words) h = refl

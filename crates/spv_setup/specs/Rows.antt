@@ -8,9 +8,11 @@ use Rattle.spv_line.specs.Numbers.{number_of}
 use Rattle.spv_line.specs.Hex.{bytes_of}
 use Rattle.spv_setup.specs.declared.line.Content.TheVariants.{Hex, Zero}
 use Rattle.spv_setup.specs.declared.line.Line.{Line}
-use Rattle.spv_setup.specs.declared.line.Line.TheVariants.{Entry, Group, Spec, Buffer, Push, Move, Rounds}
+use Rattle.spv_setup.specs.declared.line.Line.TheVariants.{Entry, Group, Spec, Buffer, Push, Move, Rounds, FinishedCount}
 use Rattle.spv_setup.specs.declared.line.LineFault.{LineFault}
 use Rattle.spv_setup.specs.declared.line.LineFault.TheVariants.{Words, Form}
+use Rattle.spv_setup.specs.declared.line.Version.{Version}
+use Rattle.spv_setup.specs.declared.line.Version.TheVariants.{One, Two}
 
 -- ---- words that are values
 
@@ -100,9 +102,15 @@ abbrev pub rounds_row : List (List ℕ) → Result Line LineFault
 rounds_row (count ∷ []) = formed Rounds (number 4194304 count)
 rounds_row words = Err Words
 
+-- finished-count, in version 2; version 1 has no such line
+abbrev pub barrier_row : Version → List (List ℕ) → Result Line LineFault
+barrier_row One words = Err Words
+barrier_row Two (kind ∷ []) = if bytes_eq kind (codes "finished-count") then Ok FinishedCount else Err Words
+barrier_row Two words = Err Words
+
 -- the row of a line's first word, for the words after it
-unfoldable pub row : List ℕ → List (List ℕ) → Result Line LineFault
-row word words =
+unfoldable pub row : Version → List ℕ → List (List ℕ) → Result Line LineFault
+row version word words =
     if bytes_eq word (codes "entry") then entry_row words
     else if bytes_eq word (codes "group") then group_row words
     else if bytes_eq word (codes "spec") then spec_row words
@@ -110,14 +118,15 @@ row word words =
     else if bytes_eq word (codes "push") then push_row words
     else if bytes_eq word (codes "move") then move_row words
     else if bytes_eq word (codes "rounds") then rounds_row words
+    else if bytes_eq word (codes "barrier") then barrier_row version words
     else Err Words
 
 -- ---- a line after the first
 
-abbrev pub meaning_of : List (List ℕ) → Result (Option Line) LineFault
-meaning_of [] = Ok None
-meaning_of (word ∷ words) = after (row word words) (λ line. Ok (Some line))
+abbrev pub meaning_of : Version → List (List ℕ) → Result (Option Line) LineFault
+meaning_of version [] = Ok None
+meaning_of version (word ∷ words) = after (row version word words) (λ line. Ok (Some line))
 
 -- what a line says: nothing where it has no words, or begins with `#` (35)
-abbrev pub meaning : List ℕ → Result (Option Line) LineFault
-meaning line = if slice_index line 0 == 35 then Ok None else meaning_of (words_in line)
+abbrev pub meaning : Version → List ℕ → Result (Option Line) LineFault
+meaning version line = if slice_index line 0 == 35 then Ok None else meaning_of version (words_in line)

@@ -4,6 +4,13 @@ ghost use Rattle.spv_setup.specs.Codes.{code_of};
 
 use spv_base::Bytes;
 
+/// The version of a setup, which its first line names. Version 2 has all lines of version 1, and `barrier`.
+#[derive(Clone, Copy)]
+pub enum Version {
+    One,
+    Two,
+}
+
 /// The bytes of a buffer.
 #[derive(Drop)]
 pub enum Content {
@@ -49,6 +56,8 @@ pub enum Line {
     },
     /// `rounds N`: N times an entry of each invocation, at most 4,194,304.
     Rounds(u32),
+    /// `barrier finished-count`: finished invocations count as arrived at a barrier.
+    FinishedCount,
 }
 
 /// Why a line is refused.

@@ -7,7 +7,7 @@ ghost use Rattle.spv_setup.specs.Lines.{lines_in, left_length};
 ghost use Rattle.spv_setup.specs.Settings as spec;
 ghost use Rattle.spv_setup.specs.Reading.{IsIndexed, Leaves};
 
-use crate::line::{Content, Line, LineFault, Workgroup};
+use crate::line::{Content, Line, LineFault, Version, Workgroup};
 use crate::lines::next_line;
 use crate::rows::read_line;
 use crate::settings::{Buffer, Push, Run, Settings};
@@ -41,6 +41,7 @@ impl Reader {
                 buffers: Items::new(alloc),
                 push: None,
                 runs: Items::new(alloc),
+                finished_count: false,
             },
             ids: BTreeSet::new(alloc),
             bindings: BTreeSet::new(alloc),
@@ -128,6 +129,18 @@ impl Reader {
         Ok(())
     }
 
+    fn count_finished(&mut self, line: u32) -> Result<(), Fail<LineFault>>
+        requires { IsIndexed self.old.ids self.old.bindings self.old.settings }
+        ensures settings { Leaves (spec.added line says.FinishedCount self.old.settings) self.new.settings result }
+        ensures indexed { OnOk result (IsIndexed self.new.ids self.new.bindings self.new.settings) }
+    {
+        if self.settings.finished_count {
+            return Err(REPEATED);
+        }
+        self.settings.finished_count = true;
+        Ok(())
+    }
+
     /// Adds what a line says. It is refused where there was such a line before, and there may be one alone.
     fn add(&mut self, line: u32, it: Line) -> Result<(), Fail<LineFault>>
         requires { IsIndexed self.old.ids self.old.bindings self.old.settings }
@@ -150,16 +163,23 @@ impl Reader {
                 count,
             }),
             Line::Rounds(count) => self.add_run(Run::Rounds(count)),
+            Line::FinishedCount => self.count_finished(line),
         }
     }
 
     /// Reads a line after the first.
-    fn read(&mut self, alloc: Global, number: u32, text: &[u8]) -> Result<(), Fail<LineFault>>
+    fn read(
+        &mut self,
+        alloc: Global,
+        version: Version,
+        number: u32,
+        text: &[u8],
+    ) -> Result<(), Fail<LineFault>>
         requires { IsIndexed self.old.ids self.old.bindings self.old.settings }
-        ensures settings { Leaves (after (meaning text.now) (spec.with_meaning number self.old.settings)) self.new.settings result }
+        ensures settings { Leaves (after (meaning version text.now) (spec.with_meaning number self.old.settings)) self.new.settings result }
         ensures indexed { OnOk result (IsIndexed self.new.ids self.new.bindings self.new.settings) }
     {
-        match read_line(alloc, text)? {
+        match read_line(alloc, version, text)? {
             None => Ok(()),
             Some(line) => self.add(number, line),
         }
@@ -167,12 +187,18 @@ impl Reader {
 
     /// Reads the line of a number, or is refused there.
     #[tactic(auto, unfolding(crate::specs::Settings::line_after))]
-    fn read_at(&mut self, alloc: Global, number: u32, text: &[u8]) -> Result<(), Fail<SetupRefusal>>
+    fn read_at(
+        &mut self,
+        alloc: Global,
+        version: Version,
+        number: u32,
+        text: &[u8],
+    ) -> Result<(), Fail<SetupRefusal>>
         requires { IsIndexed self.old.ids self.old.bindings self.old.settings }
-        ensures settings { Leaves (spec.line_after number text.now self.old.settings) self.new.settings result }
+        ensures settings { Leaves (spec.line_after version number text.now self.old.settings) self.new.settings result }
         ensures indexed { OnOk result (IsIndexed self.new.ids self.new.bindings self.new.settings) }
     {
-        match self.read(alloc, number, text) {
+        match self.read(alloc, version, number, text) {
             Ok(()) => Ok(()),
             Err(Fail::Refused(fault)) => Err(Fail::Refused(SetupRefusal {
                 code: fault.code(),
@@ -186,18 +212,19 @@ impl Reader {
     pub fn read_lines(
         &mut self,
         alloc: Global,
+        version: Version,
         text: Option<&[u8]>,
     ) -> Result<(), Fail<SetupRefusal>>
         requires indexed { IsIndexed self.old.ids self.old.bindings self.old.settings }
         requires short { left_length (option_copied text) ≤ 67108864 }
-        ensures { Leaves (spec.lines_after 2 (lines_in (option_copied text.entry)) self.old.settings) self.new.settings result }
+        ensures { Leaves (spec.lines_after version 2 (lines_in (option_copied text.entry)) self.old.settings) self.new.settings result }
     {
         let mut number: u32 = 1;
         let mut left = text;
         while let Some(text) = left {
             let (line, rest) = next_line(text);
             number += 1;
-            self.read_at(alloc, number, line)?;
+            self.read_at(alloc, version, number, line)?;
             left = rest;
         }
         Ok(())

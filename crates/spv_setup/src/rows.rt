@@ -4,7 +4,7 @@ ghost use Rattle.spv_base.specs.Answers.{Answers};
 ghost use Rattle.spv_line.specs.Words.{words_in};
 ghost use Rattle.spv_setup.specs.Rows as spec;
 
-use crate::line::{Content, Line, LineFault, Workgroup};
+use crate::line::{Content, Line, LineFault, Version, Workgroup};
 use spv_base::{Bytes, Fail};
 use spv_line::{bytes, next_word, only_word};
 use std::alloc::Global;
@@ -257,10 +257,33 @@ fn rounds(text: &[u8]) -> Result<Line, Fail<LineFault>>
     Ok(Line::Rounds(count as u32))
 }
 
+/// `barrier finished-count`, in version 2 alone
+#[tactic(auto, using(crate::proofs::RowLemmas::no_barrier))]
+fn barrier(version: Version, text: &[u8]) -> Result<Line, Fail<LineFault>>
+    ensures { Answers (spec.barrier_row version (words_in text.now)) result }
+{
+    match version {
+        Version::One => Err(WORDS),
+        Version::Two => {
+            let kind = only_word(text).ok_or(WORDS)?;
+            if kind == b"finished-count".as_slice() {
+                Ok(Line::FinishedCount)
+            } else {
+                Err(WORDS)
+            }
+        }
+    }
+}
+
 /// The line of a first word and the text after it.
 #[tactic(auto, unfolding(crate::specs::Rows::row))]
-fn line_of(alloc: Global, word: &[u8], text: &[u8]) -> Result<Line, Fail<LineFault>>
-    ensures { Answers (spec.row word.now (words_in text.now)) result }
+fn line_of(
+    alloc: Global,
+    version: Version,
+    word: &[u8],
+    text: &[u8],
+) -> Result<Line, Fail<LineFault>>
+    ensures { Answers (spec.row version word.now (words_in text.now)) result }
 {
     if word == b"entry".as_slice() {
         entry(alloc, text)
@@ -276,20 +299,26 @@ fn line_of(alloc: Global, word: &[u8], text: &[u8]) -> Result<Line, Fail<LineFau
         moves(text)
     } else if word == b"rounds".as_slice() {
         rounds(text)
+    } else if word == b"barrier".as_slice() {
+        barrier(version, text)
     } else {
         Err(WORDS)
     }
 }
 
 /// What a line after the first says; nothing where it has no words, or begins with `#`.
-pub fn read_line(alloc: Global, line: &[u8]) -> Result<Option<Line>, Fail<LineFault>>
-    ensures { Answers (spec.meaning line.now) result }
+pub fn read_line(
+    alloc: Global,
+    version: Version,
+    line: &[u8],
+) -> Result<Option<Line>, Fail<LineFault>>
+    ensures { Answers (spec.meaning version line.now) result }
 {
     if line.first() == Some(&b'#') {
         return Ok(None);
     }
     match next_word(line) {
         None => Ok(None),
-        Some((word, text)) => Ok(Some(line_of(alloc, word, text)?)),
+        Some((word, text)) => Ok(Some(line_of(alloc, version, word, text)?)),
     }
 }

@@ -47,6 +47,8 @@ pub struct Settings {
     pub push: Option<Push>,
     /// The parts of the schedule.
     pub runs: Items<Run>,
+    /// Whether finished invocations count as arrived at a barrier.
+    pub finished_count: bool,
 }
 
 // Written out, so that it is proved once: a derived drop is proved again in each function that lets go of such a value.
@@ -60,6 +62,7 @@ impl Drop for Settings {
             buffers,
             push,
             runs,
+            finished_count: _,
         } = self;
         drop(entry);
         drop(group);

@@ -2,10 +2,10 @@
 ghost use Rattle.std.specs.Prelude.{◌≡◌, ◌≤◌, ◌<◌, None, OnOk, length, option_copied};
 ghost use Rattle.spv_base.specs.Answers.{Answers};
 ghost use Rattle.spv_line.specs.Words.{words_in};
-ghost use Rattle.spv_setup.specs.Settings.{is_head, settings_of, group_of};
+ghost use Rattle.spv_setup.specs.Settings as spec;
 ghost use Rattle.spv_setup.specs.Schedule.{check_moves, schedule_of, stray_line};
 
-use crate::line::Workgroup;
+use crate::line::{Version, Workgroup};
 use crate::lines::next_line;
 use crate::reading::Reader;
 use crate::rows::two_words;
@@ -15,7 +15,7 @@ use spv_base::{Fail, Items, Overrides, Places, SetupRefusal};
 use std::alloc::Global;
 use std::marker::Model;
 
-/// The first line is another than `spvdbg-setup 1`.
+/// The first line is another than `spvdbg-setup 1` and `spvdbg-setup 2`.
 const OTHER_HEAD: Fail<SetupRefusal> = Fail::Refused(SetupRefusal { code: 1, line: 1 });
 
 /// The workgroup that runs where the text names none.
@@ -24,14 +24,29 @@ const ONLY_GROUP: Workgroup = Workgroup {
     number: (1, 1, 1),
 };
 
-/// Whether the first line is `spvdbg-setup 1`.
-#[tactic(auto, using(crate::proofs::RowLemmas::no_head))]
-fn is_head(line: &[u8]) -> bool
-    ensures { result ≡ is_head (words_in line.now) }
+/// The version that a word names.
+fn version_in(word: &[u8]) -> Option<Version>
+    ensures { result ≡ spec.version_in word.now }
 {
-    match two_words(line) {
-        None => false,
-        Some((name, version)) => name == b"spvdbg-setup".as_slice() && version == b"1".as_slice(),
+    if word == b"1".as_slice() {
+        Some(Version::One)
+    } else if word == b"2".as_slice() {
+        Some(Version::Two)
+    } else {
+        None
+    }
+}
+
+/// The version that the first line names: `spvdbg-setup 1` or `spvdbg-setup 2`.
+#[tactic(auto, using(crate::proofs::RowLemmas::no_version))]
+fn version_of(line: &[u8]) -> Option<Version>
+    ensures { result ≡ spec.version_of (words_in line.now) }
+{
+    let (name, version) = two_words(line)?;
+    if name == b"spvdbg-setup".as_slice() {
+        version_in(version)
+    } else {
+        None
     }
 }
 
@@ -51,19 +66,17 @@ impl Model for Setup {
 
 impl Setup {
     /// Reads the text of a setup, of at most 67,108,864 bytes. Refuses the lowest line that is refused: the first line is
-    /// another than `spvdbg-setup 1` (S1), a word is unknown or the number of words wrong (S2), a number or a hexadecimal word
+    /// another than `spvdbg-setup 1` and `spvdbg-setup 2` (S1), a word is unknown or the number of words wrong (S2), a number or a hexadecimal word
     /// has a wrong form or range (S3), or there was such a line before and there may be one alone (S4).
     #[tactic(auto, unfolding(crate::specs::Settings::settings_of))]
     pub fn parse(alloc: Global, text: &[u8]) -> Result<Setup, Fail<SetupRefusal>>
         requires { length text.now ≤ 67108864 }
-        ensures { Answers (settings_of text.now) result }
+        ensures { Answers (spec.settings_of text.now) result }
     {
         let (first, rest) = next_line(text);
-        if !is_head(first) {
-            return Err(OTHER_HEAD);
-        }
+        let version = version_of(first).ok_or(OTHER_HEAD)?;
         let mut reader = Reader::new(alloc);
-        reader.read_lines(alloc, rest)?;
+        reader.read_lines(alloc, version, rest)?;
         Ok(Setup {
             settings: reader.settings,
         })
@@ -95,7 +108,7 @@ impl Setup {
 
     /// The numbers of the workgroup that runs, and how many workgroups there are.
     pub fn group(&self) -> Workgroup
-        ensures { result ≡ group_of self.now }
+        ensures { result ≡ spec.group_of self.now }
     {
         self.settings.group.unwrap_or(ONLY_GROUP)
     }
@@ -112,6 +125,13 @@ impl Setup {
         ensures { option_copied result ≡ self.now.push }
     {
         self.settings.push.as_ref()
+    }
+
+    /// Whether finished invocations count as arrived at a barrier.
+    pub fn finished_count(&self) -> bool
+        ensures { result ≡ self.now.finished_count }
+    {
+        self.settings.finished_count
     }
 
     /// Looks whether each `move` names an invocation that exists. Else S5 at the lowest line that doesn't.

@@ -9,7 +9,7 @@ abbrev pub invariant-loop-left : goal.invariant-loop-left
 invariant-loop-left l = record {
   indexed : IsIndexed l.self.ids l.self.bindings l.self.settings;
   short : l.number + left_length (option_copied l.left) ≤ 67108865;
-  same : lines_after (suc l.number) (lines_in (option_copied l.left)) l.self.settings ≡ lines_after 2 (lines_in (option_copied l.fn.text)) l.fn.self.settings;
+  same : lines_after l.version (suc l.number) (lines_in (option_copied l.left)) l.self.settings ≡ lines_after l.version 2 (lines_in (option_copied l.fn.text)) l.fn.self.settings;
 }
 
 abbrev pub decreases-loop-left : goal.decreases-loop-left
