@@ -1,5 +1,6 @@
 //! A state whose changes are recorded, event by event.
 ghost use Rattle.std.specs.Prelude.{◌≡◌, ◌≤◌, ◌∷◌, [], IfOk, IfSome, IsSome, None, OnErr, OnOk, option_map, ◌<◌, ◌+◌, ℕ, Some, length, slice_get, true};
+ghost use Rattle.std.specs.List.{list_all};
 ghost use Rattle.std.specs.Option.{MatchOption, IsSomeAnd};
 ghost use Rattle.spv_journal.specs.Events.{newest, opened, size};
 ghost use Rattle.spv_journal.specs.Held.{marked, past_of, sealed, unwound, IsMaking, Records, KeepsEvent};
@@ -14,8 +15,7 @@ ghost use Rattle.spv_plans.specs.Plans.{plans_in};
 ghost use Rattle.spv_state.specs.Rooms.{HasLocals};
 ghost use Rattle.spv_state.specs.Sound.{IsSoundFrame};
 ghost use Rattle.spv_state.specs.State as state;
-ghost use Rattle.spv_statuses.specs.Group.{all_wait_at};
-ghost use Rattle.spv_statuses.specs.Invocations.{IsWithin};
+ghost use Rattle.spv_statuses.specs.Invocations.{IsWithin, waits_or_finished};
 ghost use Rattle.spv_types.specs.Rows.{leaves, no_roots};
 ghost use Rattle.spv_types.specs.Shapes.{HasShape, pointer_in};
 ghost use Rattle.spv_frame.specs.Registers.{IsSlotOf};
@@ -366,10 +366,10 @@ impl Recorded {
         }
     }
 
-    /// Opens the barrier at a word, at which all invocations wait: each has passed it then.
+    /// Opens the barrier at a word, at which all invocations wait that aren't finished: each of these has passed it then.
     pub fn open_barrier(&mut self, word: u32) -> Result<(), NoMemory>
         requires making { IsSome self.old.gathered }
-        requires waiting { all_wait_at word self.old.state.statuses.list ≡ true }
+        requires waiting { list_all (waits_or_finished word) self.old.state.statuses.list ≡ true }
         requires within { word < self.old.state.statuses.words }
         ensures ok { OnOk result (self.new.state ≡ state.open_barrier self.old.state) }
         ensures recorded { Records 1 self.old self.new }

@@ -1,3 +1,3 @@
 -- What crates above cite of this crate's lemmas; every other file of proofs is the crate's own.
--- Counts of elements that pass a test, and what they tell of all of them.
-pub use Rattle.spv_statuses.proofs.CountLemmas.{passed_all, waits_again}
+-- Barriers that open and close.
+pub use Rattle.spv_statuses.proofs.BarrierLemmas.{passed_opened, closed_opened, opens_waiting, no_moving_opens}

@@ -1,2 +1,4 @@
+mod BarrierLemmas
 mod CountLemmas
+mod MapLemmas
 pub mod Exports

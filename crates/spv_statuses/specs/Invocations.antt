@@ -1,5 +1,5 @@
 -- How far an invocation is.
-use Rattle.std.specs.Prelude.{◌<◌, ◌==◌, ℕ, Bool, true, false, ⊤}
+use Rattle.std.specs.Prelude.{◌<◌, ◌==◌, ◌||◌, ℕ, Bool, true, false, Option, Some, None, ⊤}
 use Rattle.spv_base.specs.declared.happenings.Status4.{Status4}
 use Rattle.spv_base.specs.declared.happenings.Status4.TheVariants.{Ready as IsReady, Arrived as HasArrived, Passed as HasPassed, Finished as HasFinished}
 use Rattle.spv_statuses.specs.declared.invocations.Status.{Status}
@@ -36,6 +36,35 @@ is_finished Ready = false
 is_finished (Arrived word) = false
 is_finished Passed = false
 is_finished Finished = true
+
+-- it waits at the barrier at a word, or is finished
+abbrev pub waits_or_finished : ℕ → Status → Bool
+waits_or_finished word s = waits_at word s || is_finished s
+
+-- it has passed its barrier, or is finished
+abbrev pub passed_or_finished : Status → Bool
+passed_or_finished s = is_passed s || is_finished s
+
+-- the word of the barrier at which it waits
+abbrev pub barrier_of : Status → Option ℕ
+barrier_of Ready = None
+barrier_of (Arrived word) = Some word
+barrier_of Passed = None
+barrier_of Finished = None
+
+-- once its barrier has opened: one that waits has passed it
+abbrev pub once_opened : Status → Status
+once_opened Ready = Ready
+once_opened (Arrived word) = Passed
+once_opened Passed = Passed
+once_opened Finished = Finished
+
+-- once the barrier at a word is closed again: one that has passed it waits there
+abbrev pub once_closed : ℕ → Status → Status
+once_closed word Ready = Ready
+once_closed word (Arrived at) = Arrived at
+once_closed word Passed = Arrived word
+once_closed word Finished = Finished
 
 -- the status without the barrier
 abbrev pub kind : Status → Status4

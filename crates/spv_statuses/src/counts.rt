@@ -72,10 +72,3 @@ impl Waiting {
         self.counts[word as usize] = count;
     }
 }
-
-/// Gives all invocations one status.
-pub(crate) fn fill(list: &mut Vec<Status>, status: Status)
-    ensures { list.new.items ≡ replicate (length list.old.items) status }
-{
-    list.as_mut_slice().fill(status);
-}

@@ -1,10 +1,10 @@
 //! The statuses of the invocations of a workgroup.
-ghost use Rattle.std.specs.Prelude.{◌≡◌, ◌<◌, IfOk, Some, true, length, replicate, slice_get};
-ghost use Rattle.std.specs.List.{list_all};
+ghost use Rattle.std.specs.Prelude.{◌≡◌, ◌<◌, ◌≤◌, ◌+◌, ◌&&◌, IfOk, None, Some, true, length, nat_eq, nat_lt, replicate, slice_get, if◌then◌else◌};
+ghost use Rattle.std.specs.List.{list_all, list_any};
 ghost use Rattle.spv_statuses.specs.Group as spec;
-ghost use Rattle.spv_statuses.specs.Invocations.{IsWithin, is_passed, waits_at};
+ghost use Rattle.spv_statuses.specs.Invocations.{IsWithin, moves, passed_or_finished, waits_or_finished};
 
-use crate::counts::{Waiting, fill};
+use crate::counts::Waiting;
 use crate::invocations::Status;
 use spv_base::NoMemory;
 use std::alloc::Global;
@@ -32,6 +32,48 @@ impl Model for Statuses {
     ghost view = { λ s. record { list = s.list.items; words = length s.waiting.counts.items } };
 
     ghost invariant = { λ s. AreCounted s.list.items s.moving s.finished s.waiting.counts.items };
+}
+
+/// Whether a barrier opens at which so many invocations wait, of so many, where finished ones count as arrived or don't.
+fn opens(finished_count: bool, waiting: usize, finished: usize, all: usize) -> bool
+    requires { waiting + finished ≤ all }
+    ensures { result ≡ (if finished_count then nat_lt 0 waiting && nat_eq (waiting + finished) all else nat_eq waiting all) }
+{
+    if finished_count {
+        waiting > 0 && waiting + finished == all
+    } else {
+        waiting == all
+    }
+}
+
+/// The word of the barrier at which the first invocation waits that does.
+fn first_waiting(statuses: &[Status]) -> Option<u32>
+    ensures { result ≡ spec.first_waiting statuses.now }
+{
+    for status in statuses {
+        if let Some(word) = status.barrier() {
+            return Some(word);
+        }
+    }
+    None
+}
+
+/// All that wait have passed their barrier.
+fn open_all(statuses: &mut Vec<Status>)
+    ensures { statuses.new.items ≡ spec.opened statuses.old.items }
+{
+    for status in statuses.iter_mut() {
+        *status = status.once_opened();
+    }
+}
+
+/// All that have passed the barrier at a word wait there.
+fn close_all(statuses: &mut Vec<Status>, word: u32)
+    ensures { statuses.new.items ≡ spec.closed word statuses.old.items }
+{
+    for status in statuses.iter_mut() {
+        *status = status.once_closed(word);
+    }
 }
 
 impl Statuses {
@@ -75,21 +117,40 @@ impl Statuses {
         self.list[inv as usize]
     }
 
-    /// Whether all invocations wait at the barrier at a word.
-    #[tactic(auto, using(crate::proofs::CountLemmas::all_counted))]
-    pub fn all_wait_at(&self, word: u32) -> bool
-        ensures { result ≡ spec.all_wait_at word self.now.list }
+    /// Whether the barrier at a word opens, where finished invocations count as arrived or don't.
+    #[tactic(auto, using(crate::proofs::BarrierLemmas::opens_counted, crate::proofs::BarrierLemmas::counts_apart))]
+    pub fn opens_at(&self, finished_count: bool, word: u32) -> bool
+        ensures { result ≡ spec.opens_at finished_count word self.now.list }
     {
-        self.waiting.at(word) == self.list.len()
+        opens(
+            finished_count,
+            self.waiting.at(word),
+            self.finished,
+            self.list.len(),
+        )
     }
 
-    /// Whether all invocations wait at the barrier at a word once an invocation does.
-    pub fn all_wait_with(&self, inv: u32, word: u32) -> bool
+    /// Whether the barrier at a word opens once an invocation waits there.
+    pub fn opens_with(&self, finished_count: bool, inv: u32, word: u32) -> bool
         requires { inv < length self.now.list }
-        ensures { result ≡ spec.all_wait_at word (spec.with_status inv (Status.Arrived word) self.now.list) }
+        ensures { result ≡ spec.opens_at finished_count word (spec.with_status inv (Status.Arrived word) self.now.list) }
     {
-        let more = !self.get(inv).waits_at(word);
-        self.waiting.at(word) + usize::from(more) == self.list.len()
+        let old = self.get(inv);
+        let waiting = self.waiting.at(word) + usize::from(!old.waits_at(word));
+        let finished = self.finished - usize::from(old.is_finished());
+        opens(finished_count, waiting, finished, self.list.len())
+    }
+
+    /// The word of the barrier at which the first invocation waits that does, where none moves. It looks for it only there, and goes over
+    /// the statuses then.
+    pub fn first_waiting(&self) -> Option<u32>
+        ensures { result ≡ (if list_any moves self.now.list then None else spec.first_waiting self.now.list) }
+    {
+        if self.moving == 0 {
+            first_waiting(&self.list)
+        } else {
+            None
+        }
     }
 
     /// Whether all invocations are finished.
@@ -126,31 +187,25 @@ impl Statuses {
         old
     }
 
-    /// Opens the barrier at a word, at which all invocations wait: all have passed it. It takes no memory.
-    #[tactic(auto, using(crate::proofs::CountLemmas::count_replicate, crate::proofs::CountLemmas::wait_apart))]
+    /// Opens the barrier at a word, at which all invocations wait that aren't finished: these have passed it. It takes no memory.
     pub fn open(&mut self, word: u32)
-        requires waiting { spec.all_wait_at word self.old.list ≡ true }
+        requires waiting { list_all (waits_or_finished word) self.old.list ≡ true }
         requires within { word < self.old.words }
         ensures { self.new ≡ record self.old { list = spec.opened self.old.list } }
     {
-        let count = self.list.len();
-        fill(&mut self.list, Status::Passed);
-        self.moving = count;
-        self.finished = 0;
+        open_all(&mut self.list);
+        self.moving = self.waiting.at(word);
         self.waiting.put(word, 0);
     }
 
-    /// Closes the barrier at a word again, which all invocations have passed: all wait there. It takes no memory.
-    #[tactic(auto, using(crate::proofs::CountLemmas::count_replicate, crate::proofs::CountLemmas::passed_wait))]
+    /// Closes the barrier at a word again, which all invocations have passed that aren't finished: these wait there. It takes no memory.
     pub fn close(&mut self, word: u32)
-        requires passed { list_all is_passed self.old.list ≡ true }
+        requires passed { list_all passed_or_finished self.old.list ≡ true }
         requires within { word < self.old.words }
         ensures { self.new ≡ record self.old { list = spec.closed word self.old.list } }
     {
-        let count = self.list.len();
-        fill(&mut self.list, Status::Arrived(word));
+        close_all(&mut self.list, word);
+        self.waiting.put(word, self.moving);
         self.moving = 0;
-        self.finished = 0;
-        self.waiting.put(word, count);
     }
 }

@@ -48,6 +48,36 @@ impl Status {
         }
     }
 
+    /// The word of the barrier at which it waits.
+    pub fn barrier(self) -> Option<u32>
+        ensures { result ≡ spec.barrier_of self }
+    {
+        match self {
+            Status::Arrived(word) => Some(word),
+            Status::Ready | Status::Passed | Status::Finished => None,
+        }
+    }
+
+    /// The status once its barrier has opened.
+    pub fn once_opened(self) -> Status
+        ensures { result ≡ spec.once_opened self }
+    {
+        match self {
+            Status::Arrived(_) => Status::Passed,
+            Status::Ready | Status::Passed | Status::Finished => self,
+        }
+    }
+
+    /// The status once the barrier at a word is closed again.
+    pub fn once_closed(self, word: u32) -> Status
+        ensures { result ≡ spec.once_closed word self }
+    {
+        match self {
+            Status::Passed => Status::Arrived(word),
+            Status::Ready | Status::Arrived(_) | Status::Finished => self,
+        }
+    }
+
     /// The status without the barrier.
     pub fn kind(self) -> Status4
         ensures { result ≡ spec.kind self }

@@ -1,5 +1,6 @@
 -- Each change of a state, and the entry that undoes it.
 use Rattle.std.proofs.Common.{◌≡◌, ◌≢◌, ◌∙◌, ℕ, zero, suc, ◌-◌, ◌<◌, ◌≤◌, true, List, [], ◌∷◌, ◌++◌, Option, Some, None, IsSome, length, length-set, option_map, slice_get, take, refl, sym, ap, subst, arith}
+use Rattle.std.specs.List.{list_all}
 use Rattle.std.specs.Option.{IsSomeAnd, option_map_or}
 use Rattle.spv_base.specs.Entries.{change}
 use Rattle.spv_base.specs.Variables.{Roots}
@@ -12,10 +13,9 @@ use Rattle.spv_frame.specs.Numbers.{HoldsPointer, HoldsValue, with_pointer, with
 use Rattle.spv_frame.specs.Stacks.{Stacked, on_top, top}
 use Rattle.spv_frame.proofs.Exports.{put_back}
 use Rattle.spv_mem.specs.Memory.{AreVariables, Levels}
-use Rattle.spv_statuses.specs.Group.{all_wait_at}
-use Rattle.spv_statuses.specs.Invocations.{IsWithin}
+use Rattle.spv_statuses.specs.Invocations.{IsWithin, waits_or_finished}
 use Rattle.spv_statuses.specs.declared.invocations.Status.{Status}
-use Rattle.spv_statuses.proofs.Exports.{passed_all, waits_again}
+use Rattle.spv_statuses.proofs.Exports.{closed_opened, passed_opened}
 use Rattle.spv_state.specs.State.{State, append_event, drop_event, on_frame, on_frames, open_barrier, pop_frame, push_frame, set_status, top_of, with_pc, with_top, without_last, without_locals, without_top}
 use Rattle.spv_state.proofs.Exports.{without_is, some_frames, stacks_stay, without_entered, level_there}
 use Rattle.spv_undo.specs.Undo.{HasRooms, HasTop, Undoes}
@@ -110,10 +110,10 @@ status_undone i status old s inside was within = record {
   can = (subst (λ (n : ℕ). i < n) (sym (length-set s.statuses.list i status)) inside, within);
 }
 
-pub barrier_undone : (i word : ℕ) (s : State) → all_wait_at word s.statuses.list ≡ true → word < s.statuses.words → Undoes i (BarrierOpened word) s (open_barrier s)
+pub barrier_undone : (i word : ℕ) (s : State) → list_all (waits_or_finished word) s.statuses.list ≡ true → word < s.statuses.words → Undoes i (BarrierOpened word) s (open_barrier s)
 barrier_undone i word s waiting within = record {
-  back = ap (λ (l : List Status). record s { statuses = record s.statuses { list = l } }) (waits_again s.statuses.list word waiting);
-  can = (passed_all (length s.statuses.list), within);
+  back = ap (λ (l : List Status). record s { statuses = record s.statuses { list = l } }) (closed_opened word s.statuses.list waiting);
+  can = (passed_opened word s.statuses.list waiting, within);
 }
 
 -- ---- frames

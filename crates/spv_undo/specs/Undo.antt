@@ -8,7 +8,7 @@ use Rattle.spv_frame.specs.Stacks.{Stacked}
 use Rattle.spv_mem.specs.Memory.{AreVariables, HasRoom, MayStore, load_of}
 use Rattle.spv_mem.specs.Singles.{NamesRow}
 use Rattle.spv_state.specs.State.{State, close_barrier, drop_event, on_frame, pop_frame, push_frame, put_store, set_status, top_of, with_pc}
-use Rattle.spv_statuses.specs.Invocations.{IsWithin, is_passed}
+use Rattle.spv_statuses.specs.Invocations.{IsWithin, passed_or_finished}
 use Rattle.spv_types.specs.Rows.{leaves}
 use Rattle.spv_undo.specs.declared.entries.Entry.{Entry}
 use Rattle.spv_undo.specs.declared.entries.Entry.TheVariants.{Leaf, Part, NoValue, CellRegister, RowRegister, PointerRegister, FramePushed, FramePopped, PcMoved, EventAppended, StatusChanged, BarrierOpened}
@@ -56,7 +56,7 @@ CanUndo i (FramePopped b) s = HasRooms s i × ∥ AreVariables s.memory.types s.
 CanUndo i (PcMoved pc) s = (i < length s.stacks) × IsSome (top_of s i)
 CanUndo i EventAppended s = HasTop s i (λ f. f.events ≢ [])
 CanUndo i (StatusChanged status) s = (i < length s.statuses.list) × IsWithin s.statuses.words status
-CanUndo i (BarrierOpened word) s = (list_all is_passed s.statuses.list ≡ true) × (word < s.statuses.words)
+CanUndo i (BarrierOpened word) s = (list_all passed_or_finished s.statuses.list ≡ true) × (word < s.statuses.words)
 
 -- an entry leads from a state t back to s
 pub record Undoes (i : ℕ) (e : Entry) (s t : State) : Type 0 where

@@ -1,0 +1,10 @@
+use Rattle.std.proofs.Common.{rules}
+use Rattle.spv_statuses.specs.Invocations.{once_opened}
+use Rattle.spv_statuses.proofs.MapLemmas.{mapped_back, mapped_more}
+use Rattle.spv_statuses.proofs.group.open_all.Goals as goal
+
+pub loop-status-preserved : goal.loop-status-preserved
+loop-status-preserved c = mapped_more once_opened _ _ _ _ _ c.loop-status.invariant c.loop-status-test.true c.once_opened.ensures
+
+pub returns : goal.returns
+returns c = mapped_back once_opened c.loop-status.status-index c.args.statuses.now.items c.deref_mut-status-items.result.now c.loop-status.status-items c.args.statuses.now.len c.loop-status.invariant c.deref_mut-status-items.ensures.value (search rules) (search rules)
