@@ -143,7 +143,8 @@ IDS = [
 
 CAPABILITIES = [
     ("capability 2", set(0, "Capability", 2), (11, 0)),
-    ("capability 4441", set(0, "Capability", 4441), (11, 0)),
+    ("capability 4441", set(0, "Capability", 4441), None),
+    ("capability 4442", set(0, "Capability", 4442), (11, 0)),
     ("capability 4449", set(0, "Capability", 4449), None),
     ("SPV_KHR_multiview", set(1, "Extension", "SPV_KHR_multiview"), (11, 1)),
     ("SPV_KHR_variable_pointers", set(1, "Extension", "SPV_KHR_variable_pointers"), None),
@@ -158,14 +159,22 @@ CAPABILITIES = [
     ("OpPtrEqual", put(22, "PtrEqual", 3, 30, 10, 10), (11, 22)),
     ("OpPtrNotEqual", put(22, "PtrNotEqual", 3, 30, 10, 10), (11, 22)),
 ]
+# What a change is in a module with another one too.
+VARIABLE_POINTERS, NAMED = put(1, "Capability", 4441), set(1, "Extension", "SPV_KHR_variable_pointers")
+AMONG_POINTERS = [
+    ("OpPtrAccessChain in Private, told by the rules of bodies", VARIABLE_POINTERS, put(22, "PtrAccessChain", 4, 30, 10, 5), (12, 23)),
+    ("OpPtrEqual that gives a uint, told by the rules of bodies", VARIABLE_POINTERS, put(22, "PtrEqual", 3, 30, 10, 10), (12, 23)),
+    ("OpPtrNotEqual that gives a uint, told by the rules of bodies", VARIABLE_POINTERS, put(22, "PtrNotEqual", 3, 30, 10, 10), (12, 23)),
+    ("OpPtrEqual where the extension alone is named", NAMED, put(22, "PtrEqual", 3, 30, 10, 10), (11, 22)),
+]
 
 
 def rules(rows):
-    return [Rule(what, changed(MODULE, [change]), due) for what, change, due in rows]
+    return [Rule(what, changed(MODULE, changes), due) for what, *changes, due in rows]
 
 
 GROUPS = {
     "sections": [Rule("a module in which no rule is broken", MODULE, None)] + rules(SECTIONS),
     "ids": rules(IDS),
-    "capabilities": rules(CAPABILITIES),
+    "capabilities": rules(CAPABILITIES + AMONG_POINTERS),
 }

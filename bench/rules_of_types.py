@@ -194,6 +194,7 @@ DECLARED = {
     "local_array3": ("TypePointer", 7, "array3"),
     "buffer_block": ("TypePointer", 12, "block"),
     "buffer_uint": ("TypePointer", 12, "uint"),
+    "strided_uint": ("TypePointer", 12, "uint"),
     "buffer_runtime": ("TypePointer", 12, "runtime"),
     "shared_uint": ("TypePointer", 4, "uint"),
     "shared_uint2": ("TypePointer", 4, "uint2"),
@@ -205,6 +206,8 @@ DECLARED = {
     "taker": ("TypeFunction", "void", "uniform_uint", "push_uint", "local_uint"),
     "summer": ("TypeFunction", "uint", "uint", "bool"),
     "finder": ("TypeFunction", "local_uint"),
+    "passer": ("TypeFunction", "buffer_uint", "buffer_uint"),
+    "keeper": ("TypeFunction", "private_uint", "private_uint"),
     "=buffer_block": ("Variable", "buffer_block", 12),
     "=shared_uint2": ("Variable", "shared_uint2", 4),
     "=private_uint": ("Variable", "private_uint", 6),
@@ -213,6 +216,7 @@ DECLARED = {
 DECORATED = {
     "block": [("Decorate", "block", 2), ("MemberDecorate", "block", 0, 35, 0), ("MemberDecorate", "block", 1, 35, 4)],
     "runtime": [("Decorate", "runtime", 6, 4)],
+    "strided_uint": [("Decorate", "strided_uint", 6, 16)],
     "=buffer_block": [("Decorate", "=buffer_block", 34, 0), ("Decorate", "=buffer_block", 33, 0)],
     "=input_uint": [("Decorate", "=input_uint", 11, 29)],
 }
@@ -225,6 +229,7 @@ VALUES = {
     "=void": ("FunctionCall", "void", "main"),
     "=action": ("CopyObject", "action", "=action"),
     "=buffer_uint": ("AccessChain", "buffer_uint", "=buffer_block", "zero"),
+    "=strided_uint": ("AccessChain", "strided_uint", "=buffer_block", "zero"),
     "=buffer_runtime": ("InBoundsAccessChain", "buffer_runtime", "=buffer_block", "one"),
     "=shared_uint": ("AccessChain", "shared_uint", "=shared_uint2", "=uint"),
 }
@@ -240,6 +245,13 @@ CALLED = {
         ("FunctionEnd",),
     ],
     "giver": [("Function", "local_uint", "giver", 0, "finder"), ("Label", "giver.1"), ("Unreachable",), ("FunctionEnd",)],
+    "lender": [
+        ("Function", "buffer_uint", "lender", 0, "passer"),
+        ("FunctionParameter", "buffer_uint", "lender.a"),
+        ("Label", "lender.1"),
+        ("Unreachable",),
+        ("FunctionEnd",),
+    ],
 }
 LAST = ("Branch", "BranchConditional", "Switch", "Return", "ReturnValue", "Unreachable")
 
@@ -293,13 +305,13 @@ class Body:
             operands.insert(1 if typed else 0, name)
         return inst(op, *[self.id(o) if isinstance(o, str) else o for o in operands])
 
-    def module(self, lines):
-        """The instructions around these lines of the function that is tried, and the number of the first of them."""
+    def module(self, lines, pointers=False):
+        """The instructions before the function that is tried, which has these lines, in a module with variable pointers or without."""
         for line in lines:
             self.need_all(line[1:])
         self.need_all(["taker", "action"])
         wanted = [name for name in DECLARED if name in self.needed]
-        made = [self.of(("Capability", 1))]
+        made = [self.of(("Capability", 1))] + [self.of(("Capability", 4441))] * pointers
         made += [self.of(DECLARED[name], name) for name in wanted if DECLARED[name][0] == "ExtInstImport"]
         made += [self.of(("MemoryModel", 0, 1)), self.of(("EntryPoint", 5, "@main", "main")), self.of(("ExecutionMode", "main", 17, 1, 1, 1))]
         made += [self.of(row) for name in wanted for row in DECORATED.get(name, [])]
@@ -395,6 +407,49 @@ OPERANDS = [
     ("FunctionCall", "uint", ["callee", "=bool", "=uint"], False),
     ("FunctionCall", "uint", ["callee", "=uint"], False),
     ("FunctionCall", "local_uint", ["giver"], False),
+    ("FunctionCall", "buffer_uint", ["lender", "=buffer_uint"], False),
+    ("Select", "buffer_uint", ["=bool", "=buffer_uint", "=buffer_uint"], False),
+    ("PtrEqual", "bool", ["=buffer_uint", "=buffer_uint"], 11),
+    ("PtrNotEqual", "bool", ["=buffer_uint", "=buffer_uint"], 11),
+]
+# The same in a module that declares VariablePointersStorageBuffer. The stride of a pointer type doesn't count.
+AMONG_POINTERS = [
+    ("Select", "buffer_uint", ["=bool", "=buffer_uint", "=buffer_uint"], True),
+    ("Select", "buffer_runtime", ["=bool", "=buffer_runtime", "=buffer_runtime"], True),
+    ("Select", "buffer_uint", ["=bool2", "=buffer_uint", "=buffer_uint"], False),
+    ("Select", "buffer_uint", ["=uint", "=buffer_uint", "=buffer_uint"], False),
+    ("Select", "buffer_uint", ["=bool", "=buffer_uint", "=strided_uint"], False),
+    ("Select", "buffer_uint", ["=bool", "=buffer_runtime", "=buffer_uint"], False),
+    ("Select", "private_uint", ["=bool", "=private_uint", "=private_uint"], False),
+    ("Select", "uint2", ["=bool2", "=uint2", "=uint2"], True),
+    ("Select", "uint2", ["=bool4", "=uint2", "=uint2"], False),
+    ("PtrAccessChain", "buffer_uint", ["=buffer_uint", "zero"], True),
+    ("PtrAccessChain", "strided_uint", ["=strided_uint", "=ulong"], True),
+    ("PtrAccessChain", "buffer_runtime", ["=buffer_block", "minus_one", "one"], True),
+    ("PtrAccessChain", "buffer_uint", ["=buffer_block", "one", "one", "=uint"], True),
+    ("PtrAccessChain", "buffer_uint", ["=buffer_uint", "=bool"], False),
+    ("PtrAccessChain", "buffer_uint", ["=buffer_uint", "=uint2"], False),
+    ("PtrAccessChain", "buffer_uint", ["=buffer_runtime", "one"], False),
+    ("PtrAccessChain", "buffer_uint", ["=buffer_block", "one", "=uint"], False),
+    ("PtrAccessChain", "private_uint", ["=private_uint", "zero"], False),
+    ("PtrAccessChain", "private_uint", ["=buffer_uint", "zero"], False),
+    ("PtrAccessChain", "uint", ["=uint", "zero"], False),
+    ("PtrEqual", "bool", ["=buffer_uint", "=buffer_uint"], True),
+    ("PtrNotEqual", "bool", ["=buffer_block", "=buffer_block"], True),
+    ("PtrEqual", "bool", ["=buffer_uint", "=buffer_runtime"], False),
+    ("PtrEqual", "bool", ["=buffer_uint", "=strided_uint"], False),
+    ("PtrEqual", "uint", ["=buffer_uint", "=buffer_uint"], False),
+    ("PtrNotEqual", "bool2", ["=buffer_uint", "=buffer_uint"], False),
+    ("PtrNotEqual", "bool", ["=private_uint", "=private_uint"], False),
+    ("PtrEqual", "bool", ["=uint", "=uint"], False),
+    ("FunctionCall", "buffer_uint", ["lender", "=buffer_uint"], True),
+    ("FunctionCall", "buffer_uint", ["lender", "=strided_uint"], False),
+    ("FunctionCall", "local_uint", ["giver"], False),
+    ("CopyObject", "buffer_uint", ["=buffer_uint"], True),
+    ("CopyLogical", "buffer_uint", ["=buffer_uint"], False),
+    ("CompositeExtract", "buffer_uint", ["=buffer_uint"], False),
+    ("Undef", "buffer_uint", [], False),
+    ("IEqual", "bool", ["=buffer_uint", "=buffer_uint"], False),
 ]
 
 # The operation, the type of its result, the types of its operands, and whether they fit.
@@ -446,7 +501,7 @@ GLSL = [
 ]
 
 
-def body_rule(op, ty, operands, fits):
+def body_rule(op, ty, operands, fits, pointers=False):
     """A row in a function of its own; it is kept, or broken, or refused with another code."""
     row = (op, *([ty] if ty else []), *(["answer"] if has_result(op) else []), *operands)
     what = " ".join(["Op" + op] + ([ty] if ty else []) + [str(o) for o in operands])
@@ -454,15 +509,15 @@ def body_rule(op, ty, operands, fits):
         last = [("Label", "last"), ("Return",)]
     else:
         last = [] if op in LAST else [("Return",)]
-    return rule_of_rows(what, [row], last + [("FunctionEnd",)], 0, fits)
+    return rule_of_rows(what, [row], last + [("FunctionEnd",)], 0, fits, pointers)
 
 
-def rule_of_rows(what, rows, last, at, fits):
+def rule_of_rows(what, rows, last, at, fits, pointers=False):
     body = Body()
-    front = body.module(rows)
+    front = body.module(rows, pointers)
     made, tail = body.tried(rows, last)
     code = {True: None, False: 12}.get(fits, fits)
-    return Rule(what, front + made + tail, code and (code, len(front) + len(made) + at))
+    return Rule(what + AMONG * pointers, front + made + tail, code and (code, len(front) + len(made) + at))
 
 
 # A phi of two parents, of values of two types.
@@ -474,18 +529,37 @@ PHI = [
     ("Branch", "join"),
     ("Label", "join"),
 ]
+# The type of the phi, its pairs, whether they fit, and whether the module declares variable pointers.
+PHIS = [
+    ("uint", ["=uint", "left", "=uint", "right"], True, False),
+    ("uint", ["=uint", "left", "=int", "right"], False, False),
+    ("buffer_uint", ["=buffer_uint", "left", "=buffer_uint", "right"], False, False),
+    ("buffer_uint", ["=buffer_uint", "left", "=buffer_uint", "right"], True, True),
+    ("buffer_uint", ["=buffer_uint", "left", "=strided_uint", "right"], False, True),
+    ("local_uint", ["=local_uint", "left", "=local_uint", "right"], False, True),
+]
+# What a module is called that declares VariablePointersStorageBuffer.
+AMONG = ", variable pointers"
 
 
 def rules_of_bodies():
     for row in OPERANDS:
         yield body_rule(*row)
-    for parts, fits in ((["=uint", "left", "=uint", "right"], True), (["=uint", "left", "=int", "right"], False)):
-        rows = PHI + [("Phi", "uint", "answer", *parts)]
-        yield rule_of_rows("OpPhi " + " ".join(parts), rows, [("Return",), ("FunctionEnd",)], 6, fits)
+    for ty, parts, fits, pointers in PHIS:
+        rows = PHI + [("Phi", ty, "answer", *parts)]
+        yield rule_of_rows("OpPhi " + " ".join(parts), rows, [("Return",), ("FunctionEnd",)], 6, fits, pointers)
     for what, lines, at in FUNCTIONS:
-        body = Body()
-        front = body.module(lines)
-        yield Rule(what, front + [body.of(line) for line in lines], None if at is None else (12, len(front) + at))
+        yield rule_of_function(what, lines, at)
+    for row in AMONG_POINTERS:
+        yield body_rule(*row, pointers=True)
+    for what, lines, at in POINTERS_RETURNED:
+        yield rule_of_function(what, lines, at, pointers=True)
+
+
+def rule_of_function(what, lines, at, pointers=False):
+    body = Body()
+    front = body.module(lines, pointers)
+    return Rule(what + AMONG * pointers, front + [body.of(line) for line in lines], None if at is None else (12, len(front) + at))
 
 
 def rules_of_operations():
@@ -499,6 +573,8 @@ SUM = ("Function", "uint", "sum", 0, "summer")
 A, B, C = ("FunctionParameter", "uint", "a"), ("FunctionParameter", "bool", "b"), ("FunctionParameter", "bool", "c")
 ACT, ACT_TOO = ("Function", "void", "act", 0, "action"), ("Function", "void", "act too", 0, "action")
 BLOCK, GIVES, ENDS, END = ("Label", "block of it"), ("ReturnValue", "a"), ("Return",), ("FunctionEnd",)
+PASSING = [("Function", "buffer_uint", "pass", 0, "passer"), ("FunctionParameter", "buffer_uint", "a"), BLOCK, GIVES, END]
+KEEPING = [("Function", "private_uint", "keep", 0, "keeper"), ("FunctionParameter", "private_uint", "a")]
 # What the functions are, their lines, and the number of the first breach.
 FUNCTIONS = [
     ("a function with its parameters", [SUM, A, B, BLOCK, GIVES, END], None),
@@ -512,6 +588,12 @@ FUNCTIONS = [
         4,
     ),
     ("a function of no type that returns a value", [ACT, BLOCK, ("ReturnValue", "one"), END], 2),
+    ("a function that returns a pointer into a buffer", PASSING, 3),
+]
+# And in a module that declares VariablePointersStorageBuffer.
+POINTERS_RETURNED = [
+    ("a function that returns a pointer into a buffer", PASSING, None),
+    ("a function that returns a pointer of Private", [*KEEPING, BLOCK, GIVES, END], 3),
 ]
 
 GROUPS = {

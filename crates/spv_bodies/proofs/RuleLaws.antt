@@ -16,15 +16,15 @@ use Rattle.spv_types.specs.declared.queries.Pointed.{Pointed}
 use Rattle.spv_types.specs.InterfaceBlocks.{nothing}
 use Rattle.spv_types.specs.Rules.{has_runtime, is_sized_data, is_word}
 use Rattle.spv_types.specs.Types.{Types, form_of}
-use Rattle.spv_types.specs.Queries.{is_integer, is_pointer}
+use Rattle.spv_types.specs.Queries.{is_boolean, is_integer}
 use Rattle.spv_types.proofs.Exports.{impossible, none_refused}
 use Rattle.spv_index.specs.Classes.{is_debug}
 use Rattle.spv_typing.specs.Fitting.{is_selectable}
 use Rattle.spv_typing.proofs.Exports.{glsl_rule_is, rule_is}
 use Rattle.spv_bodies.specs.declared.rules.Rule.{Rule}
-use Rattle.spv_bodies.specs.declared.rules.Rule.TheVariants.{Free, Lanes, Extended, Memory, Atomic, Composite, Control}
+use Rattle.spv_bodies.specs.declared.rules.Rule.TheVariants.{Free, Lanes, Select, Extended, Memory, Atomic, Composite, Control}
 use Rattle.spv_bodies.specs.declared.rules.MemoryRule.{MemoryRule}
-use Rattle.spv_bodies.specs.declared.rules.MemoryRule.TheVariants.{Undef, Variable, Load, Store, CopyMemory, ArrayLength, Chain}
+use Rattle.spv_bodies.specs.declared.rules.MemoryRule.TheVariants.{Undef, Variable, Load, Store, CopyMemory, ArrayLength, Chain, PtrChain, PtrEqual}
 use Rattle.spv_bodies.specs.declared.rules.AtomicRule.{AtomicRule}
 use Rattle.spv_bodies.specs.declared.rules.AtomicRule.TheVariants.{Read, Store as AtomicStore, Update, Compare, ControlBarrier, MemoryBarrier}
 use Rattle.spv_bodies.specs.declared.rules.CompositeRule.{CompositeRule}
@@ -34,19 +34,20 @@ use Rattle.spv_bodies.specs.declared.rules.ControlRule.TheVariants.{Phi, Branch,
 use Rattle.spv_bodies.specs.Atomics.{IsOrdered, IsShared, is_ordered, is_shared, number_at, on_shared}
 use Rattle.spv_bodies.specs.Bodies.{KeepsAtomic, KeepsBody, KeepsComposite, KeepsControl, KeepsMemory, KeepsRule, bodies_of, body_breaches, breach, keeps, keeps_atomic, keeps_body, keeps_composite, keeps_control, keeps_memory}
 use Rattle.spv_bodies.specs.Calls.{are_of, called_form, function_form, parameter_type, parameters_ahead}
-use Rattle.spv_bodies.specs.Chains.{reached_type}
+use Rattle.spv_bodies.specs.Chains.{Reaches, reached_type, reaches}
 use Rattle.spv_bodies.specs.Composites.{AreParts, Fill, IsChoice, IsPart, IsShuffle, are_elements, are_members, are_parts, fill, given, is_choice, is_part, is_shuffle, named_type}
-use Rattle.spv_bodies.specs.Context.{IsConstantAt, Known, constant_at, form_at, is_constant_at, is_integer_at, known_of, type_at, type_in}
+use Rattle.spv_bodies.specs.Context.{IsConstantAt, Known, constant_at, form_at, is_buffer_pointer, is_constant_at, is_given, is_integer_at, known_of, type_at, type_in}
 use Rattle.spv_bodies.specs.Control.{are_values, firsts}
-use Rattle.spv_bodies.specs.Lanes.{count_of, types_after}
+use Rattle.spv_bodies.specs.Lanes.{KeepsLanes, count_of, keeps_lanes, types_after}
 use Rattle.spv_bodies.specs.Laws.{KeepRules}
 use Rattle.spv_bodies.specs.Matching.{Match, do_match, same_terms, term_of}
 use Rattle.spv_bodies.specs.Memory.{IsWritable, MayBeStored, Starts, is_writable, may_be_stored, member_at, starts}
 use Rattle.spv_index.specs.Operands.{literal_in, literal_operand}
 use Rattle.spv_bodies.specs.Places.{Placed, placed}
+use Rattle.spv_bodies.specs.Pointers.{KeepsPointerSelect, KeepsSelect, keeps_pointer_select, keeps_select}
 use Rattle.spv_bodies.specs.Rules.{rule_of}
 use Rattle.spv_bodies.proofs.TermLemmas.{both_written}
-use Rattle.spv_bodies.proofs.TestLemmas.{all_are, boolean, composed, declaring, equal, has_is, integer, leading, less, one_more, opposite, runtime, void, word}
+use Rattle.spv_bodies.proofs.TestLemmas.{all_are, boolean, buffer_pointer, composed, declaring, equal, has_is, integer, leading, less, one_more, opposite, runtime, void, word}
 use Rattle.spv_base.proofs.Exports.{itself, at_most, some_decides, test_decides}
 use Rattle.spv_base.specs.Options.{holds}
 
@@ -61,6 +62,11 @@ storing k p = Decides-and (is_writable p.class) (is_sized_data k.types p.target)
 starting : (k : Known) (i : Inst) (target : ℕ) → Decides (starts k i target) (Starts k i target)
 starting k i target = Decides-or (nat_le (length i.operands) 1) (holds target (constant_at k i 1)) (at_most (length i.operands) 1) (has_is target (constant_at k i 1))
 
+-- a result that leads to what some operands reach
+reaching : (k : Known) (i : Inst) (n : ℕ) (p : Pointed) → Decides (reaches k i n p) (Reaches k i n p)
+reaching k i n p = leading _ _ (form_of k.types i.ty) (λ q.
+    Decides-and (q.class == p.class) (holds q.target (reached_type k p.target (drop n i.operands))) (equal q.class p.class) (has_is q.target (reached_type k p.target (drop n i.operands))))
+
 memory : (k : Known) (i : Inst) (rule : MemoryRule) → Decides (keeps_memory k i rule) (KeepsMemory k i rule)
 memory k i Undef = itself _
 memory k i Variable = leading _ _ (form_of k.types i.ty) (λ p.
@@ -72,8 +78,13 @@ memory k i CopyMemory = leading _ _ (form_at k i 0) (λ p. leading _ _ (form_at 
 memory k i ArrayLength =
     Decides-and (is_word (form_of k.types i.ty)) _ (word (form_of k.types i.ty))
     (leading _ _ (form_at k i 0) (λ p. test_decides _ _ (member_at k i 1 p.target) (λ ty. runtime (form_of k.types ty))))
-memory k i Chain = leading _ _ (form_at k i 0) (λ p. leading _ _ (form_of k.types i.ty) (λ q.
-    Decides-and (q.class == p.class) (holds q.target (reached_type k p.target (drop 1 i.operands))) (equal q.class p.class) (has_is q.target (reached_type k p.target (drop 1 i.operands)))))
+memory k i Chain = leading _ _ (form_at k i 0) (reaching k i 1)
+memory k i PtrChain = leading _ _ (form_at k i 0) (λ p.
+    Decides-and (p.class == 12) _ (equal p.class 12) (Decides-and (is_integer_at k i 1) (reaches k i 2 p) (integer (form_at k i 1)) (reaching k i 2 p)))
+memory k i PtrEqual =
+    Decides-and (is_boolean (form_of k.types i.ty)) _ (boolean (form_of k.types i.ty))
+    (test_decides _ _ (type_at k i 0) (λ ty.
+    Decides-and (holds ty (type_at k i 1)) (is_buffer_pointer (form_of k.types ty)) (has_is ty (type_at k i 1)) (buffer_pointer (form_of k.types ty))))
 
 -- ---- atomics
 
@@ -176,22 +187,39 @@ arguments k (ty ∷ tys) [] = (λ h. impossible h, λ h. absurd h)
 arguments k (ty ∷ tys) (o ∷ os) = Decides-and (holds ty (type_in k o)) (are_of k tys os) (has_is ty (type_in k o)) (arguments k tys os)
 
 control : (k : Known) (p : Placed) (rule : ControlRule) → Decides (keeps_control k p rule) (KeepsControl k p rule)
-control k p Phi = Decides-and (not (is_pointer (form_of k.types p.inst.ty))) (are_values k p.inst.ty true p.inst.operands) (opposite _) (values k p.inst.ty p.inst.operands)
+control k p Phi = Decides-and (is_given k (form_of k.types p.inst.ty)) (are_values k p.inst.ty true p.inst.operands) (itself _) (values k p.inst.ty p.inst.operands)
 control k p Branch = boolean (form_at k p.inst 0)
 control k p Switch = integer (form_at k p.inst 0)
 control k p Return = test_decides _ _ p.within.returns (λ ty. void (form_of k.types ty))
 control k p ReturnValue = test_decides _ _ p.within.returns (λ ty.
-    Decides-and (holds ty (type_at k p.inst 0)) (not (is_pointer (form_of k.types ty))) (has_is ty (type_at k p.inst 0)) (opposite _))
+    Decides-and (holds ty (type_at k p.inst 0)) (is_given k (form_of k.types ty)) (has_is ty (type_at k p.inst 0)) (itself _))
 control k p Function = declaring _ _ (function_form k p.inst) p.inst.ty (λ ps. at_most (length ps) (parameters_ahead p.rest))
 control k p Parameter = has_is p.inst.ty (parameter_type k p.within.parameters p.within.ty)
 control k p Call = declaring _ _ (called_form k p.inst) p.inst.ty (λ ps.
-    Decides-and (not (is_pointer (form_of k.types p.inst.ty))) (are_of k ps (drop 1 p.inst.operands)) (opposite _) (arguments k ps (drop 1 p.inst.operands)))
+    Decides-and (is_given k (form_of k.types p.inst.ty)) (are_of k ps (drop 1 p.inst.operands)) (itself _) (arguments k ps (drop 1 p.inst.operands)))
+
+-- ---- choices
+
+pointers_chosen : (k : Known) (i : Inst) → Decides (keeps_pointer_select k i) (KeepsPointerSelect k i)
+pointers_chosen k i =
+    Decides-and k.pointers _ (itself _)
+    (Decides-and (is_boolean (form_at k i 0)) _ (boolean (form_at k i 0))
+    (Decides-and (holds i.ty (type_at k i 1) && holds i.ty (type_at k i 2)) (is_buffer_pointer (form_of k.types i.ty))
+    (Decides-and (holds i.ty (type_at k i 1)) (holds i.ty (type_at k i 2)) (has_is i.ty (type_at k i 1)) (has_is i.ty (type_at k i 2)))
+    (buffer_pointer (form_of k.types i.ty))))
+
+lanes : (k : Known) (i : Inst) → Decides (keeps_lanes k i) (KeepsLanes k i)
+lanes k i = rule_is k.types i.op i.ty (types_after k i 0)
+
+chosen : (k : Known) (i : Inst) → Decides (keeps_select k i) (KeepsSelect k i)
+chosen k i = Decides-or (keeps_lanes k i) (keeps_pointer_select k i) (lanes k i) (pointers_chosen k i)
 
 -- ---- all rules
 
 rule_kept : (k : Known) (p : Placed) (rule : Rule) → Decides (keeps k p rule) (KeepsRule k p rule)
 rule_kept k p Free = (λ h. tt, λ h. refl)
-rule_kept k p Lanes = rule_is k.types p.inst.op p.inst.ty (types_after k p.inst 0)
+rule_kept k p Lanes = lanes k p.inst
+rule_kept k p Select = chosen k p.inst
 rule_kept k p Extended =
     Decides-or (is_debug k.sets p.inst) _ (itself _)
     (test_decides _ _ (literal_operand p.inst 1) (λ number. glsl_rule_is k.types number (count_of p.inst) p.inst.ty (types_after k p.inst 2)))

@@ -4,7 +4,7 @@ use Rattle.std.proofs.lemmas.Bool.Decides.{Decides-and, Decides-by_and, Decides-
 use Rattle.std.proofs.lemmas.List.Elements.{All-cons, All-head, All-tail}
 use Rattle.std.specs.Bool.{Decides}
 use Rattle.std.specs.List.{All, list_all}
-use Rattle.std.specs.Option.{is_some, option_map_or}
+use Rattle.std.specs.Option.{option_map_or}
 use Rattle.std.specs.Prelude.{◌&&◌, not, nat_lt}
 use Rattle.spv_base.proofs.Exports.{test_decides}
 use Rattle.spv_base.specs.Options.{holds}
@@ -15,7 +15,7 @@ use Rattle.spv_types.specs.declared.queries.Pointed.{Pointed}
 use Rattle.spv_types.specs.Rules.{is_runtime, is_word}
 use Rattle.spv_types.specs.Queries.{components_in, is_boolean, is_integer, is_void, parameters_in, pointee, return_type}
 use Rattle.spv_types.proofs.Exports.{impossible}
-use Rattle.spv_bodies.specs.Context.{IsInteger, IsPointerTo, IsVectorOf}
+use Rattle.spv_bodies.specs.Context.{IsBufferPointer, IsInteger, IsPointerTo, IsVectorOf, is_buffer_pointer}
 
 -- ---- numbers and options
 
@@ -55,6 +55,16 @@ leading T t f d = Decides-like (option_map_or t (pointee f) false) (λ r. (r.0, 
   where
     back : (p : Pointed) → IsPointerTo f p → pointee f ≡ Some p
     back p e = rw e refl
+
+pub buffer_pointer : (f : Option Form) → Decides (is_buffer_pointer f) (IsBufferPointer f)
+buffer_pointer f = (there f, back)
+  where
+    there : (f : Option Form) → is_buffer_pointer f ≡ true → IsBufferPointer f
+    there (Some (Pointer class target)) h = let e : class ≡ 12 = (equal class 12).0 h in (target, rw e refl)
+    there _ h = impossible h
+
+    back : IsBufferPointer f → is_buffer_pointer f ≡ true
+    back r = rw r.1 refl
 
 components_are : (f : Option Form) (v : Components) → components_in f ≡ Some v → IsVectorOf f v
 components_are (Some (Vector component count)) v h = cc

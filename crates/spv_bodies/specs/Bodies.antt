@@ -10,9 +10,9 @@ use Rattle.spv_types.specs.Build.{unless_refused}
 use Rattle.spv_types.specs.Rules.{has_runtime}
 use Rattle.spv_types.specs.Types.{Types}
 use Rattle.spv_bodies.specs.declared.rules.Rule.{Rule}
-use Rattle.spv_bodies.specs.declared.rules.Rule.TheVariants.{Free, Lanes, Extended, Memory, Atomic, Composite, Control}
+use Rattle.spv_bodies.specs.declared.rules.Rule.TheVariants.{Free, Lanes, Select, Extended, Memory, Atomic, Composite, Control}
 use Rattle.spv_bodies.specs.declared.rules.MemoryRule.{MemoryRule}
-use Rattle.spv_bodies.specs.declared.rules.MemoryRule.TheVariants.{Undef, Variable, Load, Store, CopyMemory, ArrayLength, Chain}
+use Rattle.spv_bodies.specs.declared.rules.MemoryRule.TheVariants.{Undef, Variable, Load, Store, CopyMemory, ArrayLength, Chain, PtrChain, PtrEqual}
 use Rattle.spv_bodies.specs.declared.rules.AtomicRule.{AtomicRule}
 use Rattle.spv_bodies.specs.declared.rules.AtomicRule.TheVariants.{Read, Store as AtomicStore, Update, Compare, ControlBarrier, MemoryBarrier}
 use Rattle.spv_bodies.specs.declared.rules.CompositeRule.{CompositeRule}
@@ -28,6 +28,7 @@ use Rattle.spv_bodies.specs.Composites.{KeepsConstruct, KeepsCopyObject, KeepsEx
 use Rattle.spv_bodies.specs.Control.{KeepsBranch, KeepsPhi, KeepsReturn, KeepsReturnValue, KeepsSwitch, keeps_branch, keeps_phi, keeps_return, keeps_return_value, keeps_switch}
 use Rattle.spv_bodies.specs.Lanes.{KeepsExtended, KeepsLanes, keeps_extended, keeps_lanes}
 use Rattle.spv_bodies.specs.Memory.{KeepsArrayLength, KeepsCopyMemory, KeepsLoad, KeepsStore, KeepsUndef, KeepsVariable, keeps_array_length, keeps_copy_memory, keeps_load, keeps_store, keeps_undef, keeps_variable}
+use Rattle.spv_bodies.specs.Pointers.{KeepsPtrChain, KeepsPtrEqual, KeepsSelect, keeps_ptr_chain, keeps_ptr_equal, keeps_select}
 use Rattle.spv_bodies.specs.Rules.{rule_of}
 use Rattle.spv_bodies.specs.Places.{Placed, placed}
 
@@ -41,6 +42,8 @@ KeepsMemory k i Store = KeepsStore k i
 KeepsMemory k i CopyMemory = KeepsCopyMemory k i
 KeepsMemory k i ArrayLength = KeepsArrayLength k i
 KeepsMemory k i Chain = KeepsChain k i
+KeepsMemory k i PtrChain = KeepsPtrChain k i
+KeepsMemory k i PtrEqual = KeepsPtrEqual k i
 
 abbrev pub KeepsAtomic : Known → Inst → AtomicRule → Type 0
 KeepsAtomic k i Read = KeepsAtomicRead k i
@@ -74,6 +77,7 @@ KeepsControl k p Call = KeepsCall k p.inst
 abbrev pub KeepsRule : Known → Placed → Rule → Type 0
 KeepsRule k p Free = Unit {0}
 KeepsRule k p Lanes = KeepsLanes k p.inst
+KeepsRule k p Select = KeepsSelect k p.inst
 KeepsRule k p Extended = KeepsExtended k p.inst
 KeepsRule k p (Memory rule) = KeepsMemory k p.inst rule
 KeepsRule k p (Atomic rule) = KeepsAtomic k p.inst rule
@@ -94,6 +98,8 @@ keeps_memory k i Store = keeps_store k i
 keeps_memory k i CopyMemory = keeps_copy_memory k i
 keeps_memory k i ArrayLength = keeps_array_length k i
 keeps_memory k i Chain = keeps_chain k i
+keeps_memory k i PtrChain = keeps_ptr_chain k i
+keeps_memory k i PtrEqual = keeps_ptr_equal k i
 
 abbrev pub keeps_atomic : Known → Inst → AtomicRule → Bool
 keeps_atomic k i Read = keeps_atomic_read k i
@@ -126,6 +132,7 @@ keeps_control k p Call = keeps_call k p.inst
 abbrev pub keeps : Known → Placed → Rule → Bool
 keeps k p Free = true
 keeps k p Lanes = keeps_lanes k p.inst
+keeps k p Select = keeps_select k p.inst
 keeps k p Extended = keeps_extended k p.inst
 keeps k p (Memory rule) = keeps_memory k p.inst rule
 keeps k p (Atomic rule) = keeps_atomic k p.inst rule

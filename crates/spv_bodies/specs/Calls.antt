@@ -1,6 +1,6 @@
 -- The rules of functions, their parameters and calls (SPIR-V 1.6 section 3.42.9, and this project's profile: a call gives no
--- pointer).
-use Rattle.std.specs.Prelude.{◌≡◌, ◌≤◌, ℕ, suc, ◌==◌, ◌&&◌, ◌||◌, not, nat_le, Bool, true, false, if◌then◌else◌, List, [], ◌∷◌, length, drop, slice_get, Option, Some, None}
+-- pointer but a variable pointer into a storage buffer).
+use Rattle.std.specs.Prelude.{◌≡◌, ◌≤◌, ℕ, suc, ◌==◌, ◌&&◌, ◌||◌, nat_le, Bool, true, false, if◌then◌else◌, List, [], ◌∷◌, length, drop, slice_get, Option, Some, None}
 use Rattle.std.specs.List.{AllZip}
 use Rattle.std.specs.Option.{option_and_then}
 use Rattle.spv_base.specs.declared.instructions.Inst.{Inst}
@@ -9,10 +9,10 @@ use Rattle.spv_base.specs.Options.{holds}
 use Rattle.spv_types.specs.declared.forms.Form.{Form}
 use Rattle.spv_types.specs.declared.forms.Form.TheVariants.{Function}
 use Rattle.spv_types.specs.Types.{form_of}
-use Rattle.spv_types.specs.Queries.{is_pointer, parameters_in, return_type}
+use Rattle.spv_types.specs.Queries.{parameters_in, return_type}
 use Rattle.spv_index.specs.Definitions.{defining}
 use Rattle.spv_index.specs.Operands.{id_operand}
-use Rattle.spv_bodies.specs.Context.{Known, type_in}
+use Rattle.spv_bodies.specs.Context.{Known, is_given, type_in}
 
 -- a Function 54 begins, or the first block of one, at a Label 248
 abbrev pub ends_parameters : Inst → Bool
@@ -51,12 +51,12 @@ callee_form k id = option_and_then (form_by k) (defining k.insts id)
 abbrev pub called_form : Known → Inst → Option Form
 called_form k i = option_and_then (callee_form k) (id_operand i 0)
 
--- FunctionCall 57 (function, arguments): it gives what the function returns, no pointer, and has one argument for each
--- parameter, of its type
+-- FunctionCall 57 (function, arguments): it gives what the function returns, which a call may give, and has one argument
+-- for each parameter, of its type
 abbrev pub KeepsCall : Known → Inst → Type 0
 KeepsCall k i =
     (parameters : List ℕ) × (called_form k i ≡ Some (Function i.ty parameters))
-    × ((is_pointer (form_of k.types i.ty) ≡ false) × AllZip (λ ty o. type_in k o ≡ Some ty) parameters (drop 1 i.operands))
+    × ((is_given k (form_of k.types i.ty) ≡ true) × AllZip (λ ty o. type_in k o ≡ Some ty) parameters (drop 1 i.operands))
 
 -- ---- the same as tests
 
@@ -77,7 +77,7 @@ are_of k (ty ∷ tys) [] = false
 are_of k (ty ∷ tys) (o ∷ os) = holds ty (type_in k o) && are_of k tys os
 
 abbrev pub keeps_call_of : Known → Inst → Option Form → Bool
-keeps_call_of k i f = returns_type f i.ty && (not (is_pointer (form_of k.types i.ty)) && are_of k (parameters_in f) (drop 1 i.operands))
+keeps_call_of k i f = returns_type f i.ty && (is_given k (form_of k.types i.ty) && are_of k (parameters_in f) (drop 1 i.operands))
 
 abbrev pub keeps_call : Known → Inst → Bool
 keeps_call k i = keeps_call_of k i (called_form k i)

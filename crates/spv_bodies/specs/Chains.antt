@@ -48,16 +48,21 @@ abbrev pub reached_type : Known → ℕ → List Operand → Option ℕ
 reached_type k ty [] = Some ty
 reached_type k ty (o ∷ os) = option_and_then (λ t. reached_type k t os) (option_and_then (inner k ty) (id_in o))
 
--- AccessChain 65 and InBoundsAccessChain 66 (base, indexes): a pointer of the base's class to the type that the indexes reach
+-- the result is a pointer of the base's class to the type that the operands behind the first n reach from the base's target
+abbrev pub Reaches : Known → Inst → ℕ → Pointed → Type 0
+Reaches k i n p = (q : Pointed) × IsPointerTo (form_of k.types i.ty) q × ((q.class ≡ p.class) × (reached_type k p.target (drop n i.operands) ≡ Some q.target))
+
+-- AccessChain 65 and InBoundsAccessChain 66 (base, indexes)
 abbrev pub KeepsChain : Known → Inst → Type 0
-KeepsChain k i =
-    (p : Pointed) × PointsTo k i 0 p
-    × ((q : Pointed) × IsPointerTo (form_of k.types i.ty) q × ((q.class ≡ p.class) × (reached_type k p.target (drop 1 i.operands) ≡ Some q.target)))
+KeepsChain k i = (p : Pointed) × PointsTo k i 0 p × Reaches k i 1 p
 
 -- ---- the same as a test
 
-abbrev pub keeps_chain_from : Known → Inst → Pointed → Pointed → Bool
-keeps_chain_from k i p q = q.class == p.class && holds q.target (reached_type k p.target (drop 1 i.operands))
+abbrev pub reaches_from : Known → Inst → ℕ → Pointed → Pointed → Bool
+reaches_from k i n p q = q.class == p.class && holds q.target (reached_type k p.target (drop n i.operands))
+
+abbrev pub reaches : Known → Inst → ℕ → Pointed → Bool
+reaches k i n p = option_map_or (reaches_from k i n p) (pointee (form_of k.types i.ty)) false
 
 abbrev pub keeps_chain : Known → Inst → Bool
-keeps_chain k i = option_map_or (λ p. option_map_or (keeps_chain_from k i p) (pointee (form_of k.types i.ty)) false) (pointee_at k i 0) false
+keeps_chain k i = option_map_or (reaches k i 1) (pointee_at k i 0) false

@@ -5,6 +5,7 @@ pub mod Atomics
 pub mod Control
 pub mod Calls
 pub mod Lanes
+pub mod Pointers
 pub mod Composites
 pub mod Rules
 pub mod Places

@@ -3,9 +3,9 @@ use Rattle.std.specs.Prelude.{ℕ, [], ◌∷◌, Option, unwrap_or}
 use Rattle.std.specs.Option.{option_map_or}
 use Rattle.spv_base.specs.Entries.{reads}
 use Rattle.spv_bodies.specs.declared.rules.Rule.{Rule}
-use Rattle.spv_bodies.specs.declared.rules.Rule.TheVariants.{Free, Lanes, Extended, Memory, Atomic, Composite, Control}
+use Rattle.spv_bodies.specs.declared.rules.Rule.TheVariants.{Free, Lanes, Select, Extended, Memory, Atomic, Composite, Control}
 use Rattle.spv_bodies.specs.declared.rules.MemoryRule.{MemoryRule}
-use Rattle.spv_bodies.specs.declared.rules.MemoryRule.TheVariants.{Undef, Variable, Load, Store, CopyMemory, ArrayLength, Chain}
+use Rattle.spv_bodies.specs.declared.rules.MemoryRule.TheVariants.{Undef, Variable, Load, Store, CopyMemory, ArrayLength, Chain, PtrChain, PtrEqual}
 use Rattle.spv_bodies.specs.declared.rules.AtomicRule.{AtomicRule}
 use Rattle.spv_bodies.specs.declared.rules.AtomicRule.TheVariants.{Read, Store as AtomicStore, Update, Compare, ControlBarrier, MemoryBarrier}
 use Rattle.spv_bodies.specs.declared.rules.CompositeRule.{CompositeRule}
@@ -15,7 +15,8 @@ use Rattle.spv_bodies.specs.declared.rules.ControlRule.TheVariants.{Phi, Branch,
 
 unfoldable pub memory_rule : ℕ → Option MemoryRule
 memory_rule op = reads op
-    ((1, Undef) ∷ (59, Variable) ∷ (61, Load) ∷ (62, Store) ∷ (63, CopyMemory) ∷ (65, Chain) ∷ (66, Chain) ∷ (68, ArrayLength) ∷ [])
+    ((1, Undef) ∷ (59, Variable) ∷ (61, Load) ∷ (62, Store) ∷ (63, CopyMemory) ∷ (65, Chain) ∷ (66, Chain) ∷ (67, PtrChain) ∷ (68, ArrayLength)
+    ∷ (401, PtrEqual) ∷ (402, PtrEqual) ∷ [])
 
 -- the operations with a value are AtomicExchange 229 and those from AtomicIAdd 234 to AtomicXor 242
 unfoldable pub atomic_rule : ℕ → Option AtomicRule
@@ -35,11 +36,11 @@ control_rule op = reads op
     ∷ (254, ReturnValue) ∷ [])
 
 -- Nop 0, Line 8, FunctionEnd 56, LoopMerge 246, SelectionMerge 247, Label 248, Branch 249, Unreachable 255 and NoLine 317 keep their rule
--- wherever they stand; ExtInst is 12. Every other opcode is lane-wise: one without a rule of types is kept by no instruction.
+-- wherever they stand; ExtInst is 12, and Select 169. Every other opcode is lane-wise: one without a rule of types is kept by no instruction.
 unfoldable pub other_rule : ℕ → Rule
 other_rule op =
     unwrap_or (reads op
-    ((0, Free) ∷ (8, Free) ∷ (12, Extended) ∷ (56, Free) ∷ (246, Free) ∷ (247, Free) ∷ (248, Free) ∷ (249, Free) ∷ (255, Free) ∷ (317, Free) ∷ [])) Lanes
+    ((0, Free) ∷ (8, Free) ∷ (12, Extended) ∷ (56, Free) ∷ (169, Select) ∷ (246, Free) ∷ (247, Free) ∷ (248, Free) ∷ (249, Free) ∷ (255, Free) ∷ (317, Free) ∷ [])) Lanes
 
 abbrev pub rule_of : ℕ → Rule
 rule_of op =

@@ -23,6 +23,7 @@ use crate::matching::{Matching, keeps_copy_logical};
 use crate::memory::{
     keeps_array_length, keeps_copy_memory, keeps_load, keeps_store, keeps_undef, keeps_variable,
 };
+use crate::pointers::{keeps_ptr_chain, keeps_ptr_equal, keeps_select};
 use crate::rules::{AtomicRule, CompositeRule, ControlRule, MemoryRule, Rule, rule_of};
 use crate::within::Within;
 use spv_base::{Fail, Inst, NoMemory, Refusal};
@@ -45,6 +46,8 @@ fn keeps_memory(context: &Context, inst: &Inst, rule: MemoryRule) -> bool
         MemoryRule::CopyMemory => keeps_copy_memory(context, inst),
         MemoryRule::ArrayLength => keeps_array_length(context, inst),
         MemoryRule::Chain => keeps_chain(context, inst),
+        MemoryRule::PtrChain => keeps_ptr_chain(context, inst),
+        MemoryRule::PtrEqual => keeps_ptr_equal(context, inst),
     }
 }
 
@@ -121,6 +124,7 @@ fn keeps(
     match rule {
         Rule::Free => Ok(true),
         Rule::Lanes => Ok(keeps_lanes(context, inst)),
+        Rule::Select => Ok(keeps_select(context, inst)),
         Rule::Extended => Ok(keeps_extended(context, inst)),
         Rule::Memory(rule) => Ok(keeps_memory(context, inst, rule)),
         Rule::Atomic(rule) => Ok(keeps_atomic(context, inst, rule)),

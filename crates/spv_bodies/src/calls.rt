@@ -7,7 +7,7 @@ use spv_base::{Inst, Operand};
 use spv_index::{id_operand, operands_from};
 use spv_ops::op;
 use spv_types::Form;
-use spv_types::queries::{is_pointer, parameters_in, return_type};
+use spv_types::queries::{parameters_in, return_type};
 
 /// How many parameters stand before the first block.
 fn parameters_ahead(insts: &[Inst]) -> usize
@@ -98,12 +98,12 @@ fn called_form<'a>(context: &'a Context, inst: &Inst) -> Option<&'a Form>
     }
 }
 
-/// Whether a call gives what the function returns, no pointer, and has an argument for each parameter.
+/// Whether a call gives what the function returns, which it may give, and has an argument for each parameter.
 pub fn keeps_call(context: &Context, inst: &Inst) -> bool
     ensures { result ≡ spec.keeps_call context.now inst.now }
 {
     let form = called_form(context, inst);
     returns_type(form, inst.ty)
-        && !is_pointer(context.form(inst.ty))
+        && context.is_given(context.form(inst.ty))
         && are_of(context, parameters_in(form), operands_from(inst, 1))
 }

@@ -88,19 +88,30 @@ fn reached_type(context: &Context, target: u32, indexes: &[Operand]) -> Option<u
     Some(ty)
 }
 
-/// Whether a chain's result is of its base's class and of the type that its indexes reach.
-fn keeps_chain_from(context: &Context, inst: &Inst, p: Pointed, q: Pointed) -> bool
-    ensures { result ≡ spec.keeps_chain_from context.now inst.now p q }
+/// Whether a result leads, in its base's class, to the type that the operands behind the first ones reach.
+fn reaches_from(context: &Context, inst: &Inst, first: usize, p: Pointed, q: Pointed) -> bool
+    ensures { result ≡ spec.reaches_from context.now inst.now first p q }
 {
-    q.class == p.class && reached_type(context, p.target, operands_from(inst, 1)) == Some(q.target)
+    q.class == p.class
+        && reached_type(context, p.target, operands_from(inst, first)) == Some(q.target)
+}
+
+/// Whether an instruction's result is a pointer that leads there from its base.
+pub fn reaches(context: &Context, inst: &Inst, first: usize, p: Pointed) -> bool
+    ensures { result ≡ spec.reaches context.now inst.now first p }
+{
+    match pointee(context.form(inst.ty)) {
+        Some(q) => reaches_from(context, inst, first, p, q),
+        None => false,
+    }
 }
 
 /// Whether a chain keeps its rule.
 pub fn keeps_chain(context: &Context, inst: &Inst) -> bool
     ensures { result ≡ spec.keeps_chain context.now inst.now }
 {
-    match (context.pointee_at(inst, 0), pointee(context.form(inst.ty))) {
-        (Some(p), Some(q)) => keeps_chain_from(context, inst, p, q),
-        _ => false,
+    match context.pointee_at(inst, 0) {
+        Some(p) => reaches(context, inst, 1, p),
+        None => false,
     }
 }

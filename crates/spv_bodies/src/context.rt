@@ -7,29 +7,39 @@ ghost use Rattle.spv_bodies.specs.Context as spec;
 use spv_base::{Inst, Operand};
 use spv_consts::ConstTable;
 use spv_index::{Index, Table, id_in, id_operand};
+use spv_ops::storage_class::STORAGE_BUFFER;
+use spv_sections::declares_variable_pointers;
 use spv_types::constants::is_constant;
 use spv_types::queries::{Pointed, is_integer, pointee};
 use spv_types::{Form, TypeTable};
 use std::marker::Model;
 
-/// The types, the values of the constants and the index of a module.
+/// The types, the values of the constants and the index of a module, and whether it declares variable pointers.
 #[derive(Drop)]
 pub struct Context<'a> {
     types: &'a TypeTable,
     consts: &'a ConstTable,
     index: &'a Index,
+    pointers: bool,
 }
 
 impl<'a> Model for Context<'a> {
     ghost use Rattle.std.specs.Coded.{codes};
     ghost use Rattle.spv_base.specs.contracts.values.Value as tree;
-    ghost use Rattle.spv_bodies.specs.Context.{Known, known_of};
+    ghost use Rattle.spv_index.specs.Classes.{sets_of};
+    ghost use Rattle.spv_bodies.specs.Context.{Known};
 
     ghost Value = { Known };
 
     ghost coded = { Prim.hlevel (codes, tree.the_row.coded) };
 
-    ghost view = { λ c. known_of c.types.now c.consts.now c.index.now.insts };
+    ghost view = { λ c. record {
+      types = c.types.now;
+      consts = c.consts.now;
+      insts = c.index.now.insts;
+      sets = sets_of c.index.now.insts;
+      pointers = c.pointers;
+    } };
 }
 
 impl<'a> Context<'a> {
@@ -41,6 +51,7 @@ impl<'a> Context<'a> {
             types,
             consts,
             index,
+            pointers: declares_variable_pointers(index.insts()),
         }
     }
 
@@ -96,6 +107,24 @@ impl<'a> Context<'a> {
         }
     }
 
+    /// Whether the module declares variable pointers.
+    pub fn pointers(&self) -> bool
+        ensures { result ≡ self.now.pointers }
+    {
+        self.pointers
+    }
+
+    /// Whether phis, selects, calls and returns may give a value of a type: of any but a pointer type, and with variable
+    /// pointers a pointer into a StorageBuffer too.
+    pub fn is_given(&self, form: Option<&Form>) -> bool
+        ensures { result ≡ spec.is_given self.now (option_copied form.entry) }
+    {
+        match form {
+            Some(Form::Pointer { class, .. }) => self.pointers && *class == STORAGE_BUFFER,
+            _ => true,
+        }
+    }
+
     /// The type of the id that an operand is.
     pub fn type_in(&self, operand: &Operand) -> Option<u32>
         ensures { result ≡ spec.type_in self.now operand.now }
@@ -139,5 +168,15 @@ impl<'a> Context<'a> {
         ensures { result ≡ spec.constant_at self.now inst.now place }
     {
         self.constant_in(id_operand(inst, place)?)
+    }
+}
+
+/// Whether a type is of pointers into a StorageBuffer.
+pub fn is_buffer_pointer(form: Option<&Form>) -> bool
+    ensures { result ≡ spec.is_buffer_pointer (option_copied form.entry) }
+{
+    match form {
+        Some(Form::Pointer { class, .. }) => *class == STORAGE_BUFFER,
+        _ => false,
     }
 }

@@ -4,7 +4,7 @@ ghost use Rattle.spv_bodies.specs.Control as spec;
 
 use crate::context::Context;
 use spv_base::{Inst, Operand};
-use spv_types::queries::{is_boolean, is_pointer, is_void};
+use spv_types::queries::{is_boolean, is_void};
 
 /// Whether every second operand, the first among them, is a value of a type.
 fn are_values(context: &Context, ty: u32, operands: &[Operand]) -> bool
@@ -20,11 +20,12 @@ fn are_values(context: &Context, ty: u32, operands: &[Operand]) -> bool
     true
 }
 
-/// Whether a phi has values of its result's type, which is no pointer.
+/// Whether a phi has values of its result's type, which it may give.
 pub fn keeps_phi(context: &Context, inst: &Inst) -> bool
     ensures { result ≡ spec.keeps_phi context.now inst.now }
 {
-    !is_pointer(context.form(inst.ty)) && are_values(context, inst.ty, inst.operands.as_slice())
+    context.is_given(context.form(inst.ty))
+        && are_values(context, inst.ty, inst.operands.as_slice())
 }
 
 /// Whether a condition is a Boolean.
@@ -51,12 +52,12 @@ pub fn keeps_return(context: &Context, returns: Option<u32>) -> bool
     }
 }
 
-/// Whether a value is of the type that its function returns, which is no pointer.
+/// Whether a value is of the type that its function returns, which it may return.
 pub fn keeps_return_value(context: &Context, returns: Option<u32>, inst: &Inst) -> bool
     ensures { result ≡ spec.keeps_return_value context.now returns inst.now }
 {
     match returns {
-        Some(ty) => context.type_at(inst, 0) == Some(ty) && !is_pointer(context.form(ty)),
+        Some(ty) => context.type_at(inst, 0) == Some(ty) && context.is_given(context.form(ty)),
         None => false,
     }
 }

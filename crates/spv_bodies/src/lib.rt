@@ -13,6 +13,7 @@ mod lanes;
 mod laws;
 mod matching;
 mod memory;
+mod pointers;
 mod rules;
 mod terms;
 mod within;

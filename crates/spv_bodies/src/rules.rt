@@ -11,6 +11,8 @@ pub enum Rule {
     Free,
     /// Of a lane-wise operation. An opcode with no rule in a function has this one too, and no instruction keeps it.
     Lanes,
+    /// Of a choice, of lanes or of pointers.
+    Select,
     /// Of an instruction of an imported set.
     Extended,
     Memory(MemoryRule),
@@ -19,7 +21,7 @@ pub enum Rule {
     Control(ControlRule),
 }
 
-/// A rule of variables, loads, stores and chains.
+/// A rule of variables, loads, stores, chains and comparisons of pointers.
 #[derive(Clone, Copy)]
 pub enum MemoryRule {
     Undef,
@@ -29,6 +31,8 @@ pub enum MemoryRule {
     CopyMemory,
     ArrayLength,
     Chain,
+    PtrChain,
+    PtrEqual,
 }
 
 /// A rule of atomics and barriers.
@@ -82,6 +86,8 @@ fn memory_rule(op: u16) -> Option<MemoryRule>
         op::STORE => Some(MemoryRule::Store),
         op::COPY_MEMORY => Some(MemoryRule::CopyMemory),
         op::ACCESS_CHAIN | op::IN_BOUNDS_ACCESS_CHAIN => Some(MemoryRule::Chain),
+        op::PTR_ACCESS_CHAIN => Some(MemoryRule::PtrChain),
+        op::PTR_EQUAL | op::PTR_NOT_EQUAL => Some(MemoryRule::PtrEqual),
         op::ARRAY_LENGTH => Some(MemoryRule::ArrayLength),
         _ => None,
     }
@@ -163,6 +169,7 @@ fn other_rule(op: u16) -> Rule
         | op::BRANCH
         | op::UNREACHABLE
         | op::NO_LINE => Rule::Free,
+        op::SELECT => Rule::Select,
         op::EXT_INST => Rule::Extended,
         _ => Rule::Lanes,
     }

@@ -10,6 +10,9 @@ use spv_ops::{addressing_model, capability, memory_model, op};
 /// The code of the rules of capabilities, extensions, imports and memory models.
 const CAPABILITY_CODE: u8 = 11;
 
+/// The capability of operations on pointers into storage buffers (SPIR-V 1.6 section 3.31).
+const VARIABLE_POINTERS_STORAGE_BUFFER: u32 = 4441;
+
 /// The name that an instruction declares.
 fn name_of(inst: &Inst) -> &[u8]
     ensures { result.now ≡ name_of inst.now }
@@ -35,6 +38,7 @@ fn is_capability(number: u32) -> bool
             | capability::INT8
             | capability::STORAGE_BUFFER16_BIT_ACCESS
             | capability::UNIFORM_AND_STORAGE_BUFFER16_BIT_ACCESS
+            | VARIABLE_POINTERS_STORAGE_BUFFER
             | capability::STORAGE_BUFFER8_BIT_ACCESS
             | capability::UNIFORM_AND_STORAGE_BUFFER8_BIT_ACCESS
     )
@@ -65,9 +69,24 @@ fn is_memory_model(inst: &Inst) -> bool
         && literal_operand(inst, 1) == Some(memory_model::GLSL450)
 }
 
-/// Whether an instruction asks for nothing that is not here.
-fn is_here(inst: &Inst) -> bool
-    ensures { result ≡ spec.is_here inst.now }
+/// Whether an instruction declares variable pointers.
+fn is_variable_pointers(inst: &Inst) -> bool
+    ensures { result ≡ spec.is_variable_pointers inst.now }
+{
+    inst.op == op::CAPABILITY && literal_operand(inst, 0) == Some(VARIABLE_POINTERS_STORAGE_BUFFER)
+}
+
+/// Whether a module declares that it computes with pointers into storage buffers.
+#[tactic(auto, unfolding(crate::specs::Capabilities::declares_variable_pointers))]
+pub fn declares_variable_pointers(insts: &[Inst]) -> bool
+    ensures { result ≡ spec.declares_variable_pointers insts.now }
+{
+    insts.iter().any(is_variable_pointers)
+}
+
+/// Whether an instruction asks for nothing that is not here, in a module that declares variable pointers or doesn't.
+fn is_here(pointers: bool, inst: &Inst) -> bool
+    ensures { result ≡ spec.is_here pointers inst.now }
 {
     match inst.op {
         op::EXTENSION => is_extension(name_of(inst)),
@@ -77,7 +96,7 @@ fn is_here(inst: &Inst) -> bool
             Some(number) => is_capability(number),
             None => false,
         },
-        op::PTR_ACCESS_CHAIN | op::PTR_EQUAL | op::PTR_NOT_EQUAL => false,
+        op::PTR_ACCESS_CHAIN | op::PTR_EQUAL | op::PTR_NOT_EQUAL => pointers,
         _ => true,
     }
 }
@@ -86,8 +105,9 @@ fn is_here(inst: &Inst) -> bool
 fn check_all(insts: &[Inst]) -> Result<(), Refusal>
     ensures { result ≡ spec.capabilities_of insts.now }
 {
+    let pointers = declares_variable_pointers(insts);
     for inst in insts {
-        if !is_here(inst) {
+        if !is_here(pointers, inst) {
             return Err(Refusal {
                 code: CAPABILITY_CODE,
                 word: inst.word,
@@ -99,8 +119,8 @@ fn check_all(insts: &[Inst]) -> Result<(), Refusal>
 
 /// Checks what a module declares that it needs.
 ///
-/// Refuses M11: at a capability, an extension, an import or a memory model that is not accepted, and at an instruction
-/// that needs such a capability.
+/// Refuses M11: at a capability, an extension, an import or a memory model that is not accepted, and at an operation on
+/// pointers in a module that doesn't declare variable pointers.
 pub fn check_capabilities(index: &Index) -> Result<(), Refusal>
     ensures { result ≡ spec.capabilities_of index.now.insts }
 {

@@ -9,6 +9,6 @@ mod kinds;
 pub mod laws;
 mod sections;
 
-pub use capabilities::check_capabilities;
+pub use capabilities::{check_capabilities, declares_variable_pointers};
 pub use ids::check_ids;
 pub use sections::check_sections;

@@ -17,7 +17,7 @@ use Rattle.spv_sections.specs.Sections.{may_stand, order_breach, order_breaches_
 use Rattle.spv_sections.specs.declared.ids.Scope.{Scope}
 use Rattle.spv_ops.specs.Module.{Decoded}
 use Rattle.spv_sections.specs.Ids.{breaches_at, breaches_of, is_naming, is_numbered, naming_breach, number_breach, scope_of}
-use Rattle.spv_sections.specs.Capabilities.{capability_breaches, capability_code, is_here}
+use Rattle.spv_sections.specs.Capabilities.{capability_breach, capability_code, is_here}
 use Rattle.spv_index.specs.Definitions.{before_functions}
 use Rattle.spv_bodies.specs.Context.{Known}
 use Rattle.spv_bodies.specs.declared.within.Within.{Within}
@@ -129,9 +129,10 @@ ids_in_order ids sets position from [] ascend = none_in_order from
 ids_in_order ids sets position from (i ∷ is) (first, rest) =
     at_in_order ids (scope_of position i) (class_of sets i) i from _ first (ids_in_order ids sets (position_after position (class_of sets i) i) (suc i.word) is rest)
 
-pub capabilities_in_order : (from : ℕ) (insts : List Inst) → Ascend from insts → InOrder from (capability_breaches insts)
-capabilities_in_order from [] ascend = none_in_order from
-capabilities_in_order from (i ∷ is) (first, rest) = one_in_order from (is_here i) (record { code = capability_code; word = i.word }) _ first (capabilities_in_order (suc i.word) is rest)
+pub capabilities_in_order : (pointers : Bool) (from : ℕ) (insts : List Inst) → Ascend from insts → InOrder from (flat_map (capability_breach pointers) insts)
+capabilities_in_order pointers from [] ascend = none_in_order from
+capabilities_in_order pointers from (i ∷ is) (first, rest) =
+    one_in_order from (is_here pointers i) (record { code = capability_code; word = i.word }) _ first (capabilities_in_order pointers (suc i.word) is rest)
 
 types_in_order_from : (all before : List Inst) (from : ℕ) (insts : List Inst) → Ascend from insts → InOrder from (type_breaches all before insts)
 unfolding type_breaches

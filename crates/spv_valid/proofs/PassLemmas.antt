@@ -18,7 +18,7 @@ use Rattle.spv_cfg.specs.Flow.{Flow, block_breaches, call_breaches, flow_in, flo
 use Rattle.spv_base.proofs.Exports.{lowest-append}
 use Rattle.spv_sections.specs.Sections.{order_breaches, sections_of}
 use Rattle.spv_sections.specs.Ids.{id_breaches, ids_of}
-use Rattle.spv_sections.specs.Capabilities.{capabilities_of, capability_breaches}
+use Rattle.spv_sections.specs.Capabilities.{capabilities_of, capability_breaches, declares_variable_pointers}
 use Rattle.spv_consts.specs.Table.{Constants}
 use Rattle.spv_consts.specs.Context.{Context}
 use Rattle.spv_consts.specs.State.{State}
@@ -48,7 +48,7 @@ tells_ids m ascend = tells_led nothing _ (ids_in_order m (sets_of m.insts) outsi
 
 tells_capabilities : (insts : List Inst) → Ascend 0 insts → Tells (capabilities_of insts) (capability_breaches insts)
 unfolding capabilities_of
-tells_capabilities insts ascend = tells_led nothing _ (capabilities_in_order 0 insts ascend).led
+tells_capabilities insts ascend = tells_led nothing _ (capabilities_in_order (declares_variable_pointers insts) 0 insts ascend).led
 
 tells_types : (insts : List Inst) → Ascend 0 insts → Tells (types_of insts) (type_breaches insts [] (before_functions insts))
 unfolding types_of
