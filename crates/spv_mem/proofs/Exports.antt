@@ -13,3 +13,5 @@ pub use Rattle.spv_mem.proofs.ChangeLemmas.{levels_kept}
 pub use Rattle.spv_mem.proofs.BlankLemmas.{blank_among_is, both_there, product_there, blank_shape, any_is, many_last, scalar_last, many_count, scalar_count}
 -- What the types of variables tell of the parts that pointers name.
 pub use Rattle.spv_mem.proofs.ConditionLemmas.{scalar_if, may_if}
+-- A path whose last index goes further leads to the same type.
+pub use Rattle.spv_mem.proofs.ChainLemmas.{reached_append, ptr_moved_reaches}

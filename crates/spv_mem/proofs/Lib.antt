@@ -10,4 +10,5 @@ mod ArrayLemmas
 mod BlankLemmas
 mod ConditionLemmas
 mod SingleLemmas
+mod ChainLemmas
 pub mod Exports
