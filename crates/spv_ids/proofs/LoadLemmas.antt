@@ -25,7 +25,6 @@ use Rattle.spv_mem.specs.Memory.{IsMemory, IsVariable, NamesArray, load_of, memb
 use Rattle.spv_mem.specs.Targets.{count_in, is_array_at, is_counted, is_open_block, may_be_target}
 use Rattle.spv_initial.specs.Start.{variables}
 use Rattle.spv_initial.specs.Variables.{targets_of}
-use Rattle.spv_operands.specs.Shapes.{target_in}
 use Rattle.spv_results.proofs.Exports.{shape_prop, sound_types}
 use Rattle.spv_show.specs.Elements.{with_elements}
 use Rattle.spv_state.specs.Program.{Program}
@@ -34,25 +33,26 @@ use Rattle.spv_state.specs.State.{State}
 use Rattle.spv_valid.specs.Validity.{IsValid}
 use Rattle.spv_ids.proofs.OpenLemmas.{array_elements, block_elements, block_uncounted, open_above, runtime_uncounted, sized_elements}
 use Rattle.spv_ids.proofs.SharedLemmas.{root_shared}
+use Rattle.spv_ids.specs.Typed.{variable_type}
 
 -- ---- what is loaded
 
 -- a pointer of an invocation leads to a type, and names a part of a variable
 pub record IsLoaded (p : Program) (s : State) (i : ℕ) (q : Reference) (target : ℕ) (w : Value) : Type 0 where
   pub type : ℕ
-  pub named : target_in p.accepted q.root ≡ Some type
+  pub named : variable_type p.accepted q.root ≡ Some type
   pub leads : reached_type p.accepted.types type q.path ≡ Some target
   pub value : Value
   pub there : root_value s.memory i q.root ≡ Some value
   pub part : part_at value q.path ≡ Some w
 
-pub loaded : (p : Program) (s : State) (i : ℕ) (q : Reference) (target : ℕ) (w : Value) → LeadsTo p.accepted.types (target_in p.accepted) q target → load_of s.memory i q ≡ Some w → IsLoaded p s i q target w
+pub loaded : (p : Program) (s : State) (i : ℕ) (q : Reference) (target : ℕ) (w : Value) → LeadsTo p.accepted.types (variable_type p.accepted) q target → load_of s.memory i q ≡ Some w → IsLoaded p s i q target w
 loaded p s i q target w leads load =
-    let type = by_type (target_in p.accepted q.root) refl leads in
+    let type = by_type (variable_type p.accepted q.root) refl leads in
     let value = by_value (root_value s.memory i q.root) refl load in
     record { type = type.0; named = type.1; leads = type.2; value = value.0; there = value.1; part = value.2 }
   where
-    by_type : (o : Option ℕ) → target_in p.accepted q.root ≡ o → option_and_then (λ t. reached_type p.accepted.types t q.path) o ≡ Some target → (t : ℕ) × (target_in p.accepted q.root ≡ Some t) × (reached_type p.accepted.types t q.path ≡ Some target)
+    by_type : (o : Option ℕ) → variable_type p.accepted q.root ≡ o → option_and_then (λ t. reached_type p.accepted.types t q.path) o ≡ Some target → (t : ℕ) × (variable_type p.accepted q.root ≡ Some t) × (reached_type p.accepted.types t q.path ≡ Some target)
     by_type None e h = absurd (cc)
     by_type (Some t) e h = (t, e, h)
 

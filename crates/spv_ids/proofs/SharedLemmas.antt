@@ -24,7 +24,6 @@ use Rattle.spv_initial.specs.Values.{initialized, local_value}
 use Rattle.spv_initial.specs.Variables.{AreDeclared, HaveTargets, Holds, targets_of}
 use Rattle.spv_initial.specs.declared.variables.Declared.{Declared}
 use Rattle.spv_initial.proofs.Exports.{variables_are}
-use Rattle.spv_operands.specs.Shapes.{target_in}
 use Rattle.spv_operands.specs.Values.{is_own}
 use Rattle.spv_state.specs.Program.{Program}
 use Rattle.spv_state.specs.Roots.{ids_in, own_ids}
@@ -34,6 +33,7 @@ use Rattle.spv_state.specs.Variables.{is_variable_of, variables_of}
 use Rattle.spv_state.proofs.Exports.{kept_targets}
 use Rattle.spv_valid.specs.Acceptance.{Accepted}
 use Rattle.spv_valid.specs.Validity.{IsValid}
+use Rattle.spv_ids.specs.Typed.{variable_type}
 
 -- ---- lists
 
@@ -140,7 +140,7 @@ zipped a (g ∷ fs) (l ∷ ls) zero es all at = let same : l ≡ es = cc in (g, 
 zipped a (g ∷ fs) (l ∷ ls) (suc n) es all at = zipped a fs ls n es all.1 at
 
 module _ (p : Program) (s : State) (valid : ∥ IsValid p.accepted ∥₁) (sound : IsSound p s) (i : ℕ) where
-  own_counted : (id t : ℕ) (v : Value) → root_value s.memory i (Private id) ≡ Some v → target_in p.accepted (Private id) ≡ Some t → is_counted p.accepted.types t ≡ true
+  own_counted : (id t : ℕ) (v : Value) → root_value s.memory i (Private id) ≡ Some v → variable_type p.accepted (Private id) ≡ Some t → is_counted p.accepted.types t ≡ true
   own_counted id t v h read = by_roots (slice_get s.memory.privates i) refl h
     where
       by_roots : (o : Option Roots) → slice_get s.memory.privates i ≡ o → option_and_then (reads id) o ≡ Some v → is_counted p.accepted.types t ≡ true
@@ -157,7 +157,7 @@ module _ (p : Program) (s : State) (valid : ∥ IsValid p.accepted ∥₁) (soun
       let there = unfiltered (is_variable_of p.accepted f.plan.function) (variables p.accepted) one.variable one.there in
       variable_counted p.accepted valid one.variable there (local_class one.variable.class one.class) id t one.named read
 
-  local_counted : (depth id t : ℕ) (v : Value) → root_value s.memory i (Local depth id) ≡ Some v → target_in p.accepted (Local depth id) ≡ Some t → is_counted p.accepted.types t ≡ true
+  local_counted : (depth id t : ℕ) (v : Value) → root_value s.memory i (Local depth id) ≡ Some v → variable_type p.accepted (Local depth id) ≡ Some t → is_counted p.accepted.types t ≡ true
   local_counted depth id t v h read = by_level (slice_get s.memory.locals i) refl h
     where
       by_list : (l : Levels) → slice_get s.memory.locals i ≡ Some l → (o : Option Roots) → slice_get l.list depth ≡ o → option_and_then (reads id) o ≡ Some v → is_counted p.accepted.types t ≡ true
@@ -177,7 +177,7 @@ module _ (p : Program) (s : State) (valid : ∥ IsValid p.accepted ∥₁) (soun
       by_level (Some l) e g = by_list l e (slice_get l.list depth) refl g
 
   -- a variable that is there, of a type without a number of cells, is shared
-  pub root_shared : (r : Root) (t : ℕ) (v : Value) → root_value s.memory i r ≡ Some v → target_in p.accepted r ≡ Some t → is_counted p.accepted.types t ≡ false → (id : ℕ) × (r ≡ Shared id)
+  pub root_shared : (r : Root) (t : ℕ) (v : Value) → root_value s.memory i r ≡ Some v → variable_type p.accepted r ≡ Some t → is_counted p.accepted.types t ≡ false → (id : ℕ) × (r ≡ Shared id)
   root_shared (Shared id) t v h read open_type = (id, refl)
   root_shared (Private id) t v h read open_type = absurd (both_ways (is_counted p.accepted.types t) open_type (own_counted id t v h read))
   root_shared (Local depth id) t v h read open_type = absurd (both_ways (is_counted p.accepted.types t) open_type (local_counted depth id t v h read))

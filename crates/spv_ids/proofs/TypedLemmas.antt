@@ -35,7 +35,7 @@ use Rattle.spv_operands.specs.Operands.{pointer_of}
 use Rattle.spv_operands.specs.Shapes.{target_in}
 use Rattle.spv_operands.specs.Values.{is_own, module_root, pointer_to, register_value, storage_class}
 use Rattle.spv_operands.specs.Variables.{IsDeclared}
-use Rattle.spv_operands.proofs.Exports.{Defines, data_plain, defines, local_meant, module_meant}
+use Rattle.spv_operands.proofs.Exports.{Defines, data_plain, defines, local_meant, module_meant, target_parts}
 use Rattle.spv_plans.specs.Plans.{functions_in, plan_of}
 use Rattle.spv_plans.specs.Registered.{HasPointerType, HasValueType, IsOfFunction}
 use Rattle.spv_results.proofs.Exports.{shape_prop, sound_types}
@@ -51,7 +51,7 @@ use Rattle.spv_valid.specs.declared.meanings.Meaning.{Meaning}
 use Rattle.spv_valid.specs.declared.meanings.Meaning.TheVariants.{TypeDefinition, Constant, Undefined, ModuleVariable, Variable, Register, Label, Function, Other}
 use Rattle.spv_ids.specs.Ids.{frame_value, id_value, module_value, value_in}
 use Rattle.spv_ids.specs.Texts.{target_of, type_of}
-use Rattle.spv_ids.specs.Typed.{IsTyped}
+use Rattle.spv_ids.specs.Typed.{IsTyped, variable_type}
 use Rattle.spv_ids.proofs.FrameLemmas.{frame_sound}
 use Rattle.spv_ids.proofs.TreeLemmas.{tree_shape}
 
@@ -64,10 +64,10 @@ none_of (Some p) h q e = cc
 typed_data : (a : Accepted) (id : ℕ) (v : Value) → is_some (pointer_of v) ≡ false → HasShape (with_elements 0 a.types) no_roots (type_of a id) v → IsTyped a id v
 typed_data a id v plain shape = record { value = λ e. shape; pointer = λ q e. absurd (none_of (pointer_of v) plain q e) }
 
-typed_pointer : (a : Accepted) (id : ℕ) (p : Reference) → LeadsTo a.types (target_in a) p (target_of a id) → IsTyped a id (Ptr p)
+typed_pointer : (a : Accepted) (id : ℕ) (p : Reference) → LeadsTo a.types (variable_type a) p (target_of a id) → IsTyped a id (Ptr p)
 typed_pointer a id p leads = record {
   value = λ e. absurd (none p e);
-  pointer = λ q e. let same : p ≡ q = one q e in subst (λ (r : Reference). LeadsTo a.types (target_in a) r (target_of a id)) same leads;
+  pointer = λ q e. let same : p ≡ q = one q e in subst (λ (r : Reference). LeadsTo a.types (variable_type a) r (target_of a id)) same leads;
 }
   where
     own : pointer_of (Ptr p) ≡ Some p
@@ -130,25 +130,25 @@ constant_typed a valid id v h = by_row (reads id a.constants) refl h
 abbrev pub AreDeclared : Type 0
 AreDeclared = (a : Accepted) (i : Inst) → IsAccepted a → Contains a.insts i → i.op ≡ 59 → IsDeclared a i
 
-variable_leads : (a : Accepted) (declared : AreDeclared) (id : ℕ) (r : Root) (i : Inst) → IsAccepted a → defining a.insts id ≡ Some i → i.op ≡ 59 → target_in a r ≡ reads id (targets_of (variables a))
-    → LeadsTo a.types (target_in a) (record { root = r; path = [] }) (target_of a id)
+variable_leads : (a : Accepted) (declared : AreDeclared) (id : ℕ) (r : Root) (i : Inst) → IsAccepted a → defining a.insts id ≡ Some i → i.op ≡ 59 → variable_type a r ≡ reads id (targets_of (variables a))
+    → LeadsTo a.types (variable_type a) (record { root = r; path = [] }) (target_of a id)
 unfolding reached_type
 variable_leads a declared id r i is defined op root =
     let own : Defines a.insts id i = defines a.insts id i defined in
     let d : IsDeclared a i = declared a i is own.there op in
     let type : type_of a id ≡ i.ty = type_defined a id i.ty (ap (option_map (λ (i : Inst). i.ty)) defined) in
     let target : target_of a id ≡ d.pointed.target = ap (λ (t : ℕ). option_map_or (λ (p : Pointed). p.target) (pointee (form_of a.types t)) 0) type ∙ ap (λ (o : Option Pointed). option_map_or (λ (p : Pointed). p.target) o 0) d.type in
-    let named : target_in a r ≡ Some d.pointed.target = root ∙ sym (ap (λ (k : ℕ). reads k (targets_of (variables a))) own.named) ∙ d.target in
+    let named : variable_type a r ≡ Some d.pointed.target = root ∙ sym (ap (λ (k : ℕ). reads k (targets_of (variables a))) own.named) ∙ d.target in
     ap (option_and_then (λ t. reached_type a.types t [])) named ∙ ap Some (sym target)
 
-module_target : (a : Accepted) (id : ℕ) → target_in a (module_root a.insts id) ≡ reads id (targets_of (variables a))
+module_target : (a : Accepted) (id : ℕ) → variable_type a (module_root a.insts id) ≡ reads id (targets_of (variables a))
 module_target a id = by_class (option_map_or is_own (storage_class a.insts id) false)
   where
-    by_class : (b : Bool) → target_in a (if b then Private id else Shared id) ≡ reads id (targets_of (variables a))
+    by_class : (b : Bool) → variable_type a (if b then Private id else Shared id) ≡ reads id (targets_of (variables a))
     by_class true = refl
     by_class false = refl
 
-leads_prop : (a : Accepted) (q : Reference) (target : ℕ) → IsProp (LeadsTo a.types (target_in a) q target)
+leads_prop : (a : Accepted) (q : Reference) (target : ℕ) → IsProp (LeadsTo a.types (variable_type a) q target)
 leads_prop a q target = hlevel (props, codes)
 
 module_typed : (a : Accepted) (declared : AreDeclared) → ∥ IsAccepted a ∥₁ → (id : ℕ) → meaning_of a.insts id ≡ Some ModuleVariable → IsTyped a id (pointer_to (module_root a.insts id))
@@ -172,6 +172,14 @@ pub record HaveTypes : Type 0 where
   pub values : (a : Accepted) (function id n : ℕ) → ∥ IsAccepted a ∥₁ → Contains (functions_in a) function → number_of id (ids (plan_of a function).values) ≡ Some n → HasValueType a (plan_of a function) id n
   pub pointers : (a : Accepted) (function id n : ℕ) → ∥ IsAccepted a ∥₁ → Contains (functions_in a) function → number_of id (plan_of a function).pointers ≡ Some n → HasPointerType a id
 
+-- where a pointer leads by its type it leads whatever the variable's storage class is
+leads_by_type : (a : Accepted) (ty : ℕ) (q : Reference) (target : ℕ) → LeadsTo a.types (target_in a ty) q target → LeadsTo a.types (variable_type a) q target
+leads_by_type a ty q target leads = by_type (target_in a ty q.root) refl leads
+  where
+    by_type : (o : Option ℕ) → target_in a ty q.root ≡ o → option_and_then (λ t. reached_type a.types t q.path) o ≡ Some target → LeadsTo a.types (variable_type a) q target
+    by_type None e h = absurd (cc)
+    by_type (Some t) e h = ap (option_and_then (λ t. reached_type a.types t q.path)) (target_parts a ty q.root t e).target ∙ h
+
 pointer_form : (o : Option Form) → is_pointer o ≡ true → (class : ℕ) × (target : ℕ) × (o ≡ Some (Pointer class target))
 pointer_form o h = grind arith
 
@@ -188,12 +196,13 @@ module _ (a : Accepted) (valid : ∥ IsValid a ∥₁) (accepted : ∥ IsAccepte
   pointer_typed n q number read =
       let typed = types.pointers a f.plan.function id n accepted plan.function (sym (ap (λ p. number_of id p.pointers) plan.is) ∙ number) in
       let form = pointer_form (form_of a.types typed.ty) typed.pointer in
-      let shape : HasShape a.types (target_in a) typed.ty (Ptr q) = sound.shaped.pointers id typed.ty q read typed.is in
-      let leads : LeadsTo a.types (target_in a) q form.1 = subst (λ o. IsSomeAnd (pointer_in o) (λ p. LeadsTo a.types (target_in a) p form.1)) (out_pointer q)
-      ((shapes_are_by_forms a.types (target_in a) (sound_types a valid) typed.ty (Pointer form.0 form.1) (Ptr q) form.2).0 shape) in
+      let shape : HasShape a.types (target_in a typed.ty) typed.ty (Ptr q) = sound.shaped.pointers id typed.ty q read typed.is in
+      let near : LeadsTo a.types (target_in a typed.ty) q form.1 = subst (λ o. IsSomeAnd (pointer_in o) (λ p. LeadsTo a.types (target_in a typed.ty) p form.1)) (out_pointer q)
+      ((shapes_are_by_forms a.types (target_in a typed.ty) (sound_types a valid) typed.ty (Pointer form.0 form.1) (Ptr q) form.2).0 shape) in
+      let leads : LeadsTo a.types (variable_type a) q form.1 = leads_by_type a typed.ty q form.1 near in
       let target : target_of a id ≡ form.1 = ap (λ (t : ℕ). option_map_or (λ (p : Pointed). p.target) (pointee (form_of a.types t)) 0) (type_resulting a id typed.ty typed.is)
       ∙ ap (λ (o : Option Form). option_map_or (λ (p : Pointed). p.target) (pointee o) 0) form.2 in
-      typed_pointer a id q (subst (LeadsTo a.types (target_in a) q) (sym target) leads)
+      typed_pointer a id q (subst (LeadsTo a.types (variable_type a) q) (sym target) leads)
 
   register_typed : (v : Value) → register_value f id ≡ Some v → IsTyped a id v
   register_typed v h = by_kind (number_of id (ids f.plan.values)) (number_of id f.plan.pointers) refl refl h

@@ -5,9 +5,9 @@ ghost use Rattle.spv_types.specs.Rows.{no_roots};
 ghost use Rattle.spv_types.specs.Shapes.{HasShape, LeadsTo};
 ghost use Rattle.spv_mem.specs.Memory.{NamesArray, load_of, member_of};
 ghost use Rattle.spv_mem.specs.Targets.{count_in};
-ghost use Rattle.spv_operands.specs.Shapes.{target_in};
 ghost use Rattle.spv_show.specs.Elements.{with_elements};
 ghost use Rattle.spv_state.specs.Sound.{IsSound};
+ghost use Rattle.spv_ids.specs.Typed.{variable_type};
 
 use spv_base::{NoMemory, Path, Pointer};
 use spv_mem::Memory;
@@ -55,7 +55,7 @@ pub(crate) fn elements(
     pointer: &Pointer,
 ) -> Result<u32, NoMemory>
     requires sound { IsSound m.now state.now }
-    requires leads { LeadsTo m.now.accepted.types (target_in m.now.accepted) pointer.now target }
+    requires leads { LeadsTo m.now.accepted.types (variable_type m.now.accepted) pointer.now target }
     requires there { IsSome (load_of state.now.memory inv pointer.now) }
     ensures { IfOk result (λ n. (v : Value) → load_of state.now.memory inv pointer.now ≡ Some v → HasShape (with_elements n m.now.accepted.types) no_roots target v) }
 {

@@ -4,10 +4,9 @@ ghost use Rattle.std.specs.Option.{is_some};
 ghost use Rattle.spv_types.specs.Shapes.{LeadsTo};
 ghost use Rattle.spv_mem.specs.Memory.{load_of};
 ghost use Rattle.spv_operands.specs.Operands.{IsPlain, shown};
-ghost use Rattle.spv_operands.specs.Shapes.{target_in};
 ghost use Rattle.spv_state.specs.Sound.{IsSound};
 ghost use Rattle.spv_ids.specs.Texts as spec;
-ghost use Rattle.spv_ids.specs.Typed.{IsTyped};
+ghost use Rattle.spv_ids.specs.Typed.{IsTyped, variable_type};
 
 use crate::elements::elements;
 use crate::ids::found;
@@ -51,7 +50,7 @@ fn push_part(
     text: &mut Vec<u8>,
 ) -> Result<(), NoMemory>
     requires sound { IsSound m.now state.now }
-    requires leads { LeadsTo m.now.accepted.types (target_in m.now.accepted) pointer.now target }
+    requires leads { LeadsTo m.now.accepted.types (variable_type m.now.accepted) pointer.now target }
     ensures { OnOk result (text.new.items ≡ text.old.items ++ spec.part_text m.now.accepted.types target (load_of state.now.memory inv pointer.now)) }
 {
     match state.memory().load(inv, pointer) {
@@ -74,7 +73,7 @@ fn push_reference(
     text: &mut Vec<u8>,
 ) -> Result<(), NoMemory>
     requires sound { IsSound m.now state.now }
-    requires leads { LeadsTo m.now.accepted.types (target_in m.now.accepted) pointer.now target }
+    requires leads { LeadsTo m.now.accepted.types (variable_type m.now.accepted) pointer.now target }
     ensures { OnOk result (text.new.items ≡ text.old.items ++ spec.reference_text m.now.accepted.types state.now.memory inv target pointer.now) }
 {
     pointer_text(alloc, pointer, text)?;

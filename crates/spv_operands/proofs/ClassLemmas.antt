@@ -39,7 +39,7 @@ use Rattle.spv_operands.proofs.ConstantLemmas.{variable_outside}
 use Rattle.spv_operands.proofs.FormLemmas.{AreAlike, erased_form, pointer_alike, types_alike}
 use Rattle.spv_operands.proofs.ListLemmas.{each_contained}
 use Rattle.spv_operands.proofs.MeaningLemmas.{beginning_opcode, key_unless, local_opcode, module_opcode, stand_defines}
-use Rattle.spv_operands.proofs.VariableLemmas.{form_later, local_kept, variable_kept}
+use Rattle.spv_operands.proofs.VariableLemmas.{Stands, form_later, local_kept, place_of, variable_kept}
 use Rattle.spv_types.proofs.Exports.{breach_none}
 
 -- ---- tests
@@ -48,7 +48,7 @@ implied : (b c : Bool) → b ≡ true → (not b || c) ≡ true → c ≡ true
 implied true c h g = g
 implied false c h g = absurd (cc)
 
-held : (x : ℕ) (o : Option ℕ) → holds x o ≡ true → o ≡ Some x
+pub held : (x : ℕ) (o : Option ℕ) → holds x o ≡ true → o ≡ Some x
 held x None h = absurd (cc)
 held x (Some y) h = ap (λ (n : ℕ). Some n) (eqb-true y x h)
 
@@ -173,13 +173,29 @@ pub record IsLocalVariable (a : Accepted) (i : Inst) : Type 0 where
   pub pointed : Pointed
   pub type : form_of a.types i.ty ≡ Some (Pointer pointed.class pointed.target)
   pub class : pointed.class ≡ 7
+  pub literal : literal_operand i 0 ≡ Some pointed.class
 
 pub behind_variable : (a : Accepted) → IsValid a → (i : Inst) → Contains (drop (length (before_functions a.insts)) a.insts) i → i.op ≡ 59 → IsLocalVariable a i
 behind_variable a valid i there op =
     let k : Known = known_of a.types a.constants a.insts in
     let all = each_behind k (λ (j : Inst). j.op ≡ 59 → KeepsVariable k j) (local_kept k) a.insts valid.rules in
     let kept : KeepsVariable k i = each_contained (λ (j : Inst). j.op ≡ 59 → KeepsVariable k j) (drop (length (before_functions a.insts)) a.insts) i all there op in
-    record { pointed = kept.0; type = kept.1; class = kept.2.0.0 }
+    record { pointed = kept.0; type = kept.1; class = kept.2.0.0; literal = kept.2.0.1 ∙ ap (λ (n : ℕ). Some n) (sym kept.2.0.0) }
+
+-- ---- all of them
+
+-- the storage class of an OpVariable is that of its pointer type
+pub record HasClass (a : Accepted) (i : Inst) : Type 0 where
+  pub pointed : Pointed
+  pub type : form_of a.types i.ty ≡ Some (Pointer pointed.class pointed.target)
+  pub class : literal_operand i 0 ≡ Some pointed.class
+
+pub class_known : (a : Accepted) → IsAccepted a → IsValid a → (i : Inst) → Contains a.insts i → i.op ≡ 59 → HasClass a i
+class_known a is valid i at op = by_place (place_of a.insts i at)
+  where
+    by_place : Stands (before_functions a.insts) a.insts (drop (length (before_functions a.insts)) a.insts) i → HasClass a i
+    by_place (inl (front, later, e)) = let v = variable_at a is valid front later i e op in record { pointed = v.pointed; type = v.type; class = v.class }
+    by_place (inr there) = let v = behind_variable a valid i there op in record { pointed = v.pointed; type = v.type; class = v.literal }
 
 -- ---- where they stand
 

@@ -1,6 +1,8 @@
 -- What crates above cite of this crate's lemmas; every other file of proofs is the crate's own.
 -- Which types the variables of an accepted module may have: those of data, but for runtime arrays by themselves.
 pub use Rattle.spv_operands.proofs.TargetLemmas.{sized_counted}
+-- What holds of each element of a list holds of one that it contains.
+pub use Rattle.spv_operands.proofs.ListLemmas.{each_contained}
 -- Each OpVariable of an accepted module is among its variables.
 pub use Rattle.spv_operands.proofs.VariableLemmas.{Stands, place_of, IsTyped, variable_typed, variable_by}
 -- What the meaning of an id tells of the instruction that defines it.
@@ -15,4 +17,6 @@ pub use Rattle.spv_operands.proofs.FrameLemmas.{fresh_shaped}
 pub use Rattle.spv_operands.proofs.ReadingLemmas.{constant_leaves, constant_plain, value_meant, constant_value, found_below, StandsIn, found_plan, plan_apart}
 -- Where the variables of an accepted module live: those before the functions by the rules of their storage classes, and those of functions
 -- in the class Function.
-pub use Rattle.spv_operands.proofs.ClassLemmas.{IsModuleVariable, variable_at, front_variable, IsLocalVariable, behind_variable, IsVariableAt, module_meant, local_meant}
+pub use Rattle.spv_operands.proofs.ClassLemmas.{IsModuleVariable, variable_at, front_variable, IsLocalVariable, behind_variable, IsVariableAt, module_meant, local_meant, HasClass, class_known}
+-- Where pointers of a type may lead: to variables of the type's storage class.
+pub use Rattle.spv_operands.proofs.ClassTargets.{IsTarget, target_parts, target_from, target_same}

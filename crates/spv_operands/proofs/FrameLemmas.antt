@@ -79,14 +79,14 @@ value_shaped a f id new shaped own = record {
     by_write q ty v type (inl (same, is)) = own ty v is (subst (λ (k : ℕ). result_type a.insts k ≡ Some ty) (sym same) type)
     by_write q ty v type (inr there) = shaped.values q ty v there type
 
-pub pointer_shaped : (a : Accepted) (f : Held) (id : ℕ) (new : Option Pointer) → AreShaped a f → ((ty : ℕ) (p : Pointer) → new ≡ Some p → result_type a.insts id ≡ Some ty → HasShape a.types (target_in a) ty (Ptr p))
+pub pointer_shaped : (a : Accepted) (f : Held) (id : ℕ) (new : Option Pointer) → AreShaped a f → ((ty : ℕ) (p : Pointer) → new ≡ Some p → result_type a.insts id ≡ Some ty → HasShape a.types (target_in a ty) ty (Ptr p))
     → AreShaped a (record f { pointers = writes id new f.pointers })
 pointer_shaped a f id new shaped own = record {
   values = shaped.values;
   pointers = λ q ty p h type. by_write q ty p type (written_read id new f.pointers q (Some p) h);
 }
   where
-    by_write : (q ty : ℕ) (p : Pointer) → result_type a.insts q ≡ Some ty → IsWritten id new f.pointers q (Some p) → HasShape a.types (target_in a) ty (Ptr p)
+    by_write : (q ty : ℕ) (p : Pointer) → result_type a.insts q ≡ Some ty → IsWritten id new f.pointers q (Some p) → HasShape a.types (target_in a ty) ty (Ptr p)
     by_write q ty p type (inl (same, is)) = own ty p is (subst (λ (k : ℕ). result_type a.insts k ≡ Some ty) (sym same) type)
     by_write q ty p type (inr there) = shaped.pointers q ty p there type
 
@@ -95,19 +95,19 @@ given_shape : (a : Accepted) (id : ℕ) (v : Value) → ((ty : ℕ) → result_t
     → (ty : ℕ) (w : Value) → Some v ≡ Some w → result_type a.insts id ≡ Some ty → HasShape a.types no_roots ty w
 given_shape a id v own ty w is type = let same : v ≡ w = cc in subst (HasShape a.types no_roots ty) same (own ty type)
 
-given_pointer : (a : Accepted) (id : ℕ) (p : Pointer) → ((ty : ℕ) → result_type a.insts id ≡ Some ty → HasShape a.types (target_in a) ty (Ptr p))
-    → (ty : ℕ) (q : Pointer) → Some p ≡ Some q → result_type a.insts id ≡ Some ty → HasShape a.types (target_in a) ty (Ptr q)
-given_pointer a id p own ty q is type = let same : p ≡ q = cc in subst (λ (x : Pointer). HasShape a.types (target_in a) ty (Ptr x)) same (own ty type)
+given_pointer : (a : Accepted) (id : ℕ) (p : Pointer) → ((ty : ℕ) → result_type a.insts id ≡ Some ty → HasShape a.types (target_in a ty) ty (Ptr p))
+    → (ty : ℕ) (q : Pointer) → Some p ≡ Some q → result_type a.insts id ≡ Some ty → HasShape a.types (target_in a ty) ty (Ptr q)
+given_pointer a id p own ty q is type = let same : p ≡ q = cc in subst (λ (x : Pointer). HasShape a.types (target_in a ty) ty (Ptr x)) same (own ty type)
 
 pub taken_shape : (a : Accepted) (id ty : ℕ) (v : Value) → result_type a.insts id ≡ Some ty → HasShape a.types no_roots ty v
     → (t : ℕ) (w : Value) → Some v ≡ Some w → result_type a.insts id ≡ Some t → HasShape a.types no_roots t w
 taken_shape a id ty v type shape =
     given_shape a id v (λ t other. subst (λ (k : ℕ). HasShape a.types no_roots k v) (type_same (result_type a.insts id) ty t type other) shape)
 
-pub taken_pointer : (a : Accepted) (id ty : ℕ) (p : Pointer) → result_type a.insts id ≡ Some ty → HasShape a.types (target_in a) ty (Ptr p)
-    → (t : ℕ) (q : Pointer) → Some p ≡ Some q → result_type a.insts id ≡ Some t → HasShape a.types (target_in a) t (Ptr q)
+pub taken_pointer : (a : Accepted) (id ty : ℕ) (p : Pointer) → result_type a.insts id ≡ Some ty → HasShape a.types (target_in a ty) ty (Ptr p)
+    → (t : ℕ) (q : Pointer) → Some p ≡ Some q → result_type a.insts id ≡ Some t → HasShape a.types (target_in a t) t (Ptr q)
 taken_pointer a id ty p type shape =
-    given_pointer a id p (λ t other. subst (λ (k : ℕ). HasShape a.types (target_in a) k (Ptr p)) (type_same (result_type a.insts id) ty t type other) shape)
+    given_pointer a id p (λ t other. subst (λ (k : ℕ). HasShape a.types (target_in a k) k (Ptr p)) (type_same (result_type a.insts id) ty t type other) shape)
 
 -- ---- arguments
 

@@ -6,8 +6,9 @@ mod VariableLemmas
 mod MeaningLemmas
 mod ConstantLemmas
 mod ShapeLemmas
+mod ClassLemmas
+mod ClassTargets
 mod OperandLemmas
 mod FrameLemmas
 mod ReadingLemmas
-mod ClassLemmas
 pub mod Exports

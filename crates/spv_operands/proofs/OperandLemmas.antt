@@ -10,7 +10,9 @@ use Rattle.spv_base.specs.declared.values.Pointer.{Pointer as Reference}
 use Rattle.spv_base.specs.declared.values.Root.{Root}
 use Rattle.spv_base.specs.declared.values.Root.TheVariants.{Shared, Private, Local}
 use Rattle.spv_base.specs.declared.values.Value.{Value, Ptr}
+use Rattle.spv_base.specs.Variables.{root_id}
 use Rattle.spv_index.specs.Definitions.{before_functions, defining, has_result, result_type, type_in}
+use Rattle.spv_index.specs.Operands.{literal_operand}
 use Rattle.spv_index.specs.Positions.{Stand, stand_of}
 use Rattle.spv_types.specs.declared.queries.Pointed.{Pointed}
 use Rattle.spv_types.specs.Build.{type_breaches}
@@ -47,16 +49,18 @@ use Rattle.spv_plans.proofs.Exports.{each_behind}
 use Rattle.spv_operands.specs.Variables.{IsDeclared}
 use Rattle.spv_operands.specs.Shapes.{AreShaped, target_in}
 use Rattle.spv_operands.specs.Values.{is_own, module_root, pointer_to, register_value, storage_class, value_by, value_of}
+use Rattle.spv_operands.proofs.ClassLemmas.{HasClass, class_known}
+use Rattle.spv_operands.proofs.ClassTargets.{IsTarget, target_from}
 use Rattle.spv_operands.proofs.MeaningLemmas.{local_opcode, module_opcode, stand_defines, undefined_opcode, undefined_type}
 use Rattle.spv_operands.proofs.ShapeLemmas.{data_type, pointer_type, whole_shape}
 use Rattle.spv_operands.proofs.ListLemmas.{each_contained}
 use Rattle.spv_operands.proofs.TargetLemmas.{sized_target}
-use Rattle.spv_operands.proofs.VariableLemmas.{IsTyped, Stands, data_later, place_of, plain_later, variable_declared, variable_typed}
+use Rattle.spv_operands.proofs.VariableLemmas.{Stands, data_later, place_of, plain_later, variable_declared}
 
 -- a value of the shape of a type: data, or a pointer where the type is a pointer type
 pub record IsShaped (a : Accepted) (ty : ℕ) (v : Value) : Type 0 where
   pub value : is_pointer (form_of a.types ty) ≡ false → HasShape a.types no_roots ty v
-  pub pointer : is_pointer (form_of a.types ty) ≡ true → HasShape a.types (target_in a) ty v
+  pub pointer : is_pointer (form_of a.types ty) ≡ true → HasShape a.types (target_in a ty) ty v
 
 shaped_data : (a : Accepted) → IsValid a → (ty : ℕ) (v : Value) → HasShape a.types no_roots ty v → IsShaped a ty v
 shaped_data a valid ty v h = record {
@@ -64,9 +68,9 @@ shaped_data a valid ty v h = record {
   pointer = λ e. absurd (both_ways (is_pointer (form_of a.types ty)) (data_type a.types valid.types ty v h) e);
 }
 
-shaped_pointer : (a : Accepted) → IsValid a → (ty : ℕ) (p : Reference) → HasShape a.types (target_in a) ty (Ptr p) → IsShaped a ty (Ptr p)
+shaped_pointer : (a : Accepted) → IsValid a → (ty : ℕ) (p : Reference) → HasShape a.types (target_in a ty) ty (Ptr p) → IsShaped a ty (Ptr p)
 shaped_pointer a valid ty p h = record {
-  value = λ e. absurd (both_ways (is_pointer (form_of a.types ty)) e (pointer_type a.types valid.types (target_in a) ty p h));
+  value = λ e. absurd (both_ways (is_pointer (form_of a.types ty)) e (pointer_type a.types valid.types (target_in a ty) ty p h));
   pointer = λ e. h;
 }
 
@@ -198,20 +202,29 @@ module _ (a : Accepted) (is : IsAccepted a) (valid : IsValid a) (f : Held) (shap
         let value : blank_of a.types 0 s.inst.ty ≡ v = ap (blank_of a.types 0) named ∙ same in
         subst (λ (k : ℕ). IsShaped a k v) typed (subst (IsShaped a s.inst.ty) value (shaped_data a valid s.inst.ty (blank_of a.types 0 s.inst.ty) shape))
 
-    variable_shaped : (r : Root) → s.inst.op ≡ 59 → target_in a r ≡ reads id (targets_of (variables a)) → pointer_to r ≡ v → IsShaped a ty v
+    -- the class of a variable is that of its pointer's type
+    variable_shaped : (r : Root) → s.inst.op ≡ 59 → root_id r ≡ id → pointer_to r ≡ v → IsShaped a ty v
     variable_shaped r op root same =
-        let pointed : IsTyped a s.inst = variable_typed a is valid s.inst own.there op in
+        let own_class : HasClass a s.inst = class_known a is valid s.inst own.there op in
         let declared : IsDeclared a s.inst = variable_declared a is valid s.inst own.there op in
-        let one : Some declared.pointed ≡ Some pointed.pointed = sym declared.type ∙ ap pointee pointed.type in
-        let target : declared.pointed.target ≡ pointed.pointed.target = let both : declared.pointed ≡ pointed.pointed = cc in ap (λ (p : Pointed). p.target) both in
-        let named : target_in a r ≡ Some pointed.pointed.target = root ∙ sym (ap (λ (k : ℕ). reads k (targets_of (variables a))) own.named) ∙ declared.target ∙ ap Some target in
-        let shape : HasShape a.types (target_in a) s.inst.ty (pointer_to r) = whole_shape a.types valid.types (target_in a) s.inst.ty pointed.pointed.class pointed.pointed.target r pointed.type named in
+        let type : pointee (form_of a.types s.inst.ty) ≡ Some own_class.pointed = ap pointee own_class.type in
+        let one : declared.pointed ≡ own_class.pointed = let both : Some declared.pointed ≡ Some own_class.pointed = sym declared.type ∙ type in cc in
+        let found : IsTarget a s.inst.ty r own_class.pointed.target
+        = record {
+          pointed = own_class.pointed;
+          type = type;
+          class = ap (storage_class a.insts) root ∙ ap (option_and_then (λ (i : Inst). literal_operand i 0)) defined ∙ own_class.class;
+          target = ap (λ (k : ℕ). reads k (targets_of (variables a))) (root ∙ sym own.named) ∙ declared.target ∙ ap (λ (p : Pointed). Some p.target) one;
+        } in
+        let named : target_in a s.inst.ty r ≡ Some own_class.pointed.target = target_from a s.inst.ty r own_class.pointed.target found in
+        let shape : HasShape a.types (target_in a s.inst.ty) s.inst.ty (pointer_to r)
+        = whole_shape a.types valid.types (target_in a s.inst.ty) s.inst.ty own_class.pointed.class own_class.pointed.target r own_class.type named in
         subst (λ (k : ℕ). IsShaped a k v) typed (subst (IsShaped a s.inst.ty) same (shaped_pointer a valid s.inst.ty (record { root = r; path = [] }) shape))
 
-    module_target : target_in a (module_root a.insts id) ≡ reads id (targets_of (variables a))
-    module_target = by_class (option_map_or is_own (storage_class a.insts id) false)
+    module_id : root_id (module_root a.insts id) ≡ id
+    module_id = by_class (option_map_or is_own (storage_class a.insts id) false)
       where
-        by_class : (b : Bool) → target_in a (if b then Private id else Shared id) ≡ reads id (targets_of (variables a))
+        by_class : (b : Bool) → root_id (if b then Private id else Shared id) ≡ id
         by_class true = refl
         by_class false = refl
 
@@ -223,7 +236,7 @@ module _ (a : Accepted) (is : IsAccepted a) (valid : IsValid a) (f : Held) (shap
     by_meaning TypeDefinition meant h = absurd (cc)
     by_meaning Constant meant h = constant_shaped h
     by_meaning (Undefined t) meant h = let same : blank_of a.types 0 t ≡ v = cc in undefined_shaped t (undefined_opcode s t meant) (undefined_type s t meant) same
-    by_meaning ModuleVariable meant h = let same : pointer_to (module_root a.insts id) ≡ v = cc in variable_shaped (module_root a.insts id) (module_opcode s meant) module_target same
+    by_meaning ModuleVariable meant h = let same : pointer_to (module_root a.insts id) ≡ v = cc in variable_shaped (module_root a.insts id) (module_opcode s meant) module_id same
     by_meaning (Variable function) meant h = local_shaped function meant (f.plan.function == function) h
     by_meaning (Register function) meant h = register_shaped h
     by_meaning (Label function) meant h = absurd (cc)

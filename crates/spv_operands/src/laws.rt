@@ -45,7 +45,7 @@ pub fn operands_have_shapes()
     ensures values { (a : Accepted) (f : Held) (depth id ty : ℕ) (v : Value) → IsAccepted a → AreShaped a f → value_of a f depth id ≡ Some v
         → result_type a.insts id ≡ Some ty → is_pointer (form_of a.types ty) ≡ false → HasShape a.types no_roots ty v }
     ensures pointers { (a : Accepted) (f : Held) (depth id ty : ℕ) (v : Value) → IsAccepted a → AreShaped a f → value_of a f depth id ≡ Some v
-        → result_type a.insts id ≡ Some ty → is_pointer (form_of a.types ty) ≡ true → HasShape a.types (target_in a) ty v }
+        → result_type a.insts id ≡ Some ty → is_pointer (form_of a.types ty) ≡ true → HasShape a.types (target_in a ty) ty v }
 {
     accepted_modules_are_valid();
 }
@@ -60,7 +60,7 @@ pub fn frames_stay_shaped()
         → HasShape a.types no_roots ty v → AreShaped a (record f { values = writes id (Some v) f.values }) }
     ensures no_value { (a : Accepted) (f : Held) (id : ℕ) → AreShaped a f → AreShaped a (record f { values = writes id None f.values }) }
     ensures pointer { (a : Accepted) (f : Held) (id ty : ℕ) (p : Pointer) → AreShaped a f → result_type a.insts id ≡ Some ty
-        → HasShape a.types (target_in a) ty (Ptr p) → AreShaped a (record f { pointers = writes id (Some p) f.pointers }) }
+        → HasShape a.types (target_in a ty) ty (Ptr p) → AreShaped a (record f { pointers = writes id (Some p) f.pointers }) }
     ensures no_pointer { (a : Accepted) (f : Held) (id : ℕ) → AreShaped a f → AreShaped a (record f { pointers = writes id None f.pointers }) }
     ensures pc { (a : Accepted) (f : Held) (pc : ℕ) → AreShaped a f → AreShaped a (record f { pc = pc }) }
     ensures events { (a : Accepted) (f : Held) (events : List PassedEvent) → AreShaped a f → AreShaped a (record f { events = events }) }

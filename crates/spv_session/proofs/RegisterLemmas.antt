@@ -57,7 +57,7 @@ value_row a f id n v shown typed read =
     (record { shape = shown.shaped.values id typed.ty v read typed.is; counted = counted; row = refl })
 
 pub pointer_shape : (a : Accepted) (f : Frame) (id : ℕ) (q : Pointer) → IsShown a f → HasPointerType a id
-    → reads id f.pointers ≡ Some (Some q) → HasShape a.types (target_in a) (type_of a id) (Ptr q)
+    → reads id f.pointers ≡ Some (Some q) → HasShape a.types (target_in a (type_of a id)) (type_of a id) (Ptr q)
 pointer_shape a f id q shown typed read =
     let ty : type_of a id ≡ typed.ty = ap (λ (o : Option ℕ). unwrap_or o 0) typed.is in
-    subst (λ (t : ℕ). HasShape a.types (target_in a) t (Ptr q)) (sym ty) (shown.shaped.pointers id typed.ty q read typed.is)
+    subst (λ (t : ℕ). HasShape a.types (target_in a t) t (Ptr q)) (sym ty) (shown.shaped.pointers id typed.ty q read typed.is)

@@ -55,7 +55,7 @@ fn show_pointer(
     id: u32,
     pointer: &Pointer,
 ) -> Result<(), NoMemory>
-    requires { HasShape m.now.accepted.types (target_in m.now.accepted) (type_of m.now.accepted id) (Ptr pointer.now) }
+    requires { HasShape m.now.accepted.types (target_in m.now.accepted (type_of m.now.accepted id)) (type_of m.now.accepted id) (Ptr pointer.now) }
     ensures { OnOk result (shown.new.entries ≡ with_shown shown.old.entries (id, register_text m.now.accepted id (Ptr pointer.now))) }
 {
     let mut text = Vec::new(alloc);

@@ -88,13 +88,13 @@ before_from a pc =
 -- ---- so it has the shape of the operand's type
 
 module _ (a : Accepted) (accepted : ∥ IsAccepted a ∥₁) (valid : ∥ IsValid a ∥₁) (f : Frame) (shaped : AreShaped a f) (depth : ℕ) where
-  value_shaped : (id ty : ℕ) (v : Value) → result_type a.insts id ≡ Some ty → value_of a f depth id ≡ Some v → HasShape a.types (if is_pointer (form_of a.types ty) then target_in a else no_roots) ty v
+  value_shaped : (id ty : ℕ) (v : Value) → result_type a.insts id ≡ Some ty → value_of a f depth id ≡ Some v → HasShape a.types (if is_pointer (form_of a.types ty) then target_in a ty else no_roots) ty v
   value_shaped id ty v type value =
-      let prop = shape_prop a.types (if is_pointer (form_of a.types ty) then target_in a else no_roots) ty v in
+      let prop = shape_prop a.types (if is_pointer (form_of a.types ty) then target_in a ty else no_roots) ty v in
       ∥∥₁_elim accepted prop (λ (is : IsAccepted a). ∥∥₁_elim valid prop (λ (k : IsValid a).
       by_kind (operand_shaped a is k f shaped depth id ty v type value) (is_pointer (form_of a.types ty)) refl))
     where
-      by_kind : IsShaped a ty v → (b : Bool) → is_pointer (form_of a.types ty) ≡ b → HasShape a.types (if b then target_in a else no_roots) ty v
+      by_kind : IsShaped a ty v → (b : Bool) → is_pointer (form_of a.types ty) ≡ b → HasShape a.types (if b then target_in a ty else no_roots) ty v
       by_kind own true e = own.pointer e
       by_kind own false e = own.value e
 

@@ -18,11 +18,13 @@ pub use Rattle.spv_state.proofs.FitLemmas.{schedule_counts}
 -- The variables of a function, among those of the module.
 pub use Rattle.spv_state.proofs.VariableLemmas.{kept_targets}
 -- Roots of pointers: where the variable that one names is there.
-pub use Rattle.spv_state.proofs.RootLemmas.{root_prop, frame_rooted, rooted_stays, rooted_more, rooted_moved, ids_changed, ids_below, ids_taken}
+pub use Rattle.spv_state.proofs.RootLemmas.{root_prop, root_stays, root_more, frame_rooted, rooted_stays, rooted_more, rooted_moved, ids_changed, ids_below, ids_taken}
 -- The top frame of an invocation in a sound state.
 pub use Rattle.spv_state.proofs.TopLemmas.{top_sound}
 -- A pointer that an operand stands for names a variable that is there.
 pub use Rattle.spv_state.proofs.OperandRoots.{pointer_own, frame_there, operand_root}
+-- Roots of variables by their storage classes.
+pub use Rattle.spv_state.proofs.RootClasses.{root_anywhere, buffer_root}
 -- The pointers that debug events capture name variables that are there.
 pub use Rattle.spv_state.proofs.EventRoots.{passed_rooted, above_rooted}
 -- The state at the start of a run is sound.

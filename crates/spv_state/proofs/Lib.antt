@@ -15,6 +15,7 @@ mod RootLemmas
 mod VariableStart
 mod VariableShapes
 mod OperandRoots
+mod RootClasses
 mod EventRoots
 mod EventShapes
 mod StartSound

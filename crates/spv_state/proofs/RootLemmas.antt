@@ -79,7 +79,7 @@ ids_more a (f ∷ fs) gs zero id there = there
 ids_more a (f ∷ fs) gs (suc n) id there = ids_more a fs gs n id there
 
 -- and where there are further frames above, for a deeper frame too
-root_more : (a : Accepted) (fs gs : List Frame) (depth deeper : ℕ) (r : Root) → depth ≤ deeper → IsRoot a fs depth r → IsRoot a (fs ++ gs) deeper r
+pub root_more : (a : Accepted) (fs gs : List Frame) (depth deeper : ℕ) (r : Root) → depth ≤ deeper → IsRoot a fs depth r → IsRoot a (fs ++ gs) deeper r
 root_more a fs gs depth deeper (Shared id) le h = h
 root_more a fs gs depth deeper (Private id) le h = h
 root_more a fs gs depth deeper (Local at id) le h = let low = h.0 in (omega arith, ∥∥₁_map h.1 (ids_more a fs gs at id))

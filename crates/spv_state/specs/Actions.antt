@@ -5,16 +5,17 @@ use Rattle.std.specs.Option.{option_map, option_or}
 use Rattle.spv_base.specs.Entries.{reads}
 use Rattle.spv_base.specs.declared.instructions.Inst.{Inst}
 use Rattle.spv_state.specs.declared.actions.Action.{Action}
-use Rattle.spv_state.specs.declared.actions.Action.TheVariants.{Compute, Load, Store, CopyMemory, Chain, ArrayLength, Branch, BranchConditional, Switch, Call, Return, ReturnValue, Unreachable, ControlBarrier, MemoryBarrier, Atomic}
+use Rattle.spv_state.specs.declared.actions.Action.TheVariants.{Compute, Select, Load, Store, CopyMemory, Chain, PtrChain, PtrEqual, PtrNotEqual, ArrayLength, Branch, BranchConditional, Switch, Call, Return, ReturnValue, Unreachable, ControlBarrier, MemoryBarrier, Atomic}
 use Rattle.spv_state.specs.declared.actions.AtomicOp.{AtomicOp}
 use Rattle.spv_state.specs.declared.actions.AtomicOp.TheVariants as atomic
 
--- FunctionCall, Load, Store, CopyMemory, AccessChain and InBoundsAccessChain, ArrayLength, ControlBarrier, MemoryBarrier, Branch,
--- BranchConditional, Switch, Return, ReturnValue, Unreachable
+-- FunctionCall, Load, Store, CopyMemory, AccessChain and InBoundsAccessChain, PtrAccessChain, ArrayLength, Select, ControlBarrier,
+-- MemoryBarrier, Branch, BranchConditional, Switch, Return, ReturnValue, Unreachable, PtrEqual, PtrNotEqual
 abbrev pub action_rows : List (ℕ × Action)
 action_rows =
-    (57, Call) ∷ (61, Load) ∷ (62, Store) ∷ (63, CopyMemory) ∷ (65, Chain) ∷ (66, Chain) ∷ (68, ArrayLength) ∷ (224, ControlBarrier) ∷ (225, MemoryBarrier)
-    ∷ (249, Branch) ∷ (250, BranchConditional) ∷ (251, Switch) ∷ (253, Return) ∷ (254, ReturnValue) ∷ (255, Unreachable) ∷ []
+    (57, Call) ∷ (61, Load) ∷ (62, Store) ∷ (63, CopyMemory) ∷ (65, Chain) ∷ (66, Chain) ∷ (67, PtrChain) ∷ (68, ArrayLength) ∷ (169, Select) ∷ (224, ControlBarrier) ∷ (225, MemoryBarrier)
+    ∷ (249, Branch) ∷ (250, BranchConditional) ∷ (251, Switch) ∷ (253, Return) ∷ (254, ReturnValue) ∷ (255, Unreachable)
+    ∷ (401, PtrEqual) ∷ (402, PtrNotEqual) ∷ []
 
 -- AtomicLoad to AtomicXor
 abbrev pub atomics : List (ℕ × AtomicOp)

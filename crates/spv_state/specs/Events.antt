@@ -82,13 +82,14 @@ passed a depth f = record f { events = f.events ++ due a depth f }
 -- ---- what they have captured
 
 -- An event that was passed is one of a debug instruction of the module. The value that it captured has the shape of the type of the
--- instruction's id: data has no pointer in it, and a pointer leads, along its path, to what its type points to.
+-- instruction's id: data has no pointer in it, and a pointer leads, along its path, to what its type points to, in a variable of the type's
+-- storage class.
 pub record IsShapedEvent (a : Accepted) (e : PassedEvent) : Type 0 where
   pub inst : Inst
   pub here : at a.insts e.word ≡ Some inst
   pub debug : captures a.insts inst ≡ true
   pub shaped : (id ty : ℕ) (v : Value) → id_operand inst 3 ≡ Some id → result_type a.insts id ≡ Some ty → e.value ≡ Some v
-      → HasShape a.types (if is_pointer (form_of a.types ty) then target_in a else no_roots) ty v
+      → HasShape a.types (if is_pointer (form_of a.types ty) then target_in a ty else no_roots) ty v
 
 -- ---- in a state
 

@@ -1,5 +1,5 @@
 -- The state of a workgroup: its memory, and per invocation a status and the calls that it is in.
-use Rattle.std.specs.Prelude.{ℕ, ◌-◌, ◌++◌, List, [], ◌∷◌, length, replicate, take, Option, None, slice_get, slice_set}
+use Rattle.std.specs.Prelude.{ℕ, ◌-◌, ◌++◌, List, [], ◌∷◌, length, take, Option, None, slice_get, slice_set}
 use Rattle.std.specs.Option.{option_map_or}
 use Rattle.spv_base.specs.Entries.{change, writes}
 use Rattle.spv_base.specs.Variables.{Roots}
@@ -12,9 +12,8 @@ use Rattle.spv_frame.specs.Frames.{Held as Frame}
 use Rattle.spv_frame.specs.Registers.{Planned}
 use Rattle.spv_frame.specs.Stacks.{Stacked, on_top, top}
 use Rattle.spv_mem.specs.Memory.{Held as Memory, Levels, entered, stored}
-use Rattle.spv_statuses.specs.Group.{Held as Statuses}
+use Rattle.spv_statuses.specs.Group.{Held as Statuses, closed, opened}
 use Rattle.spv_statuses.specs.declared.invocations.Status.{Status}
-use Rattle.spv_statuses.specs.declared.invocations.Status.TheVariants.{Arrived, Passed}
 
 pub record State : Type 0 where
   pub plans : List Planned  -- of the module's functions
@@ -93,9 +92,9 @@ with_top f k = record k { frames = k.frames ++ f ∷ [] }
 abbrev pub push_frame : ℕ → Frame → Roots → State → State
 push_frame i f es s = record s { memory = entered i es s.memory; stacks = change i (with_top f) s.stacks }
 
--- a barrier opens: every invocation is Passed
+-- a barrier opens: every invocation that waits is Passed
 abbrev pub open_barrier : State → State
-open_barrier s = record s { statuses = record s.statuses { list = replicate (length s.statuses.list) Passed } }
+open_barrier s = record s { statuses = record s.statuses { list = opened s.statuses.list } }
 
 -- ---- inverses, where the change itself isn't one
 
@@ -107,6 +106,6 @@ append_event e f = record f { events = f.events ++ e ∷ [] }
 abbrev pub drop_event : Frame → Frame
 drop_event f = record f { events = without_last f.events }
 
--- a barrier closes again: every invocation waits there
+-- a barrier closes again: every invocation that is Passed waits there
 abbrev pub close_barrier : ℕ → State → State
-close_barrier word s = record s { statuses = record s.statuses { list = replicate (length s.statuses.list) (Arrived word) } }
+close_barrier word s = record s { statuses = record s.statuses { list = closed word s.statuses.list } }

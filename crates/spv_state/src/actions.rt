@@ -57,11 +57,16 @@ impl AtomicOp {
 pub enum Action {
     /// It computes a value.
     Compute,
+    /// It chooses one of two values, or of two pointers.
+    Select,
     Load,
     Store,
     CopyMemory,
     /// AccessChain and InBoundsAccessChain.
     Chain,
+    PtrChain,
+    PtrEqual,
+    PtrNotEqual,
     ArrayLength,
     Branch,
     BranchConditional,
@@ -87,7 +92,9 @@ impl Action {
             op::STORE => Action::Store,
             op::COPY_MEMORY => Action::CopyMemory,
             op::ACCESS_CHAIN | op::IN_BOUNDS_ACCESS_CHAIN => Action::Chain,
+            op::PTR_ACCESS_CHAIN => Action::PtrChain,
             op::ARRAY_LENGTH => Action::ArrayLength,
+            op::SELECT => Action::Select,
             op::CONTROL_BARRIER => Action::ControlBarrier,
             op::MEMORY_BARRIER => Action::MemoryBarrier,
             op::BRANCH => Action::Branch,
@@ -96,6 +103,8 @@ impl Action {
             op::RETURN => Action::Return,
             op::RETURN_VALUE => Action::ReturnValue,
             op::UNREACHABLE => Action::Unreachable,
+            op::PTR_EQUAL => Action::PtrEqual,
+            op::PTR_NOT_EQUAL => Action::PtrNotEqual,
             _ => match AtomicOp::of(inst.op) {
                 Some(operation) => Action::Atomic(operation),
                 None => Action::Compute,

@@ -3,8 +3,7 @@
 ghost use Rattle.std.specs.Prelude.{◌≡◌, ◌<◌, ◌≤◌, IsSome, Some, length, slice_get, option_copied, option_map, true, [], ℕ, IfOk, OnOk, IfNone, None, ◌≢◌, OnErr};
 ghost use Rattle.spv_frame.specs.Stacks.{Stacked, top};
 ghost use Rattle.spv_mem.specs.Memory.{AreVariables, HasRoom, MayStore, load_of};
-ghost use Rattle.spv_statuses.specs.Group.{all_wait_at};
-ghost use Rattle.spv_statuses.specs.Invocations.{IsWithin, is_passed};
+ghost use Rattle.spv_statuses.specs.Invocations.{IsWithin, passed_or_finished, waits_or_finished};
 ghost use Rattle.spv_state.specs.Rooms.{HasLocals, IsBounded};
 ghost use Rattle.spv_state.specs.State as state;
 ghost use Rattle.spv_frame.specs.Registers.{Planned, ids, marked, number_of};
@@ -214,9 +213,9 @@ impl Whole {
         self.memory.give_back_locals(i, locals);
     }
 
-    /// Opens the barrier at a word, at which all invocations wait: each has passed it then.
+    /// Opens the barrier at a word, at which all invocations wait that aren't finished: each of these has passed it then.
     pub fn open_barrier(&mut self, word: u32)
-        requires waiting { all_wait_at word self.old.statuses.list ≡ true }
+        requires waiting { list_all (waits_or_finished word) self.old.statuses.list ≡ true }
         requires within { word < self.old.statuses.words }
         ensures { self.new ≡ state.open_barrier self.old }
     {
@@ -385,9 +384,9 @@ impl Whole {
         let _event = self.stacks[i as usize].drop_event();
     }
 
-    /// Closes the barrier at a word again, which all invocations have passed: all wait there.
+    /// Closes the barrier at a word again, which all invocations have passed that aren't finished: these wait there.
     pub fn close_barrier(&mut self, word: u32)
-        requires passed { list_all is_passed self.old.statuses.list ≡ true }
+        requires passed { list_all passed_or_finished self.old.statuses.list ≡ true }
         requires within { word < self.old.statuses.words }
         ensures { self.new ≡ state.close_barrier word self.old }
     {
