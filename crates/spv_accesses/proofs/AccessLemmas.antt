@@ -9,6 +9,7 @@ use Rattle.spv_base.specs.Parts.{part_at}
 use Rattle.spv_base.specs.Variables.{Roots, root_id}
 use Rattle.spv_base.specs.declared.instructions.Inst.{Inst}
 use Rattle.spv_base.specs.declared.values.Pointer.{Pointer as Reference}
+use Rattle.spv_base.specs.declared.values.Root.{Root}
 use Rattle.spv_base.specs.declared.values.Value.{Value}
 use Rattle.spv_ops.specs.Steps.{◌>>=◌}
 use Rattle.spv_types.specs.declared.forms.Form.TheVariants.{Pointer as PointerForm}
@@ -16,7 +17,8 @@ use Rattle.spv_types.specs.declared.queries.Pointed.{Pointed}
 use Rattle.spv_types.specs.Laws.{AreSound}
 use Rattle.spv_types.specs.Rows.{no_roots}
 use Rattle.spv_types.specs.Shapes.{HasShape, LeadsTo, reached_type}
-use Rattle.spv_types.specs.Types.{Types}
+use Rattle.spv_types.specs.Queries.{pointee}
+use Rattle.spv_types.specs.Types.{Types, form_of}
 use Rattle.spv_types.proofs.Exports.{shapes_keep}
 use Rattle.spv_bodies.specs.Context.{PointsTo, type_at}
 use Rattle.spv_bodies.specs.Memory.{KeepsLoad, KeepsStore}
@@ -27,7 +29,7 @@ use Rattle.spv_valid.specs.Validity.{IsValid}
 use Rattle.spv_initial.specs.Start.{variables}
 use Rattle.spv_initial.specs.Variables.{targets_of}
 use Rattle.spv_operands.specs.Shapes.{target_in}
-use Rattle.spv_operands.proofs.Exports.{sized_counted}
+use Rattle.spv_operands.proofs.Exports.{sized_counted, target_parts, target_same}
 use Rattle.spv_results.specs.Operands.{IsOperand, IsResult, known}
 use Rattle.spv_results.proofs.Exports.{HasForm, form_has_type, shape_prop}
 use Rattle.spv_state.specs.Actions.{action_of}
@@ -106,24 +108,46 @@ store_outside x at v cause is first second part =
 
 -- ---- what they fit
 
+-- the type of the value of the variable that a root names
+abbrev pub type_in : Accepted → Root → Option ℕ
+type_in a r = reads (root_id r) (targets_of (variables a))
+
+-- a pointer that leads to a target in a variable of the storage class of its type leads there by the type of the variable
+pub unclassed : (a : Accepted) (ty target : ℕ) (q : Reference) → LeadsTo a.types (target_in a ty) q target → LeadsTo a.types (type_in a) q target
+unclassed a ty target q leads = by_type (target_in a ty q.root) refl leads
+  where
+    by_type : (o : Option ℕ) → target_in a ty q.root ≡ o → option_and_then (λ (t : ℕ). reached_type a.types t q.path) o ≡ Some target → LeadsTo a.types (type_in a) q target
+    by_type None e h = absurd (cc)
+    by_type (Some t) e h = let named = target_parts a ty q.root t e in ap (option_and_then (λ (u : ℕ). reached_type a.types u q.path)) named.target ∙ h
+
 -- where the pointer leads that an operand is
 module _ (a : Accepted) (sound : AreSound a.types) (d : Inst) (n : ℕ) (at : Value) (shaped : IsShaped a d n at) (p : Pointed) (points : PointsTo (known a) d n p) where
-  leads : Leads a.types (target_in a) p.target at
-  leads =
-      let form : HasForm a.types (type_at (known a) d n) (PointerForm p.class p.target) = form_has_type a.types (type_at (known a) d n) (PointerForm p.class p.target) points in
-      pointed a.types (target_in a) form.type p.class p.target at sound form.form (reference_shape a d n form.type p.class p.target at shaped form.is form.form)
+  form : HasForm a.types (type_at (known a) d n) (PointerForm p.class p.target)
+  form = form_has_type a.types (type_at (known a) d n) (PointerForm p.class p.target) points
 
-  pub leads_there : (q : Reference) → pointer at ≡ Ok q → LeadsTo a.types (target_in a) q p.target
-  leads_there q place =
+  leads : Leads a.types (target_in a form.type) p.target at
+  leads = pointed a.types (target_in a form.type) form.type p.class p.target at sound form.form (reference_shape a d n form.type p.class p.target at shaped form.is form.form)
+
+  leads_by_type : (q : Reference) → pointer at ≡ Ok q → LeadsTo a.types (target_in a form.type) q p.target
+  leads_by_type q place =
       let is : pointer at ≡ Ok leads.place = ap (λ (o : Option Reference). ok_or o OutOfBounds) leads.is in
       let same : leads.place ≡ q = cc in
-      subst (λ (r : Reference). LeadsTo a.types (target_in a) r p.target) same leads.leads
+      subst (λ (r : Reference). LeadsTo a.types (target_in a form.type) r p.target) same leads.leads
+
+  pub leads_there : (q : Reference) → pointer at ≡ Ok q → LeadsTo a.types (type_in a) q p.target
+  leads_there q place = unclassed a form.type p.target q (leads_by_type q place)
+
+  -- in a variable that pointers of a type of the same storage class may lead to
+  pub leads_in_class : (ty : ℕ) (other : Pointed) → pointee (form_of a.types ty) ≡ Some other → other.class ≡ p.class → (q : Reference) → pointer at ≡ Ok q → LeadsTo a.types (target_in a ty) q p.target
+  leads_in_class ty other type class q place =
+      let own : pointee (form_of a.types form.type) ≡ Some p = ap pointee form.form in
+      subst (λ (roots : Root → Option ℕ). LeadsTo a.types roots q p.target) (target_same a form.type ty p other own type (sym class)) (leads_by_type q place)
 
 -- the type of a variable, and that which a path reaches from it
-module _ (m : Memory) (a : Accepted) (types : m.types ≡ a.types) (targets : m.targets ≡ targets_of (variables a)) (q : Reference) (target : ℕ) (leads : LeadsTo a.types (target_in a) q target) where
+module _ (m : Memory) (a : Accepted) (types : m.types ≡ a.types) (targets : m.targets ≡ targets_of (variables a)) (q : Reference) (target : ℕ) (leads : LeadsTo a.types (type_in a) q target) where
   pub reaches : (ty : ℕ) → reads (root_id q.root) m.targets ≡ Some ty → reached_type m.types ty q.path ≡ Some target
   reaches ty named =
-      let same : target_in a q.root ≡ Some ty = ap (reads (root_id q.root)) (sym targets) ∙ named in
+      let same : type_in a q.root ≡ Some ty = ap (reads (root_id q.root)) (sym targets) ∙ named in
       ap (λ (ts : Types). reached_type ts ty q.path) types ∙ sym (ap (option_and_then (λ (t : ℕ). reached_type a.types t q.path)) same) ∙ leads
 
   -- the part that a memory has there is one of the target type
@@ -178,7 +202,7 @@ module _ (x : Site) (sound : AreSound (accepted x).types) (valid : ∥ IsValid (
   pub load_shape : (v : Value) → KeepsLoad (known (accepted x)) x.inst → ∥ IsMemory x.state.memory ∥₁ → part_of x at ≡ Ok v → IsResult (accepted x) x.inst v
   load_shape v rule memory part =
       let there = found x at v part in
-      let leads : LeadsTo (accepted x).types (target_in (accepted x)) there.place rule.0.target = leads_there (accepted x) sound x.inst 0 at shaped rule.0 rule.1 there.place there.is in
+      let leads : LeadsTo (accepted x).types (type_in (accepted x)) there.place rule.0.target = leads_there (accepted x) sound x.inst 0 at shaped rule.0 rule.1 there.place there.is in
       ∥∥₁_elim memory (shape_prop (accepted x).types no_roots x.inst.ty v) (λ (m : IsMemory x.state.memory).
       subst (λ (ty : ℕ). HasShape (accepted x).types no_roots ty v) rule.2.0
       (part_shape x.state.memory (accepted x) (types_are x site) (targets_are x site) there.place rule.0.target leads x.inv v m there.there))
@@ -187,7 +211,7 @@ module _ (x : Site) (sound : AreSound (accepted x).types) (valid : ∥ IsValid (
   store_fits v u q rule part place object =
       let there = found x at v part in
       let same : there.place ≡ q = let is = there.is in cc in
-      let leads : LeadsTo (accepted x).types (target_in (accepted x)) q rule.0.target = leads_there (accepted x) sound x.inst 0 at shaped rule.0 rule.1 q place in
+      let leads : LeadsTo (accepted x).types (type_in (accepted x)) q rule.0.target = leads_there (accepted x) sound x.inst 0 at shaped rule.0 rule.1 q place in
       let counted : is_counted (accepted x).types rule.0.target ≡ true
       = ∥∥₁_elim valid (hlevel props) (λ (is : IsValid (accepted x)). sized_counted (accepted x).types sound is.lengths rule.0.target rule.2.1.1) in
       let loads : load_of x.state.memory x.inv q ≡ Some v = ap (load_of x.state.memory x.inv) (sym same) ∙ there.there in (

@@ -33,7 +33,6 @@ use Rattle.spv_mem.proofs.Exports.{may_if, scalar_if}
 use Rattle.spv_valid.specs.Acceptance.{Accepted}
 use Rattle.spv_initial.specs.Start.{variables}
 use Rattle.spv_initial.specs.Variables.{targets_of}
-use Rattle.spv_operands.specs.Shapes.{target_in}
 use Rattle.spv_results.specs.Operands.{IsOperand, known}
 use Rattle.spv_results.proofs.Exports.{HasForm, form_has_type, shape_prop}
 use Rattle.spv_state.specs.Actions.{atomic_op, atomics}
@@ -44,7 +43,7 @@ use Rattle.spv_sites.specs.Atomics.{atomic_row}
 use Rattle.spv_sites.specs.Effects.{pointer}
 use Rattle.spv_sites.specs.Fits.{StoreFits}
 use Rattle.spv_sites.specs.Sites.{IsShaped, IsSite, Site, accepted}
-use Rattle.spv_accesses.proofs.AccessLemmas.{leads_there, part_shape, targets_are, types_are}
+use Rattle.spv_accesses.proofs.AccessLemmas.{leads_there, part_shape, targets_are, type_in, types_are}
 use Rattle.spv_sites.proofs.Exports.{key_passes, is_plain_code, alone}
 
 -- ---- the rules
@@ -130,7 +129,7 @@ then_is f g None t h = absurd (cc)
 then_is f g (Some y) t h = ap (option_and_then g) h
 
 -- the width of the integers where a pointer leads
-width_is : (m : Memory) (a : Accepted) (q : Reference) (target width sign : ℕ) → m.types ≡ a.types → m.targets ≡ targets_of (variables a) → LeadsTo a.types (target_in a) q target
+width_is : (m : Memory) (a : Accepted) (q : Reference) (target width sign : ℕ) → m.types ≡ a.types → m.targets ≡ targets_of (variables a) → LeadsTo a.types (type_in a) q target
     → form_of a.types target ≡ Some (Int width sign) → width_at m q ≡ Some width
 width_is m a q target width sign types targets leads is =
     ap (λ (ts : Types). option_and_then (λ (type : ℕ). option_and_then (λ (t : ℕ). integer_width (form_of ts t)) (reached_type ts type q.path)) (reads (root_id q.root) m.targets)) types
@@ -147,7 +146,7 @@ module _ (x : Site) (sound : AreSound (accepted x).types) (memory : ∥ IsMemory
   form : form_of (accepted x).types rule.0.target ≡ Some (Int rule.2.1.0 rule.2.1.1)
   form = rule.2.1.2
 
-  leads : LeadsTo (accepted x).types (target_in (accepted x)) q rule.0.target
+  leads : LeadsTo (accepted x).types (type_in (accepted x)) q rule.0.target
   leads = leads_there (accepted x) sound x.inst 0 at shaped rule.0 rule.1 q place
 
   width : width_at x.state.memory q ≡ Some rule.2.1.0

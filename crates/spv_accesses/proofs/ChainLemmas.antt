@@ -13,14 +13,15 @@ use Rattle.spv_index.specs.Operands.{id_operand}
 use Rattle.spv_types.specs.declared.forms.Form.{Form}
 use Rattle.spv_types.specs.declared.forms.Form.TheVariants.{Pointer as PointerForm}
 use Rattle.spv_types.specs.Laws.{AreSound}
-use Rattle.spv_types.specs.Queries.{is_integer, is_pointer}
+use Rattle.spv_types.specs.Queries.{is_integer, is_pointer, pointee}
+use Rattle.spv_types.specs.declared.queries.Pointed.{Pointed}
 use Rattle.spv_types.specs.Rows.{leaves, no_roots}
 use Rattle.spv_types.specs.Shapes.{HasShape, LeadsTo, pointer_in, reached_type}
 use Rattle.spv_types.specs.Types.{Types, form_of}
 use Rattle.spv_types.proofs.Exports.{shapes_are_by_forms}
 use Rattle.spv_consts.specs.Table.{Constants, Row, only, scalar_of}
 use Rattle.spv_consts.specs.Trees.{tree_of}
-use Rattle.spv_bodies.specs.Chains.{KeepsChain, form_in, index_in, is_literal, member_number}
+use Rattle.spv_bodies.specs.Chains.{KeepsChain, Reaches, form_in, index_in, is_literal, member_number}
 use Rattle.spv_bodies.specs.Context.{Known, type_at, type_of}
 use Rattle.spv_mem.specs.Chains.{all_defined, extend, extended}
 use Rattle.spv_valid.specs.Acceptance.{Accepted, IsAccepted}
@@ -34,16 +35,17 @@ use Rattle.spv_results.specs.Results.{all_of}
 use Rattle.spv_state.specs.Actions.{action_of}
 use Rattle.spv_state.specs.State.{depth_of}
 use Rattle.spv_state.specs.declared.actions.Action.TheVariants.{Chain}
-use Rattle.spv_sites.specs.Chains.{chained_pointer, indexes, with_indexes}
+use Rattle.spv_sites.specs.Chains.{chained_pointer, indexes, indexes_from, with_indexes}
 use Rattle.spv_sites.specs.Effects as spec
 use Rattle.spv_sites.specs.Effects.{gives, pointer}
 use Rattle.spv_sites.specs.Fits.{LevelFits}
 use Rattle.spv_sites.specs.Sites.{IsShaped, IsSite, Site, accepted, due, is_data, is_data_at, values}
 use Rattle.spv_sites.specs.declared.causes.Cause.{Cause}
 use Rattle.spv_sites.specs.declared.causes.Cause.TheVariants.{NoValue, UndefinedIndex}
-use Rattle.spv_accesses.proofs.AccessLemmas.{leads_there}
+use Rattle.spv_accesses.proofs.AccessLemmas.{leads_in_class}
 use Rattle.spv_sites.proofs.Exports.{due_by, PointersHaveShapes, ValuesHaveShapes, operand_shape, ConstantsAreMeant}
-use Rattle.spv_accesses.proofs.IndexLemmas.{IsIndex, behind, integer_cell, integer_form, lead_behind, reached_append, unsigned}
+use Rattle.spv_accesses.proofs.IndexLemmas.{IsIndex, behind, integer_cell, integer_form, lead_behind, unsigned}
+use Rattle.spv_mem.proofs.Exports.{reached_append}
 use Rattle.spv_base.proofs.Exports.{out_pointer}
 
 -- ---- what is due
@@ -72,27 +74,27 @@ chain_fails x at cs cause is base found fails = chain_by x at cs is base found �
 
 -- ---- the indexes are read one after another
 
--- the cells of the operands from 1 to the one before a number; those of the others come behind them
-abbrev pub Reads : Site → List Cell → ℕ → Type 0
-Reads x cs n = indexes (values x) x.inst ≡ ok_or (option_map (λ (us : List Value). cs ++ flat_map leaves us) (all_of (values x) (range_with_len n (length x.inst.operands - n)))) NoValue
+-- the cells of the operands from the first index to the one before a number; those of the others come behind them
+abbrev pub Reads : Site → ℕ → List Cell → ℕ → Type 0
+Reads x m cs n = indexes_from m (values x) x.inst ≡ ok_or (option_map (λ (us : List Value). cs ++ flat_map leaves us) (all_of (values x) (range_with_len n (length x.inst.operands - n)))) NoValue
 
 -- the next operand, and those behind it
-next_of : (x : Site) (cs : List Cell) (n : ℕ) (o : Option Value) → n < length x.inst.operands → values x n ≡ o → Reads x cs n
-    → indexes (values x) x.inst ≡ ok_or (option_map (λ (us : List Value). cs ++ flat_map leaves us)
+next_of : (x : Site) (m : ℕ) (cs : List Cell) (n : ℕ) (o : Option Value) → n < length x.inst.operands → values x n ≡ o → Reads x m cs n
+    → indexes_from m (values x) x.inst ≡ ok_or (option_map (λ (us : List Value). cs ++ flat_map leaves us)
     (option_and_then (λ (v : Value). option_map (λ (us : List Value). v ∷ us) (all_of (values x) (range_with_len (n + 1) (length x.inst.operands - (n + 1))))) o)) NoValue
-next_of x cs n o lt value so_far =
+next_of x m cs n o lt value so_far =
     let more : length x.inst.operands - n ≡ suc (length x.inst.operands - (n + 1)) = omega arith in
     so_far ∙ ap (λ (k : ℕ). ok_or (option_map (λ (us : List Value). cs ++ flat_map leaves us) (all_of (values x) (range_with_len n k))) NoValue) more
     ∙ ap (λ (p : Option Value). ok_or (option_map (λ (us : List Value). cs ++ flat_map leaves us)
     (option_and_then (λ (v : Value). option_map (λ (us : List Value). v ∷ us) (all_of (values x) (range_with_len (n + 1) (length x.inst.operands - (n + 1))))) p)) NoValue) value
 
-moved : (cs : List Cell) (v : Value) (o : Option (List Value))
+more_read : (cs : List Cell) (v : Value) (o : Option (List Value))
     → ok_or (option_map (λ (us : List Value). cs ++ flat_map leaves us) (option_map (λ (us : List Value). v ∷ us) o)) NoValue ≡ ok_or (option_map (λ (us : List Value). (cs ++ leaves v) ++ flat_map leaves us) o) NoValue
-moved cs v None = refl
-moved cs v (Some us) = ap (λ (ls : List Cell). Ok ls) (sym (append_assoc cs (leaves v) (flat_map leaves us)))
+more_read cs v None = refl
+more_read cs v (Some us) = ap (λ (ls : List Cell). Ok ls) (sym (append_assoc cs (leaves v) (flat_map leaves us)))
 
-pub one_read : (x : Site) (cs : List Cell) (n : ℕ) (v : Value) → n < length x.inst.operands → Reads x cs n → values x n ≡ Some v → Reads x (cs ++ leaves v) (n + 1)
-one_read x cs n v lt so_far value = next_of x cs n (Some v) lt value so_far ∙ moved cs v (all_of (values x) (range_with_len (n + 1) (length x.inst.operands - (n + 1))))
+pub one_read : (x : Site) (m : ℕ) (cs : List Cell) (n : ℕ) (v : Value) → n < length x.inst.operands → Reads x m cs n → values x n ≡ Some v → Reads x m (cs ++ leaves v) (n + 1)
+one_read x m cs n v lt so_far value = next_of x m cs n (Some v) lt value so_far ∙ more_read cs v (all_of (values x) (range_with_len (n + 1) (length x.inst.operands - (n + 1))))
 
 -- ---- the indexes are data
 
@@ -100,9 +102,9 @@ integer_data : (ts : Types) (o : Option ℕ) → is_integer (option_and_then (fo
 integer_data ts None h = absurd (cc)
 integer_data ts (Some ty) h = let form = integer_form (form_of ts ty) h in ap (λ (f : Option Form). not (is_pointer f)) form.2
 
-pub chain_data : (a : Accepted) (d : Inst) → KeepsChain (known a) d → (n : ℕ) → 1 ≤ n → n < length d.operands → is_data_at a d n ≡ true
-chain_data a d kept n low lt =
-    let at = behind (known a) d.operands n kept.0.target kept.2.0.target kept.2.2.1 low lt in
+pub indexes_data : (a : Accepted) (d : Inst) (m : ℕ) (p : Pointed) (kept : Reaches (known a) d m p) (n : ℕ) → m ≤ n → n < length d.operands → is_data_at a d n ≡ true
+indexes_data a d m p kept n low lt =
+    let at = behind (known a) d.operands m n p.target kept.0.target kept.2.1 low lt in
     ap (λ (o : Option ℕ). is_data a.types (option_and_then (type_of (known a)) o)) at.1 ∙ integer_data a.types (type_of (known a) at.0) at.2
 
 -- ---- what the chain's pointer leads to
@@ -145,7 +147,7 @@ module _ (plains : ValuesHaveShapes) (pointers : PointersHaveShapes) (meant : Co
       let type = integer_type (known (accepted x)) id integer in
       let typed : type_at (known (accepted x)) x.inst n ≡ Some type.0 = ap (option_and_then (type_of (known (accepted x)))) named ∙ type.1 in
       let shape = operand_shape plains pointers x n w m same accepts site value type.0 typed in
-      let cell = integer_cell (accepted x).types (if is_pointer (form_of (accepted x).types type.0) then target_in (accepted x) else no_roots) type.0 w sound type.2 shape in
+      let cell = integer_cell (accepted x).types (if is_pointer (form_of (accepted x).types type.0) then target_in (accepted x) type.0 else no_roots) type.0 w sound type.2 shape in
       record {
         cell = cell.0;
         row = cell.1;
@@ -163,7 +165,41 @@ module _ (plains : ValuesHaveShapes) (pointers : PointersHaveShapes) (meant : Co
             ap extended one ∙ unsigned constant.0 number constant.2;
       }
 
-  -- the pointer and its cells
+  cells_are : (n : ℕ) (cs : List Cell) → indexes_from n (values x) x.inst ≡ Ok cs → (vs : List Value) × (all_of (values x) (range_with_len n (length x.inst.operands - n)) ≡ Some vs) × (flat_map leaves vs ≡ cs)
+  cells_are n cs h = by_values (all_of (values x) (range_with_len n (length x.inst.operands - n))) refl h
+    where
+      by_values : (o : Option (List Value)) → all_of (values x) (range_with_len n (length x.inst.operands - n)) ≡ o → ok_or (option_map (flat_map leaves) o) NoValue ≡ Ok cs
+          → (vs : List Value) × (all_of (values x) (range_with_len n (length x.inst.operands - n)) ≡ Some vs) × (flat_map leaves vs ≡ cs)
+      by_values None e h = absurd (cc)
+      by_values (Some vs) e h = let is : flat_map leaves vs ≡ cs = cc in (vs, e, is)
+
+  -- the indexes from one with a number on
+  module _ (n : ℕ) (p : Pointed) (kept : Reaches (known (accepted x)) x.inst n p) (cs : List Cell) (found : indexes_from n (values x) x.inst ≡ Ok cs) where
+    goes_on : reached_type (accepted x).types p.target (map extended cs) ≡ Some kept.0.target
+    goes_on =
+        let vs = cells_are n cs found in
+        ap (λ (ls : List Cell). reached_type (accepted x).types p.target (map extended ls)) (sym vs.2)
+        ∙ lead_behind (known (accepted x)) (values x) x.inst.operands n p.target kept.0.target vs.0 is_index vs.1 kept.2.1
+
+    -- a pointer with them leads on
+    pub indexed_leads : (q : Reference) → LeadsTo (accepted x).types (target_in (accepted x) x.inst.ty) q p.target
+        → LeadsTo (accepted x).types (target_in (accepted x) x.inst.ty) (record { root = q.root; path = extend q.path cs }) kept.0.target
+    indexed_leads q leads = by_root (target_in (accepted x) x.inst.ty q.root) leads
+      where
+        by_root : (o : Option ℕ) → option_and_then (λ t. reached_type (accepted x).types t q.path) o ≡ Some p.target → option_and_then (λ t. reached_type (accepted x).types t (extend q.path cs)) o ≡ Some kept.0.target
+        by_root None h = absurd (cc)
+        by_root (Some t) h = reached_append (accepted x).types q.path (map extended cs) t p.target h ∙ goes_on
+
+    pub result_leads : (r : Reference) → LeadsTo (accepted x).types (target_in (accepted x) x.inst.ty) r kept.0.target → LevelFits (accepted x) x.inst.ty (Ptr r) (out-Value (Ptr r))
+    result_leads r leads =
+        let ts = (accepted x).types in
+        let roots = target_in (accepted x) x.inst.ty in
+        let there : IsSomeAnd (pointer_in (out-Value (Ptr r))) (λ p. LeadsTo ts roots p kept.0.target) = rw (out_pointer r) leads in
+        let shape : HasShape ts roots x.inst.ty (Ptr r) = (shapes_are_by_forms ts roots sound x.inst.ty (PointerForm kept.0.class kept.0.target) (Ptr r) kept.1).1 there in
+        rw (out_pointer r) shape
+
+  -- ---- what the pointer of an access chain leads to
+
   path_is : (q : Reference) (cs : List Cell) (r : Reference) → with_indexes q cs ≡ Ok r → record { root = q.root; path = extend q.path cs } ≡ r
   path_is q cs r h = by_defined (all_defined cs) h
     where
@@ -171,40 +207,18 @@ module _ (plains : ValuesHaveShapes) (pointers : PointersHaveShapes) (meant : Co
       by_defined false h = absurd (cc)
       by_defined true h = cc
 
-  cells_are : (cs : List Cell) → indexes (values x) x.inst ≡ Ok cs → (vs : List Value) × (all_of (values x) (range_with_len 1 (length x.inst.operands - 1)) ≡ Some vs) × (flat_map leaves vs ≡ cs)
-  cells_are cs h = by_values (all_of (values x) (range_with_len 1 (length x.inst.operands - 1))) refl h
-    where
-      by_values : (o : Option (List Value)) → all_of (values x) (range_with_len 1 (length x.inst.operands - 1)) ≡ o → ok_or (option_map (flat_map leaves) o) NoValue ≡ Ok cs
-          → (vs : List Value) × (all_of (values x) (range_with_len 1 (length x.inst.operands - 1)) ≡ Some vs) × (flat_map leaves vs ≡ cs)
-      by_values None e h = absurd (cc)
-      by_values (Some vs) e h = let is : flat_map leaves vs ≡ cs = cc in (vs, e, is)
-
   module _ (kept : KeepsChain (known (accepted x)) x.inst) (at : Value) (shaped : IsShaped (accepted x) x.inst 0 at) (cs : List Cell) (found : indexes (values x) x.inst ≡ Ok cs) where
-    goes_on : reached_type (accepted x).types kept.0.target (map extended cs) ≡ Some kept.2.0.target
-    goes_on =
-        let vs = cells_are cs found in
-        ap (λ (ls : List Cell). reached_type (accepted x).types kept.0.target (map extended ls)) (sym vs.2)
-        ∙ lead_behind (known (accepted x)) (values x) x.inst.operands kept.0.target kept.2.0.target vs.0 is_index vs.1 kept.2.2.1
+    base_leads : (q : Reference) → pointer at ≡ Ok q → LeadsTo (accepted x).types (target_in (accepted x) x.inst.ty) q kept.0.target
+    base_leads q = leads_in_class (accepted x) sound x.inst 0 at shaped kept.0 kept.1 x.inst.ty kept.2.0 (ap pointee kept.2.1) kept.2.2.0 q
 
-    indexed_leads : (q r : Reference) → LeadsTo (accepted x).types (target_in (accepted x)) q kept.0.target → with_indexes q cs ≡ Ok r → LeadsTo (accepted x).types (target_in (accepted x)) r kept.2.0.target
-    indexed_leads q r leads goes =
-        subst (λ (p : Reference). LeadsTo (accepted x).types (target_in (accepted x)) p kept.2.0.target) (path_is q cs r goes) (by_root (target_in (accepted x) q.root) leads)
-      where
-        by_root : (o : Option ℕ) → option_and_then (λ t. reached_type (accepted x).types t q.path) o ≡ Some kept.0.target → option_and_then (λ t. reached_type (accepted x).types t (extend q.path cs)) o ≡ Some kept.2.0.target
-        by_root None h = absurd (cc)
-        by_root (Some t) h = reached_append (accepted x).types q.path (map extended cs) t kept.0.target h ∙ goes_on
-
-    chained_leads : (r : Reference) → chained_pointer at cs ≡ Ok r → LeadsTo (accepted x).types (target_in (accepted x)) r kept.2.0.target
+    chained_leads : (r : Reference) → chained_pointer at cs ≡ Ok r → LeadsTo (accepted x).types (target_in (accepted x) x.inst.ty) r kept.2.0.target
     chained_leads r h = by_place (pointer at) refl h
       where
-        by_place : (p : Result Reference Cause) → pointer at ≡ p → (p >>= (λ (q : Reference). with_indexes q cs)) ≡ Ok r → LeadsTo (accepted x).types (target_in (accepted x)) r kept.2.0.target
+        by_place : (p : Result Reference Cause) → pointer at ≡ p → (p >>= (λ (q : Reference). with_indexes q cs)) ≡ Ok r → LeadsTo (accepted x).types (target_in (accepted x) x.inst.ty) r kept.2.0.target
         by_place (Err cause) e h = absurd (cc)
-        by_place (Ok q) e h = indexed_leads q r (leads_there (accepted x) sound x.inst 0 at shaped kept.0 kept.1 q e) h
+        by_place (Ok q) e h =
+            subst (λ (p : Reference). LeadsTo (accepted x).types (target_in (accepted x) x.inst.ty) p kept.2.0.target) (path_is q cs r h)
+            (indexed_leads 1 kept.0 kept.2 cs found q (base_leads q e))
 
     pub chain_fits : (r : Reference) → chained_pointer at cs ≡ Ok r → LevelFits (accepted x) x.inst.ty (Ptr r) (out-Value (Ptr r))
-    chain_fits r h =
-        let ts = (accepted x).types in
-        let roots = target_in (accepted x) in
-        let leads : IsSomeAnd (pointer_in (out-Value (Ptr r))) (λ p. LeadsTo ts roots p kept.2.0.target) = rw (out_pointer r) (chained_leads r h) in
-        let shape : HasShape ts roots x.inst.ty (Ptr r) = (shapes_are_by_forms ts roots sound x.inst.ty (PointerForm kept.2.0.class kept.2.0.target) (Ptr r) kept.2.1).1 leads in
-        rw (out_pointer r) shape
+    chain_fits r h = result_leads 1 kept.0 kept.2 cs found r (chained_leads r h)

@@ -12,7 +12,6 @@ use Rattle.spv_bodies.specs.Memory.{KeepsCopyMemory}
 use Rattle.spv_mem.specs.Memory.{IsMemory, load_of}
 use Rattle.spv_mem.specs.Targets.{is_counted}
 use Rattle.spv_valid.specs.Validity.{IsValid}
-use Rattle.spv_operands.specs.Shapes.{target_in}
 use Rattle.spv_operands.proofs.Exports.{sized_counted}
 use Rattle.spv_results.specs.Operands.{known}
 use Rattle.spv_results.proofs.Exports.{shape_prop}
@@ -24,7 +23,7 @@ use Rattle.spv_sites.specs.Fits.{StoreFits}
 use Rattle.spv_sites.specs.Sites.{IsShaped, IsSite, Site, accepted, due, part_of, values}
 use Rattle.spv_sites.specs.declared.causes.Cause.{Cause}
 use Rattle.spv_sites.specs.declared.causes.Cause.TheVariants.{NoValue}
-use Rattle.spv_accesses.proofs.AccessLemmas.{found, in_turn, leads_there, may_put, part_shape, stores, targets_are, types_are}
+use Rattle.spv_accesses.proofs.AccessLemmas.{found, in_turn, leads_there, may_put, part_shape, stores, targets_are, type_in, types_are}
 use Rattle.spv_sites.proofs.Exports.{due_by}
 
 -- ---- what is due
@@ -101,7 +100,7 @@ module _ (x : Site) (sound : AreSound (accepted x).types) (valid : ∥ IsValid (
   source_shape : (v : Value) → ∥ IsMemory x.state.memory ∥₁ → part_of x from ≡ Ok v → HasShape (accepted x).types no_roots kept.0.target v
   source_shape v memory part =
       let there = found x from v part in
-      let leads : LeadsTo (accepted x).types (target_in (accepted x)) there.place kept.2.0.target = leads_there (accepted x) sound x.inst 1 from source kept.2.0 kept.2.1 there.place there.is in
+      let leads : LeadsTo (accepted x).types (type_in (accepted x)) there.place kept.2.0.target = leads_there (accepted x) sound x.inst 1 from source kept.2.0 kept.2.1 there.place there.is in
       subst (λ (ty : ℕ). HasShape (accepted x).types no_roots ty v) kept.2.2.0
       (∥∥₁_elim memory (shape_prop (accepted x).types no_roots kept.2.0.target v) (λ (m : IsMemory x.state.memory).
       part_shape x.state.memory (accepted x) (types_are x site) (targets_are x site) there.place kept.2.0.target leads x.inv v m there.there))
@@ -110,7 +109,7 @@ module _ (x : Site) (sound : AreSound (accepted x).types) (valid : ∥ IsValid (
   copy_fits u v q memory part copied place =
       let there = found x to u part in
       let same : there.place ≡ q = let is = there.is in cc in
-      let leads : LeadsTo (accepted x).types (target_in (accepted x)) q kept.0.target = leads_there (accepted x) sound x.inst 0 to target kept.0 kept.1 q place in
+      let leads : LeadsTo (accepted x).types (type_in (accepted x)) q kept.0.target = leads_there (accepted x) sound x.inst 0 to target kept.0 kept.1 q place in
       let counted : is_counted (accepted x).types kept.0.target ≡ true
       = ∥∥₁_elim valid (hlevel props) (λ (is : IsValid (accepted x)). sized_counted (accepted x).types sound is.lengths kept.0.target kept.2.2.1.1) in
       let loads : load_of x.state.memory x.inv q ≡ Some u = ap (load_of x.state.memory x.inv) (sym same) ∙ there.there in (

@@ -2,6 +2,7 @@
 use Rattle.std.proofs.Common.{◌≡◌, ◌∙◌, ℕ, zero, suc, ◌+◌, ◌-◌, ◌*◌, ◌^◌, ◌<◌, ◌≤◌, Bool, true, false, List, [], ◌∷◌, ◌++◌, length, map, drop, slice_get, Option, Some, None, refl, sym, ap, subst, arith}
 use Rattle.std.proofs.Math.Nat.{pow-suc}
 use Rattle.std.proofs.lemmas.Bool.{lt-ltb, ltb-true}
+use Rattle.std.proofs.lemmas.List.{length-drop}
 use Rattle.std.specs.List.{flat_map, range_with_len}
 use Rattle.std.specs.Option.{IsSomeAnd, option_and_then, option_map}
 use Rattle.std.specs.Prelude.{◌&&◌, if◌then◌else◌, nat_lt}
@@ -66,18 +67,6 @@ unsigned c n h = by_defined c.defined h
     by_defined : (b : Bool) → (if b && nat_lt c.bits (2 ^ (c.width - 1)) then Some c.bits else None) ≡ Some n → extended c ≡ n
     by_defined false h = absurd (cc)
     by_defined true h = by_low (nat_lt c.bits (2 ^ (c.width - 1))) refl h
-
--- ---- paths
-
-pub reached_append : (ts : Types) (xs ys : List ℕ) (t u : ℕ) → reached_type ts t xs ≡ Some u → reached_type ts t (xs ++ ys) ≡ reached_type ts u ys
-unfolding reached_type
-reached_append ts [] ys t u h = let same : t ≡ u = cc in ap (λ (s : ℕ). reached_type ts s ys) same
-reached_append ts (x ∷ xs) ys t u h = by_part (λ s. reached_append ts xs ys s u) (option_and_then (λ f. part_type f x) (form_of ts t)) h
-  where
-    by_part : ((s : ℕ) → reached_type ts s xs ≡ Some u → reached_type ts s (xs ++ ys) ≡ reached_type ts u ys) → (o : Option ℕ) → option_and_then (λ s. reached_type ts s xs) o ≡ Some u
-        → option_and_then (λ s. reached_type ts s (xs ++ ys)) o ≡ reached_type ts u ys
-    by_part rest None h = absurd (cc)
-    by_part rest (Some s) h = rest s h
 
 -- ---- indexes
 
@@ -181,17 +170,21 @@ integers k (o ∷ os) m ty target h lt = by_id (λ n t. integers k os n t target
     by_id rest None e g m lt = absurd (cc)
     by_id rest (Some id) e g m lt = by_integer rest id e (is_integer (form_in k id)) refl g m lt
 
--- the operands behind the first
-pub behind : (k : Known) (os : List Operand) (n ty target : ℕ) → rule.reached_type k ty (drop 1 os) ≡ Some target → 1 ≤ n → n < length os → IsInteger k (slice_get os n)
-behind k [] n ty target h low lt = absurd (omega arith)
-behind k (o ∷ os) zero ty target h low lt = absurd (omega arith)
-behind k (o ∷ os) (suc m) ty target h low lt = integers k os m ty target h (omega arith)
+-- the operands behind the first few
+get_drop : (os : List Operand) (m i : ℕ) → slice_get (drop m os) i ≡ slice_get os (m + i)
+get_drop os zero i = ap (slice_get os) (let same : i ≡ 0 + i = omega arith in same)
+get_drop [] (suc m) i = refl
+get_drop (o ∷ os) (suc m) i = get_drop os m i ∙ ap (slice_get (o ∷ os)) (let more : suc (m + i) ≡ suc m + i = omega arith in more)
+
+pub behind : (k : Known) (os : List Operand) (m n ty target : ℕ) → rule.reached_type k ty (drop m os) ≡ Some target → m ≤ n → n < length os → IsInteger k (slice_get os n)
+behind k os m n ty target h low lt =
+    let within : n - m < length (drop m os) = simp length-drop (omega arith) in
+    let at : slice_get (drop m os) (n - m) ≡ slice_get os n = get_drop os m (n - m) ∙ ap (slice_get os) (let same : m + (n - m) ≡ n = omega arith in same) in
+    subst (IsInteger k) at (integers k (drop m os) (n - m) ty target h within)
 
 -- and as many values
-pub lead_behind : (k : Known) (v : ℕ → Option Value) (all : List Operand) (ty target : ℕ) (vs : List Value)
+pub lead_behind : (k : Known) (v : ℕ → Option Value) (all : List Operand) (m ty target : ℕ) (vs : List Value)
     → ((n id : ℕ) (w : Value) → option_and_then id_in (slice_get all n) ≡ Some id → is_integer (form_in k id) ≡ true → v n ≡ Some w → IsIndex k id w)
-    → all_of v (range_with_len 1 (length all - 1)) ≡ Some vs → rule.reached_type k ty (drop 1 all) ≡ Some target → reached_type k.types ty (cells vs) ≡ Some target
-lead_behind k v [] ty target vs each found h = lead k v [] each [] 1 ty target vs (λ m. refl) found h
-lead_behind k v (o ∷ os) ty target vs each found h =
-    let many : length os ≡ length (o ∷ os) - 1 = omega arith in
-    lead k v (o ∷ os) each os 1 ty target vs (λ m. ap (slice_get (o ∷ os)) (let same : suc m ≡ 1 + m = omega arith in same)) (ap (λ (n : ℕ). all_of v (range_with_len 1 n)) many ∙ found) h
+    → all_of v (range_with_len m (length all - m)) ≡ Some vs → rule.reached_type k ty (drop m all) ≡ Some target → reached_type k.types ty (cells vs) ≡ Some target
+lead_behind k v all m ty target vs each found h =
+    lead k v all each (drop m all) m ty target vs (get_drop all m) (ap (λ (n : ℕ). all_of v (range_with_len m n)) (length-drop m all) ∙ found) h

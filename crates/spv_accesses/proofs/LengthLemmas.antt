@@ -29,7 +29,6 @@ use Rattle.spv_bodies.specs.Memory.{KeepsArrayLength}
 use Rattle.spv_consts.proofs.Exports.{is_scalar}
 use Rattle.spv_mem.specs.Memory.{Held as Memory, Loads, NamesArray, load_of, member_of, root_value}
 use Rattle.spv_mem.specs.Targets.{count_in, is_array_at}
-use Rattle.spv_operands.specs.Shapes.{target_in}
 use Rattle.spv_results.specs.Operands.{IsResult, known}
 use Rattle.spv_state.specs.Actions.{action_of}
 use Rattle.spv_state.specs.declared.actions.Action.TheVariants.{ArrayLength}
@@ -39,7 +38,7 @@ use Rattle.spv_sites.specs.Lengths.{elements_at, is_shared, length_of}
 use Rattle.spv_sites.specs.Sites.{IsShaped, IsSite, LeadsToArray, Site, accepted, due, values}
 use Rattle.spv_sites.specs.declared.causes.Cause.{Cause}
 use Rattle.spv_sites.specs.declared.causes.Cause.TheVariants.{NoValue, OutOfBounds}
-use Rattle.spv_accesses.proofs.AccessLemmas.{leads_there, reaches, targets_are, types_are}
+use Rattle.spv_accesses.proofs.AccessLemmas.{leads_there, reaches, targets_are, type_in, types_are}
 use Rattle.spv_sites.proofs.Exports.{due_by}
 
 -- ---- what is due
@@ -149,10 +148,10 @@ member_array ts (Some (Pointer class target)) k ty element stride h is = absurd 
 member_array ts (Some (Function returns parameters)) k ty element stride h is = absurd (cc)
 
 -- the type of the variable
-variable_type : (x : Site) (q : Reference) (target : ℕ) → LeadsTo (accepted x).types (target_in (accepted x)) q target → (type : ℕ) × (target_in (accepted x) q.root ≡ Some type)
-variable_type x q target leads = by_type (target_in (accepted x) q.root) refl leads
+variable_type : (x : Site) (q : Reference) (target : ℕ) → LeadsTo (accepted x).types (type_in (accepted x)) q target → (type : ℕ) × (type_in (accepted x) q.root ≡ Some type)
+variable_type x q target leads = by_type (type_in (accepted x) q.root) refl leads
   where
-    by_type : (o : Option ℕ) → target_in (accepted x) q.root ≡ o → option_and_then (λ t. reached_type (accepted x).types t q.path) o ≡ Some target → (type : ℕ) × (target_in (accepted x) q.root ≡ Some type)
+    by_type : (o : Option ℕ) → type_in (accepted x) q.root ≡ o → option_and_then (λ t. reached_type (accepted x).types t q.path) o ≡ Some target → (type : ℕ) × (type_in (accepted x) q.root ≡ Some type)
     by_type None e h = absurd (cc)
     by_type (Some t) e h = (t, e)
 
@@ -161,7 +160,7 @@ pub leads_to_array : (x : Site) (sound : AreSound (accepted x).types) (site : �
 leads_to_array x sound site at shaped kept q k place literal =
     let points = kept.1 in
     let block = points.0.target in
-    let leads : LeadsTo (accepted x).types (target_in (accepted x)) q block = leads_there (accepted x) sound x.inst 0 at shaped points.0 points.1 q place in
+    let leads : LeadsTo (accepted x).types (type_in (accepted x)) q block = leads_there (accepted x) sound x.inst 0 at shaped points.0 points.1 q place in
     let type = variable_type x q block leads in
     let types = types_are x site in
     let targets = targets_are x site in

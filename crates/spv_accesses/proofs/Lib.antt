@@ -6,5 +6,8 @@ mod LengthLemmas
 mod CopyLemmas
 mod AtomicLemmas
 mod AtomicSteps
+mod MovedLemmas
+mod MovedShapes
 mod ChainRoots
+mod ComparisonLemmas
 pub mod Exports

@@ -1,14 +1,17 @@
--- What access chains, copies of memory, lengths of arrays and atomics keep where a run has come to them.
+-- What access chains, comparisons of pointers, copies of memory, lengths of arrays and atomics keep where a run has come to them.
 use Rattle.std.proofs.Common.{◌≡◌, ◌⊎◌, inl, inr, ℕ, true, refl}
 use Rattle.spv_bodies.specs.Bodies.{KeepsRule}
 use Rattle.spv_bodies.specs.Chains.{KeepsChain}
+use Rattle.spv_bodies.specs.Pointers.{KeepsPtrChain, KeepsPtrEqual}
+use Rattle.spv_base.specs.declared.instructions.Inst.{Inst}
+use Rattle.spv_accesses.specs.PointerSites.{IsComparison}
 use Rattle.spv_bodies.specs.Memory.{KeepsArrayLength, KeepsCopyMemory}
 use Rattle.spv_bodies.specs.Rules.{atomic_rule, composite_rule, control_rule, memory_rule, other_rule, rule_of}
 use Rattle.spv_valid.specs.Acceptance.{Accepted, IsAccepted}
 use Rattle.spv_valid.specs.Validity.{IsValid}
 use Rattle.spv_results.specs.Operands.{known}
 use Rattle.spv_state.specs.Actions.{action_of}
-use Rattle.spv_state.specs.declared.actions.Action.TheVariants.{ArrayLength, Chain, CopyMemory, Atomic}
+use Rattle.spv_state.specs.declared.actions.Action.TheVariants.{ArrayLength, Chain, CopyMemory, PtrChain, PtrEqual, PtrNotEqual, Atomic}
 use Rattle.spv_sites.specs.Effects.{Next}
 use Rattle.spv_sites.specs.Fits.{ControlFits}
 use Rattle.spv_sites.specs.Sites.{IsSite, Site, accepted}
@@ -26,6 +29,19 @@ chain_plain : (op : ℕ) → (op ≡ 65) ⊎ (op ≡ 66) → is_plain_code op �
 unfolding memory_rule atomic_rule composite_rule control_rule other_rule
 chain_plain op (inl h) = one_plain op 65 h refl
 chain_plain op (inr h) = one_plain op 66 h refl
+
+ptr_chain_plain : (op : ℕ) → op ≡ 67 → is_plain_code op ≡ true
+unfolding memory_rule atomic_rule composite_rule control_rule other_rule
+ptr_chain_plain op h = one_plain op 67 h refl
+
+comparison_plain : (op : ℕ) → (op ≡ 401) ⊎ (op ≡ 402) → is_plain_code op ≡ true
+unfolding memory_rule atomic_rule composite_rule control_rule other_rule
+comparison_plain op (inl h) = one_plain op 401 h refl
+comparison_plain op (inr h) = one_plain op 402 h refl
+
+comparing : (d : Inst) → IsComparison d → (d.op ≡ 401) ⊎ (d.op ≡ 402)
+comparing d (inl is) = inl (acting d PtrEqual is)
+comparing d (inr is) = inr (acting d PtrNotEqual is)
 
 length_plain : (op : ℕ) → op ≡ 68 → is_plain_code op ≡ true
 unfolding memory_rule atomic_rule composite_rule control_rule other_rule
@@ -52,6 +68,24 @@ module _ (law : RulesAreTested) (x : Site) (m : Accepted) (same : m ≡ accepted
 
   pub chain_next : action_of x.inst ≡ Chain → ControlFits (accepted x) x.inst Next
   chain_next is = plain_next law x m same accepts valid site (chain_plain x.inst.op (acting x.inst Chain is))
+
+  pub ptr_chain_keeps : action_of x.inst ≡ PtrChain → KeepsPtrChain (known (accepted x)) x.inst
+  unfolding memory_rule atomic_rule composite_rule control_rule other_rule
+  ptr_chain_keeps is = let op = acting x.inst PtrChain is in kept_by (accepted x) x.inst (rule_kept (ptr_chain_plain x.inst.op op)) 67 op
+
+  pub ptr_chain_next : action_of x.inst ≡ PtrChain → ControlFits (accepted x) x.inst Next
+  ptr_chain_next is = plain_next law x m same accepts valid site (ptr_chain_plain x.inst.op (acting x.inst PtrChain is))
+
+  comparison_by : (x.inst.op ≡ 401) ⊎ (x.inst.op ≡ 402) → KeepsRule (known (accepted x)) (alone x.inst) (rule_of x.inst.op) → KeepsPtrEqual (known (accepted x)) x.inst
+  unfolding memory_rule atomic_rule composite_rule control_rule other_rule
+  comparison_by (inl op) kept = kept_by (accepted x) x.inst kept 401 op
+  comparison_by (inr op) kept = kept_by (accepted x) x.inst kept 402 op
+
+  pub comparison_keeps : IsComparison x.inst → KeepsPtrEqual (known (accepted x)) x.inst
+  comparison_keeps is = let op = comparing x.inst is in comparison_by op (rule_kept (comparison_plain x.inst.op op))
+
+  pub comparison_next : IsComparison x.inst → ControlFits (accepted x) x.inst Next
+  comparison_next is = plain_next law x m same accepts valid site (comparison_plain x.inst.op (comparing x.inst is))
 
   pub length_keeps : action_of x.inst ≡ ArrayLength → KeepsArrayLength (known (accepted x)) x.inst
   unfolding memory_rule atomic_rule composite_rule control_rule other_rule

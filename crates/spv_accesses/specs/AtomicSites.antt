@@ -15,6 +15,7 @@ use Rattle.spv_mem.specs.Memory.{load_of}
 use Rattle.spv_results.specs.Operands.{known}
 use Rattle.spv_valid.specs.Acceptance.{Accepted}
 use Rattle.spv_sites.specs.Atomics as spec
+use Rattle.spv_sites.specs.Effects as effects
 use Rattle.spv_sites.specs.Atomics.{AtomicRow, loads, stores, counts, updates, compares}
 use Rattle.spv_sites.specs.Sites.{Site, accepted}
 use Rattle.spv_sites.specs.declared.causes.Cause.{Cause}
@@ -49,7 +50,7 @@ updated_cell _ old value = old
 -- ---- what is read
 
 abbrev pub scalar : Site → ℕ → Result Cell Cause
-scalar x n = spec.scalar x.program x.state x.inv x.frame x.inst n
+scalar x n = effects.scalar x.program x.state x.inv x.frame x.inst n
 
 abbrev pub target : Site → Value → Result (Pointer × Cell) Cause
 target x at = spec.target x.state x.inv at

@@ -1,1 +1,2 @@
 pub mod AtomicSites
+pub mod PointerSites

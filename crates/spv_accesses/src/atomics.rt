@@ -96,7 +96,7 @@ pub(crate) fn first_of_three<'a>(site: &Site<'a>) -> Result<Operand<'a>, Fail<Ca
 }
 
 /// The scalar that the operand with a number is. F4 where it has no value.
-fn scalar(site: &Site, n: usize) -> Result<Cell, Fail<Cause>>
+pub(crate) fn scalar(site: &Site, n: usize) -> Result<Cell, Fail<Cause>>
     requires { IsIntegerAt site.now.program.accepted site.now.inst n }
     ensures value { Answers (at_site.scalar site.now n) result }
     ensures shape { IfOk result (λ c. IsOperand site.now.program.accepted site.now.inst n (Scalar c)) }
@@ -125,7 +125,7 @@ fn target(site: &Site, at: &Operand) -> Result<(Pointer, Cell), Fail<Cause>>
 }
 
 /// Puts a scalar into a row. It takes no memory where the row ever had room for a cell.
-fn put(cell: Cell, row: &mut Row) -> Result<(), NoMemory>
+pub(crate) fn put(cell: Cell, row: &mut Row) -> Result<(), NoMemory>
     ensures { OnOk result (row.new ≡ Scalar cell) }
 {
     let cells = [cell];

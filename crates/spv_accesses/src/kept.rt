@@ -1,6 +1,8 @@
 //! What acceptance gives of an instruction where a run has come to it.
 ghost use Rattle.std.specs.Prelude.{◌≡◌};
 ghost use Rattle.spv_bodies.specs.Chains.{KeepsChain};
+ghost use Rattle.spv_bodies.specs.Pointers.{KeepsPtrChain, KeepsPtrEqual};
+ghost use Rattle.spv_accesses.specs.PointerSites.{IsComparison};
 ghost use Rattle.spv_bodies.specs.Memory.{KeepsArrayLength, KeepsCopyMemory, KeepsLoad, KeepsStore};
 ghost use Rattle.spv_state.specs.Actions.{action_of};
 ghost use Rattle.spv_accesses.specs.AtomicSites.{KeepsRow};
@@ -50,6 +52,28 @@ pub(crate) fn copy_memory_is_kept(site: &Site)
 pub(crate) fn chain_is_kept(site: &Site)
     requires { action_of site.now.inst ≡ Action.Chain }
     ensures rule { KeepsChain (known site.now.program.accepted) site.now.inst }
+    ensures next { ControlFits site.now.program.accepted site.now.inst Next }
+{
+    instructions_keep_their_rules();
+    site.is_reached();
+    let _insts = site.accepted().insts();
+}
+
+/// A fact, with nothing to run: an OpPtrAccessChain keeps its rule, and an executable stands behind it.
+pub(crate) fn ptr_chain_is_kept(site: &Site)
+    requires { action_of site.now.inst ≡ Action.PtrChain }
+    ensures rule { KeepsPtrChain (known site.now.program.accepted) site.now.inst }
+    ensures next { ControlFits site.now.program.accepted site.now.inst Next }
+{
+    instructions_keep_their_rules();
+    site.is_reached();
+    let _insts = site.accepted().insts();
+}
+
+/// A fact, with nothing to run: an OpPtrEqual or OpPtrNotEqual keeps its rule, and an executable stands behind it.
+pub(crate) fn ptr_equal_is_kept(site: &Site)
+    requires { IsComparison site.now.inst }
+    ensures rule { KeepsPtrEqual (known site.now.program.accepted) site.now.inst }
     ensures next { ControlFits site.now.program.accepted site.now.inst Next }
 {
     instructions_keep_their_rules();

@@ -1,4 +1,5 @@
-//! What loads, stores, copies, access chains, lengths of arrays and atomics do (SPIR-V 1.6 sections 3.42.8 and 3.42.18).
+//! What loads, stores, copies, access chains, comparisons of pointers, lengths of arrays and atomics do (SPIR-V 1.6 sections 3.42.8 and
+//! 3.42.18).
 #![tactic(auto)]
 
 pub mod accesses;
@@ -6,3 +7,4 @@ pub mod atomics;
 pub mod chains;
 pub mod kept;
 pub mod lengths;
+pub mod pointers;

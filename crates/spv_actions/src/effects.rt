@@ -8,10 +8,12 @@ ghost use Rattle.spv_state.specs.State as state;
 
 use spv_accesses::accesses::{copy_memory, load, store};
 use spv_accesses::atomics::atomic;
-use spv_accesses::chains::chain;
+use spv_accesses::chains::{chain, ptr_chain};
 use spv_accesses::lengths::array_length;
+use spv_accesses::pointers::{ptr_equal, ptr_not_equal};
 use spv_base::{Fail, Inst};
 use spv_computing::computing::compute;
+use spv_computing::selects::select;
 use spv_control::barriers::{control_barrier, memory_barrier};
 use spv_control::branches::{branch, branch_conditional, switch};
 use spv_control::calls::{call, return_value};
@@ -42,15 +44,19 @@ pub fn effect_at(
     let site = Site::of(alloc, m, w, inv, frame, inst);
     match Action::of(inst) {
         Action::Compute => compute(&site, row),
+        Action::Select => select(&site, row),
         Action::Load => load(&site, row),
         Action::Store => store(&site, row),
         Action::Return => Ok(Effect {
             store: None,
             gain: Gain::Nothing,
-            control: Control::Leave,
+            control: Control::Leave(Gain::Nothing),
         }),
         Action::CopyMemory => copy_memory(&site, row),
         Action::Chain => chain(&site),
+        Action::PtrChain => ptr_chain(&site),
+        Action::PtrEqual => ptr_equal(&site, row),
+        Action::PtrNotEqual => ptr_not_equal(&site, row),
         Action::ArrayLength => array_length(&site, row),
         Action::Branch => branch(&site),
         Action::BranchConditional => branch_conditional(&site),

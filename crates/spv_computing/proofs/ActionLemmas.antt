@@ -29,7 +29,7 @@ use Rattle.spv_bodies.specs.Lanes.{KeepsExtended}
 use Rattle.spv_bodies.specs.Places.{Placed}
 use Rattle.spv_bodies.specs.Rules.{atomic_rule, composite_rule, control_rule, memory_rule, other_rule, rule_of}
 use Rattle.spv_bodies.specs.declared.rules.Rule.{Rule}
-use Rattle.spv_bodies.specs.declared.rules.Rule.TheVariants.{Free, Lanes, Extended, Memory, Atomic, Composite, Control}
+use Rattle.spv_bodies.specs.declared.rules.Rule.TheVariants.{Free, Lanes, Select, Extended, Memory, Atomic, Composite, Control}
 use Rattle.spv_bodies.specs.declared.rules.AtomicRule.{AtomicRule}
 use Rattle.spv_bodies.specs.declared.rules.AtomicRule.TheVariants as atomic
 use Rattle.spv_bodies.specs.declared.rules.CompositeRule.{CompositeRule}
@@ -69,7 +69,8 @@ is_ruled op = (op == 12 || is_some (reads op passed)) || is_action_code op
 -- the tables of the rules of bodies
 abbrev memory_rules : List (ℕ × MemoryRule)
 memory_rules =
-    (1, memory.Undef) ∷ (59, memory.Variable) ∷ (61, memory.Load) ∷ (62, memory.Store) ∷ (63, memory.CopyMemory) ∷ (65, memory.Chain) ∷ (66, memory.Chain) ∷ (68, memory.ArrayLength) ∷ []
+    (1, memory.Undef) ∷ (59, memory.Variable) ∷ (61, memory.Load) ∷ (62, memory.Store) ∷ (63, memory.CopyMemory) ∷ (65, memory.Chain) ∷ (66, memory.Chain) ∷ (67, memory.PtrChain) ∷ (68, memory.ArrayLength)
+    ∷ (401, memory.PtrEqual) ∷ (402, memory.PtrEqual) ∷ []
 
 abbrev control_rules : List (ℕ × ControlRule)
 control_rules =
@@ -107,10 +108,10 @@ lanes_ruled : (op : ℕ) (x : LanesRule) → lanes_rule op ≡ Some x → is_rul
 unfolding lanes_rule atomic_op unary_op binary_op field_op extended_op vector_op
 lanes_ruled op x h = key_passes is_ruled op x rules refl h
 
--- those that keep their rule wherever they stand, and OpExtInst
+-- those that keep their rule wherever they stand, OpExtInst and OpSelect
 abbrev free : List (ℕ × Rule)
 free =
-    (0, Free) ∷ (8, Free) ∷ (12, Extended) ∷ (56, Free) ∷ (246, Free) ∷ (247, Free) ∷ (248, Free) ∷ (249, Free) ∷ (255, Free) ∷ (317, Free) ∷ []
+    (0, Free) ∷ (8, Free) ∷ (12, Extended) ∷ (56, Free) ∷ (169, Select) ∷ (246, Free) ∷ (247, Free) ∷ (248, Free) ∷ (249, Free) ∷ (255, Free) ∷ (317, Free) ∷ []
 
 free_ruled : (op : ℕ) (x : Rule) → reads op free ≡ Some x → is_ruled op ≡ true
 unfolding atomic_op unary_op binary_op field_op extended_op vector_op

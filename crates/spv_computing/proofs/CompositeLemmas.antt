@@ -23,8 +23,7 @@ use Rattle.spv_bodies.specs.Context.{HasType, IsInteger, IsVectorOf, Known, form
 use Rattle.spv_bodies.specs.Matching.{KeepsCopyLogical, Match, form_term, term_among, term_of}
 use Rattle.spv_valid.specs.Acceptance.{Accepted}
 use Rattle.spv_sites.specs.Sites.{is_data}
-use Rattle.spv_computing.proofs.DataLemmas.{selected_data}
-use Rattle.spv_sites.proofs.Exports.{typed_data}
+use Rattle.spv_computing.proofs.DataLemmas.{selected_data, typed_data}
 
 -- ---- forms
 
@@ -38,7 +37,7 @@ runtime_plain_form : (o : Option Form) → is_runtime o ≡ true → not (is_poi
 runtime_plain_form = grind arith
 
 -- an operand whose type has a form
-form_data : (ts : Types) (o : Option ℕ) (f : Form) → option_and_then (form_of ts) o ≡ Some f → not (is_pointer (Some f)) ≡ true → is_data ts o ≡ true
+pub form_data : (ts : Types) (o : Option ℕ) (f : Form) → option_and_then (form_of ts) o ≡ Some f → not (is_pointer (Some f)) ≡ true → is_data ts o ≡ true
 form_data ts None f h plain = absurd (cc)
 form_data ts (Some ty) f h plain = ap (λ (x : Option Form). not (is_pointer x)) h ∙ plain
 

@@ -30,8 +30,12 @@ use Rattle.spv_typing.specs.Rules.{rule_count, rule_of}
 use Rattle.spv_bodies.specs.Context.{Known}
 use Rattle.spv_bodies.specs.Lanes.{KeepsExtended, KeepsLanes, count_of, types_after}
 use Rattle.spv_sites.specs.Sites.{is_data}
-use Rattle.spv_sites.proofs.Exports.{key_passes, typed_data}
+use Rattle.spv_sites.proofs.Exports.{key_passes}
 use Rattle.spv_base.proofs.Exports.{reads_each}
+
+-- an operand of a type that is no pointer type
+pub typed_data : (ts : Types) (o : Option ℕ) (ty : ℕ) → o ≡ Some ty → not (is_pointer (form_of ts ty)) ≡ true → is_data ts o ≡ true
+typed_data ts o ty is plain = ap (is_data ts) is ∙ plain
 
 -- ---- types with lanes
 
@@ -43,7 +47,7 @@ unfolding lanes_of
 lanes_data ts None l h = absurd (cc)
 lanes_data ts (Some ty) l h = form_plain ts (form_of ts ty) l h
 
-selectable_plain : (o : Option Form) → is_selectable o ≡ true → not (is_pointer o) ≡ true
+pub selectable_plain : (o : Option Form) → is_selectable o ≡ true → not (is_pointer o) ≡ true
 selectable_plain = grind arith
 
 pub selected_data : (ts : Types) (o : Option ℕ) (ty : ℕ) → o ≡ Some ty → is_selectable (form_of ts ty) ≡ true → is_data ts o ≡ true

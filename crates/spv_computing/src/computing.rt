@@ -2,10 +2,13 @@
 ghost use Rattle.std.specs.Prelude.{◌≡◌, IfOk, Some, false};
 ghost use Rattle.spv_results.specs.Computations.{computation_of};
 ghost use Rattle.spv_state.specs.Actions.{action_of};
+ghost use Rattle.spv_sites.specs.Computing.{compute_effect};
 ghost use Rattle.spv_sites.specs.Kept.{Keeps};
 ghost use Rattle.spv_sites.specs.Planned.{IsDue, IsTaken, PlannedFits};
 ghost use Rattle.spv_sites.specs.Sites as spec;
+ghost use Rattle.spv_types.specs.Queries.{is_pointer};
 ghost use Rattle.spv_types.specs.Rules.{has_runtime};
+ghost use Rattle.spv_types.specs.Types.{form_of};
 
 use crate::kept::is_kept;
 use crate::{computing_composites as composites, computing_lanes as lanes};
@@ -19,6 +22,7 @@ use spv_values::Row;
 fn gain(site: &Site, computation: Computation, row: &mut Row) -> Result<Gain, Fail<Cause>>
     requires rule { Keeps site.now.program.accepted site.now.inst computation }
     requires sized { has_runtime site.now.program.accepted.types site.now.inst.ty ≡ false }
+    requires lanes { computation ≡ Computation.Select → is_pointer (form_of site.now.program.accepted.types site.now.inst.ty) ≡ false }
     ensures { spec.Computes site.now computation row.new result }
 {
     match computation {
@@ -54,14 +58,19 @@ fn computation_at(site: &Site) -> Computation
     }
 }
 
-/// An instruction that computes: its register takes the result.
-pub fn compute(site: &Site, row: &mut Row) -> Result<Effect, Fail<Cause>>
-    requires { action_of site.now.inst ≡ Action.Compute }
+/// An instruction that computes on values: its register takes the result.
+pub(crate) fn computed(
+    site: &Site,
+    computation: Computation,
+    row: &mut Row,
+) -> Result<Effect, Fail<Cause>>
+    requires operation { computation_of site.now.inst ≡ Some computation }
+    requires lanes { computation ≡ Computation.Select → is_pointer (form_of site.now.program.accepted.types site.now.inst.ty) ≡ false }
+    requires due { spec.due site.now ≡ compute_effect site.now.program site.now.state site.now.inv site.now.frame site.now.inst }
     ensures due { IsDue (spec.due site.now) row.new result }
     ensures fits { PlannedFits site.now.program site.now.state site.now.inv site.now.inst row.new result }
     ensures taken { IfOk result (λ e. IsTaken site.now.state site.now.inv e row.new) }
 {
-    let computation = computation_at(site);
     is_kept(site, computation);
     let _insts = site.accepted().insts();
     let gain = gain(site, computation, row)?;
@@ -70,4 +79,15 @@ pub fn compute(site: &Site, row: &mut Row) -> Result<Effect, Fail<Cause>>
         gain,
         control: Control::Next,
     })
+}
+
+/// An instruction that computes: its register takes the result.
+pub fn compute(site: &Site, row: &mut Row) -> Result<Effect, Fail<Cause>>
+    requires { action_of site.now.inst ≡ Action.Compute }
+    ensures due { IsDue (spec.due site.now) row.new result }
+    ensures fits { PlannedFits site.now.program site.now.state site.now.inv site.now.inst row.new result }
+    ensures taken { IfOk result (λ e. IsTaken site.now.state site.now.inv e row.new) }
+{
+    let computation = computation_at(site);
+    computed(site, computation, row)
 }

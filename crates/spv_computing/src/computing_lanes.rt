@@ -4,10 +4,10 @@ ghost use Rattle.std.specs.Prelude.{◌≡◌, ◌≢◌, false, length, Ok, Som
 ghost use Rattle.spv_alu.specs.declared.field_op.FieldOp.TheVariants.{BitFieldInsert};
 ghost use Rattle.spv_sites.specs.Kept.{Keeps};
 ghost use Rattle.spv_sites.specs.Sites.{Computes, values};
-ghost use Rattle.spv_results.specs.Operands.{IsOperand};
+ghost use Rattle.spv_results.specs.Operands.{IsOperand, known};
 ghost use Rattle.spv_types.specs.Rows.{leaves};
 ghost use Rattle.spv_types.specs.Rules.{has_runtime};
-ghost use Rattle.spv_bodies.specs.Lanes.{count_of};
+ghost use Rattle.spv_bodies.specs.Lanes.{KeepsLanes, count_of};
 
 use spv_alu::{BinaryOp, ExtendedOp, FieldOp, GlslOp, UnaryOp, VectorOp};
 use spv_base::Fail;
@@ -154,9 +154,10 @@ pub(crate) fn extended(
     Ok(Gain::Row)
 }
 
-/// OpSelect: condition and two objects.
+/// OpSelect of values: condition and two objects.
 pub(crate) fn select(site: &Site, row: &mut Row) -> Result<Gain, Fail<Cause>>
-    requires rule { Keeps site.now.program.accepted site.now.inst Computation.Select }
+    requires operation { site.now.inst.op ≡ 169 }
+    requires rule { KeepsLanes (known site.now.program.accepted) site.now.inst }
     requires sized { has_runtime site.now.program.accepted.types site.now.inst.ty ≡ false }
     ensures { Computes site.now Computation.Select row.new result }
 {

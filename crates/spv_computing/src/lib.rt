@@ -6,3 +6,4 @@ mod computing_composites;
 pub mod computing_lanes;
 pub mod kept;
 pub mod laws;
+pub mod selects;

@@ -1,42 +1,49 @@
 -- What acceptance gives of a call and of a return with a value.
-use Rattle.std.proofs.Common.{◌≡◌, ◌∙◌, ℕ, zero, suc, ◌==◌, Bool, true, false, cond, not, List, [], ◌∷◌, drop, Option, Some, None, slice_get, refl, sym, ap, subst}
+use Rattle.std.proofs.Common.{◌≡◌, ◌∙◌, ℕ, zero, suc, ◌==◌, Bool, true, false, cond, List, [], ◌∷◌, drop, Option, Some, None, slice_get, refl, sym, ap, subst}
 use Rattle.std.proofs.Math.Logic.{∥∥₁_elim, ∥∥₁_map}
 use Rattle.std.proofs.Props.{props}
-use Rattle.std.proofs.lemmas.Bool.{eqb-true}
+use Rattle.std.proofs.lemmas.Bool.{and_parts, both_ways, eqb-true}
 use Rattle.std.specs.Coded.{codes}
 use Rattle.std.specs.List.{AllZip, Contains}
-use Rattle.std.specs.Option.{option_and_then, unwrap_or}
+use Rattle.std.specs.Option.{is_some, option_and_then, unwrap_or}
+use Rattle.std.specs.Prelude.{◌&&◌, if◌then◌else◌}
 use Rattle.spv_base.specs.declared.instructions.Inst.{Inst}
 use Rattle.spv_base.specs.declared.instructions.Operand.{Operand}
+use Rattle.spv_base.specs.declared.values.Pointer.{Pointer as Reference}
 use Rattle.spv_base.specs.declared.values.Value.{Value, out-Value}
+use Rattle.spv_base.specs.declared.values.Value.TheOpen.{Value-F}
 use Rattle.spv_index.specs.Definitions.{at, defining, result_type}
 use Rattle.spv_index.specs.Operands.{id_in, id_operand}
 use Rattle.spv_types.specs.declared.forms.Form.{Form}
-use Rattle.spv_types.specs.declared.forms.Form.TheVariants.{Function}
-use Rattle.spv_types.specs.Queries.{parameters_in as types_in}
+use Rattle.spv_types.specs.declared.forms.Form.TheVariants.{Pointer, Function}
+use Rattle.spv_types.specs.Laws.{AreSound}
+use Rattle.spv_types.specs.Queries.{is_pointer, parameters_in as types_in}
 use Rattle.spv_types.specs.Rows.{no_roots}
-use Rattle.spv_types.specs.Shapes.{HasShape, pointer_in}
+use Rattle.spv_types.specs.Shapes.{HasShape}
 use Rattle.spv_types.specs.Types.{form_of}
 use Rattle.spv_bodies.specs.Bodies.{KeepsRule}
 use Rattle.spv_bodies.specs.Calls.{KeepsCall, callee_form, form_by, function_form, parameter_type}
-use Rattle.spv_bodies.specs.Context.{Known, type_in, type_of}
+use Rattle.spv_bodies.specs.Context.{Known, is_given, type_in, type_of}
 use Rattle.spv_bodies.specs.Control.{KeepsReturnValue}
 use Rattle.spv_bodies.specs.Rules.{atomic_rule, composite_rule, control_rule, memory_rule, other_rule, rule_of}
 use Rattle.spv_valid.specs.Acceptance.{Accepted, IsAccepted}
 use Rattle.spv_valid.specs.Validity.{IsValid}
 use Rattle.spv_plans.specs.Plans.{functions_in}
 use Rattle.spv_plans.proofs.Exports.{contains_at}
-use Rattle.spv_operands.proofs.Exports.{Defines, defines}
-use Rattle.spv_results.specs.Operands.{IsOperand, known}
-use Rattle.spv_results.proofs.Exports.{shape_prop}
+use Rattle.spv_operands.specs.Operands.{pointer_of}
+use Rattle.spv_operands.specs.Shapes.{target_in}
+use Rattle.spv_operands.proofs.Exports.{Defines, data_plain, defines}
+use Rattle.spv_results.specs.Operands.{known}
+use Rattle.spv_results.proofs.Exports.{shape_prop, sound_types}
 use Rattle.spv_state.specs.Sound.{IsCallOf, StandsIn}
-use Rattle.spv_state.proofs.Exports.{function_listed, known as known_of, stood}
+use Rattle.spv_state.specs.State.{depth_of, frames_of}
+use Rattle.spv_state.proofs.Exports.{function_listed, known as known_of, root_prop, stood}
 use Rattle.spv_sites.specs.Calls.{callee}
-use Rattle.spv_sites.specs.Fits.{LeaveFits}
+use Rattle.spv_sites.specs.Fits.{LeaveFits, LevelFits, ResultRooted}
 use Rattle.spv_control.specs.Passing.{Passes, parameters_in}
-use Rattle.spv_sites.specs.Sites.{IsSite, Site, accepted, is_data, is_data_at}
+use Rattle.spv_sites.specs.Sites.{IsShaped, IsSite, Site, accepted, values}
 use Rattle.spv_control.proofs.ParameterLemmas.{parameters_typed}
-use Rattle.spv_sites.proofs.Exports.{IsKept, Runs, frame_sound, site_runs}
+use Rattle.spv_sites.proofs.Exports.{IsKept, Runs, frame_sound, given_root, pointer_form, pointer_shape, shaped_level, site_root, site_runs}
 use Rattle.spv_control.proofs.WithinLemmas.{KeptIn, kept_in}
 
 -- ---- the rules
@@ -122,6 +129,24 @@ passed a accepts v d c n i h =
     let typed = parameters_typed a accepts v c.number c.inst c.at c.op n i own in
     operand_typed k d.operands n i.ty (argument_typed k c.parameters (drop 1 d.operands) n i.ty c.each (parameter_there k c.inst d.ty n i.ty c.parameters c.form typed))
 
+-- ---- what is given
+
+-- a pointer that is given leads into a StorageBuffer (12)
+given_form : (k : Known) (f : Option Form) → is_given k f ≡ true → is_pointer f ≡ true → (target : ℕ) × (f ≡ Some (Pointer 12 target))
+given_form k f given is =
+    let form = pointer_form f is in
+    let buffer : (k.pointers && (form.0 == 12)) ≡ true = sym (ap (is_given k) form.2) ∙ given in
+    (form.1, form.2 ∙ ap (λ (class : ℕ). Some (Pointer class form.1)) (eqb-true form.0 12 (and_parts k.pointers (form.0 == 12) buffer).1))
+
+-- the type of an operand that is a pointer is a pointer type
+lent_form : (a : Accepted) → AreSound a.types → (ty : ℕ) (v : Value) (q : Reference) → HasShape a.types (if is_pointer (form_of a.types ty) then target_in a ty else no_roots) ty v → pointer_of v ≡ Some q
+    → is_pointer (form_of a.types ty) ≡ true
+lent_form a sound ty v q shape lent = by_pointer (is_pointer (form_of a.types ty)) shape
+  where
+    by_pointer : (b : Bool) → HasShape a.types (if b then target_in a ty else no_roots) ty v → b ≡ true
+    by_pointer true h = refl
+    by_pointer false h = absurd (both_ways (is_some (pointer_of v)) (data_plain a.types sound ty v h) (ap is_some lent))
+
 -- ---- at a site
 
 module _ (x : Site) (m : Accepted) (same : m ≡ accepted x) (accepts : ∥ IsAccepted m ∥₁) (valid : ∥ IsValid m ∥₁) (site : ∥ IsSite x ∥₁) where
@@ -174,29 +199,44 @@ module _ (x : Site) (m : Accepted) (same : m ≡ accepted x) (accepts : ∥ IsAc
   return_kept : (function : ℕ) → IsSite x → IsAccepted (accepted x) → IsValid (accepted x) → StandsIn (accepted x) function x.inst.word → KeptIn (known (accepted x)) (accepted x).insts function x.inst
   return_kept function is h v stands = kept_in (accepted x) v (known_of (accepted x) ∣ h ∣₁ ∣ v ∣₁) function x.inst.word x.inst stands at_word
 
-  pub return_data : x.inst.op ≡ 254 → is_data_at (accepted x) x.inst 0 ≡ true
-  return_data op =
-      ∥∥₁_elim site (hlevel (props, codes)) (λ (is : IsSite x).
-      ∥∥₁_elim own_accepts (hlevel (props, codes)) (λ (h : IsAccepted (accepted x)).
-      ∥∥₁_elim own_valid (hlevel (props, codes)) (λ (v : IsValid (accepted x)).
-      let stands = subst (StandsIn (accepted x) x.frame.plan.function) (sym (word_here is)) (frame_sound x is).stands in
-      let kept = return_kept x.frame.plan.function is h v stands in
-      let rule = return_rule (known (accepted x)) (accepted x).insts x.frame.plan.function x.inst kept op in
-      ap (λ (o : Option ℕ). is_data (accepted x).types o) rule.2.0 ∙ ap not rule.2.1)))
+  -- what it gives has the type that the function returns
+  level_prop : (a : Accepted) (ty : ℕ) (v : Value) (l : Value-F Value) → IsProp (LevelFits a ty v l)
+  level_prop a ty v (Value-F.Scalar c) = shape_prop a.types no_roots ty v
+  level_prop a ty v (Value-F.List vs) = shape_prop a.types no_roots ty v
+  level_prop a ty v (Value-F.Ptr q) = shape_prop a.types (target_in a ty) ty v
 
-  return_shape : x.inst.op ≡ 254 → (v : Value) → IsOperand (accepted x) x.inst 0 v → (function ty : ℕ) → StandsIn (accepted x) function x.inst.word → result_type (accepted x).insts function ≡ Some ty
-      → HasShape (accepted x).types no_roots ty v
-  return_shape op v own function ty stands type =
-      ∥∥₁_elim site (shape_prop (accepted x).types no_roots ty v) (λ (is : IsSite x).
-      ∥∥₁_elim own_accepts (shape_prop (accepted x).types no_roots ty v) (λ (h : IsAccepted (accepted x)).
-      ∥∥₁_elim own_valid (shape_prop (accepted x).types no_roots ty v) (λ (valid_is : IsValid (accepted x)).
-      let kept = return_kept function is h valid_is stands in
-      let rule = return_rule (known (accepted x)) (accepted x).insts function x.inst kept op in
+  returned : (function ty : ℕ) (kept : KeptIn (known (accepted x)) (accepted x).insts function x.inst) (rule : KeepsReturnValue (known (accepted x)) kept.placed.within.returns x.inst)
+      → result_type (accepted x).insts function ≡ Some ty → rule.0 ≡ ty
+  returned function ty kept rule type =
       let r = kept.returns in
       let typed : ty ≡ r.inst.ty = (known_of (accepted x) own_accepts own_valid).types r.number ty r.inst r.at (ap (result_type (accepted x).insts) r.id ∙ type) in
-      let returned : Some rule.0 ≡ Some r.inst.ty = sym rule.1 ∙ r.returns in
-      let one : rule.0 ≡ ty = let e : rule.0 ≡ r.inst.ty = cc in e ∙ sym typed in
-      subst (λ (t : ℕ). HasShape (accepted x).types no_roots t v) one (own rule.0 rule.2.0))))
+      let one : Some rule.0 ≡ Some r.inst.ty = sym rule.1 ∙ r.returns in
+      let e : rule.0 ≡ r.inst.ty = cc in
+      e ∙ sym typed
 
-  pub return_fits : x.inst.op ≡ 254 → (v : Value) → pointer_in (out-Value v) ≡ None → IsOperand (accepted x) x.inst 0 v → LeaveFits (accepted x) x.inst (Some v)
-  return_fits op v plain own function stands = record { plain = plain; shape = λ ty type. return_shape op v own function ty stands type }
+  pub return_fits : x.inst.op ≡ 254 → (v : Value) → IsShaped (accepted x) x.inst 0 v → LeaveFits (accepted x) x.inst (Some v)
+  return_fits op v shaped function stands ty type =
+      let prop = level_prop (accepted x) ty v (out-Value v) in
+      ∥∥₁_elim site prop (λ (is : IsSite x).
+      ∥∥₁_elim own_accepts prop (λ (h : IsAccepted (accepted x)).
+      ∥∥₁_elim own_valid prop (λ (valid_is : IsValid (accepted x)).
+      let kept = return_kept function is h valid_is stands in
+      let rule = return_rule (known (accepted x)) (accepted x).insts function x.inst kept op in
+      let fits : LevelFits (accepted x) rule.0 v (out-Value v) = shaped_level (accepted x) (sound_types (accepted x) own_valid) rule.0 v (shaped rule.0 rule.2.0) in
+      subst (λ (t : ℕ). LevelFits (accepted x) t v (out-Value v)) (returned function ty kept rule type) fits)))
+
+  -- and where it is a pointer, this leads into a storage buffer
+  pub return_rooted : x.inst.op ≡ 254 → (v : Value) → values x 0 ≡ Some v → IsShaped (accepted x) x.inst 0 v → ResultRooted (accepted x) [] (Some v)
+  return_rooted op v value shaped q lent =
+      let prop = root_prop (accepted x) [] 0 q.root in
+      let sound = sound_types (accepted x) own_valid in
+      ∥∥₁_elim site prop (λ (is : IsSite x).
+      ∥∥₁_elim own_accepts prop (λ (h : IsAccepted (accepted x)).
+      ∥∥₁_elim own_valid prop (λ (valid_is : IsValid (accepted x)).
+      let stands = subst (StandsIn (accepted x) x.frame.plan.function) (sym (word_here is)) (frame_sound x is).stands in
+      let kept = return_kept x.frame.plan.function is h valid_is stands in
+      let rule = return_rule (known (accepted x)) (accepted x).insts x.frame.plan.function x.inst kept op in
+      let form = given_form (known (accepted x)) (form_of (accepted x).types rule.0) rule.2.1 (lent_form (accepted x) sound rule.0 v q (shaped rule.0 rule.2.0) lent) in
+      let root = site_root x 0 rule.0 v q m same accepts valid site value rule.2.0 lent in
+      let shape = pointer_shape (accepted x) sound x.inst 0 v shaped rule.0 q rule.2.0 lent in
+      given_root (accepted x) own_accepts own_valid (frames_of x.state x.inv) (depth_of x.state x.inv) rule.0 form.0 q form.1 shape root)))

@@ -1,5 +1,5 @@
 -- What calls and returns with a value do.
-use Rattle.std.proofs.Common.{◌≡◌, ◌∙◌, ◌++◌, ℕ, true, List, [], ◌∷◌, length, Option, Some, None, Result, Ok, Err, ok_or, map, refl, sym, ap, subst}
+use Rattle.std.proofs.Common.{◌≡◌, ◌∙◌, ◌++◌, ℕ, List, [], ◌∷◌, length, Option, Some, None, Result, Ok, Err, ok_or, map, refl, sym, ap, subst}
 use Rattle.spv_base.specs.Answers.{Answers}
 use Rattle.spv_base.specs.Variables.{Roots}
 use Rattle.spv_base.specs.declared.causes.Fail.{Fail}
@@ -12,11 +12,6 @@ use Rattle.spv_initial.specs.Start.{variables}
 use Rattle.spv_initial.specs.Variables.{targets_of}
 use Rattle.spv_mem.specs.Memory.{AreVariables}
 use Rattle.spv_plans.specs.Plans.{plan_of}
-use Rattle.spv_types.specs.Laws.{AreSound}
-use Rattle.spv_bodies.specs.Context.{type_at}
-use Rattle.spv_operands.specs.Operands.{pointer_of}
-use Rattle.spv_operands.proofs.Exports.{data_plain}
-use Rattle.spv_results.specs.Operands.{IsOperand, known}
 use Rattle.spv_valid.specs.Acceptance.{Accepted, IsAccepted}
 use Rattle.spv_valid.specs.Validity.{IsValid}
 use Rattle.spv_base.specs.declared.instructions.Inst.{Inst}
@@ -34,12 +29,11 @@ use Rattle.spv_sites.specs.Effects.{Enter, Leave, goes}
 use Rattle.spv_sites.specs.Fits.{EnterFits}
 use Rattle.spv_control.specs.Passing.{frame_due}
 use Rattle.spv_sites.specs.Planned.{IsDue}
-use Rattle.spv_sites.specs.Sites.{Site, accepted, due, is_data_at, values}
+use Rattle.spv_sites.specs.Sites.{Site, accepted, due, values}
 use Rattle.spv_sites.specs.declared.causes.Cause.{Cause}
 use Rattle.spv_sites.specs.declared.causes.Cause.TheVariants.{NoValue}
 use Rattle.spv_sites.specs.declared.effects.Effect.{Effect}
-use Rattle.spv_base.proofs.Exports.{none_of}
-use Rattle.spv_sites.proofs.Exports.{due_by, data_type}
+use Rattle.spv_sites.proofs.Exports.{due_by}
 use Rattle.spv_plans.proofs.Exports.{function_is}
 
 -- ---- OpFunctionCall
@@ -113,8 +107,3 @@ return_gives x v is value = return_due x is ∙ ap (λ (o : Option Value). ok_or
 
 pub return_missing : (x : Site) → action_of x.inst ≡ ReturnValue → values x 0 ≡ None → due x ≡ Err NoValue
 return_missing x is none = return_due x is ∙ ap (λ (o : Option Value). ok_or o NoValue >>= (λ w. Ok (goes (Leave (Some w))))) none
-
-pub operand_plain : (a : Accepted) (d : Inst) (n : ℕ) (v : Value) → AreSound a.types → is_data_at a d n ≡ true → IsOperand a d n v → pointer_of v ≡ None
-operand_plain a d n v sound typed own =
-    let found = data_type a.types (type_at (known a) d n) typed in
-    none_of (pointer_of v) (data_plain a.types sound found.0 v (own found.0 found.1))

@@ -97,7 +97,7 @@ level_plain a ty v (Value-F.Scalar c) plain shape = shape
 level_plain a ty v (Value-F.List vs) plain shape = shape
 level_plain a ty v (Value-F.Ptr q) plain shape = absurd (cc)
 
-level_pointer : (a : Accepted) (ty : ℕ) (v : Whole) (level : Value-F Whole) (q : Reference) → pointer_in level ≡ Some q → HasShape a.types (target_in a) ty v → LevelFits a ty v level
+level_pointer : (a : Accepted) (ty : ℕ) (v : Whole) (level : Value-F Whole) (q : Reference) → pointer_in level ≡ Some q → HasShape a.types (target_in a ty) ty v → LevelFits a ty v level
 level_pointer a ty v (Value-F.Scalar c) q is shape = absurd (cc)
 level_pointer a ty v (Value-F.List vs) q is shape = absurd (cc)
 level_pointer a ty v (Value-F.Ptr p) q is shape = shape
@@ -118,11 +118,11 @@ module _ (with_values : ValuesHaveRegisters) (with_pointers : PointersHaveRegist
         let there = stand_inst a.insts one.number own.stand one.is in
         known_is.types one.number ty i (there ∙ ap (λ (j : Inst). Some j) own.is) h
 
-    pointer_passed : (v : Whole) → is_pointer (form_of a.types i.ty) ≡ true → HasShape a.types (target_in a) i.ty v → IsPassed a (plan_of a function) i (place_of (plan_of a function) i.id) v
+    pointer_passed : (v : Whole) → is_pointer (form_of a.types i.ty) ≡ true → HasShape a.types (target_in a i.ty) i.ty v → IsPassed a (plan_of a function) i (place_of (plan_of a function) i.id) v
     pointer_passed v pointer shape =
         let p : Planned = plan_of a function in
         let form = pointer_form (form_of a.types i.ty) pointer in
-        let leads = pointed a.types (target_in a) i.ty form.0 form.1 v sound form.2 shape in
+        let leads = pointed a.types (target_in a i.ty) i.ty form.0 form.1 v sound form.2 shape in
         let number = with_pointers a function own.stand member own.register (ap (λ (j : Inst). has_pointer a.types j) own.is ∙ pointer) in
         let some : number_of i.id p.pointers ≡ Some number.0 = ap (λ (j : Inst). number_of j.id p.pointers) (sym own.is) ∙ number.1 in
         let there : slice_get p.pointers number.0 ≡ Some i.id = number_gets i.id p.pointers number.0 some in
@@ -131,7 +131,7 @@ module _ (with_values : ValuesHaveRegisters) (with_pointers : PointersHaveRegist
         subst (λ (x : Place). IsPassed a p i x v) (sym place) (record {
           suits = (ap is_some leads.is, slice_get_within p.pointers number.0 i.id there);
           is = there;
-          fits = λ ty type. level_pointer a ty v (out-Value v) leads.place leads.is (subst (λ (t : ℕ). HasShape a.types (target_in a) t v) (sym (type_is ty type)) shape);
+          fits = λ ty type. level_pointer a ty v (out-Value v) leads.place leads.is (subst (λ (t : ℕ). HasShape a.types (target_in a t) t v) (sym (type_is ty type)) shape);
         })
 
     value_passed : (v : Whole) → is_pointer (form_of a.types i.ty) ≡ false → HasShape a.types no_roots i.ty v → IsPassed a (plan_of a function) i (place_of (plan_of a function) i.id) v
@@ -154,10 +154,10 @@ module _ (with_values : ValuesHaveRegisters) (with_pointers : PointersHaveRegist
     pub argument_passed : (d : Inst) (v : Whole) → Passes a d function → IsShaped a d (suc n) v → IsPassed a (plan_of a function) i (place_of (plan_of a function) i.id) v
     argument_passed d v passes shaped = by_type (is_pointer (form_of a.types i.ty)) refl (shaped i.ty (passes n i at))
       where
-        by_type : (b : Bool) → is_pointer (form_of a.types i.ty) ≡ b → HasShape a.types (if is_pointer (form_of a.types i.ty) then target_in a else no_roots) i.ty v
+        by_type : (b : Bool) → is_pointer (form_of a.types i.ty) ≡ b → HasShape a.types (if is_pointer (form_of a.types i.ty) then target_in a i.ty else no_roots) i.ty v
             → IsPassed a (plan_of a function) i (place_of (plan_of a function) i.id) v
-        by_type true e h = pointer_passed v e (subst (λ (b : Bool). HasShape a.types (if b then target_in a else no_roots) i.ty v) e h)
-        by_type false e h = value_passed v e (subst (λ (b : Bool). HasShape a.types (if b then target_in a else no_roots) i.ty v) e h)
+        by_type true e h = pointer_passed v e (subst (λ (b : Bool). HasShape a.types (if b then target_in a i.ty else no_roots) i.ty v) e h)
+        by_type false e h = value_passed v e (subst (λ (b : Bool). HasShape a.types (if b then target_in a i.ty else no_roots) i.ty v) e h)
 
 -- ---- the frame, an argument after another
 

@@ -23,8 +23,6 @@ use Rattle.spv_index.specs.Definitions.{number_at, number_of, result_type, stand
 use Rattle.spv_index.specs.Operands.{id_in}
 use Rattle.spv_index.specs.Positions.{Stand, in_block, in_function, is_head, outside, position_after, standing, stands, stands_of}
 use Rattle.spv_index.proofs.Exports.{standing_led, standing_of}
-use Rattle.spv_types.specs.Rows.{no_roots}
-use Rattle.spv_types.specs.Shapes.{HasShape, pointer_in}
 use Rattle.spv_cfg.specs.Branches.{is_later_block_of, is_target, stands_so}
 use Rattle.spv_bodies.specs.Context.{Known, type_in, type_of}
 use Rattle.spv_bodies.specs.Control.{KeepsPhi, firsts}
@@ -33,19 +31,18 @@ use Rattle.spv_valid.specs.Validity.{IsValid}
 use Rattle.spv_frame.specs.Frames.{Held as Frame}
 use Rattle.spv_plans.proofs.Exports.{filtered, leading_at, map_from}
 use Rattle.spv_operands.specs.Values.{value_of}
-use Rattle.spv_operands.proofs.Exports.{data_plain}
 use Rattle.spv_results.specs.Operands.{known}
 use Rattle.spv_results.proofs.Exports.{sound_types}
-use Rattle.spv_state.specs.State.{depth_of}
+use Rattle.spv_state.specs.State.{depth_of, frames_of}
 use Rattle.spv_state.proofs.Exports.{IsKnown}
-use Rattle.spv_sites.specs.Fits.{IsOfType}
-use Rattle.spv_sites.specs.Phis.{behind_label, block_at, comes_first, first_ones, is_phi, pairs, phi_value, phi_values, source_among}
-use Rattle.spv_sites.specs.Sites.{Finds, IsSite, Site, accepted, is_data}
+use Rattle.spv_sites.specs.Fits.{IsOfType, LevelFits, ResultRooted}
+use Rattle.spv_sites.specs.Phis.{behind_label, block_at, comes_first, first_ones, is_phi, pairs, phi_value, phi_values, phis_of, source_among}
+use Rattle.spv_sites.specs.Sites.{Finds, IsSite, Site, accepted}
 use Rattle.spv_sites.specs.declared.causes.Cause.{Cause}
 use Rattle.spv_control.proofs.BranchLemmas.{joined}
 use Rattle.spv_control.proofs.ControlCodes.{phi_kept}
-use Rattle.spv_sites.proofs.Exports.{ValuesHaveShapes, IsKept, kept_each, InBlock, each_in_block, shape_there}
-use Rattle.spv_base.proofs.Exports.{each_at, none_of}
+use Rattle.spv_sites.proofs.Exports.{ValuesHaveShapes, PointersHaveShapes, IsKept, kept_each, InBlock, each_in_block, id_root, id_shape, shaped_level}
+use Rattle.spv_base.proofs.Exports.{each_at}
 use Rattle.spv_base.specs.Options.{holds}
 
 -- ---- where the first instructions of a block stand
@@ -199,9 +196,6 @@ source_type k ty (o ∷ p ∷ os) from id all is = by_parent (holds from (id_in 
 pub source_typed : (k : Known) (phi : Inst) (from id : ℕ) → KeepsPhi k phi → source_among phi.operands from ≡ Some id → result_type k.insts id ≡ Some phi.ty
 source_typed k phi from id kept is = source_type k phi.ty phi.operands from id (recursion_from_All (λ (o : Operand). type_in k o ≡ Some phi.ty) (firsts phi.operands) kept.1) is
 
-pub source_data : (a : Accepted) (phi : Inst) (from id : ℕ) → KeepsPhi (known a) phi → source_among phi.operands from ≡ Some id → is_data a.types (result_type a.insts id) ≡ true
-source_data a phi from id kept is = ap (is_data a.types) (source_typed (known a) phi from id kept is) ∙ ap not kept.0
-
 -- an id of a phi, and the value that it takes
 record Takes (a : Accepted) (f : Frame) (depth from : ℕ) (phi : Inst) (r : ℕ × Value) : Type 0 where
   source : ℕ
@@ -222,44 +216,62 @@ takes a f depth from phi r h = by_source (source_among phi.operands from) refl h
     by_source None e g = absurd (cc)
     by_source (Some id) e g = by_value id e (value_of a f depth id) refl g
 
-module _ (plains : ValuesHaveShapes) (x : Site) (accepts : ∥ IsAccepted (accepted x) ∥₁) (valid : ∥ IsValid (accepted x) ∥₁) (site : ∥ IsSite x ∥₁) where
-  module _ (from : ℕ) (known_is : IsKnown (accepted x)) where
-    value_fits : (phi : Inst) (k : ℕ) (r : ℕ × Value) → slice_get (accepted x).insts k ≡ Some phi → KeepsPhi (known (accepted x)) phi → phi_value (accepted x) x.frame (depth_of x.state x.inv) from phi ≡ Some r
-        → IsOfType (accepted x) r.0 r.1
-    value_fits phi k r at kept h =
+-- what is so of each value that a phi takes is so of those that several take
+module _ (a : Accepted) (f : Frame) (depth from : ℕ) (P : ℕ × Value → Type 0) where
+  each_taken : (phis : List Inst) (rs : List (ℕ × Value)) → ((k : ℕ) (phi : Inst) (r : ℕ × Value) → slice_get phis k ≡ Some phi → phi_value a f depth from phi ≡ Some r → P r)
+      → phi_values a f depth from phis ≡ Some rs → AllByRecursion P rs
+  each_taken [] rs each h = let same : [] ≡ rs = cc in subst (AllByRecursion P) same tt
+  each_taken (phi ∷ phis) rs each h = by_value (phi_value a f depth from phi) refl (phi_values a f depth from phis) refl h (λ us. each_taken phis us (λ k y r at. each (suc k) y r at))
+    where
+      by_value : (o : Option (ℕ × Value)) → phi_value a f depth from phi ≡ o → (p : Option (List (ℕ × Value))) → phi_values a f depth from phis ≡ p
+          → option_and_then (λ (r : ℕ × Value). option_map (λ (us : List (ℕ × Value)). r ∷ us) p) o ≡ Some rs
+          → ((us : List (ℕ × Value)) → phi_values a f depth from phis ≡ Some us → AllByRecursion P us) → AllByRecursion P rs
+      by_value None e p g t rest = absurd (cc)
+      by_value (Some r) e None g t rest = absurd (cc)
+      by_value (Some r) e (Some us) g t rest = let same : (r ∷ us) ≡ rs = cc in subst (AllByRecursion P) same (each 0 phi r refl e, rest us g)
+
+-- the phis of a block, with the rule that they keep
+abbrev KeepPhis : Accepted → ℕ → Type 0
+KeepPhis a label = (k : ℕ) (phi : Inst) → slice_get (first_ones (sets_of a.insts) (behind_label a.insts label)) k ≡ Some phi → is_phi phi ≡ true → KeepsPhi (known a) phi
+
+record IsPhiOf (a : Accepted) (phi : Inst) : Type 0 where
+  number : ℕ
+  at : slice_get a.insts number ≡ Some phi
+  keeps : KeepsPhi (known a) phi
+
+phi_there : (a : Accepted) (label k : ℕ) (phi : Inst) → KeepPhis a label → slice_get (phis_of a.insts label) k ≡ Some phi → IsPhiOf a phi
+phi_there a label k phi keeps at =
+    let f = filtered is_phi (first_ones (sets_of a.insts) (behind_label a.insts label)) k phi at in
+    let there = first_there a.insts label f.0 phi f.1 in
+    record { number = there.0; at = there.1; keeps = keeps f.0 phi f.1 f.2 }
+
+module _ (x : Site) (accepts : ∥ IsAccepted (accepted x) ∥₁) (valid : ∥ IsValid (accepted x) ∥₁) (site : ∥ IsSite x ∥₁) (from label : ℕ) (rs : List (ℕ × Value))
+    (keeps : KeepPhis (accepted x) label) (are : phi_values (accepted x) x.frame (depth_of x.state x.inv) from (phis_of (accepted x).insts label) ≡ Some rs) where
+  -- they have the types of the phis' ids
+  module _ (values : ValuesHaveShapes) (pointers : PointersHaveShapes) (known_is : IsKnown (accepted x)) where
+    value_fits : (phi : Inst) (r : ℕ × Value) → IsPhiOf (accepted x) phi → phi_value (accepted x) x.frame (depth_of x.state x.inv) from phi ≡ Some r → IsOfType (accepted x) r.0 r.1
+    value_fits phi r own h ty type =
         let t = takes (accepted x) x.frame (depth_of x.state x.inv) from phi r h in
-        let shape : HasShape (accepted x).types no_roots phi.ty r.1 = shape_there plains x accepts valid site t.source phi.ty r.1 t.value (source_typed (known (accepted x)) phi from t.source kept t.is) kept.0 in
-        record {
-          plain = none_of (pointer_in (out-Value r.1)) (data_plain (accepted x).types (sound_types (accepted x) valid) phi.ty r.1 shape);
-          shape = λ ty type.
-              let own : result_type (accepted x).insts phi.id ≡ Some ty = ap (result_type (accepted x).insts) t.own ∙ type in
-              subst (λ (u : ℕ). HasShape (accepted x).types no_roots u r.1) (sym (known_is.types k ty phi at own)) shape;
-        }
+        let shape = id_shape values pointers x t.source phi.ty r.1 (accepted x) refl accepts site t.value (source_typed (known (accepted x)) phi from t.source own.keeps t.is) in
+        let same : ty ≡ phi.ty = known_is.types own.number ty phi own.at (ap (result_type (accepted x).insts) t.own ∙ type) in
+        subst (λ (u : ℕ). LevelFits (accepted x) u r.1 (out-Value r.1)) (sym same) (shaped_level (accepted x) (sound_types (accepted x) valid) phi.ty r.1 shape)
 
-    values_fit : (phis : List Inst) (rs : List (ℕ × Value)) → ((k : ℕ) (phi : Inst) → slice_get phis k ≡ Some phi → ((n : ℕ) × (slice_get (accepted x).insts n ≡ Some phi)) × KeepsPhi (known (accepted x)) phi)
-        → phi_values (accepted x) x.frame (depth_of x.state x.inv) from phis ≡ Some rs → AllByRecursion (λ (r : ℕ × Value). IsOfType (accepted x) r.0 r.1) rs
-    values_fit [] rs each h = let same : [] ≡ rs = cc in subst (AllByRecursion (λ (r : ℕ × Value). IsOfType (accepted x) r.0 r.1)) same tt
-    values_fit (phi ∷ phis) rs each h = by_value (phi_value (accepted x) x.frame (depth_of x.state x.inv) from phi) refl (phi_values (accepted x) x.frame (depth_of x.state x.inv) from phis) refl h
-        (λ us. values_fit phis us (λ k y at. each (suc k) y at))
-      where
-        by_value : (o : Option (ℕ × Value)) → phi_value (accepted x) x.frame (depth_of x.state x.inv) from phi ≡ o → (p : Option (List (ℕ × Value))) → phi_values (accepted x) x.frame (depth_of x.state x.inv) from phis ≡ p
-            → option_and_then (λ (r : ℕ × Value). option_map (λ (us : List (ℕ × Value)). r ∷ us) p) o ≡ Some rs
-            → ((us : List (ℕ × Value)) → phi_values (accepted x) x.frame (depth_of x.state x.inv) from phis ≡ Some us → AllByRecursion (λ (r : ℕ × Value). IsOfType (accepted x) r.0 r.1) us)
-            → AllByRecursion (λ (r : ℕ × Value). IsOfType (accepted x) r.0 r.1) rs
-        by_value None e p g t rest = absurd (cc)
-        by_value (Some r) e None g t rest = absurd (cc)
-        by_value (Some r) e (Some us) g t rest =
-            let same : (r ∷ us) ≡ rs = cc in
-            let here = each 0 phi refl in
-            subst (AllByRecursion (λ (s : ℕ × Value). IsOfType (accepted x) s.0 s.1)) same (value_fits phi here.0.0 r here.0.1 here.1 e, rest us g)
+    pub block_fits : AllByRecursion (λ (r : ℕ × Value). IsOfType (accepted x) r.0 r.1) rs
+    block_fits =
+        each_taken (accepted x) x.frame (depth_of x.state x.inv) from (λ (r : ℕ × Value). IsOfType (accepted x) r.0 r.1) (phis_of (accepted x).insts label) rs
+        (λ k phi r at. value_fits phi r (phi_there (accepted x) label k phi keeps at)) are
 
-    pub block_fits : (label : ℕ) (rs : List (ℕ × Value))
-        → ((k : ℕ) (phi : Inst) → slice_get (first_ones (sets_of (accepted x).insts) (behind_label (accepted x).insts label)) k ≡ Some phi → is_phi phi ≡ true → KeepsPhi (known (accepted x)) phi)
-        → phi_values (accepted x) x.frame (depth_of x.state x.inv) from (filter is_phi (first_ones (sets_of (accepted x).insts) (behind_label (accepted x).insts label))) ≡ Some rs
-        → AllByRecursion (λ (r : ℕ × Value). IsOfType (accepted x) r.0 r.1) rs
-    block_fits label rs keeps h = values_fit (filter is_phi (first_ones (sets_of (accepted x).insts) (behind_label (accepted x).insts label))) rs (λ k phi at.
-        let f = filtered is_phi (first_ones (sets_of (accepted x).insts) (behind_label (accepted x).insts label)) k phi at in
-        (first_there (accepted x).insts label f.0 phi f.1, keeps f.0 phi f.1 f.2)) h
+  -- and those that are pointers name variables that are there
+  value_rooted : (phi : Inst) (r : ℕ × Value) → IsPhiOf (accepted x) phi → phi_value (accepted x) x.frame (depth_of x.state x.inv) from phi ≡ Some r
+      → ResultRooted (accepted x) (frames_of x.state x.inv) (Some r.1)
+  value_rooted phi r own h q is =
+      let t = takes (accepted x) x.frame (depth_of x.state x.inv) from phi r h in
+      id_root x t.source phi.ty r.1 q (accepted x) refl accepts valid site t.value (source_typed (known (accepted x)) phi from t.source own.keeps t.is) is
+
+  pub block_rooted : AllByRecursion (λ (r : ℕ × Value). ResultRooted (accepted x) (frames_of x.state x.inv) (Some r.1)) rs
+  block_rooted =
+      each_taken (accepted x) x.frame (depth_of x.state x.inv) from (λ (r : ℕ × Value). ResultRooted (accepted x) (frames_of x.state x.inv) (Some r.1)) (phis_of (accepted x).insts label) rs
+      (λ k phi r at. value_rooted phi r (phi_there (accepted x) label k phi keeps at)) are
 
 -- ---- the phis so far
 

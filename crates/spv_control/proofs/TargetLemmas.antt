@@ -34,9 +34,9 @@ use Rattle.spv_results.proofs.Exports.{HasForm, form_has_type, sound_types}
 use Rattle.spv_state.specs.Sound.{StandsIn}
 use Rattle.spv_state.proofs.Exports.{IsKnown, known, at_standing, standing, IsOne, class_is, stood}
 use Rattle.spv_sites.specs.Branches.{chosen_label, switch_label}
-use Rattle.spv_sites.specs.Sites.{IsSite, Site, accepted, is_data_at}
+use Rattle.spv_sites.specs.Sites.{IsSite, Site, accepted, is_data, is_data_at}
 use Rattle.spv_control.proofs.ControlCodes.{branch_ends, condition_ends, condition_kept, selector_kept, switch_ends}
-use Rattle.spv_sites.proofs.Exports.{typed_data, Runs, frame_sound, site_runs}
+use Rattle.spv_sites.proofs.Exports.{Runs, frame_sound, site_runs}
 use Rattle.spv_base.proofs.Exports.{and_some, both_empty, each_at, each_left, each_right, some_at}
 
 -- ---- the labels of each opcode
@@ -185,7 +185,7 @@ module _ (a : Accepted) (d : Inst) (f : Form) (is : form_at (known_in a) d 0 ≡
   formed = form_has_type a.types (type_at (known_in a) d 0) f is
 
   form_data : not (is_pointer (Some f)) ≡ true → is_data_at a d 0 ≡ true
-  form_data plain = typed_data a.types (type_at (known_in a) d 0) formed.type formed.is (ap (λ (o : Option Form). not (is_pointer o)) formed.form ∙ plain)
+  form_data plain = ap (is_data a.types) formed.is ∙ ap (λ (o : Option Form). not (is_pointer o)) formed.form ∙ plain
 
   form_step : AreSound a.types → (v : Value) → IsOperand a d 0 v → shape_step a.types no_roots (HasShape a.types no_roots) f v
   form_step sound v shaped = (shapes_are_by_forms a.types no_roots sound formed.type f v formed.form).0 (shaped formed.type formed.is)

@@ -29,7 +29,7 @@ use spv_operands::Operand;
 use spv_plans::laws::{
     functions_have_their_plans, registers_are_apart, registers_have_types, results_have_registers,
 };
-use spv_sites::{Cause, Control, Effect, Entered, Gain, Site, copied, owned};
+use spv_sites::{Cause, Control, Effect, Entered, Gain, Site, given, owned};
 use spv_state::Action;
 use spv_types::rows::rows_fill_types;
 use spv_values::Row;
@@ -138,7 +138,7 @@ pub fn call(site: &Site) -> Result<Effect, Fail<Cause>>
     })
 }
 
-/// OpReturnValue: out of the function, which gives the value.
+/// OpReturnValue: out of the function, which gives the value or the pointer.
 pub fn return_value(site: &Site, row: &mut Row) -> Result<Effect, Fail<Cause>>
     requires { action_of site.now.inst ≡ Action.ReturnValue }
     ensures due { IsDue (spec.due site.now) row.new result }
@@ -146,12 +146,11 @@ pub fn return_value(site: &Site, row: &mut Row) -> Result<Effect, Fail<Cause>>
     ensures taken { IfOk result (λ e. IsTaken site.now.state site.now.inv e row.new) }
 {
     return_value_is_kept(site);
-    let _insts = site.accepted().insts();
-    let value = site.value(0)?;
-    copied(&value.part(), row)?;
+    let operand = site.operand(0)?;
+    let gain = given(site.alloc(), &operand, row)?;
     Ok(Effect {
         store: None,
         gain: Gain::Nothing,
-        control: Control::Give,
+        control: Control::Leave(gain),
     })
 }

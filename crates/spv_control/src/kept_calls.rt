@@ -1,16 +1,14 @@
 //! What acceptance gives of a call, and of a return with a value, where a run has come to it.
-ghost use Rattle.std.specs.Prelude.{◌≡◌, ℕ, None, Some, true};
+ghost use Rattle.std.specs.Prelude.{◌≡◌, [], ℕ, Some};
 ghost use Rattle.std.specs.List.{Contains};
-ghost use Rattle.spv_base.specs.declared.values.Value.{Value, out-Value};
+ghost use Rattle.spv_base.specs.declared.values.Value.{Value};
 ghost use Rattle.spv_index.specs.Operands.{id_operand};
 ghost use Rattle.spv_plans.specs.Plans.{functions_in};
-ghost use Rattle.spv_results.specs.Operands.{IsOperand};
 ghost use Rattle.spv_state.specs.Sound.{IsCallOf};
-ghost use Rattle.spv_types.specs.Shapes.{pointer_in};
 ghost use Rattle.spv_sites.specs.Calls.{callee};
-ghost use Rattle.spv_sites.specs.Fits.{LeaveFits};
+ghost use Rattle.spv_sites.specs.Fits.{LeaveFits, ResultRooted};
 ghost use Rattle.spv_control.specs.Passing.{Passes};
-ghost use Rattle.spv_sites.specs.Sites.{is_data_at};
+ghost use Rattle.spv_sites.specs.Sites.{IsShaped, values};
 
 use spv_sites::Site;
 
@@ -26,12 +24,13 @@ pub(crate) fn call_is_kept(site: &Site)
     let _insts = site.accepted().insts();
 }
 
-/// A fact, with nothing to run: the operand of an OpReturnValue has the type that its function returns, which is no pointer type.
+/// A fact, with nothing to run: the operand of an OpReturnValue has the type that its function returns, and where it is a pointer, this names
+/// a variable outside functions.
 pub(crate) fn return_value_is_kept(site: &Site)
     requires { site.now.inst.op ≡ 254 }
-    ensures data { is_data_at site.now.program.accepted site.now.inst 0 ≡ true }
-    ensures returns { (v : Value) → pointer_in (out-Value v) ≡ None → IsOperand site.now.program.accepted site.now.inst 0 v
-        → LeaveFits site.now.program.accepted site.now.inst (Some v) }
+    ensures returns { (v : Value) → IsShaped site.now.program.accepted site.now.inst 0 v → LeaveFits site.now.program.accepted site.now.inst (Some v) }
+    ensures rooted { (v : Value) → values site.now 0 ≡ Some v → IsShaped site.now.program.accepted site.now.inst 0 v
+        → ResultRooted site.now.program.accepted [] (Some v) }
 {
     site.is_reached();
     let _insts = site.accepted().insts();

@@ -1,15 +1,12 @@
 //! The phis of a block, and the values that they take where control comes from another block (SPIR-V 1.6 section 3.42.17, OpPhi).
-ghost use Rattle.std.specs.Prelude.{◌≡◌, ℕ, Some, filter, map, slice_get, true};
+ghost use Rattle.std.specs.Prelude.{◌≡◌, IfOk, filter, map};
+ghost use Rattle.std.specs.List.{All};
 ghost use Rattle.std.specs.Result.{result_map_both};
-ghost use Rattle.spv_base.specs.declared.instructions.Inst.{Inst};
 ghost use Rattle.spv_base.specs.Options.{holds};
-ghost use Rattle.spv_bodies.specs.Control.{KeepsPhi};
-ghost use Rattle.spv_index.specs.Classes.{sets_of};
 ghost use Rattle.spv_index.specs.Operands as operands;
-ghost use Rattle.spv_results.specs.Operands.{known};
 ghost use Rattle.spv_state.specs.State.{depth_of};
 ghost use Rattle.spv_sites.specs.Phis as spec;
-ghost use Rattle.spv_sites.specs.Planned.{phi_value};
+ghost use Rattle.spv_sites.specs.Planned.{IsPlain, phi_value};
 ghost use Rattle.spv_sites.specs.Sites.{Finds};
 
 use spv_base::{Fail, Inst, Operand};
@@ -18,7 +15,6 @@ use spv_index::{Table, id_in};
 use spv_ops::op;
 use spv_sites::{Cause, PhiValue, Site};
 use spv_valid::Module;
-use spv_values::Row;
 
 /// Whether an instruction of a class may stand among the first of a block: a phi or a line.
 fn comes_first(class: Class) -> bool
@@ -84,23 +80,23 @@ fn source_among(operands: &[Operand], from: u32) -> Option<u32>
     None
 }
 
-/// What a phi's id takes where control comes from a block. F4 where it has no value.
+/// What a phi's id takes where control comes from a block: a value, or a pointer. F4 where it has none.
 fn value_of(site: &Site, phi: &Inst, from: u32) -> Result<PhiValue, Fail<Cause>>
-    requires { KeepsPhi (known site.now.program.accepted) phi.now }
-    ensures { Finds (spec.phi_value site.now.program.accepted site.now.frame (depth_of site.now.state site.now.inv) from phi.now) (result_map_both phi_value (λ e. e) result) }
+    ensures value { Finds (spec.phi_value site.now.program.accepted site.now.frame (depth_of site.now.state site.now.inv) from phi.now) (result_map_both phi_value (λ e. e) result) }
+    ensures plain { IfOk result (λ p. IsPlain p.value) }
 {
     let Some(id) = source_among(phi.operands.as_slice(), from) else {
         return Err(Fail::Refused(Cause::NoValue));
     };
-    let value = site.datum_with(id)?;
-    let row = Row::of_part(site.alloc(), &value.part())?;
-    Ok(PhiValue { id: phi.id, row })
+    let operand = site.operand_with(id)?;
+    let value = site.taken(&operand)?;
+    Ok(PhiValue { id: phi.id, value })
 }
 
 /// The same of the phis among some instructions.
 fn values_of(site: &Site, insts: &[Inst], from: u32) -> Result<Vec<PhiValue>, Fail<Cause>>
-    requires { (k : ℕ) (phi : Inst) → slice_get insts.now k ≡ Some phi → spec.is_phi phi ≡ true → KeepsPhi (known site.now.program.accepted) phi }
-    ensures { Finds (spec.phi_values site.now.program.accepted site.now.frame (depth_of site.now.state site.now.inv) from (filter spec.is_phi insts.now)) (result_map_both (λ vs. map phi_value vs.items) (λ e. e) result) }
+    ensures value { Finds (spec.phi_values site.now.program.accepted site.now.frame (depth_of site.now.state site.now.inv) from (filter spec.is_phi insts.now)) (result_map_both (λ vs. map phi_value vs.items) (λ e. e) result) }
+    ensures plain { IfOk result (λ vs. All (λ p. IsPlain p.value) vs.items) }
 {
     let mut values = Vec::new(site.alloc());
     for inst in insts {
@@ -113,9 +109,8 @@ fn values_of(site: &Site, insts: &[Inst], from: u32) -> Result<Vec<PhiValue>, Fa
 
 /// What the phis of a block take where the instruction goes there. F4 where one has no value.
 pub(crate) fn phi_values(site: &Site, block: u32) -> Result<Vec<PhiValue>, Fail<Cause>>
-    requires { (k : ℕ) (phi : Inst) → slice_get (spec.first_ones (sets_of site.now.program.accepted.insts) (spec.behind_label site.now.program.accepted.insts block)) k ≡ Some phi
-        → spec.is_phi phi ≡ true → KeepsPhi (known site.now.program.accepted) phi }
-    ensures { Finds (spec.phi_values site.now.program.accepted site.now.frame (depth_of site.now.state site.now.inv) (spec.block_at site.now.program.accepted.insts site.now.inst.word) (spec.phis_of site.now.program.accepted.insts block)) (result_map_both (λ vs. map phi_value vs.items) (λ e. e) result) }
+    ensures value { Finds (spec.phi_values site.now.program.accepted site.now.frame (depth_of site.now.state site.now.inv) (spec.block_at site.now.program.accepted.insts site.now.inst.word) (spec.phis_of site.now.program.accepted.insts block)) (result_map_both (λ vs. map phi_value vs.items) (λ e. e) result) }
+    ensures plain { IfOk result (λ vs. All (λ p. IsPlain p.value) vs.items) }
 {
     let accepted = site.accepted();
     let from = block_at(accepted, site.inst().word);

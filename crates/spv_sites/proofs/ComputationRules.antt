@@ -24,7 +24,7 @@ use Rattle.spv_bodies.specs.Memory.{KeepsLoad, KeepsStore}
 use Rattle.spv_bodies.specs.Places.{Placed}
 use Rattle.spv_bodies.specs.Rules.{atomic_rule, composite_rule, control_rule, memory_rule, other_rule, rule_of}
 use Rattle.spv_bodies.specs.declared.rules.Rule.{Rule}
-use Rattle.spv_bodies.specs.declared.rules.Rule.TheVariants.{Free, Lanes, Extended as ExtendedRule, Memory, Atomic, Composite, Control}
+use Rattle.spv_bodies.specs.declared.rules.Rule.TheVariants.{Free, Lanes, Select as SelectRule, Extended as ExtendedRule, Memory, Atomic, Composite, Control}
 use Rattle.spv_valid.specs.Acceptance.{Accepted}
 use Rattle.spv_results.specs.Operands.{known}
 use Rattle.spv_results.specs.declared.computations.Computation.{Computation}
@@ -39,6 +39,7 @@ use Rattle.spv_sites.proofs.StandLemmas.{end_code, is_end_code}
 abbrev is_lanes : Rule → Bool
 is_lanes Free = false
 is_lanes Lanes = true
+is_lanes SelectRule = false
 is_lanes ExtendedRule = false
 is_lanes (Memory rule) = false
 is_lanes (Atomic rule) = false
@@ -72,6 +73,7 @@ vector_code op x h = key_passes is_lane_code op x vector_opcodes refl h
 lanes_kept : (k : Known) (p : Placed) (r : Rule) → is_lanes r ≡ true → KeepsRule k p r → KeepsLanes k p.inst
 lanes_kept k p Free is kept = absurd (cc)
 lanes_kept k p Lanes is kept = kept
+lanes_kept k p SelectRule is kept = absurd (cc)
 lanes_kept k p ExtendedRule is kept = absurd (cc)
 lanes_kept k p (Memory rule) is kept = absurd (cc)
 lanes_kept k p (Atomic rule) is kept = absurd (cc)
@@ -81,6 +83,7 @@ lanes_kept k p (Control rule) is kept = absurd (cc)
 lanes_own : (r : Rule) → is_lanes r ≡ true → is_own r ≡ true
 lanes_own Free is = refl
 lanes_own Lanes is = refl
+lanes_own SelectRule is = refl
 lanes_own ExtendedRule is = refl
 lanes_own (Memory rule) is = refl
 lanes_own (Atomic rule) is = refl

@@ -19,13 +19,14 @@ use Rattle.spv_results.specs.Operands.{IsResult}
 use Rattle.spv_results.specs.Results.{result_by, result_of}
 use Rattle.spv_results.specs.declared.computations.Computation.{Computation}
 use Rattle.spv_state.specs.Actions.{action_of, atomic_op, action_rows}
+use Rattle.spv_sites.specs.Computing.{compute_effect}
 use Rattle.spv_sites.specs.Effects.{gives}
 use Rattle.spv_sites.specs.Instructions.{effect_of, row}
 use Rattle.spv_sites.specs.Fits.{LevelFits, ResultFits}
 use Rattle.spv_sites.specs.Planned.{IsDue, IsTaken, gained, shown}
 use Rattle.spv_sites.specs.Sites.{Computes, IsGain, Site, accepted, due, values}
 use Rattle.spv_state.specs.declared.actions.Action.{Action}
-use Rattle.spv_state.specs.declared.actions.Action.TheVariants.{Compute, Load, Store, CopyMemory, Chain, ArrayLength, Branch, BranchConditional, Switch, Call, Return, ReturnValue, Unreachable, ControlBarrier, MemoryBarrier, Atomic}
+use Rattle.spv_state.specs.declared.actions.Action.TheVariants.{Compute, Select, Load, Store, CopyMemory, Chain, PtrChain, PtrEqual, PtrNotEqual, ArrayLength, Branch, BranchConditional, Switch, Call, Return, ReturnValue, Unreachable, ControlBarrier, MemoryBarrier, Atomic}
 use Rattle.spv_state.specs.declared.actions.AtomicOp.{AtomicOp}
 use Rattle.spv_sites.specs.declared.causes.Cause.{Cause}
 use Rattle.spv_sites.specs.declared.causes.Cause.TheVariants.{NoValue}
@@ -39,10 +40,14 @@ use Rattle.spv_sites.specs.declared.effects.Gain.TheVariants.{Nothing, Row, Poin
 -- what an instruction of an opcode does that is neither an atomic nor computes
 abbrev IsNamed : ℕ → Action → Type 0
 IsNamed op Compute = ⊥
+IsNamed op Select = op ≡ 169
 IsNamed op Load = op ≡ 61
 IsNamed op Store = op ≡ 62
 IsNamed op CopyMemory = op ≡ 63
 IsNamed op Chain = (op ≡ 65) ⊎ (op ≡ 66)
+IsNamed op PtrChain = op ≡ 67
+IsNamed op PtrEqual = op ≡ 401
+IsNamed op PtrNotEqual = op ≡ 402
 IsNamed op ArrayLength = op ≡ 68
 IsNamed op Branch = op ≡ 249
 IsNamed op BranchConditional = op ≡ 250
@@ -57,15 +62,19 @@ IsNamed op (Atomic operation) = ⊥
 
 named_are : AllByRecursion (λ (e : ℕ × Action). IsNamed e.0 e.1) action_rows
 named_are =
-    (refl, (refl, (refl, (refl, (inl refl, (inr refl, (refl, (refl, (refl, (refl, (refl, (refl, (refl, (refl, (refl, tt)))))))))))))))
+    (refl, (refl, (refl, (refl, (inl refl, (inr refl, (refl, (refl, (refl, (refl, (refl, (refl, (refl, (refl, (refl, (refl, (refl, (refl, (refl, tt)))))))))))))))))))
 
 -- what an instruction is that does something
 abbrev pub IsActing : Inst → Action → Type 0
 IsActing i Compute = (reads i.op action_rows ≡ None) × (atomic_op i.op ≡ None)
+IsActing i Select = i.op ≡ 169
 IsActing i Load = i.op ≡ 61
 IsActing i Store = i.op ≡ 62
 IsActing i CopyMemory = i.op ≡ 63
 IsActing i Chain = (i.op ≡ 65) ⊎ (i.op ≡ 66)
+IsActing i PtrChain = i.op ≡ 67
+IsActing i PtrEqual = i.op ≡ 401
+IsActing i PtrNotEqual = i.op ≡ 402
 IsActing i ArrayLength = i.op ≡ 68
 IsActing i Branch = i.op ≡ 249
 IsActing i BranchConditional = i.op ≡ 250
@@ -80,10 +89,14 @@ IsActing i (Atomic operation) = atomic_op i.op ≡ Some operation
 
 named_acts : (i : Inst) (x : Action) → IsNamed i.op x → IsActing i x
 named_acts i Compute h = absurd h
+named_acts i Select h = h
 named_acts i Load h = h
 named_acts i Store h = h
 named_acts i CopyMemory h = h
 named_acts i Chain h = h
+named_acts i PtrChain h = h
+named_acts i PtrEqual h = h
+named_acts i PtrNotEqual h = h
 named_acts i ArrayLength h = h
 named_acts i Branch h = h
 named_acts i BranchConditional h = h
@@ -122,25 +135,28 @@ due_by x b is = ap (row x.program x.state x.inv x.frame x.inst) is
 
 -- ---- what a computation gives
 
-result_is : (x : Site) (c : Computation) → computation_of x.inst ≡ Some c → result_of (accepted x) x.inst (values x) ≡ result_by (accepted x) x.inst (values x) c
+pub result_is : (x : Site) (c : Computation) → computation_of x.inst ≡ Some c → result_of (accepted x) x.inst (values x) ≡ result_by (accepted x) x.inst (values x) c
 unfolding result_of
 result_is x c is = ap (option_and_then (result_by (accepted x) x.inst (values x))) is
 
-compute_due : (x : Site) (c : Computation) (o : Option Value) → action_of x.inst ≡ Compute → computation_of x.inst ≡ Some c → result_by (accepted x) x.inst (values x) c ≡ o
-    → due x ≡ (ok_or o NoValue >>= (λ v. Ok (gives v)))
-compute_due x c o is has result = due_by x Compute is ∙ ap (λ (p : Option Value). ok_or p NoValue >>= (λ v. Ok (gives v))) (result_is x c has ∙ result)
+-- where what is due is what the computation gives
+abbrev pub IsComputationDue : Site → Type 0
+IsComputationDue x = due x ≡ compute_effect x.program x.state x.inv x.frame x.inst
+
+pub compute_due : (x : Site) (c : Computation) (o : Option Value) → IsComputationDue x → computation_of x.inst ≡ Some c → result_by (accepted x) x.inst (values x) c ≡ o → due x ≡ (ok_or o NoValue >>= (λ v. Ok (gives v)))
+compute_due x c o is has result = is ∙ ap (λ (p : Option Value). ok_or p NoValue >>= (λ v. Ok (gives v))) (result_is x c has ∙ result)
 
 -- the effect of a result
 abbrev pub planned : Gain → Effect
 planned gain = record { store = None; gain = gain; control = Next }
 
-pub computed_due : (x : Site) (c : Computation) (gain : Gain) (v : Value) → action_of x.inst ≡ Compute → computation_of x.inst ≡ Some c → Computes x c v (Ok gain) → due x ≡ Ok (shown (planned gain) v)
+pub computed_due : (x : Site) (c : Computation) (gain : Gain) (v : Value) → IsComputationDue x → computation_of x.inst ≡ Some c → Computes x c v (Ok gain) → due x ≡ Ok (shown (planned gain) v)
 computed_due x c Nothing v is has h = absurd h.1
 computed_due x c Row v is has h = compute_due x c (Some v) is has h.0
 computed_due x c (Pointer b) v is has h = compute_due x c (Some (Ptr b.value)) is has h.0
 computed_due x c (Handed l) v is has h = absurd h.1
 
-pub computed_fault : (x : Site) (c : Computation) (v : Value) (r : Result Effect (Fail Cause)) (e : Fail Cause) → action_of x.inst ≡ Compute → computation_of x.inst ≡ Some c → Computes x c v (Err e) → r ≡ Err e → IsDue (due x) v r
+pub computed_fault : (x : Site) (c : Computation) (v : Value) (r : Result Effect (Fail Cause)) (e : Fail Cause) → IsComputationDue x → computation_of x.inst ≡ Some c → Computes x c v (Err e) → r ≡ Err e → IsDue (due x) v r
 computed_fault x c v r (Refused cause) is has h same =
     subst (λ (s : Result Effect (Fail Cause)). IsDue (due x) v s) (sym same) (compute_due x c None is has h.0 ∙ ap (λ (k : Cause). Err k) (sym h.1))
 computed_fault x c v r NoMemory is has h same = subst (λ (s : Result Effect (Fail Cause)). IsDue (due x) v s) (sym same) tt

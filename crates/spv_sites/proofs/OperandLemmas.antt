@@ -74,30 +74,32 @@ ValuesHaveShapes = (a : Accepted) (f : Frame) (depth id ty : ℕ) (v : Whole) �
 
 abbrev pub PointersHaveShapes : Type 0
 PointersHaveShapes = (a : Accepted) (f : Frame) (depth id ty : ℕ) (v : Whole) → IsAccepted a → AreShaped a f → value_of a f depth id ≡ Some v → result_type a.insts id ≡ Some ty
-    → is_pointer (form_of a.types ty) ≡ true → HasShape a.types (target_in a) ty v
+    → is_pointer (form_of a.types ty) ≡ true → HasShape a.types (target_in a ty) ty v
 
-module _ (plains : ValuesHaveShapes) (pointers : PointersHaveShapes) (x : Site) (n : ℕ) (v : Whole) where
-  shape_by : (id ty : ℕ) → IsAccepted (accepted x) → IsSite x → value_of (accepted x) x.frame (depth_of x.state x.inv) id ≡ Some v → result_type (accepted x).insts id ≡ Some ty
-      → HasShape (accepted x).types (if is_pointer (form_of (accepted x).types ty) then target_in (accepted x) else no_roots) ty v
-  shape_by id ty accepts is value type = by_pointer (is_pointer (form_of (accepted x).types ty)) refl
+module _ (plains : ValuesHaveShapes) (pointers : PointersHaveShapes) (x : Site) where
+  shape_by : (v : Whole) (id ty : ℕ) → IsAccepted (accepted x) → IsSite x → value_of (accepted x) x.frame (depth_of x.state x.inv) id ≡ Some v → result_type (accepted x).insts id ≡ Some ty
+      → HasShape (accepted x).types (if is_pointer (form_of (accepted x).types ty) then target_in (accepted x) ty else no_roots) ty v
+  shape_by v id ty accepts is value type = by_pointer (is_pointer (form_of (accepted x).types ty)) refl
     where
-      by_pointer : (b : Bool) → is_pointer (form_of (accepted x).types ty) ≡ b → HasShape (accepted x).types (cond b (target_in (accepted x)) no_roots) ty v
+      by_pointer : (b : Bool) → is_pointer (form_of (accepted x).types ty) ≡ b → HasShape (accepted x).types (cond b (target_in (accepted x) ty) no_roots) ty v
       by_pointer true e = pointers (accepted x) x.frame (depth_of x.state x.inv) id ty v accepts (frame_sound x is).shaped value type e
       by_pointer false e = plains (accepted x) x.frame (depth_of x.state x.inv) id ty v accepts (frame_sound x is).shaped value type e
 
-  shape_in : IsAccepted (accepted x) → IsSite x → values x n ≡ Some v → IsShaped (accepted x) x.inst n v
-  shape_in accepts is value ty type = by_id (id_operand x.inst n) value type
+  -- what an id stands for, where the module that is read is the site's
+  pub id_shape : (id ty : ℕ) (v : Whole) (m : Accepted) → m ≡ accepted x → ∥ IsAccepted m ∥₁ → ∥ IsSite x ∥₁ → value_of (accepted x) x.frame (depth_of x.state x.inv) id ≡ Some v → result_type (accepted x).insts id ≡ Some ty
+      → HasShape (accepted x).types (if is_pointer (form_of (accepted x).types ty) then target_in (accepted x) ty else no_roots) ty v
+  id_shape id ty v m same accepts site value type =
+      let roots : Root → Option ℕ = if is_pointer (form_of (accepted x).types ty) then target_in (accepted x) ty else no_roots in
+      ∥∥₁_elim (subst (λ (a : Accepted). ∥ IsAccepted a ∥₁) same accepts) (shape_prop (accepted x).types roots ty v) (λ (h : IsAccepted (accepted x)).
+      ∥∥₁_elim site (shape_prop (accepted x).types roots ty v) (λ (is : IsSite x). shape_by v id ty h is value type))
+
+  pub operand_shape : (n : ℕ) (v : Whole) (m : Accepted) → m ≡ accepted x → ∥ IsAccepted m ∥₁ → ∥ IsSite x ∥₁ → values x n ≡ Some v → IsShaped (accepted x) x.inst n v
+  operand_shape n v m same accepts site value ty type = by_id (id_operand x.inst n) value type
     where
       by_id : (o : Option ℕ) → option_and_then (value_of (accepted x) x.frame (depth_of x.state x.inv)) o ≡ Some v → option_and_then (type_of (known (accepted x))) o ≡ Some ty
-          → HasShape (accepted x).types (if is_pointer (form_of (accepted x).types ty) then target_in (accepted x) else no_roots) ty v
+          → HasShape (accepted x).types (if is_pointer (form_of (accepted x).types ty) then target_in (accepted x) ty else no_roots) ty v
       by_id None e t = absurd (cc)
-      by_id (Some id) e t = shape_by id ty accepts is e t
-
-  pub operand_shape : (m : Accepted) → m ≡ accepted x → ∥ IsAccepted m ∥₁ → ∥ IsSite x ∥₁ → values x n ≡ Some v → IsShaped (accepted x) x.inst n v
-  operand_shape m same accepts site value ty type =
-      let roots : Root → Option ℕ = if is_pointer (form_of (accepted x).types ty) then target_in (accepted x) else no_roots in
-      ∥∥₁_elim (subst (λ (a : Accepted). ∥ IsAccepted a ∥₁) same accepts) (shape_prop (accepted x).types roots ty v) (λ (h : IsAccepted (accepted x)).
-      ∥∥₁_elim site (shape_prop (accepted x).types roots ty v) (λ (is : IsSite x). shape_in h is value ty type))
+      by_id (Some id) e t = id_shape id ty v m same accepts site e t
 
 -- ---- data
 
@@ -107,7 +109,7 @@ data_type ts None h = absurd (cc)
 data_type ts (Some ty) h = (ty, refl, not-true (is_pointer (form_of ts ty)) h)
 
 plain_shape : (a : Accepted) (d : Inst) (n ty : ℕ) (v : Whole) → IsShaped a d n v → type_at (known a) d n ≡ Some ty → is_pointer (form_of a.types ty) ≡ false → HasShape a.types no_roots ty v
-plain_shape a d n ty v shaped type plain = subst (λ (b : Bool). HasShape a.types (if b then target_in a else no_roots) ty v) plain (shaped ty type)
+plain_shape a d n ty v shaped type plain = subst (λ (b : Bool). HasShape a.types (if b then target_in a ty else no_roots) ty v) plain (shaped ty type)
 
 pub datum_shape : (a : Accepted) (d : Inst) (n : ℕ) (v : Whole) → is_data_at a d n ≡ true → IsShaped a d n v → IsOperand a d n v
 datum_shape a d n v typed shaped ty type =

@@ -27,6 +27,7 @@ use Rattle.spv_operands.specs.Values.{pointer_to}
 use Rattle.spv_operands.proofs.Exports.{data_plain}
 use Rattle.spv_base.proofs.Exports.{out_pointer}
 use Rattle.spv_results.specs.Operands.{IsOperand, known}
+use Rattle.spv_sites.specs.Fits.{LevelFits}
 use Rattle.spv_sites.specs.Kept.{KeepsCopy}
 use Rattle.spv_sites.specs.Sites.{IsShaped, Site, part_of}
 use Rattle.spv_sites.specs.declared.causes.Cause.TheVariants.{OutOfBounds}
@@ -79,11 +80,11 @@ pointed ts roots id class target v sound is shape = by_place (pointer_of v) refl
 
 -- ---- operands
 
-shape_by : (a : Accepted) (ty : ℕ) (v : Value) (b : Bool) → is_pointer (form_of a.types ty) ≡ b → HasShape a.types (if is_pointer (form_of a.types ty) then target_in a else no_roots) ty v
-    → HasShape a.types (if b then target_in a else no_roots) ty v
-shape_by a ty v b is h = subst (λ (c : Bool). HasShape a.types (if c then target_in a else no_roots) ty v) is h
+shape_by : (a : Accepted) (ty : ℕ) (v : Value) (b : Bool) → is_pointer (form_of a.types ty) ≡ b → HasShape a.types (if is_pointer (form_of a.types ty) then target_in a ty else no_roots) ty v
+    → HasShape a.types (if b then target_in a ty else no_roots) ty v
+shape_by a ty v b is h = subst (λ (c : Bool). HasShape a.types (if c then target_in a ty else no_roots) ty v) is h
 
-pub reference_shape : (a : Accepted) (d : Inst) (n ty class target : ℕ) (v : Value) → IsShaped a d n v → type_at (known a) d n ≡ Some ty → form_of a.types ty ≡ Some (Pointer class target) → HasShape a.types (target_in a) ty v
+pub reference_shape : (a : Accepted) (d : Inst) (n ty class target : ℕ) (v : Value) → IsShaped a d n v → type_at (known a) d n ≡ Some ty → form_of a.types ty ≡ Some (Pointer class target) → HasShape a.types (target_in a ty) ty v
 reference_shape a d n ty class target v shaped type is = shape_by a ty v true (ap is_pointer is) (shaped ty type)
 
 module _ (a : Accepted) (sound : AreSound a.types) (d : Inst) (n : ℕ) (v : Value) (shaped : IsShaped a d n v) where
@@ -96,17 +97,41 @@ module _ (a : Accepted) (sound : AreSound a.types) (d : Inst) (n : ℕ) (v : Val
       by_type : (b : Bool) → is_pointer (form_of a.types ty) ≡ b → is_some (pointer_of v) ≡ false → HasShape a.types no_roots ty v
       by_type true e none =
           let form = pointer_form (form_of a.types ty) e in
-          let leads = pointed a.types (target_in a) ty form.0 form.1 v sound form.2 (shape_by a ty v true e (shaped ty type)) in
+          let leads = pointed a.types (target_in a ty) ty form.0 form.1 v sound form.2 (shape_by a ty v true e (shaped ty type)) in
           absurd (both_ways (is_some (pointer_of v)) none (ap is_some leads.is))
       by_type false e none = shape_by a ty v false e (shaped ty type)
 
   -- and a pointer leads to where this points
-  pub pointer_shape : (ty : ℕ) (q : Reference) → type_at (known a) d n ≡ Some ty → pointer_of v ≡ Some q → HasShape a.types (target_in a) ty (Ptr q)
-  pointer_shape ty q type is = subst (HasShape a.types (target_in a) ty) (pointer_is v q is) (by_type (is_pointer (form_of a.types ty)) refl)
+  pub pointer_shape : (ty : ℕ) (q : Reference) → type_at (known a) d n ≡ Some ty → pointer_of v ≡ Some q → HasShape a.types (target_in a ty) ty (Ptr q)
+  pointer_shape ty q type is = subst (HasShape a.types (target_in a ty) ty) (pointer_is v q is) (by_type (is_pointer (form_of a.types ty)) refl)
     where
-      by_type : (b : Bool) → is_pointer (form_of a.types ty) ≡ b → HasShape a.types (target_in a) ty v
+      by_type : (b : Bool) → is_pointer (form_of a.types ty) ≡ b → HasShape a.types (target_in a ty) ty v
       by_type true e = shape_by a ty v true e (shaped ty type)
       by_type false e = absurd (both_ways (is_some (pointer_of v)) (data_plain a.types sound ty v (shape_by a ty v false e (shaped ty type))) (ap is_some is))
+
+-- a value of the shape of a type is one of the type, whatever its kind is
+pub shaped_level : (a : Accepted) → AreSound a.types → (ty : ℕ) (v : Value) → HasShape a.types (if is_pointer (form_of a.types ty) then target_in a ty else no_roots) ty v → LevelFits a ty v (out-Value v)
+shaped_level a sound ty v shape = by_type (is_pointer (form_of a.types ty)) refl
+  where
+    of_pointer : (target : ℕ) → Leads a.types (target_in a ty) target v → HasShape a.types (target_in a ty) ty v → (l : Value-F Value) → out-Value v ≡ l → LevelFits a ty v l
+    of_pointer target leads h (Value-F.Scalar c) e = let none : pointer_of v ≡ None = ap pointer_in e in let some = leads.is in absurd (cc)
+    of_pointer target leads h (Value-F.List vs) e = let none : pointer_of v ≡ None = ap pointer_in e in let some = leads.is in absurd (cc)
+    of_pointer target leads h (Value-F.Ptr q) e = h
+
+    of_data : HasShape a.types no_roots ty v → (l : Value-F Value) → is_some (pointer_in l) ≡ false → LevelFits a ty v l
+    of_data h (Value-F.Scalar c) e = h
+    of_data h (Value-F.List vs) e = h
+    of_data h (Value-F.Ptr q) e = absurd (cc)
+
+    by_type : (b : Bool) → is_pointer (form_of a.types ty) ≡ b → LevelFits a ty v (out-Value v)
+    by_type true e =
+        let form = pointer_form (form_of a.types ty) e in
+        let h = shape_by a ty v true e shape in
+        of_pointer form.1 (pointed a.types (target_in a ty) ty form.0 form.1 v sound form.2 h) h (out-Value v) refl
+    by_type false e =
+        let h = shape_by a ty v false e shape in
+        let plain = data_plain a.types sound ty v h in
+        of_data h (out-Value v) plain
 
 -- ---- copies
 

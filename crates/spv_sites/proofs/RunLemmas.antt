@@ -19,7 +19,7 @@ use Rattle.spv_bodies.specs.Context.{Known}
 use Rattle.spv_bodies.specs.Places.{Placed, nowhere, place, placed_from, within_after}
 use Rattle.spv_bodies.specs.Rules.{rule_of}
 use Rattle.spv_bodies.specs.declared.rules.Rule.{Rule}
-use Rattle.spv_bodies.specs.declared.rules.Rule.TheVariants.{Free, Lanes, Extended, Memory, Atomic, Composite, Control}
+use Rattle.spv_bodies.specs.declared.rules.Rule.TheVariants.{Free, Lanes, Select, Extended, Memory, Atomic, Composite, Control}
 use Rattle.spv_bodies.specs.declared.within.Within.{Within}
 use Rattle.spv_valid.specs.Acceptance.{Accepted, IsAccepted}
 use Rattle.spv_valid.specs.Validity.{IsValid}
@@ -43,6 +43,7 @@ each_kept k w (i ∷ is) kept = (record { placed = place i w is; same = refl; ke
 abbrev pub is_own : Rule → Bool
 is_own Free = true
 is_own Lanes = true
+is_own Select = true
 is_own Extended = true
 is_own (Memory rule) = true
 is_own (Atomic rule) = true
@@ -56,6 +57,7 @@ alone i = place i nowhere []
 own_rule : (k : Known) (p : Placed) (r : Rule) → is_own r ≡ true → KeepsRule k p r → KeepsRule k (alone p.inst) r
 own_rule k p Free own kept = tt
 own_rule k p Lanes own kept = kept
+own_rule k p Select own kept = kept
 own_rule k p Extended own kept = kept
 own_rule k p (Memory rule) own kept = kept
 own_rule k p (Atomic rule) own kept = kept

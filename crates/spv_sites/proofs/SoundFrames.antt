@@ -31,16 +31,16 @@ shaped_value a f id v fits shaped = record {
       subst (HasShape a.types no_roots ty) same (fits ty (ap (result_type a.insts) here.0 ∙ typed))
   by_id k ty w typed (inr old) = shaped.values k ty w old typed
 
-shaped_pointer : (a : Accepted) (f : Frame) (id : ℕ) (q : Pointer) → ((ty : ℕ) → result_type a.insts id ≡ Some ty → HasShape a.types (target_in a) ty (Ptr q)) → AreShaped a f
+shaped_pointer : (a : Accepted) (f : Frame) (id : ℕ) (q : Pointer) → ((ty : ℕ) → result_type a.insts id ≡ Some ty → HasShape a.types (target_in a ty) ty (Ptr q)) → AreShaped a f
     → AreShaped a (record f { pointers = writes id (Some q) f.pointers })
 shaped_pointer a f id q fits shaped = record {
   values = shaped.values;
   pointers = λ k ty r at typed. by_id k ty r typed (reads_written id k (Some q) (Some r) f.pointers at);
 } where
-  by_id : (k ty : ℕ) (r : Pointer) → result_type a.insts k ≡ Some ty → ((id ≡ k) × (Some q ≡ Some r)) ⊎ (reads k f.pointers ≡ Some (Some r)) → HasShape a.types (target_in a) ty (Ptr r)
+  by_id : (k ty : ℕ) (r : Pointer) → result_type a.insts k ≡ Some ty → ((id ≡ k) × (Some q ≡ Some r)) ⊎ (reads k f.pointers ≡ Some (Some r)) → HasShape a.types (target_in a ty) ty (Ptr r)
   by_id k ty r typed (inl here) =
       let same : q ≡ r = let e = here.1 in cc in
-      subst (λ (x : Pointer). HasShape a.types (target_in a) ty (Ptr x)) same (fits ty (ap (result_type a.insts) here.0 ∙ typed))
+      subst (λ (x : Pointer). HasShape a.types (target_in a ty) ty (Ptr x)) same (fits ty (ap (result_type a.insts) here.0 ∙ typed))
   by_id k ty r typed (inr old) = shaped.pointers k ty r old typed
 
 abbrev pub RegisterFits : Accepted → ℕ → Value → Value-F Value → Type 0
@@ -65,7 +65,7 @@ level_kept a f id v (Value-F.Ptr q) e fits s = record {
   plan = s.plan;
   places = record { values = s.places.values; pointers = keys_stay id (Some q) f.pointers ∙ s.places.pointers };
   stands = s.stands;
-  shaped = shaped_pointer a f id q (λ ty typed. subst (HasShape a.types (target_in a) ty) (pointer_by v q e) (fits ty typed)) s.shaped;
+  shaped = shaped_pointer a f id q (λ ty typed. subst (HasShape a.types (target_in a ty) ty) (pointer_by v q e) (fits ty typed)) s.shaped;
   captured = s.captured;
 }
 

@@ -15,7 +15,7 @@ use Rattle.spv_state.specs.Program.{Program}
 use Rattle.spv_state.specs.State.{State}
 use Rattle.spv_state.specs.declared.actions.AtomicOp.{AtomicOp}
 use Rattle.spv_state.specs.declared.actions.AtomicOp.TheVariants.{Load, Store, Exchange, CompareExchange, Increment, Decrement, Add, Sub, SMin, UMin, SMax, UMax, And, Or, Xor}
-use Rattle.spv_sites.specs.Effects.{Effect, Next, gives, loaded, operand, pointer, sets}
+use Rattle.spv_sites.specs.Effects.{Effect, Next, gives, loaded, operand, pointer, scalar, sets}
 use Rattle.spv_sites.specs.declared.causes.Cause.{Cause}
 
 -- ---- what is stored
@@ -68,11 +68,6 @@ atomic_row Xor = updates (updating (λ w a b. pos (bit_xor a b)))
 -- the first of three operands, where each has a value
 abbrev pub first_of_three : Program → State → ℕ → Frame → Inst → Result Value Cause
 first_of_three p s i f d = operand p s i f d 0 >>= (λ v. operand p s i f d 1 >>= (λ _. operand p s i f d 2 >>= (λ _. Ok v)))
-
--- The scalar that an operand is. A value of a scalar type has one lane, so the cell of width 0 that `lane_of` gives otherwise is never read
--- (values_are_their_lanes of spv_effects).
-abbrev pub scalar : Program → State → ℕ → Frame → Inst → ℕ → Result Cell Cause
-scalar p s i f d n = operand p s i f d n >>= (λ v. Ok (lane_of v))
 
 -- where a pointer leads, with the scalar there; F3 where there is none
 abbrev pub target : State → ℕ → Value → Result (Pointer × Cell) Cause

@@ -1,9 +1,12 @@
 -- What an instruction does to a state: the part of memory and the register that it sets, and where control goes, or why it faults.
-use Rattle.std.specs.Prelude.{ℕ, List, Option, Some, None, Result, ok_or}
+use Rattle.std.specs.Prelude.{ℕ, List, Option, Some, None, Result, Ok, ok_or}
+use Rattle.spv_base.specs.Cell.{Cell}
 use Rattle.spv_base.specs.Variables.{Roots}
 use Rattle.spv_base.specs.declared.instructions.Inst.{Inst}
 use Rattle.spv_base.specs.declared.values.Pointer.{Pointer}
 use Rattle.spv_base.specs.declared.values.Value.{Value, out-Value}
+use Rattle.spv_ops.specs.Steps.{◌>>=◌}
+use Rattle.spv_effects.specs.Lanes.{lane_of}
 use Rattle.spv_types.specs.Shapes.{pointer_in}
 use Rattle.spv_mem.specs.Memory.{load_of}
 use Rattle.spv_frame.specs.Frames.{Held as Frame}
@@ -44,6 +47,11 @@ code_of Unreachable = 5
 -- an operand, by its number behind the result; F4 where it has no value
 abbrev pub operand : Program → State → ℕ → Frame → Inst → ℕ → Result Value Cause
 operand p s i f d n = ok_or (operand_value p.accepted f (depth_of s i) d n) NoValue
+
+-- The scalar that an operand is. A value of a scalar type has one lane, so the cell of width 0 that `lane_of` gives otherwise is never read
+-- (values_are_their_lanes of spv_effects).
+abbrev pub scalar : Program → State → ℕ → Frame → Inst → ℕ → Result Cell Cause
+scalar p s i f d n = operand p s i f d n >>= (λ v. Ok (lane_of v))
 
 -- The pointer that a value is. Where an instruction of an accepted module reads one, its operand's type is a pointer type, so the value is one
 -- (operands_have_shapes of spv_operands: pointers).

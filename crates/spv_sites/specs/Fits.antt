@@ -29,20 +29,19 @@ abbrev pub StoreFits : State → ℕ → Option (Pointer × Value) → Type 0
 StoreFits s i None = ⊤
 StoreFits s i (Some e) = IsSome (load_of s.memory i e.0) × ∥ MayStore s.memory i e.0 e.1 ∥₁
 
--- a value of the instruction's type: a pointer leads to where this points
+-- a value of a type: a pointer leads to where this points, in a variable of the type's storage class
 abbrev pub LevelFits : Accepted → ℕ → Value → Value-F Value → Type 0
 LevelFits a ty v (Value-F.Scalar c) = HasShape a.types no_roots ty v
 LevelFits a ty v (Value-F.List vs) = HasShape a.types no_roots ty v
-LevelFits a ty v (Value-F.Ptr q) = HasShape a.types (target_in a) ty v
+LevelFits a ty v (Value-F.Ptr q) = HasShape a.types (target_in a ty) ty v
 
 abbrev pub ResultFits : Accepted → Inst → Option Value → Type 0
 ResultFits a d None = ⊤
 ResultFits a d (Some v) = LevelFits a d.ty v (out-Value v)
 
--- a value of the type of an id, which is no pointer
-pub record IsOfType (a : Accepted) (id : ℕ) (v : Value) : Type 0 where
-  pub plain : pointer_in (out-Value v) ≡ None
-  pub shape : (ty : ℕ) → result_type a.insts id ≡ Some ty → HasShape a.types no_roots ty v
+-- a value of the type of an id
+abbrev pub IsOfType : Accepted → ℕ → Value → Type 0
+IsOfType a id v = (ty : ℕ) → result_type a.insts id ≡ Some ty → LevelFits a ty v (out-Value v)
 
 -- a block of the instruction's function that has an executable to begin with, and values of the types of its phis
 pub record JumpFits (a : Accepted) (d : Inst) (block : ℕ) (phis : List (ℕ × Value)) : Type 0 where
@@ -74,10 +73,14 @@ abbrev pub ResultRooted : Accepted → List Frame → Option Value → Type 0
 ResultRooted a frames None = ⊤
 ResultRooted a frames (Some v) = (q : Pointer) → pointer_in (out-Value v) ≡ Some q → IsRoot a frames (length frames - 1) q.root
 
--- and so does each pointer that is kept in the frame of a function which is called, above them
+-- and so does each that a phi takes, and each that is kept in the frame of a function which is called, above them; what a function gives names
+-- a variable outside functions, which is there whatever frames there are
 abbrev pub ControlRooted : Accepted → List Frame → Control → Type 0
+ControlRooted a frames Next = ⊤
+ControlRooted a frames (Jump block phis) = AllByRecursion (λ (r : ℕ × Value). ResultRooted a frames (Some r.1)) phis
 ControlRooted a frames (Enter frame es) = IsRooted a (frames ++ frame ∷ []) (length frames) frame
-ControlRooted a frames _ = ⊤
+ControlRooted a frames (Leave v) = ResultRooted a [] v
+ControlRooted a frames Wait = ⊤
 
 pub record Fits (p : Program) (s : State) (i : ℕ) (d : Inst) (e : Effect) : Type 0 where
   pub store : StoreFits s i e.store

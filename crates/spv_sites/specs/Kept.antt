@@ -15,6 +15,7 @@ use Rattle.spv_bodies.specs.Composites.{KeepsConstruct, KeepsCopyObject, KeepsEx
 use Rattle.spv_bodies.specs.Lanes.{KeepsExtended, KeepsLanes}
 use Rattle.spv_bodies.specs.Matching.{KeepsCopyLogical}
 use Rattle.spv_bodies.specs.Memory.{KeepsUndef}
+use Rattle.spv_bodies.specs.Pointers.{KeepsSelect}
 use Rattle.spv_valid.specs.Acceptance.{Accepted}
 use Rattle.spv_results.specs.Operands.{known}
 use Rattle.spv_results.specs.declared.computations.Computation.{Computation}
@@ -32,7 +33,7 @@ Keeps a d (Truth operation) = (vector_op d.op ≡ Some operation) × KeepsLanes 
 Keeps a d (Binary operation) = (binary_op d.op ≡ Some operation) × KeepsLanes (known a) d
 Keeps a d (Field operation) = (field_op d.op ≡ Some operation) × KeepsLanes (known a) d
 Keeps a d (Extended operation) = (extended_op d.op ≡ Some operation) × KeepsLanes (known a) d
-Keeps a d Select = (d.op ≡ 169) × KeepsLanes (known a) d
+Keeps a d Select = (d.op ≡ 169) × KeepsSelect (known a) d
 Keeps a d (Glsl operation) =
     (option_and_then glsl_op (literal_operand d 1) ≡ Some operation) × (is_debug (known a).sets d ≡ false) × KeepsExtended (known a) d
 Keeps a d ExtractDynamic = KeepsExtractDynamic (known a) d

@@ -13,3 +13,6 @@ pub mod Kept
 pub mod Planned
 pub mod Targets
 pub mod Sites
+pub mod Computing
+pub mod Selects
+pub mod Pointers

@@ -1,5 +1,6 @@
 -- An effect that was worked out, with the row in which its value lies.
 use Rattle.std.specs.Prelude.{◌≡◌, ℕ, map, Option, Some, None, Result, Ok, Err, ⊤}
+use Rattle.std.specs.List.{AllByRecursion}
 use Rattle.std.specs.Option.{option_map}
 use Rattle.spv_base.specs.declared.causes.Fail.{Fail}
 use Rattle.spv_base.specs.declared.causes.Fail.TheVariants.{Refused, NoMemory}
@@ -14,11 +15,13 @@ use Rattle.spv_sites.specs.Effects as spec
 use Rattle.spv_sites.specs.Fits.{Fits}
 use Rattle.spv_sites.specs.declared.causes.Cause.{Cause}
 use Rattle.spv_sites.specs.declared.effects.Control.{Control}
-use Rattle.spv_sites.specs.declared.effects.Control.TheVariants.{Next, Jump, Enter, Leave, Give, Wait}
+use Rattle.spv_sites.specs.declared.effects.Control.TheVariants.{Next, Jump, Enter, Leave, Wait}
 use Rattle.spv_sites.specs.declared.effects.Effect.{Effect}
 use Rattle.spv_sites.specs.declared.effects.Gain.{Gain}
 use Rattle.spv_sites.specs.declared.effects.Gain.TheVariants.{Nothing, Row, Pointer, Handed}
 use Rattle.spv_sites.specs.declared.effects.PhiValue.{PhiValue}
+use Rattle.spv_sites.specs.declared.effects.Taken.{Taken}
+use Rattle.spv_sites.specs.declared.effects.Taken.TheVariants.{Value as Data, Pointer as Place}
 
 abbrev pub gained : Gain → Value → Option Value
 gained Nothing v = None
@@ -26,15 +29,18 @@ gained Row v = Some v
 gained (Pointer b) v = Some (Ptr b.value)
 gained (Handed c) v = Some (Scalar c)
 
+abbrev pub taken : Taken → Value
+taken (Data row) = row
+taken (Place q) = Ptr q
+
 abbrev pub phi_value : PhiValue → ℕ × Value
-phi_value p = (p.id, p.row)
+phi_value p = (p.id, taken p.value)
 
 abbrev pub gone : Control → Value → spec.Control
 gone Next v = spec.Next
 gone (Jump block phis) v = spec.Jump block (map phi_value phis.items)
 gone (Enter b) v = spec.Enter b.value.frame b.value.locals
-gone Leave v = spec.Leave None
-gone Give v = spec.Leave (Some v)
+gone (Leave gain) v = spec.Leave (gained gain v)
 gone Wait v = spec.Wait
 
 abbrev pub shown : Effect → Value → spec.Effect
@@ -59,11 +65,17 @@ IsGained s i store (Pointer b) v = ⊤
 IsGained s i None (Handed c) v = ⊥
 IsGained s i (Some q) (Handed c) v = load_of s.memory i q ≡ Some (Scalar c)
 
--- what a function gives lies in the row alone
-abbrev pub IsGiven : Control → Option Reference → Gain → Type 0
-IsGiven Give store gain = (store ≡ None) × (gain ≡ Nothing)
-IsGiven _ store gain = ⊤
+-- a row is that of a value which is no pointer
+abbrev pub IsPlain : Taken → Type 0
+IsPlain (Data row) = pointer_in (out-Value row) ≡ None
+IsPlain (Place q) = ⊤
+
+-- What a phi takes from a row is no pointer. What a function gives is taken alone.
+abbrev pub IsGiven : State → ℕ → Control → Option Reference → Gain → Value → Type 0
+IsGiven s i (Jump block phis) store gain v = AllByRecursion (λ (p : PhiValue). IsPlain p.value) phis.items
+IsGiven s i (Leave given) store gain v = (store ≡ None) × (gain ≡ Nothing) × IsGained s i None given v
+IsGiven s i _ store gain v = ⊤
 
 -- the row is taken once
 abbrev pub IsTaken : State → ℕ → Effect → Value → Type 0
-IsTaken s i e v = IsGained s i e.store e.gain v × IsGiven e.control e.store e.gain
+IsTaken s i e v = IsGained s i e.store e.gain v × IsGiven s i e.control e.store e.gain v

@@ -86,9 +86,10 @@ is_data ts ty = option_map_or (λ (t : ℕ). not (is_pointer (form_of ts t))) ty
 abbrev pub is_data_at : Accepted → Inst → ℕ → Bool
 is_data_at a d n = is_data a.types (type_at (known a) d n)
 
--- A value of the type of an operand: data has no pointer in it, and a pointer leads to what its type points to.
+-- A value of the type of an operand: data has no pointer in it, and a pointer leads to what its type points to, in a variable of the type's
+-- storage class.
 abbrev pub IsShaped : Accepted → Inst → ℕ → Value → Type 0
-IsShaped a d n v = (ty : ℕ) → type_at (known a) d n ≡ Some ty → HasShape a.types (if is_pointer (form_of a.types ty) then target_in a else no_roots) ty v
+IsShaped a d n v = (ty : ℕ) → type_at (known a) d n ≡ Some ty → HasShape a.types (if is_pointer (form_of a.types ty) then target_in a ty else no_roots) ty v
 
 -- by the type of its variable a pointer leads to a block, and a member of the block is a runtime array
 pub record LeadsToArray (m : Memory) (q : Reference) (member : ℕ) : Type 0 where
@@ -121,7 +122,7 @@ abbrev pub IsGain : Site → Gain → Value → Type 0
 IsGain x Nothing v = ⊥
 IsGain x Row v = IsResult (accepted x) x.inst v
 IsGain x (Pointer b) v =
-    HasShape (accepted x).types (target_in (accepted x)) x.inst.ty (Ptr b.value) × IsRoot (accepted x) (frames_of x.state x.inv) (depth_of x.state x.inv) b.value.root
+    HasShape (accepted x).types (target_in (accepted x) x.inst.ty) x.inst.ty (Ptr b.value) × IsRoot (accepted x) (frames_of x.state x.inv) (depth_of x.state x.inv) b.value.root
 IsGain x (Handed c) v = ⊥
 
 -- what the computation gives, or an operand has no value; or memory ran out

@@ -7,7 +7,7 @@ ghost use Rattle.spv_sites.specs.Effects.{code_of};
 pub enum Cause {
     /// F1: a branch or a switch by a value that is not defined.
     UndefinedBranch,
-    /// F2: an access chain by an index that is not defined.
+    /// F2: an access chain by an index that is not defined, or a choice between pointers by such a condition.
     UndefinedIndex,
     /// F3: an access where a pointer names no part of memory.
     OutOfBounds,

@@ -6,11 +6,18 @@ use spv_frame::Frame;
 use spv_mem::Locals;
 use spv_values::Row;
 
-/// The value that a phi takes.
+/// A value or a pointer.
+#[derive(Drop)]
+pub enum Taken {
+    Value(Row),
+    Pointer(Pointer),
+}
+
+/// What a phi takes.
 #[derive(Drop)]
 pub struct PhiValue {
     pub id: u32,
-    pub row: Row,
+    pub value: Taken,
 }
 
 /// A frame that a call makes, with its variables.
@@ -29,15 +36,13 @@ pub enum Control {
     Jump { block: u32, phis: Vec<PhiValue> },
     /// Into a function: a frame with its variables, above the one that calls. It is boxed, so that an effect is small.
     Enter(Box<Entered>),
-    /// Out of the function, which gives nothing.
-    Leave,
-    /// Out of the function, which gives the value in the row at hand.
-    Give,
+    /// Out of the function, with what it gives to the call.
+    Leave(Gain),
     /// Nowhere: the invocation waits at the barrier.
     Wait,
 }
 
-/// What the register of the instruction takes.
+/// What the register of an instruction takes.
 #[derive(Drop)]
 pub enum Gain {
     Nothing,
@@ -49,7 +54,7 @@ pub enum Gain {
     Handed(Cell),
 }
 
-/// What an instruction does. A value that it stores, that its register takes or that it gives lies in a row beside it.
+/// What an instruction does. A value that it stores, that its register takes or that its function gives lies in a row beside it.
 #[derive(Drop)]
 pub struct Effect {
     /// Where memory is set.

@@ -8,6 +8,6 @@ mod sites;
 mod targets;
 
 pub use causes::Cause;
-pub use effects::{Control, Effect, Entered, Gain, PhiValue};
-pub use sites::{Datum, Site, copied, owned};
+pub use effects::{Control, Effect, Entered, Gain, PhiValue, Taken};
+pub use sites::{Datum, Site, copied, given, owned};
 pub use targets::{Place, Target};

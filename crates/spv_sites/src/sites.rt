@@ -1,20 +1,25 @@
 //! Instructions where runs have come to them, and their operands.
-ghost use Rattle.std.specs.Prelude.{◌≡◌, ◌<◌, IfOk, IfSome, IsSome, None, OnOk, Some, length, option_map, true};
+ghost use Rattle.std.specs.Prelude.{◌≡◌, ℕ, ◌<◌, IfOk, IfSome, IsSome, None, OnOk, Some, length, option_map, true};
 ghost use Rattle.std.specs.List.{Contains};
 ghost use Rattle.std.specs.Result.{result_map_both};
 ghost use Rattle.spv_plans.specs.Plans.{functions_in, plan_of};
-ghost use Rattle.spv_index.specs.Definitions.{at, result_type};
+ghost use Rattle.spv_index.specs.Definitions.{at};
 ghost use Rattle.spv_sites.specs.Sites as spec;
+ghost use Rattle.spv_sites.specs.Fits.{IsOfType};
+ghost use Rattle.spv_sites.specs.Planned as planned;
+ghost use Rattle.spv_sites.specs.Planned.{IsGained, gained};
 ghost use Rattle.spv_sites.specs.Sites.{Asks, Finds, is_data_at};
 ghost use Rattle.spv_state.specs.Events.{IsReadable, passed};
 ghost use Rattle.spv_state.specs.Predecoded.{IsNamedAt, IsReadAt};
 ghost use Rattle.spv_state.specs.Sound.{IsSound};
 ghost use Rattle.spv_state.specs.State as state;
+ghost use Rattle.spv_state.specs.State.{State};
 ghost use Rattle.spv_operands.specs.Operands.{IsPlain, pointer_of, referred, shown};
 ghost use Rattle.spv_operands.specs.Values.{pointer_to};
 ghost use Rattle.spv_results.specs.Operands.{IsOperand};
 
 use crate::causes::Cause;
+use crate::effects::{Gain, Taken};
 use spv_base::{Fail, Inst, NoMemory, Pointer, Root};
 use spv_effects::resize;
 use spv_frame::{Frame, Plan};
@@ -108,6 +113,27 @@ pub fn copied(part: &Part, row: &mut Row) -> Result<(), NoMemory>
     resize(row, part.cells().len())?;
     spv_effects::copy(part, row);
     Ok(())
+}
+
+/// What an operand stands for: a value is copied into the row.
+pub fn given(alloc: Global, operand: &Operand, row: &mut Row) -> Result<Gain, NoMemory>
+    requires { IsPlain operand.now }
+    ensures value { IfOk result (λ gain. gained gain row.new ≡ Some (shown operand.now)) }
+    ensures taken { (s : State) (inv : ℕ) → IfOk result (λ gain. IsGained s inv None gain row.new) }
+{
+    match operand.part() {
+        Some(part) => {
+            copied(&part, row)?;
+            Ok(Gain::Row)
+        }
+        None => match operand.pointer(alloc) {
+            Some(reference) => {
+                let pointer = owned(alloc, reference)?;
+                Ok(Gain::Pointer(Box::new(alloc, pointer)?))
+            }
+            None => unreachable!(),
+        },
+    }
 }
 
 impl<'a> Site<'a> {
@@ -322,17 +348,39 @@ impl<'a> Site<'a> {
         )
     }
 
-    /// The value of an id whose type is no pointer type. F4 where it has none.
-    pub fn datum_with(&self, id: u32) -> Result<Datum<'a>, Fail<Cause>>
-        requires { spec.is_data self.now.program.accepted.types (result_type self.now.program.accepted.insts id) ≡ true }
-        ensures { Finds (spec.value_with self.now id) result }
+    /// What an id stands for, a value or a pointer. F4 where it has none.
+    pub fn operand_with(&self, id: u32) -> Result<Operand<'a>, Fail<Cause>>
+        ensures value { Finds (spec.value_with self.now id) (result_map_both shown (λ e. e) result) }
+        ensures plain { IfOk result IsPlain }
+        ensures shape { IfOk result (λ o. IsOfType self.now.program.accepted id (shown o)) }
     {
         operands_have_shapes();
         self.is_reached();
         let _insts = self.accepted().insts();
-        let Some(operand) = self.found_by(id)? else {
-            return Err(Fail::Refused(Cause::NoValue));
-        };
-        Ok(Datum { operand })
+        match self.found_by(id)? {
+            Some(operand) => Ok(operand),
+            None => Err(Fail::Refused(Cause::NoValue)),
+        }
+    }
+
+    /// What an operand stands for, owned.
+    pub fn taken(&self, operand: &Operand) -> Result<Taken, NoMemory>
+        requires { IsPlain operand.now }
+        ensures value { IfOk result (λ t. planned.taken t ≡ shown operand.now) }
+        ensures plain { IfOk result planned.IsPlain }
+    {
+        match operand.part() {
+            Some(part) => {
+                let row = Row::of_part(self.alloc, &part)?;
+                Ok(Taken::Value(row))
+            }
+            None => match operand.pointer(self.alloc) {
+                Some(reference) => {
+                    let pointer = owned(self.alloc, reference)?;
+                    Ok(Taken::Pointer(pointer))
+                }
+                None => unreachable!(),
+            },
+        }
     }
 }

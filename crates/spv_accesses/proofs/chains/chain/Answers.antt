@@ -11,14 +11,15 @@ use Rattle.spv_sites.specs.Effects.{gives}
 use Rattle.spv_sites.specs.Fits.{Fits}
 use Rattle.spv_sites.specs.Sites.{values}
 use Rattle.spv_sites.proofs.Exports.{no_value_due, outside_due, site_root}
-use Rattle.spv_accesses.proofs.ChainLemmas.{chain_data, chain_fails, chain_fits, chain_gives, chain_missing, chain_without}
-use Rattle.spv_accesses.proofs.ChainRoots.{chain_rooted, chain_typed}
+use Rattle.spv_accesses.proofs.ChainLemmas.{chain_fails, chain_fits, chain_gives, chain_missing, chain_without, indexes_data}
+use Rattle.spv_accesses.proofs.ChainRoots.{base_typed, chain_rooted}
 use Rattle.spv_results.specs.Operands.{known}
 use Rattle.spv_state.specs.State.{frames_of}
 use Rattle.spv_accesses.proofs.chains.chain.Goals as goal
 
-pub indexes-requires : goal.indexes-requires
-indexes-requires c = chain_data c.args.site.now.program.accepted c.args.site.now.inst c.chain_is_kept.ensures.rule
+pub indexes_from-requires : goal.indexes_from-requires
+indexes_from-requires c =
+    let kept = c.chain_is_kept.ensures.rule in indexes_data c.args.site.now.program.accepted c.args.site.now.inst 1 kept.0 kept.2
 
 pub returns-in_err-base-clause-due : goal.returns-in_err-base-clause-due
 returns-in_err-base-clause-due c = λ v.
@@ -53,7 +54,8 @@ returns-clause-fits c = λ v.
     let fits = chain_fits c.operands_have_shapes.ensures.values c.operands_have_shapes.ensures.pointers c.constants_are_meant.ensures c.args.site.now c.accepted.result.now c.accepted.ensures c.insts-insts.ensures.accepted sound valid
     c.is_reached.ensures c.chain_is_kept.ensures.rule (shown c.in_ok-base.base) c.in_ok-base.ensures.shape c.as_slice.result.now (c.in_ok-indexes.ensures ∙ ap Ok (sym cells)) c.in_ok-pointer.pointer c.in_ok-pointer.ensures in
     let base = shown c.in_ok-base.base in
-    let type = chain_typed (known c.args.site.now.program.accepted) c.args.site.now.inst c.chain_is_kept.ensures.rule in
+    let kept = c.chain_is_kept.ensures.rule in
+    let type = base_typed (known c.args.site.now.program.accepted) c.args.site.now.inst kept.0 kept.1 in
     let rooted = chain_rooted c.args.site.now.program.accepted (frames_of c.args.site.now.state c.args.site.now.inv) base c.as_slice.result.now c.in_ok-pointer.pointer
     (λ q is. site_root c.args.site.now 0 type.0 base q c.accepted.result.now c.accepted.ensures c.insts-insts.ensures.accepted c.insts-insts.ensures.valid c.is_reached.ensures c.in_ok-base.ensures.value type.1 is) c.in_ok-pointer.ensures in
     let x = c.args.site.now in

@@ -7,7 +7,8 @@ use Rattle.spv_results.proofs.Exports.{sound_types}
 use Rattle.spv_sites.specs.declared.effects.Gain.TheVariants.{Row}
 use Rattle.spv_actions.proofs.CellLemmas.{gives_cell}
 use Rattle.spv_computing.proofs.Exports.{binary_has, lane_operands}
-use Rattle.spv_sites.proofs.Exports.{computed_due, gain_fits, gain_taken, gain_rooted}
+use Rattle.spv_sites.proofs.Exports.{computed_due, due_by, gain_fits, gain_taken, gain_rooted}
+use Rattle.spv_state.specs.declared.actions.Action.TheVariants.{Compute}
 use Rattle.spv_actions.proofs.cells.binary.Goals as goal
 
 pub read-requires-clause-data : goal.read-requires-clause-data
@@ -27,7 +28,7 @@ returns c =
     let v = c.binary_single-value.result in
     let computes = c.binary_single-value.ensures in
     record {
-      due = computed_due x (computation.Binary c.args.operation) Row v c.requires.computes c.requires.operation computes;
+      due = computed_due x (computation.Binary c.args.operation) Row v (due_by x Compute c.requires.computes) c.requires.operation computes;
       fits = record { store = tt; result = gain_fits x Row v sound computes.1; control = c.is_kept.ensures.next; rooted = gain_rooted x Row v sound computes.1; passed = tt };
       on = gives_cell x v c.args.into.now c.is_reached.ensures c.requires.into (gain_taken x Row v sound computes.1).0;
     }

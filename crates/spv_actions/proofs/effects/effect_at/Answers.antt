@@ -24,6 +24,17 @@ pub returns-in-Chain-clause-taken : goal.returns-in-Chain-clause-taken
 returns-in-Chain-clause-taken c =
     subst (λ (x : Site). IfOk c.chain.result (λ e. IsTaken x.state x.inv e c.args.row.now)) c.of-site.ensures (c.chain.ensures.taken c.args.row.now)
 
+pub returns-in-PtrChain-clause-due : goal.returns-in-PtrChain-clause-due
+returns-in-PtrChain-clause-due c = subst (λ (x : Site). IsDue (due x) c.args.row.now c.ptr_chain.result) c.of-site.ensures (c.ptr_chain.ensures.due c.args.row.now)
+
+pub returns-in-PtrChain-clause-fits : goal.returns-in-PtrChain-clause-fits
+returns-in-PtrChain-clause-fits c =
+    subst (λ (x : Site). PlannedFits x.program x.state x.inv x.inst c.args.row.now c.ptr_chain.result) c.of-site.ensures (c.ptr_chain.ensures.fits c.args.row.now)
+
+pub returns-in-PtrChain-clause-taken : goal.returns-in-PtrChain-clause-taken
+returns-in-PtrChain-clause-taken c =
+    subst (λ (x : Site). IfOk c.ptr_chain.result (λ e. IsTaken x.state x.inv e c.args.row.now)) c.of-site.ensures (c.ptr_chain.ensures.taken c.args.row.now)
+
 pub returns-in-Branch-clause-due : goal.returns-in-Branch-clause-due
 returns-in-Branch-clause-due c = subst (λ (x : Site). IsDue (due x) c.args.row.now c.branch-site.result) c.of-site.ensures (c.branch-site.ensures.due c.args.row.now)
 

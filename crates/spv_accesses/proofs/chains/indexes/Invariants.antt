@@ -1,5 +1,0 @@
-use Rattle.spv_accesses.proofs.ChainLemmas.{Reads}
-use Rattle.spv_accesses.proofs.chains.indexes.Given as goal
-
-abbrev pub invariant-loop-n : goal.invariant-loop-n
-invariant-loop-n l = Reads l.site l.cells.items l.n
