@@ -72,20 +72,20 @@ module _ (p : Program) (s : State) (i : ℕ) (d : Inst) (step : CellStep) (r : I
   frame_is : r.frame ≡ is.frame
   frame_is = let one = r.top in let two = is.top in cc
 
-  pub cell_moves : step_of p s i ≡ Moves (happening_of p.accepted s i d.word (full step.effect)) (apply p.accepted i d (full step.effect) s)
+  pub cell_moves : step_of p s i ≡ Moves (happening_of p s i d.word (full step.effect)) (apply p i d (full step.effect) s)
   cell_moves = reached_step p s i d r ∙ ap (λ (x : Frame). outcome p s i d (effect_of p s i x d)) frame_is ∙ ap (outcome p s i d) is.effect.due
 
   pub cell_weighs : weight_of p s i ≡ effect_weight p s i d (full step.effect)
   cell_weighs = reached_weight p s i d r ∙ ap (λ (x : Frame). result_weight p s i d (effect_of p s i x d)) frame_is ∙ ap (result_weight p s i d) is.effect.due
 
-  pub put_moved : (t : State) → t ≡ put i d.id (full step.effect) s → on_frame i (with_pc step.next) t ≡ apply p.accepted i d (full step.effect) s
+  pub put_moved : (t : State) → t ≡ put i d.id (full step.effect) s → on_frame i (with_pc step.next) t ≡ apply p i d (full step.effect) s
   put_moved t is_put =
       let a = p.accepted in
       let e = full step.effect in
       let top = put_top step.effect s i d.id r.frame r.top in
       let next : reads top.0.pc a.flow.nexts ≡ Some (Some step.next) = ap (λ (n : ℕ). reads n a.flow.nexts) (top.2 ∙ sym (word_is p s i d r)) ∙ is.next in
       ap (on_frame i (with_pc step.next)) is_put ∙ moves_on a (put i d.id e s) i step.next top.0 top.1 next is.silent
-      ∙ ap (λ (c : Control). go a i d.word c (put i d.id e s)) (sym (goes_on step.effect))
+      ∙ ap (λ (c : Control). go p i d.word c (put i d.id e s)) (sym (goes_on step.effect))
 
 -- ---- the event
 
@@ -98,9 +98,9 @@ written_word a i word (Shared id) = by_class (is_written a id)
 written_word a i word (Private id) = refl
 written_word a i word (Local depth id) = refl
 
-happening_word : (a : Accepted) (s : State) (i word : ℕ) (e : CellEffect) → (happening_of a s i word (full e)).word ≡ word
-happening_word a s i word (Gives slot v) = refl
-happening_word a s i word (Sets root v) = written_word a i word root
+happening_word : (p : Program) (s : State) (i word : ℕ) (e : CellEffect) → (happening_of p s i word (full e)).word ≡ word
+happening_word p s i word (Gives slot v) = refl
+happening_word p s i word (Sets root v) = written_word p.accepted i word root
 
 -- it is one of the invocation, whose top frame stands at its word
 pub record StandsFor (s : State) (i : ℕ) (h : Happening) : Type 0 where
@@ -108,10 +108,10 @@ pub record StandsFor (s : State) (i : ℕ) (h : Happening) : Type 0 where
   pub inside : h.inv < length s.stacks
   pub stands : IsSomeAnd (top_of s h.inv) (λ f. f.pc ≡ h.word)
 
-pub stands_for : (p : Program) (s : State) (i : ℕ) (d : Inst) (step : CellStep) (h : Happening) → IsReached p s i d → IsCellStep p s i d step → h ≡ happening_of p.accepted s i step.word (full step.effect) → StandsFor s i h
+pub stands_for : (p : Program) (s : State) (i : ℕ) (d : Inst) (step : CellStep) (h : Happening) → IsReached p s i d → IsCellStep p s i d step → h ≡ happening_of p s i step.word (full step.effect) → StandsFor s i h
 stands_for p s i d step h r is happens =
-    let inv : h.inv ≡ i = ap (λ (x : Happening). x.inv) happens ∙ happening_inv p.accepted s i step.word (full step.effect) in
-    let word : h.word ≡ step.word = ap (λ (x : Happening). x.word) happens ∙ happening_word p.accepted s i step.word step.effect in
+    let inv : h.inv ≡ i = ap (λ (x : Happening). x.inv) happens ∙ happening_inv p s i step.word (full step.effect) in
+    let word : h.word ≡ step.word = ap (λ (x : Happening). x.word) happens ∙ happening_word p s i step.word step.effect in
     let here : is.frame.pc ≡ h.word = word_at p s i d is.frame r is.top ∙ sym is.word ∙ sym word in
     record {
       inv = inv;
@@ -123,15 +123,14 @@ stands_for p s i d step h r is happens =
 pub of_top : (P : Frame → Type 0) (s : State) (i j : ℕ) (f : Frame) → j ≡ i → top_of s i ≡ Some f → P f → IsSomeAnd (top_of s j) P
 of_top P s i j f same is holds = subst (λ (n : ℕ). IsSomeAnd (top_of s n) P) (sym same) (subst (λ (o : Option Frame). IsSomeAnd o P) (sym is) holds)
 
-pub cell_made : (p : Program) (old new : Recorded) (i : ℕ) (d : Inst) (step : CellStep) (h : Happening) → IsReached p old.state i d → IsCellStep p old.state i d step → h ≡ happening_of p.accepted old.state i step.word (full step.effect)
+pub cell_made : (p : Program) (old new : Recorded) (i : ℕ) (d : Inst) (step : CellStep) (h : Happening) → IsReached p old.state i d → IsCellStep p old.state i d step → h ≡ happening_of p old.state i step.word (full step.effect)
     → new.state ≡ on_frame h.inv (with_pc step.next) (put h.inv d.id (full step.effect) old.state) → KeepsEvent 2 h old new
-    → Made (happening_of p.accepted old.state i d.word (full step.effect)) (apply p.accepted i d (full step.effect) old.state) (effect_weight p old.state i d (full step.effect)) (Ok (Moved h)) old new
+    → Made (happening_of p old.state i d.word (full step.effect)) (apply p i d (full step.effect) old.state) (effect_weight p old.state i d (full step.effect)) (Ok (Moved h)) old new
 cell_made p old new i d step h r is happens reaches kept =
-    let a = p.accepted in
     let s = old.state in
     let e = full step.effect in
     let inv = (stands_for p s i d step h r is happens).inv in
-    let same : h ≡ happening_of a s i d.word e = happens ∙ ap (λ (n : ℕ). happening_of a s i n e) is.word in
+    let same : h ≡ happening_of p s i d.word e = happens ∙ ap (λ (n : ℕ). happening_of p s i n e) is.word in
     let few = kept.few in
     let fits : 4 ≤ effect_weight p s i d e = omega arith in (
       same,

@@ -44,19 +44,19 @@ arrival_kind : (b : Bool) → is_idle (cond b Opened Arrive) ≡ false
 arrival_kind true = refl
 arrival_kind false = refl
 
-control_moves : (i word : ℕ) (s : State) (h : Happening) (k : Control) → IsMove i h → IsMove i (by_control i word s h k)
-control_moves i word s h Next is = is
-control_moves i word s h (Jump block phis) is = record { inv = refl; moves = refl }
-control_moves i word s h (Enter frame es) is = record { inv = refl; moves = refl }
-control_moves i word s h (Leave v) is = record { inv = refl; moves = refl }
-control_moves i word s h Wait is = record { inv = refl; moves = arrival_kind (opens word (arrived i word s)) }
+control_moves : (p : Program) (i word : ℕ) (s : State) (h : Happening) (k : Control) → IsMove i h → IsMove i (by_control p i word s h k)
+control_moves p i word s h Next is = is
+control_moves p i word s h (Jump block phis) is = record { inv = refl; moves = refl }
+control_moves p i word s h (Enter frame es) is = record { inv = refl; moves = refl }
+control_moves p i word s h (Leave v) is = record { inv = refl; moves = refl }
+control_moves p i word s h Wait is = record { inv = refl; moves = arrival_kind (opens p word (arrived i word s)) }
 
-pub happening_moves : (a : Accepted) (s : State) (i word : ℕ) (e : Effect) → IsMove i (happening_of a s i word e)
-happening_moves a s i word e = control_moves i word s (stored_at a i word e.store) e.control (stored_moves a i word e.store)
+pub happening_moves : (p : Program) (s : State) (i word : ℕ) (e : Effect) → IsMove i (happening_of p s i word e)
+happening_moves p s i word e = control_moves p i word s (stored_at p.accepted i word e.store) e.control (stored_moves p.accepted i word e.store)
 
 -- the event of an effect is one of the invocation that does it
-pub happening_inv : (a : Accepted) (s : State) (i word : ℕ) (e : Effect) → (happening_of a s i word e).inv ≡ i
-happening_inv a s i word e = (happening_moves a s i word e).inv
+pub happening_inv : (p : Program) (s : State) (i word : ℕ) (e : Effect) → (happening_of p s i word e).inv ≡ i
+happening_inv p s i word e = (happening_moves p s i word e).inv
 
 -- ---- what a step does
 
@@ -66,7 +66,7 @@ IsMoved i (Moves h t) = IsMove i h
 IsMoved i _ = Unit {0}
 
 outcome_moves : (p : Program) (s : State) (i : ℕ) (d : Inst) (r : Result Effect Cause) → IsMoved i (outcome p s i d r)
-outcome_moves p s i d (Ok e) = happening_moves p.accepted s i d.word e
+outcome_moves p s i d (Ok e) = happening_moves p s i d.word e
 outcome_moves p s i d (Err cause) = tt
 
 inst_moves : (p : Program) (s : State) (i : ℕ) (f : Frame) (d : Option Inst) → IsMoved i (at_inst p s i f d)

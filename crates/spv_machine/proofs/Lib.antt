@@ -12,6 +12,7 @@ mod LeaveLemmas
 mod Phis
 mod Applied
 mod StatusSteps
+mod FinishLemmas
 mod DefaultLemmas
 mod SingleLemmas
 mod WeightLemmas

@@ -1,6 +1,7 @@
 -- An instruction stays reached while its effect is done.
-use Rattle.std.proofs.Common.{◌≡◌, ◌∙◌, ℕ, ◌-◌, ◌<◌, List, [], Option, Some, None, length, slice_get, refl, sym, ap, subst, arith, rules}
+use Rattle.std.proofs.Common.{◌≡◌, ◌∙◌, ℕ, ◌-◌, ◌<◌, List, [], ◌∷◌, Option, Some, None, length, slice_get, refl, sym, ap, subst, arith, rules}
 use Rattle.std.proofs.lemmas.Option.{slice_get_within}
+use Rattle.std.specs.List.{AllByRecursion}
 use Rattle.std.specs.Option.{option_map, option_map_or}
 use Rattle.spv_base.specs.Entries.{change}
 use Rattle.spv_base.specs.Cell.{Cell}
@@ -23,19 +24,20 @@ use Rattle.spv_sites.specs.Effects.{Leave}
 use Rattle.spv_sites.specs.Fits.{LevelFits, ResultFits, ResultRooted, StoreFits}
 use Rattle.spv_sites.specs.Planned.{IsGained, IsGiven, gained, gone}
 use Rattle.spv_sites.specs.declared.effects.Control.{Control as CodeControl}
-use Rattle.spv_sites.specs.declared.effects.Control.TheVariants.{Next as CodeNext, Jump as CodeJump, Enter as CodeEnter, Leave as CodeLeave, Give as CodeGive, Wait as CodeWait}
+use Rattle.spv_sites.specs.declared.effects.Control.TheVariants.{Next as CodeNext, Jump as CodeJump, Enter as CodeEnter, Leave as CodeLeave, Wait as CodeWait}
 use Rattle.spv_sites.specs.declared.effects.Gain.{Gain}
 use Rattle.spv_sites.specs.declared.effects.Gain.TheVariants.{Nothing, Row, Pointer as PointerTo, Handed}
 use Rattle.spv_sites.proofs.Exports.{RegisterFits, register_kept, register_stays, register_rooted}
 use Rattle.spv_state.specs.Program.{Program}
+use Rattle.spv_state.specs.Roots.{IsRoot}
 use Rattle.spv_state.specs.Sound.{StandsAs}
 use Rattle.spv_state.specs.State.{State, frames_of, on_frame, on_frames, put_store, top_of, with_register}
-use Rattle.spv_state.proofs.Exports.{IsKnown, known_as, Stood, stand_inst, stood}
-use Rattle.spv_machine.specs.Reached.{IsHeld, IsReached}
+use Rattle.spv_state.proofs.Exports.{IsKnown, known_as, Stood, ids_changed, root_stays, stand_inst, stood}
+use Rattle.spv_machine.specs.Reached.{IsCarried, IsHeld, IsReached}
 use Rattle.spv_machine.specs.Step.{put_result}
 use Rattle.spv_machine.proofs.SoundBarriers.{word_within}
 use Rattle.spv_machine.proofs.SoundControl.{frame_kept}
-use Rattle.spv_machine.proofs.SoundStacks.{top_kept}
+use Rattle.spv_machine.proofs.SoundStacks.{frames_are, top_kept}
 use Rattle.spv_machine.proofs.SoundStores.{store_kept}
 
 -- ---- the store
@@ -66,14 +68,21 @@ held_behind s i (Some q) (Handed c) v w taken same handed =
     let is : w ≡ Scalar c = cc in
     (is, refl)
 
--- what a function gives is the same behind the store and the result
-pub given_behind : (control : CodeControl) (store : Option Pointer) (gain : Gain) (v w x : Value) → IsGiven control store gain → (store ≡ None → w ≡ v) → (gain ≡ Nothing → x ≡ w) → gone control x ≡ gone control v
-given_behind CodeNext store gain v w x given one other = refl
-given_behind (CodeJump block phis) store gain v w x given one other = refl
-given_behind (CodeEnter b) store gain v w x given one other = refl
-given_behind CodeLeave store gain v w x given one other = refl
-given_behind CodeGive store gain v w x given one other = ap (λ (y : Value). Leave (Some y)) (other given.1 ∙ one given.0)
-given_behind CodeWait store gain v w x given one other = refl
+-- what a function gives is the same behind the store and the result, and lies in the row
+module _ (s : State) (i : ℕ) (store : Option Pointer) (gain : Gain) (v w x : Value) where
+  pub given_behind : (control : CodeControl) → IsGiven s i control store gain v → (store ≡ None → w ≡ v) → (gain ≡ Nothing → x ≡ w) → gone control x ≡ gone control v
+  given_behind CodeNext given one other = refl
+  given_behind (CodeJump block phis) given one other = refl
+  given_behind (CodeEnter b) given one other = refl
+  given_behind (CodeLeave out) given one other = ap (λ (y : Value). Leave (gained out y)) (other given.1 ∙ one given.0)
+  given_behind CodeWait given one other = refl
+
+  pub carried_behind : (control : CodeControl) → IsGiven s i control store gain v → (store ≡ None → w ≡ v) → (gain ≡ Nothing → x ≡ w) → IsCarried control x
+  carried_behind CodeNext given one other = tt
+  carried_behind (CodeJump block phis) given one other = given
+  carried_behind (CodeEnter b) given one other = tt
+  carried_behind (CodeLeave out) given one other = subst (IsHeld out) (sym (other given.1 ∙ one given.0)) (held_behind s i None out v v given.2 (λ e. refl) (λ q e. absurd (cc))).0
+  carried_behind CodeWait given one other = tt
 
 -- a value that a register takes from the row is no pointer
 pub scalar_plain : (v : Value) (c : Cell) → v ≡ Scalar c → pointer_in (out-Value v) ≡ None
@@ -82,7 +91,7 @@ scalar_plain v c is = search (rules, the_lemmas)
 -- ---- the register
 
 -- a value that is no pointer has the shape of data
-plain_shape : (a : Accepted) (ty : ℕ) (v : Value) (level : Value-F Value) → LevelFits a ty v level → pointer_in level ≡ None → HasShape a.types no_roots ty v
+pub plain_shape : (a : Accepted) (ty : ℕ) (v : Value) (level : Value-F Value) → LevelFits a ty v level → pointer_in level ≡ None → HasShape a.types no_roots ty v
 plain_shape a ty v (Value-F.Scalar c) fits plain = fits
 plain_shape a ty v (Value-F.List vs) fits plain = fits
 plain_shape a ty v (Value-F.Ptr q) fits plain = absurd (cc)
@@ -112,9 +121,18 @@ frames_changed s i g = ap (λ (o : Option Stacked). option_map_or (λ (k : Stack
     by_stack None = refl
     by_stack (Some k) = refl
 
--- the frames of an invocation with a stack
-frames_are : (s : State) (i : ℕ) (k : Stacked) → slice_get s.stacks i ≡ Some k → frames_of s i ≡ k.frames
-frames_are s i k at = ap (λ (o : Option Stacked). option_map_or (λ (x : Stacked). x.frames) o []) at
+-- what a register takes is there behind a change of the top frame
+pub result_stays : (a : Accepted) (g : Frame → Frame) (fs : List Frame) (o : Option Value) → ((f : Frame) → (g f).plan ≡ f.plan) → ResultRooted a fs o → ResultRooted a (on_top g fs) o
+result_stays a g fs None plan h = tt
+result_stays a g fs (Some v) plan h = λ q is.
+    subst (λ (n : ℕ). IsRoot a (on_top g fs) (n - 1) q.root) (sym (length_change (length fs - 1) g fs))
+    (root_stays a fs (on_top g fs) (length fs - 1) q.root (λ n le. ids_changed a g (length fs - 1) n fs plan) (h q is))
+
+-- and so is what each phi takes
+pub phis_stay : (a : Accepted) (g : Frame → Frame) (fs : List Frame) (rs : List (ℕ × Value)) → ((f : Frame) → (g f).plan ≡ f.plan) → AllByRecursion (λ (r : ℕ × Value). ResultRooted a fs (Some r.1)) rs
+    → AllByRecursion (λ (r : ℕ × Value). ResultRooted a (on_top g fs) (Some r.1)) rs
+phis_stay a g fs [] plan h = tt
+phis_stay a g fs (r ∷ rs) plan h = (result_stays a g fs (Some r.1) plan h.0, phis_stay a g fs rs plan h.1)
 
 module _ (p : Program) (known : IsKnown p.accepted) where
   -- the type of its register is that of its result

@@ -6,7 +6,11 @@ use Rattle.spv_base.specs.declared.happenings.Happening.{Happening}
 use Rattle.spv_base.specs.declared.instructions.Inst.{Inst}
 use Rattle.spv_base.specs.declared.values.Pointer.{Pointer}
 use Rattle.spv_base.specs.declared.values.Value.{Value}
-use Rattle.spv_sites.specs.Effects.{Control, Effect, Next, Jump, Enter, Leave, Wait}
+use Rattle.spv_sites.specs.Effects.{Effect}
+use Rattle.spv_sites.specs.Planned.{IsGiven, IsTaken, gone, shown}
+use Rattle.spv_sites.specs.declared.effects.Control.{Control as CodeControl}
+use Rattle.spv_sites.specs.declared.effects.Control.TheVariants.{Next as CodeNext, Jump as CodeJump, Enter as CodeEnter, Leave as CodeLeave, Wait as CodeWait}
+use Rattle.spv_sites.specs.declared.effects.Effect.{Effect as CodeEffect}
 use Rattle.spv_journal.specs.Events.{Event, fitting, newest, older, opened, size_of}
 use Rattle.spv_journal.specs.Held.{Held as Recorded, IsMaking, Records, changes_in, marked, past_of, sealed, unwound}
 use Rattle.spv_journal.specs.Undo.{Moment, before, past}
@@ -148,27 +152,34 @@ store_few : (o : Option (Pointer × Value)) → store_entries o ≤ 1 + leaves_i
 store_few None = omega arith
 store_few (Some e) = omega arith
 
-turns_few : (c : Control) → turns c ≤ 2
-turns_few Next = omega arith
-turns_few (Jump block phis) = omega arith
-turns_few (Enter frame es) = omega arith
-turns_few (Leave v) = omega arith
-turns_few Wait = omega arith
+-- a return stores nothing
+pub turns_few : (s : State) (i : ℕ) (e : CodeEffect) (v : Value) → IsTaken s i e v → store_entries (shown e v).store + turns (shown e v).control ≤ 3 + leaves_in (shown e v).store
+turns_few s i e v taken = by_control e.control taken.1
+  where
+    few : store_entries (shown e v).store ≤ 1 + leaves_in (shown e v).store
+    few = store_few (shown e v).store
+
+    by_control : (c : CodeControl) → IsGiven s i c e.store e.gain v → store_entries (shown e v).store + turns (gone c v) ≤ 3 + leaves_in (shown e v).store
+    by_control CodeNext given = omega (arith, few)
+    by_control (CodeJump block phis) given = omega (arith, few)
+    by_control (CodeEnter b) given = omega (arith, few)
+    by_control (CodeLeave out) given =
+        let none : store_entries (shown e v).store ≡ 0 = ap (λ (o : Option Pointer). store_entries (option_map (λ (q : Pointer). (q, v)) o)) given.0 in
+        omega (arith, none)
+    by_control CodeWait given = omega (arith, few)
 
 -- the entries of an effect with its mark are no more than its weight
-pub effect_fits : (p : Program) (s : State) (i : ℕ) (d : Inst) (e : Effect) → IsSingleBack p s i d e → suc (effect_entries p.accepted i e (apply p.accepted i d e s)) ≤ effect_weight p s i d e
-effect_fits p s i d e single = by_back (puts_back p s i d e) refl
+pub effect_fits : (p : Program) (s : State) (i : ℕ) (d : Inst) (e : Effect) → store_entries e.store + turns e.control ≤ 3 + leaves_in e.store → IsSingleBack p s i d e
+    → suc (effect_entries p.accepted i e (apply p i d e s)) ≤ effect_weight p s i d e
+effect_fits p s i d e turning single = by_back (puts_back p s i d e) refl
   where
     few : store_entries e.store ≤ 1 + leaves_in e.store
     few = store_few e.store
 
-    more : turns e.control ≤ 2
-    more = turns_few e.control
-
     by_back : (b : Bool) → puts_back p s i d e ≡ b
-        → suc (store_entries e.store + taking e.result + control_entries p.accepted i e.control (apply p.accepted i d e s))
-        ≤ 4 + (if b then 0 else leaves_in e.store) + taking e.result + registers_set e.control + events_appended p.accepted i e.control (apply p.accepted i d e s)
-    by_back false is = omega (arith, few, more)
+        → suc (store_entries e.store + taking e.result + control_entries p.accepted i e.control (apply p i d e s))
+        ≤ 4 + (if b then 0 else leaves_in e.store) + taking e.result + registers_set e.control + events_appended p.accepted i e.control (apply p i d e s)
+    by_back false is = omega (arith, turning)
     by_back true is =
         let one = single is in
         let low : leaves_in e.store ≤ 1 = one.leaves in

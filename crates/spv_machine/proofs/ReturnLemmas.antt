@@ -5,43 +5,40 @@ use Rattle.std.specs.Option.{option_and_then, option_map_or}
 use Rattle.spv_base.specs.Entries.{reads}
 use Rattle.spv_base.specs.Variables.{Roots}
 use Rattle.spv_base.specs.declared.instructions.Inst.{Inst}
-use Rattle.spv_base.specs.declared.values.Value.{Value, out-Value}
+use Rattle.spv_base.specs.declared.values.Value.{Value}
 use Rattle.spv_index.specs.Classes.{sets_of}
 use Rattle.spv_index.specs.Definitions.{at, result_type}
 use Rattle.spv_index.specs.Operands.{id_operand}
-use Rattle.spv_types.specs.Shapes.{pointer_in}
 use Rattle.spv_types.specs.Types.{Types}
 use Rattle.spv_mem.specs.Memory.{AreVariables, HasRoom, Levels}
 use Rattle.spv_valid.specs.Acceptance.{Accepted}
 use Rattle.spv_frame.specs.Frames.{Held as Frame}
 use Rattle.spv_frame.specs.Stacks.{Stacked, top}
-use Rattle.spv_statuses.specs.declared.invocations.Status.TheVariants.{Ready, Finished}
+use Rattle.spv_statuses.specs.declared.invocations.Status.TheVariants.{Ready}
 use Rattle.spv_sites.specs.Fits.{EnterFits, LeaveFits, ResultFits, ResultRooted}
-use Rattle.spv_sites.proofs.Exports.{plain_rooted}
 use Rattle.spv_state.specs.Program.{Program}
 use Rattle.spv_state.specs.Sound.{IsCallOf, IsSoundFrame, IsSoundStack, StandsIn}
-use Rattle.spv_state.specs.State.{State, pop_frame, set_status, top_of, without_last}
-use Rattle.spv_state.proofs.Exports.{stood}
+use Rattle.spv_state.specs.State.{State, pop_frame, top_of, without_last}
+use Rattle.spv_state.proofs.Exports.{root_anywhere, stood}
 use Rattle.spv_machine.specs.Reached.{IsReached}
-use Rattle.spv_machine.specs.Step.{go_on, leave, put_result, resume}
+use Rattle.spv_machine.specs.Step.{finish, go_on, leave, put_result, resume}
 use Rattle.spv_machine.proofs.CallTypes.{call_goes, call_to}
 use Rattle.spv_machine.proofs.SoundCalls.{Below, below, has_levels, has_room, popped_sound, popped_top}
 use Rattle.spv_machine.proofs.SoundControl.{stands_before}
-use Rattle.spv_machine.proofs.SoundJumps.{type_fits}
 use Rattle.spv_machine.proofs.ReachedLemmas.{Facts, word_is}
 use Rattle.spv_base.proofs.Exports.{element_at}
 
 -- a function that gives a value of its type to a call gives one of the call's type
 given_fits : (a : Accepted) (d c : Inst) (function : ℕ) (o : Option Value) → StandsIn a function d.word → result_type a.insts function ≡ Some c.ty → LeaveFits a d o → ResultFits a c o
 given_fits a d c function None stands typed fits = tt
-given_fits a d c function (Some v) stands typed fits = let of_type = fits function stands in type_fits a function v of_type c.ty typed
+given_fits a d c function (Some v) stands typed fits = fits function stands c.ty typed
 
 -- the call that the frame below stands at, once the top one is left
 pub record CalledBy (p : Program) (s : State) (i : ℕ) (d : Inst) (c : Inst) : Type 0 where
   pub reached : IsReached p (pop_frame i s) i c
   pub next : (word : ℕ) × (reads c.word p.accepted.flow.nexts ≡ Some (Some word))
   pub fits : (o : Option Value) → LeaveFits p.accepted d o → ResultFits p.accepted c o
-  pub leaves : (o : Option Value) → leave p.accepted i o s ≡ go_on p.accepted i (put_result i c.id o (pop_frame i s))
+  pub leaves : (o : Option Value) → leave p i o s ≡ go_on p.accepted i (put_result i c.id o (pop_frame i s))
 
 abbrev pub LeftAt : Program → State → ℕ → Option Inst
 LeftAt p s i = option_and_then (λ (f : Frame). at p.accepted.insts f.pc) (top_of (pop_frame i s) i)
@@ -77,7 +74,7 @@ module _ (p : Program) (known : Facts p.accepted) (s : State) (i : ℕ) (d : Ins
         reached = record { sound = popped_sound p s i r.sound r.ready f is; ready = r.ready; frame = f; top = is; at = here };
         next = (next.0, ap (λ (n : ℕ). reads n a.flow.nexts) word ∙ next.1);
         fits = λ o fits. given_fits a d c r.frame.plan.function o stands typed fits;
-        leaves = λ o. ap (resume a i o (pop_frame i s)) is ∙ ap (λ (x : Option Inst). go_on a i (put_result i (option_map_or (λ (e : Inst). e.id) x 0) o (pop_frame i s))) here;
+        leaves = λ o. ap (resume p i o (pop_frame i s)) is ∙ ap (λ (x : Option Inst). go_on a i (put_result i (option_map_or (λ (e : Inst). e.id) x 0) o (pop_frame i s))) here;
       }
 
   -- it stands at an instruction
@@ -103,23 +100,17 @@ module _ (p : Program) (known : Facts p.accepted) (s : State) (i : ℕ) (d : Ins
       by_top None e g = refl
       by_top (Some f) e g = let there = stands_somewhere f e in let found = there.1 in absurd (cc)
 
-  pub left_finished : (o : Option Value) → LeftAt p s i ≡ None → leave p.accepted i o s ≡ set_status i Finished (pop_frame i s)
-  left_finished o h = ap (resume p.accepted i o (pop_frame i s)) (left_all h)
+  pub left_finished : (o : Option Value) → LeftAt p s i ≡ None → leave p i o s ≡ finish p i (pop_frame i s)
+  left_finished o h = ap (resume p i o (pop_frame i s)) (left_all h)
 
   -- the top frame is sound
   pub own_frame : IsSoundFrame p.accepted r.frame
   own_frame = let own = own_stack in own.4.frames (length own.0.frames - 1) r.frame own.5
 
--- what a function gives is no pointer
-pub given_plain : (p : Program) → Facts p.accepted → (s : State) (i : ℕ) (d : Inst) (v : Value) → IsReached p s i d → LeaveFits p.accepted d (Some v) → pointer_in (out-Value v) ≡ None
-given_plain p known s i d v r fits =
-    let own = own_frame p known s i d r in
-    (fits r.frame.plan.function (subst (StandsIn p.accepted r.frame.plan.function) (sym (word_is p s i d r)) own.stands)).plain
-
--- so no pointer is given
-pub given_rooted : (p : Program) → Facts p.accepted → (s : State) (i : ℕ) (d : Inst) (o : Option Value) → IsReached p s i d → LeaveFits p.accepted d o → (fs : List Frame) → ResultRooted p.accepted fs o
-given_rooted p known s i d None r fits fs = tt
-given_rooted p known s i d (Some v) r fits fs = plain_rooted p.accepted fs v (given_plain p known s i d v r fits)
+-- a pointer that a function gives names a variable outside functions, which is there for the caller too
+pub given_rooted : (a : Accepted) (o : Option Value) (fs : List Frame) → ResultRooted a [] o → ResultRooted a fs o
+given_rooted a None fs h = tt
+given_rooted a (Some v) fs h = λ q is. root_anywhere a fs (length fs - 1) q.root (h q is)
 
 -- ---- room for a call
 

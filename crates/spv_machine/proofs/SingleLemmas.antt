@@ -10,8 +10,8 @@ use Rattle.spv_base.specs.declared.values.Value.{Value}
 use Rattle.spv_ops.specs.Steps.{◌>>=◌}
 use Rattle.spv_types.proofs.Exports.{leaves_scalar}
 use Rattle.spv_frame.specs.Frames.{Held as Frame}
-use Rattle.spv_sites.specs.Atomics.{atomic_row, compared_cell, exchanges, first_of_three, scalar, target}
-use Rattle.spv_sites.specs.Effects.{Effect, operand}
+use Rattle.spv_sites.specs.Atomics.{atomic_row, compared_cell, exchanges, first_of_three, target}
+use Rattle.spv_sites.specs.Effects.{Effect, operand, scalar}
 use Rattle.spv_sites.specs.Instructions.{effect_of, row}
 use Rattle.spv_sites.specs.Planned.{IsDue, shown}
 use Rattle.spv_sites.specs.declared.causes.Cause.{Cause}

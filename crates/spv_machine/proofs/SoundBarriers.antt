@@ -1,12 +1,10 @@
 -- Arrivals at barriers leave a sound state: an invocation that waits at a barrier, or has passed it, stands there.
-use Rattle.std.proofs.Common.{◌≡◌, ◌∙◌, ◌↔◌, ℕ, zero, suc, ◌-◌, ◌<◌, ◌≤◌, Bool, true, false, List, [], ◌∷◌, Option, Some, None, length, length-set, replicate, slice_get, slice_set, refl, sym, ap, subst, arith}
+use Rattle.std.proofs.Common.{◌≡◌, ◌∙◌, ◌↔◌, ℕ, zero, suc, ◌-◌, ◌<◌, ◌≤◌, Bool, true, false, List, [], ◌∷◌, Option, Some, None, length, length-set, map, slice_get, slice_set, refl, sym, ap, subst, arith}
 use Rattle.std.proofs.Math.Logic.{∥∥₁_elim}
 use Rattle.std.proofs.Props.{props}
-use Rattle.std.proofs.lemmas.Bool.{and_parts}
-use Rattle.std.proofs.lemmas.List.{length-replicate}
+use Rattle.std.proofs.lemmas.List.{length-map}
 use Rattle.std.proofs.lemmas.Option.{slice_get_within}
 use Rattle.std.specs.Prelude.{if◌then◌else◌}
-use Rattle.std.specs.List.{list_all}
 use Rattle.std.specs.Option.{option_map_or}
 use Rattle.spv_base.specs.Entries.{change}
 use Rattle.spv_base.specs.Order.{Ascend}
@@ -15,8 +13,8 @@ use Rattle.spv_index.specs.Definitions.{at}
 use Rattle.spv_mem.specs.Memory.{Levels}
 use Rattle.spv_frame.specs.Frames.{Held as Frame}
 use Rattle.spv_frame.specs.Stacks.{Stacked, top}
-use Rattle.spv_statuses.specs.Group.{all_wait_at}
-use Rattle.spv_statuses.specs.Invocations.{waits_at}
+use Rattle.spv_statuses.specs.Group.{first_waiting}
+use Rattle.spv_statuses.specs.Invocations.{once_opened}
 use Rattle.spv_statuses.specs.declared.invocations.Status.{Status}
 use Rattle.spv_statuses.specs.declared.invocations.Status.TheVariants.{Ready, Arrived, Passed, Finished}
 use Rattle.spv_valid.specs.Acceptance.{Accepted, IsAccepted}
@@ -24,7 +22,7 @@ use Rattle.spv_state.specs.Program.{Program, words_of}
 use Rattle.spv_state.specs.Sound.{IsBarrier, IsSound, IsSoundStack, StandsAs}
 use Rattle.spv_state.specs.State.{State, open_barrier, set_status, top_of}
 use Rattle.spv_state.proofs.Exports.{change_none, set_is_change, Stood, stand_inst, stood, top_at}
-use Rattle.spv_machine.specs.Step.{arrive, arrived, opens}
+use Rattle.spv_machine.specs.Step.{arrive, arrived, finish, finished, opened_at, opens}
 use Rattle.spv_machine.proofs.SoundStacks.{AreSoundStacks, one_changed}
 use Rattle.spv_base.proofs.Exports.{element_at}
 
@@ -75,51 +73,54 @@ arrived_sound p s i word own sound ready is here barrier =
 
 -- ---- a barrier that opens
 
-each_passes : {A : Type 0} (test : A → Bool) (xs : List A) (n : ℕ) (x : A) → list_all test xs ≡ true → slice_get xs n ≡ Some x → test x ≡ true
-each_passes test [] n x all h = absurd (cc)
-each_passes test (y ∷ xs) zero x all h = let same : y ≡ x = cc in subst (λ z. test z ≡ true) same (and_parts (test y) (list_all test xs) all).0
-each_passes test (y ∷ xs) (suc n) x all h = each_passes test xs n x (and_parts (test y) (list_all test xs) all).1 h
+mapped : {A B : Type 0} (f : A → B) (xs : List A) (i : ℕ) (y : B) → slice_get (map f xs) i ≡ Some y → (x : A) × (slice_get xs i ≡ Some x) × (f x ≡ y)
+mapped f [] i y h = absurd (cc)
+mapped f (x ∷ xs) zero y h = (x, refl, cc)
+mapped f (x ∷ xs) (suc i) y h = mapped f xs i y h
 
-replicated : {A : Type 0} (n i : ℕ) (x y : A) → slice_get (replicate n x) i ≡ Some y → (y ≡ x) × (i < n)
-replicated zero i x y h = absurd (cc)
-replicated (suc n) zero x y h = let same : x ≡ y = cc in (sym same, omega arith)
-replicated (suc n) (suc i) x y h = let rest = replicated n i x y h in (rest.0, let within = rest.1 in omega arith)
+-- those that waited at it are Passed, and stand at a barrier
+passes_on : (a : Accepted) (t : Status) (k : Stacked) (l : Levels) → IsSoundStack a t k l → IsSoundStack a (once_opened t) k l
+passes_on a Ready k l s = s
+passes_on a (Arrived at) k l s = status_changed a (Arrived at) Passed k l (λ e. absurd (cc), λ e. absurd (cc)) (λ f top_f stands. subst (IsBarrier a) (sym stands.0) stands.1) s
+passes_on a Passed k l s = s
+passes_on a Finished k l s = s
 
-passes_on : (a : Accepted) (word : ℕ) (t : Status) (k : Stacked) (l : Levels) → waits_at word t ≡ true → IsSoundStack a t k l → IsSoundStack a Passed k l
-passes_on a word Ready k l waits s = absurd (cc)
-passes_on a word (Arrived at) k l waits s =
-    status_changed a (Arrived at) Passed k l (λ e. absurd (cc), λ e. absurd (cc)) (λ f top_f stands. subst (IsBarrier a) (sym stands.0) stands.1) s
-passes_on a word Passed k l waits s = absurd (cc)
-passes_on a word Finished k l waits s = absurd (cc)
-
-pub opened_sound : (p : Program) (s : State) (word : ℕ) → IsSound p s → all_wait_at word s.statuses.list ≡ true → IsSound p (open_barrier s)
-opened_sound p s word sound all = record {
+pub opened_sound : (p : Program) (s : State) → IsSound p s → IsSound p (open_barrier s)
+opened_sound p s sound = record {
   plans = sound.plans;
   types = sound.types;
   targets = sound.targets;
   memory = sound.memory;
   words = sound.words;
-  stacks = sound.stacks ∙ sym (length-replicate (length s.statuses.list) Passed);
-  levels = sound.levels ∙ sym (length-replicate (length s.statuses.list) Passed);
-  privates = sound.privates ∙ sym (length-replicate (length s.statuses.list) Passed);
+  stacks = sound.stacks ∙ sym (length-map s.statuses.list once_opened);
+  levels = sound.levels ∙ sym (length-map s.statuses.list once_opened);
+  privates = sound.privates ∙ sym (length-map s.statuses.list once_opened);
   shared = sound.shared;
   own = sound.own;
   each = λ i t k l status stack level.
-      let is = replicated (length s.statuses.list) i Passed t status in
-      let old = element_at s.statuses.list i is.1 in
-      let waits = each_passes (waits_at word) s.statuses.list i old.0 all old.1 in
-      subst (λ (u : Status). IsSoundStack p.accepted u k l) (sym is.0) (passes_on p.accepted word old.0 k l waits (sound.each i old.0 k l old.1 stack level));
+      let old = mapped once_opened s.statuses.list i t status in
+      subst (λ (u : Status). IsSoundStack p.accepted u k l) old.2 (passes_on p.accepted old.0 k l (sound.each i old.0 k l old.1 stack level));
 }
 
-pub arrive_sound : (p : Program) (s : State) (i word : ℕ) (own : Frame) → IsSound p s → slice_get s.statuses.list i ≡ Some Ready → top_of s i ≡ Some own → own.pc ≡ word → IsBarrier p.accepted word → IsSound p (arrive i word s)
-arrive_sound p s i word own sound ready is here barrier = by_test (opens word (arrived i word s)) refl
-  where
-    first : IsSound p (arrived i word s)
-    first = arrived_sound p s i word own sound ready is here barrier
+-- where it does or doesn't
+may_open : (p : Program) (s : State) → IsSound p s → (b : Bool) → IsSound p (if b then open_barrier s else s)
+may_open p s sound true = opened_sound p s sound
+may_open p s sound false = sound
 
-    by_test : (b : Bool) → opens word (arrived i word s) ≡ b → IsSound p (if b then open_barrier (arrived i word s) else arrived i word s)
-    by_test true e = opened_sound p (arrived i word s) word first e
-    by_test false e = first
+pub arrive_sound : (p : Program) (s : State) (i word : ℕ) (own : Frame) → IsSound p s → slice_get s.statuses.list i ≡ Some Ready → top_of s i ≡ Some own → own.pc ≡ word → IsBarrier p.accepted word → IsSound p (arrive p i word s)
+arrive_sound p s i word own sound ready is here barrier = may_open p (arrived i word s) (arrived_sound p s i word own sound ready is here barrier) (opens p word (arrived i word s))
+
+-- a return of the entry point may open one too
+pub finish_sound : (p : Program) (s : State) (i : ℕ) → IsSound p (finished i s) → IsSound p (finish p i s)
+finish_sound p s i sound = by_count p.setup.finished_count
+  where
+    by_first : (o : Option ℕ) → IsSound p (opened_at p o (finished i s))
+    by_first None = sound
+    by_first (Some word) = may_open p (finished i s) sound (opens p word (finished i s))
+
+    by_count : (b : Bool) → IsSound p (if b then opened_at p (first_waiting (finished i s).statuses.list) (finished i s) else finished i s)
+    by_count true = by_first (first_waiting (finished i s).statuses.list)
+    by_count false = sound
 
 -- ---- the words of a module
 

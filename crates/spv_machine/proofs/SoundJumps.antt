@@ -9,13 +9,10 @@ use Rattle.std.specs.List.{AllByRecursion}
 use Rattle.std.specs.Option.{option_map}
 use Rattle.spv_base.specs.Entries.{reads}
 use Rattle.spv_base.specs.declared.instructions.Inst.{Inst}
-use Rattle.spv_base.specs.declared.values.Value.{Value, out-Value}
-use Rattle.spv_base.specs.declared.values.Value.TheOpen.{Value-F}
+use Rattle.spv_base.specs.declared.values.Value.{Value}
 use Rattle.spv_index.specs.Classes.{is_executable, is_label}
 use Rattle.spv_index.specs.Definitions.{has_result, is_id}
 use Rattle.spv_index.specs.Positions.{Stand, in_block, in_function, is_head, stand_of, standing as place_of, stands_of}
-use Rattle.spv_types.specs.Rows.{no_roots}
-use Rattle.spv_types.specs.Shapes.{HasShape, pointer_in}
 use Rattle.spv_cfg.specs.Branches.{is_block_of, is_later_block_of, is_target, stands_so}
 use Rattle.spv_cfg.specs.Executables.{executables_of}
 use Rattle.spv_cfg.specs.Flow.{Flow}
@@ -26,18 +23,18 @@ use Rattle.spv_statuses.specs.declared.invocations.Status.{Status}
 use Rattle.spv_statuses.specs.declared.invocations.Status.TheVariants.{Ready}
 use Rattle.spv_valid.specs.Acceptance.{Accepted, IsAccepted, Passes}
 use Rattle.spv_valid.proofs.Exports.{accepted_passes, flow_is}
-use Rattle.spv_sites.specs.Fits.{IsOfType, JumpFits, LevelFits}
-use Rattle.spv_sites.proofs.Exports.{RegisterFits, moved_kept, register_kept, register_stays, register_rooted}
+use Rattle.spv_sites.specs.Fits.{IsOfType, JumpFits, ResultRooted}
+use Rattle.spv_sites.proofs.Exports.{moved_kept, register_kept, register_stays, register_rooted}
 use Rattle.spv_base.proofs.Exports.{entry_at}
 use Rattle.spv_state.specs.Program.{Program}
 use Rattle.spv_state.specs.Roots.{IsRooted}
 use Rattle.spv_state.specs.Sound.{IsSound, IsSoundFrame, StandsAs, StandsIn}
-use Rattle.spv_state.specs.State.{State, with_pc, with_register, with_registers}
+use Rattle.spv_state.specs.State.{State, frames_of, with_pc, with_register, with_registers}
 use Rattle.spv_state.proofs.Exports.{Entered, Listed, listed, rooted, IsKnown, rooted_moved, stands_there, IsOne, top_at}
 use Rattle.spv_machine.specs.Reached.{IsReached}
 use Rattle.spv_machine.specs.Step.{first_of, jump, to_block}
 use Rattle.spv_machine.proofs.SoundControl.{frame_kept, pass_kept}
-use Rattle.spv_machine.proofs.SoundStacks.{top_kept}
+use Rattle.spv_machine.proofs.SoundStacks.{frames_are, top_kept}
 use Rattle.spv_plans.proofs.Exports.{block_inside}
 
 -- ---- where a block begins
@@ -108,22 +105,14 @@ target_stands a function label accepted known entered =
 
 -- ---- the registers of phis
 
-pub type_fits : (a : Accepted) (id : ℕ) (v : Value) → IsOfType a id v → RegisterFits a id v (out-Value v)
-type_fits a id v of_type ty typed = by_level (out-Value v) of_type.plain (of_type.shape ty typed)
-  where
-    by_level : (l : Value-F Value) → pointer_in l ≡ None → HasShape a.types no_roots ty v → LevelFits a ty v l
-    by_level (Value-F.Scalar c) plain shape = shape
-    by_level (Value-F.List vs) plain shape = shape
-    by_level (Value-F.Ptr q) plain shape = absurd (cc)
-
 pub registers_kept : (a : Accepted) (f : Frame) (rs : List (ℕ × Value)) → AllByRecursion (λ (r : ℕ × Value). IsOfType a r.0 r.1) rs → IsSoundFrame a f → IsSoundFrame a (with_registers rs f)
 registers_kept a f [] all s = s
-registers_kept a f (r ∷ rs) all s = registers_kept a (with_register r.0 r.1 f) rs all.1 (register_kept a f r.0 r.1 (type_fits a r.0 r.1 all.0) s)
+registers_kept a f (r ∷ rs) all s = registers_kept a (with_register r.0 r.1 f) rs all.1 (register_kept a f r.0 r.1 all.0 s)
 
-registers_rooted : (a : Accepted) (fs : List Frame) (depth : ℕ) (f : Frame) (rs : List (ℕ × Value)) → AllByRecursion (λ (r : ℕ × Value). IsOfType a r.0 r.1) rs → IsRooted a fs depth f → IsRooted a fs depth (with_registers rs f)
-registers_rooted a fs depth f [] all h = h
-registers_rooted a fs depth f (r ∷ rs) all h =
-    registers_rooted a fs depth (with_register r.0 r.1 f) rs all.1 (register_rooted a fs depth f r.0 r.1 (λ q is. let plain = all.0.plain in absurd (cc)) h)
+registers_rooted : (a : Accepted) (fs : List Frame) (f : Frame) (rs : List (ℕ × Value)) → AllByRecursion (λ (r : ℕ × Value). ResultRooted a fs (Some r.1)) rs → IsRooted a fs (length fs - 1) f
+    → IsRooted a fs (length fs - 1) (with_registers rs f)
+registers_rooted a fs f [] all h = h
+registers_rooted a fs f (r ∷ rs) all h = registers_rooted a fs (with_register r.0 r.1 f) rs all.1 (register_rooted a fs (length fs - 1) f r.0 r.1 all.0 h)
 
 pub registers_stay : (f : Frame) (rs : List (ℕ × Value)) → ((with_registers rs f).plan ≡ f.plan) × ((with_registers rs f).pc ≡ f.pc)
 registers_stay f [] = (refl, refl)
@@ -135,8 +124,8 @@ registers_stay f (r ∷ rs) =
 -- ---- the branch
 
 pub jump_kept : (p : Program) (s : State) (i : ℕ) (d : Inst) (block : ℕ) (phis : List (ℕ × Value)) → ∥ IsAccepted p.accepted ∥₁ → IsKnown p.accepted → (r : IsReached p s i d) → d.word ≡ r.frame.pc
-    → JumpFits p.accepted d block phis → IsSound p (jump p.accepted i block phis s)
-jump_kept p s i d block phis accepted known r here fits =
+    → JumpFits p.accepted d block phis → AllByRecursion (λ (x : ℕ × Value). ResultRooted p.accepted (frames_of s i) (Some x.1)) phis → IsSound p (jump p.accepted i block phis s)
+jump_kept p s i d block phis accepted known r here fits passed =
     let a = p.accepted in
     let g : Frame → Frame = λ f. with_pc (first_of a block) (with_registers phis f) in
     pass_kept p (to_block a i block phis s) i known (frame_kept p s i g r.sound (λ t k l status stack level kept.
@@ -147,5 +136,6 @@ jump_kept p s i d block phis accepted known r here fits =
     let target : StandsIn a f.plan.function (first_of a block) = target_stands a f.plan.function block accepted known (fits.entered f.plan.function stands) in
     moved_kept a (with_registers phis f) (first_of a block) (subst (λ (q : Planned). StandsIn a q.function (first_of a block)) (sym (registers_stay f phis).0) target)
     (registers_kept a f phis fits.values sf))
-    (λ f top_f rooted. rooted_moved a k.frames (length k.frames - 1) (first_of a block) (with_registers phis f) (registers_rooted a k.frames (length k.frames - 1) f phis fits.values rooted))
+    (λ f top_f rooted. rooted_moved a k.frames (length k.frames - 1) (first_of a block) (with_registers phis f) (registers_rooted a k.frames f phis
+    (subst (λ (fs : List Frame). AllByRecursion (λ (x : ℕ × Value). ResultRooted a fs (Some x.1)) phis) (frames_are s i k stack) passed) rooted))
     (λ f top_f stands. subst (λ (u : Status). StandsAs a u (g f)) same tt)))

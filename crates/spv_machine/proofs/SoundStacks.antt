@@ -1,8 +1,9 @@
 -- A change of the top frame of an invocation leaves a sound state, where it leaves a sound frame of the same function.
-use Rattle.std.proofs.Common.{◌≡◌, ◌≢◌, ◌⊎◌, ◌∙◌, ◌↔◌, inl, inr, ℕ, zero, suc, ◌-◌, List, [], ◌∷◌, Some, length, slice_get, refl, sym, ap, subst, arith}
+use Rattle.std.proofs.Common.{◌≡◌, ◌≢◌, ◌⊎◌, ◌∙◌, ◌↔◌, inl, inr, ℕ, zero, suc, ◌-◌, List, [], ◌∷◌, Option, Some, length, slice_get, refl, sym, ap, subst, arith}
 use Rattle.std.proofs.lemmas.Bool.{cases_eq}
 use Rattle.std.proofs.lemmas.Option.{slice_get_within}
 use Rattle.std.specs.List.{AllZip}
+use Rattle.std.specs.Option.{option_map_or}
 use Rattle.spv_base.specs.Entries.{change}
 use Rattle.spv_base.specs.Variables.{Roots}
 use Rattle.spv_base.proofs.Exports.{length_change, change_here}
@@ -15,7 +16,7 @@ use Rattle.spv_statuses.specs.declared.invocations.Status.TheVariants.{Finished}
 use Rattle.spv_valid.specs.Acceptance.{Accepted}
 use Rattle.spv_state.specs.Sound.{HasVariables, IsCallOf, IsSoundFrame, IsSoundStack, StandsAs}
 use Rattle.spv_state.specs.Roots.{IsRooted}
-use Rattle.spv_state.specs.State.{on_frames}
+use Rattle.spv_state.specs.State.{State, frames_of, on_frames}
 use Rattle.spv_state.proofs.Exports.{change_other, changed_from, ids_changed, rooted_stays}
 
 -- ---- invocation by invocation
@@ -45,6 +46,10 @@ module _ (a : Accepted) (i : ℕ) (st : Status → Status) (g : Stacked → Stac
           subst (λ (u : Levels). IsSoundStack a t k u) z.is (subst (λ (u : Stacked). IsSoundStack a t u (h z.before)) y.is (subst (λ (u : Status). IsSoundStack a u (g y.before) (h z.before)) x.is here))
 
 -- ---- the top frame
+
+-- the frames of an invocation with a stack
+pub frames_are : (s : State) (i : ℕ) (k : Stacked) → slice_get s.stacks i ≡ Some k → frames_of s i ≡ k.frames
+frames_are s i k at = ap (λ (o : Option Stacked). option_map_or (λ (x : Stacked). x.frames) o []) at
 
 -- a frame of a changed stack is the changed top frame, or one as before
 pub record FrameOf (g : Frame → Frame) (fs : List Frame) (depth : ℕ) (f : Frame) : Type 0 where

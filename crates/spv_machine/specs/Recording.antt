@@ -23,13 +23,13 @@ abbrev pub store_entries : Option (Pointer × Value) → ℕ
 store_entries None = 0
 store_entries (Some e) = 1 + length (leaves e.1)
 
--- Beside registers and debug events: a pc moves or a frame comes; the top frame goes, and another one's pc moves or a status changes; a status
--- changes and a barrier opens.
+-- Beside registers and debug events: a pc moves or a frame comes; the top frame goes, and another one's pc moves, or a status changes and a
+-- barrier opens; a status changes and a barrier opens.
 abbrev pub turns : Control → ℕ
 turns Next = 1
 turns (Jump block phis) = 1
 turns (Enter frame es) = 1
-turns (Leave v) = 2
+turns (Leave v) = 3
 turns Wait = 2
 
 -- control leads to a state

@@ -15,7 +15,7 @@ use Rattle.spv_valid.specs.Acceptance.{Accepted}
 use Rattle.spv_mem.specs.Memory.{stored}
 use Rattle.spv_frame.specs.Frames.{Held as Frame}
 use Rattle.spv_operands.specs.Values.{storage_class}
-use Rattle.spv_statuses.specs.Group.{all_wait_at}
+use Rattle.spv_statuses.specs.Group.{first_waiting, opens_at}
 use Rattle.spv_statuses.specs.declared.invocations.Status.{Status}
 use Rattle.spv_statuses.specs.declared.invocations.Status.TheVariants.{Ready, Arrived, Passed, Finished}
 use Rattle.spv_sites.specs.Effects.{Control, Effect, Next, Jump, Enter, Leave, Wait, code_of}
@@ -65,37 +65,58 @@ jump a i block phis s = pass a i (to_block a i block phis s)
 abbrev pub id_at : Accepted → ℕ → ℕ
 id_at a word = option_map_or (λ (d : Inst). d.id) (at a.insts word) 0
 
--- Where a function was left: the call takes what it gave, and the caller moves past the call; where no frame is left, the entry point
--- returned, and the invocation is Finished.
-abbrev pub resume : Accepted → ℕ → Option Value → State → Option Frame → State
-resume a i v s None = set_status i Finished s
-resume a i v s (Some f) = go_on a i (put_result i (id_at a f.pc) v s)
+-- ---- barriers
 
-abbrev pub leave : Accepted → ℕ → Option Value → State → State
-leave a i v s = resume a i v (pop_frame i s) (top_of (pop_frame i s) i)
+-- the barrier at a word opens where all invocations wait there, or all that aren't finished where the setup counts finished ones as arrived
+abbrev pub opens : Program → ℕ → State → Bool
+opens p word s = opens_at p.setup.finished_count word s.statuses.list
 
--- an arrival at the barrier at a word; where all invocations wait there then, it opens, and they all are Passed
+-- those that waited are Passed then
+abbrev pub opened : Program → ℕ → State → State
+opened p word s = if opens p word s then open_barrier s else s
+
+-- an arrival at the barrier at a word, which may open it
 abbrev pub arrived : ℕ → ℕ → State → State
 arrived i word s = set_status i (Arrived word) s
 
-abbrev pub opens : ℕ → State → Bool
-opens word s = all_wait_at word s.statuses.list
+abbrev pub arrive : Program → ℕ → ℕ → State → State
+arrive p i word s = opened p word (arrived i word s)
 
-abbrev pub opened : ℕ → State → State
-opened word s = if opens word s then open_barrier s else s
+-- The entry point returned, and the invocation is Finished.
+abbrev pub finished : ℕ → State → State
+finished i s = set_status i Finished s
 
-abbrev pub arrive : ℕ → ℕ → State → State
-arrive i word s = opened word (arrived i word s)
+-- the barrier at which some invocation waits opens, or doesn't; if none waits there is no such barrier
+abbrev pub opened_at : Program → Option ℕ → State → State
+opened_at p None s = s
+opened_at p (Some word) s = opened p word s
 
-abbrev pub go : Accepted → ℕ → ℕ → Control → State → State
-go a i word Next s = go_on a i s
-go a i word (Jump block phis) s = jump a i block phis s
-go a i word (Enter frame es) s = push_frame i frame es s
-go a i word (Leave v) s = leave a i v s
-go a i word Wait s = arrive i word s
+-- Where finished invocations count as arrived, this may open a barrier too: one at which all others wait, and so the first that waits at all.
+abbrev pub finish : Program → ℕ → State → State
+finish p i s = if p.setup.finished_count then opened_at p (first_waiting (finished i s).statuses.list) (finished i s) else finished i s
 
-abbrev pub apply : Accepted → ℕ → Inst → Effect → State → State
-apply a i d e s = go a i d.word e.control (put i d.id e s)
+-- ---- returns
+
+-- Where a function was left: the call takes what it gave, and the caller moves past the call; where no frame is left, the entry point
+-- returned.
+abbrev pub resume : Program → ℕ → Option Value → State → Option Frame → State
+resume p i v s None = finish p i s
+resume p i v s (Some f) = go_on p.accepted i (put_result i (id_at p.accepted f.pc) v s)
+
+abbrev pub leave : Program → ℕ → Option Value → State → State
+leave p i v s = resume p i v (pop_frame i s) (top_of (pop_frame i s) i)
+
+-- ---- all of an effect
+
+abbrev pub go : Program → ℕ → ℕ → Control → State → State
+go p i word Next s = go_on p.accepted i s
+go p i word (Jump block phis) s = jump p.accepted i block phis s
+go p i word (Enter frame es) s = push_frame i frame es s
+go p i word (Leave v) s = leave p i v s
+go p i word Wait s = arrive p i word s
+
+abbrev pub apply : Program → ℕ → Inst → Effect → State → State
+apply p i d e s = go p i d.word e.control (put i d.id e s)
 
 -- ---- a step
 
@@ -126,28 +147,29 @@ abbrev pub arrival_with : ℕ → ℕ → Bool → Happening
 arrival_with i word opened = record { inv = i; kind = if opened then Opened else Arrive; word = word; root = 0; line = 0 }
 
 -- in the state before it
-abbrev pub arrival : ℕ → ℕ → State → Happening
-arrival i word s = arrival_with i word (opens word (arrived i word s))
+abbrev pub arrival : Program → ℕ → ℕ → State → Happening
+arrival p i word s = arrival_with i word (opens p word (arrived i word s))
 
 -- the event of a store at a word
 abbrev pub stored_at : Accepted → ℕ → ℕ → Option (Pointer × Value) → Happening
 stored_at a i word None = plain i word
 stored_at a i word (Some e) = written a i word e.0.root
 
--- the event of an effect at a word, in the state before it, by where control goes: where it goes on, that of its store
-abbrev pub by_control : ℕ → ℕ → State → Happening → Control → Happening
-by_control i word s stored Next = stored
-by_control i word s stored (Jump block phis) = plain i word
-by_control i word s stored (Enter frame es) = plain i word
-by_control i word s stored (Leave v) = plain i word
-by_control i word s stored Wait = arrival i word s
+-- The event of an effect at a word, in the state before it, by where control goes: where it goes on, that of its store. A return that opens a
+-- barrier is plain, as others are.
+abbrev pub by_control : Program → ℕ → ℕ → State → Happening → Control → Happening
+by_control p i word s stored Next = stored
+by_control p i word s stored (Jump block phis) = plain i word
+by_control p i word s stored (Enter frame es) = plain i word
+by_control p i word s stored (Leave v) = plain i word
+by_control p i word s stored Wait = arrival p i word s
 
-abbrev pub happening_of : Accepted → State → ℕ → ℕ → Effect → Happening
-happening_of a s i word e = by_control i word s (stored_at a i word e.store) e.control
+abbrev pub happening_of : Program → State → ℕ → ℕ → Effect → Happening
+happening_of p s i word e = by_control p i word s (stored_at p.accepted i word e.store) e.control
 
 -- a fault changes nothing
 abbrev pub outcome : Program → State → ℕ → Inst → Result Effect Cause → Outcome
-outcome p s i d (Ok e) = Moves (happening_of p.accepted s i d.word e) (apply p.accepted i d e s)
+outcome p s i d (Ok e) = Moves (happening_of p s i d.word e) (apply p i d e s)
 outcome p s i d (Err cause) = Faults (record { code = code_of cause; inv = i; word = d.word })
 
 -- A Ready invocation does the effect of the instruction at which its top frame stands. It has a top frame, and this stands at an instruction

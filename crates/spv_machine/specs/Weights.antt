@@ -74,7 +74,7 @@ events_appended a i Wait t = 0
 
 abbrev pub effect_weight : Program → State → ℕ → Inst → Effect → ℕ
 effect_weight p s i d e =
-    4 + leaves_stored p s i d e + taking e.result + registers_set e.control + events_appended p.accepted i e.control (apply p.accepted i d e s)
+    4 + leaves_stored p s i d e + taking e.result + registers_set e.control + events_appended p.accepted i e.control (apply p i d e s)
 
 -- an event that has no effect, or faults
 abbrev pub result_weight : Program → State → ℕ → Inst → Result Effect Cause → ℕ

@@ -1,5 +1,5 @@
 //! What an effect does to a state, each change recorded. Where memory runs out some of it may be done: what is recorded leads back.
-ghost use Rattle.std.specs.Prelude.{◌≡◌, ◌<◌, ◌+◌, ℕ, None, IsSome, OnOk, Some, length, map, option_copied};
+ghost use Rattle.std.specs.Prelude.{◌≡◌, ◌<◌, ◌+◌, [], ℕ, None, IsSome, OnOk, Some, length, map, option_copied, true};
 ghost use Rattle.std.specs.List.{AllByRecursion};
 ghost use Rattle.std.specs.Option.{option_and_then, option_map};
 ghost use Rattle.spv_base.specs.Entries.{reads};
@@ -7,20 +7,21 @@ ghost use Rattle.spv_base.specs.declared.values.Pointer.{Pointer as Reference};
 ghost use Rattle.spv_index.specs.Definitions.{at};
 ghost use Rattle.spv_mem.specs.Memory.{load_of};
 ghost use Rattle.spv_sites.specs.Effects as effects;
-ghost use Rattle.spv_sites.specs.Fits.{ControlFits, EnterFits, Fits, IsOfType, JumpFits, LeaveFits, ResultFits, ResultRooted, StoreFits};
-ghost use Rattle.spv_sites.specs.Planned.{IsTaken, gained, gone, phi_value, shown};
+ghost use Rattle.spv_sites.specs.Fits.{ControlFits, ControlRooted, EnterFits, Fits, IsOfType, JumpFits, LeaveFits, ResultFits, ResultRooted, StoreFits};
+ghost use Rattle.spv_sites.specs.Planned.{IsPlain, IsTaken, gained, gone, phi_value, shown, taken};
 ghost use Rattle.spv_journal.specs.Held.{IsMaking, Records};
-ghost use Rattle.spv_machine.specs.Reached.{IsHeld, IsReached};
+ghost use Rattle.spv_machine.specs.Reached.{IsCarried, IsHeld, IsReached};
 ghost use Rattle.spv_machine.specs.Recording as entries;
 ghost use Rattle.spv_machine.specs.Step as spec;
 ghost use Rattle.spv_machine.specs.Weights.{events_before, taking};
-ghost use Rattle.spv_state.specs.Sound.{IsBarrier};
+ghost use Rattle.spv_state.specs.Sound.{IsBarrier, IsSound};
 ghost use Rattle.spv_state.specs.State as state;
+ghost use Rattle.spv_statuses.specs.Group.{first_waiting};
 
 use crate::passing::come_to;
 use spv_base::{Inst, NoMemory, Pointer};
 use spv_journal::Recorded;
-use spv_sites::{Control, Effect, Entered, Gain, PhiValue, Place, Target};
+use spv_sites::{Control, Effect, Entered, Gain, PhiValue, Place, Taken, Target};
 use spv_state::{Runnable, Whole};
 use spv_statuses::Status;
 use spv_valid::Module;
@@ -140,44 +141,51 @@ fn first_word(accepted: &Module, label: u32) -> u32
     accepted.first(label)
 }
 
-/// Gives the register of a phi its value; the old one is in the row then.
+/// Gives the register of a phi what it takes.
 fn put_phi(
     m: &Runnable,
     recorded: &mut Recorded,
     inv: u32,
     inst: &Inst,
-    phi: &mut PhiValue,
+    phi: PhiValue,
 ) -> Result<(), NoMemory>
     requires making { IsMaking recorded.old.gathered inv }
     requires reached { IsReached m.now recorded.old.state inv inst.now }
-    requires value { IsOfType m.now.accepted phi.old.id phi.old.row }
-    ensures ok { OnOk result (recorded.new.state ≡ state.on_frame inv (state.with_register phi.old.id phi.old.row) recorded.old.state) }
+    requires value { IsOfType m.now.accepted phi.id (taken phi.value) }
+    requires plain { IsPlain phi.value }
+    ensures ok { OnOk result (recorded.new.state ≡ state.on_frame inv (state.with_register phi.id (taken phi.value)) recorded.old.state) }
     ensures recorded { Records 1 recorded.old recorded.new }
 {
     let accepted = m.accepted();
     let _insts = accepted.insts();
-    recorded.set_value(accepted, inv, phi.id, &mut phi.row)
+    let PhiValue { id, value } = phi;
+    match value {
+        Taken::Value(mut row) => recorded.set_value(accepted, inv, id, &mut row),
+        Taken::Pointer(pointer) => recorded.set_pointer(accepted, inv, id, pointer),
+    }
 }
 
-/// Gives the registers of phis their values. All were read before, so they take them at once.
+/// Gives the registers of phis what they take. All was read before, so they take it at once.
 fn put_phis(
     m: &Runnable,
     recorded: &mut Recorded,
     inv: u32,
     inst: &Inst,
-    phis: &mut [PhiValue],
+    phis: Vec<PhiValue>,
 ) -> Result<(), NoMemory>
     requires making { IsMaking recorded.old.gathered inv }
     requires reached { IsReached m.now recorded.old.state inv inst.now }
-    requires values { AllByRecursion (λ r. IsOfType m.now.accepted r.0 r.1) (map phi_value phis.old) }
-    ensures registers { OnOk result (recorded.new.state ≡ state.on_frame inv (state.with_registers (map phi_value phis.old)) recorded.old.state) }
+    requires values { AllByRecursion (λ r. IsOfType m.now.accepted r.0 r.1) (map phi_value phis.items) }
+    requires rooted { AllByRecursion (λ r. ResultRooted m.now.accepted (state.frames_of recorded.old.state inv) (Some r.1)) (map phi_value phis.items) }
+    requires plain { AllByRecursion (λ p. IsPlain p.value) phis.items }
+    ensures registers { OnOk result (recorded.new.state ≡ state.on_frame inv (state.with_registers (map phi_value phis.items)) recorded.old.state) }
     ensures reached { OnOk result (IsReached m.now recorded.new.state inv inst.now) }
-    ensures recorded { Records (length phis.old) recorded.old recorded.new }
+    ensures recorded { Records (length phis.items) recorded.old recorded.new }
 {
     let accepted = m.accepted();
     let _insts = accepted.insts();
-    for number in 0..phis.len() {
-        put_phi(m, recorded, inv, inst, &mut phis[number])?;
+    for phi in phis {
+        put_phi(m, recorded, inv, inst, phi)?;
     }
     Ok(())
 }
@@ -190,17 +198,19 @@ fn jump(
     inv: u32,
     inst: &Inst,
     block: u32,
-    mut phis: Vec<PhiValue>,
+    phis: Vec<PhiValue>,
 ) -> Result<(), NoMemory>
     requires making { IsMaking recorded.old.gathered inv }
     requires reached { IsReached m.now recorded.old.state inv inst.now }
     requires fits { JumpFits m.now.accepted inst.now block (map phi_value phis.items) }
+    requires rooted { ControlRooted m.now.accepted (state.frames_of recorded.old.state inv) (effects.Jump block (map phi_value phis.items)) }
+    requires plain { AllByRecursion (λ p. IsPlain p.value) phis.items }
     ensures ok { OnOk result (recorded.new.state ≡ spec.jump m.now.accepted inv block (map phi_value phis.items) recorded.old.state) }
     ensures recorded { Records (length phis.items + (events_before m.now.accepted (spec.jump m.now.accepted inv block (map phi_value phis.items) recorded.old.state) inv + 1)) recorded.old recorded.new }
 {
     let accepted = m.accepted();
     let _insts = accepted.insts();
-    put_phis(m, recorded, inv, inst, phis.as_mut_slice())?;
+    put_phis(m, recorded, inv, inst, phis)?;
     come_to(alloc, m, recorded, inv, first_word(accepted, block))
 }
 
@@ -257,7 +267,55 @@ fn resume(
     go_on(alloc, m, recorded, inv, call)
 }
 
-/// Out of a function: where a frame is left, its call goes on with what the function gave; else the invocation is Finished.
+/// Opens the barrier at a word, where it opens.
+#[tactic(auto, using(spv_statuses::proofs::Exports::opens_waiting))]
+fn open_at(m: &Runnable, recorded: &mut Recorded, word: u32) -> Result<(), NoMemory>
+    requires making { IsSome recorded.old.gathered }
+    requires within { word < recorded.old.state.statuses.words }
+    ensures ok { OnOk result (recorded.new.state ≡ spec.opened m.now word recorded.old.state) }
+    ensures recorded { Records 1 recorded.old recorded.new }
+{
+    let counts = m.setup().finished_count();
+    if recorded.whole().statuses().opens_at(counts, word) {
+        recorded.open_barrier(word)
+    } else {
+        Ok(())
+    }
+}
+
+/// Opens the barrier at which all wait that aren't finished, where there is one. The setup counts finished ones as arrived.
+fn open_for_finished(m: &Runnable, recorded: &mut Recorded) -> Result<(), NoMemory>
+    requires making { IsSome recorded.old.gathered }
+    requires sound { IsSound m.now recorded.old.state }
+    requires counts { m.now.setup.finished_count ≡ true }
+    ensures ok { OnOk result (recorded.new.state ≡ spec.opened_at m.now (first_waiting recorded.old.state.statuses.list) recorded.old.state) }
+    ensures recorded { Records 1 recorded.old recorded.new }
+{
+    let accepted = m.accepted();
+    let _insts = accepted.insts();
+    match recorded.whole().statuses().first_waiting() {
+        Some(word) => open_at(m, recorded, word),
+        None => Ok(()),
+    }
+}
+
+/// The entry point returned: the invocation is Finished, which may open a barrier where the setup counts finished ones as arrived.
+fn finish(m: &Runnable, recorded: &mut Recorded, inv: u32) -> Result<(), NoMemory>
+    requires making { IsMaking recorded.old.gathered inv }
+    requires inside { inv < length recorded.old.state.statuses.list }
+    requires sound { IsSound m.now (spec.finished inv recorded.old.state) }
+    ensures ok { OnOk result (recorded.new.state ≡ spec.finish m.now inv recorded.old.state) }
+    ensures recorded { Records 2 recorded.old recorded.new }
+{
+    recorded.set_status(inv, Status::Finished)?;
+    if m.setup().finished_count() {
+        open_for_finished(m, recorded)
+    } else {
+        Ok(())
+    }
+}
+
+/// Out of a function: where a frame is left, its call goes on with what the function gave; else the entry point returned.
 fn leave(
     alloc: Global,
     m: &Runnable,
@@ -270,45 +328,32 @@ fn leave(
     requires making { IsMaking recorded.old.gathered inv }
     requires reached { IsReached m.now recorded.old.state inv inst.now }
     requires fits { LeaveFits m.now.accepted inst.now (gained gain row.old) }
+    requires rooted { ResultRooted m.now.accepted [] (gained gain row.old) }
     requires held { IsHeld gain row.old }
-    ensures ok { OnOk result (recorded.new.state ≡ spec.leave m.now.accepted inv (gained gain row.old) recorded.old.state) }
-    ensures recorded { Records (taking (gained gain row.old) + (events_before m.now.accepted (spec.leave m.now.accepted inv (gained gain row.old) recorded.old.state) inv + 2)) recorded.old recorded.new }
+    ensures ok { OnOk result (recorded.new.state ≡ spec.leave m.now inv (gained gain row.old) recorded.old.state) }
+    ensures recorded { Records (taking (gained gain row.old) + (events_before m.now.accepted (spec.leave m.now inv (gained gain row.old) recorded.old.state) inv + 3)) recorded.old recorded.new }
 {
     let accepted = m.accepted();
     let _insts = accepted.insts();
     recorded.leave(inv)?;
     match caller(m, recorded.whole(), inv) {
         Some(call) => resume(alloc, m, recorded, inv, call, gain, row),
-        None => recorded.set_status(inv, Status::Finished),
+        None => finish(m, recorded, inv),
     }
 }
 
-/// Opens the barrier at a word, where all invocations wait there.
-fn open_where_all_wait(recorded: &mut Recorded, word: u32) -> Result<(), NoMemory>
-    requires making { IsSome recorded.old.gathered }
-    requires within { word < recorded.old.state.statuses.words }
-    ensures ok { OnOk result (recorded.new.state ≡ spec.opened word recorded.old.state) }
-    ensures recorded { Records 1 recorded.old recorded.new }
-{
-    if recorded.whole().statuses().all_wait_at(word) {
-        recorded.open_barrier(word)
-    } else {
-        Ok(())
-    }
-}
-
-/// An arrival at a barrier. Where all invocations wait there then, it opens.
+/// An arrival at a barrier, which may open it.
 fn arrive(m: &Runnable, recorded: &mut Recorded, inv: u32, inst: &Inst) -> Result<(), NoMemory>
     requires making { IsMaking recorded.old.gathered inv }
     requires reached { IsReached m.now recorded.old.state inv inst.now }
     requires barrier { IsBarrier m.now.accepted inst.now.word }
-    ensures ok { OnOk result (recorded.new.state ≡ spec.arrive inv inst.now.word recorded.old.state) }
+    ensures ok { OnOk result (recorded.new.state ≡ spec.arrive m.now inv inst.now.word recorded.old.state) }
     ensures recorded { Records 2 recorded.old recorded.new }
 {
     let accepted = m.accepted();
     let _insts = accepted.insts();
     recorded.set_status(inv, Status::Arrived(inst.word))?;
-    open_where_all_wait(recorded, inst.word)
+    open_at(m, recorded, inst.word)
 }
 
 /// Goes where control goes.
@@ -324,8 +369,10 @@ fn go(
     requires making { IsMaking recorded.old.gathered inv }
     requires reached { IsReached m.now recorded.old.state inv inst.now }
     requires fits { ControlFits m.now.accepted inst.now (gone control row.old) }
-    ensures ok { OnOk result (recorded.new.state ≡ spec.go m.now.accepted inv inst.now.word (gone control row.old) recorded.old.state) }
-    ensures recorded { Records (entries.control_entries m.now.accepted inv (gone control row.old) (spec.go m.now.accepted inv inst.now.word (gone control row.old) recorded.old.state)) recorded.old recorded.new }
+    requires rooted { ControlRooted m.now.accepted (state.frames_of recorded.old.state inv) (gone control row.old) }
+    requires carried { IsCarried control row.old }
+    ensures ok { OnOk result (recorded.new.state ≡ spec.go m.now inv inst.now.word (gone control row.old) recorded.old.state) }
+    ensures recorded { Records (entries.control_entries m.now.accepted inv (gone control row.old) (spec.go m.now inv inst.now.word (gone control row.old) recorded.old.state)) recorded.old recorded.new }
 {
     let accepted = m.accepted();
     let _insts = accepted.insts();
@@ -333,8 +380,7 @@ fn go(
         Control::Next => go_on(alloc, m, recorded, inv, inst),
         Control::Jump { block, phis } => jump(alloc, m, recorded, inv, inst, block, phis),
         Control::Enter(entered) => enter(m, recorded, inv, inst, Box::into_inner(entered)),
-        Control::Leave => leave(alloc, m, recorded, inv, inst, Gain::Nothing, row),
-        Control::Give => leave(alloc, m, recorded, inv, inst, Gain::Row, row),
+        Control::Leave(gain) => leave(alloc, m, recorded, inv, inst, gain, row),
         Control::Wait => arrive(m, recorded, inv, inst),
     }
 }
@@ -353,8 +399,8 @@ pub(crate) fn apply(
     requires reached { IsReached m.now recorded.old.state inv inst.now }
     requires fits { Fits m.now recorded.old.state inv inst.now (shown effect row.old) }
     requires taken { IsTaken recorded.old.state inv effect row.old }
-    ensures ok { OnOk result (recorded.new.state ≡ spec.apply m.now.accepted inv inst.now (shown effect row.old) recorded.old.state) }
-    ensures recorded { Records (entries.effect_entries m.now.accepted inv (shown effect row.old) (spec.apply m.now.accepted inv inst.now (shown effect row.old) recorded.old.state)) recorded.old recorded.new }
+    ensures ok { OnOk result (recorded.new.state ≡ spec.apply m.now inv inst.now (shown effect row.old) recorded.old.state) }
+    ensures recorded { Records (entries.effect_entries m.now.accepted inv (shown effect row.old) (spec.apply m.now inv inst.now (shown effect row.old) recorded.old.state)) recorded.old recorded.new }
 {
     let accepted = m.accepted();
     let _insts = accepted.insts();

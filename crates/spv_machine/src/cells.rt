@@ -15,7 +15,6 @@ use spv_base::{Happening, Inst};
 use spv_journal::Recorded;
 use spv_sites::Site;
 use spv_state::{Runnable, Whole};
-use spv_valid::Module;
 use std::alloc::Global;
 
 /// What a predecoded instruction does, the word at which it stands, and that of the executable behind it, before which no debug instruction stands.
@@ -54,12 +53,12 @@ pub(crate) fn cell_due(
 
 /// The event of what a predecoded instruction does.
 #[inline(always)]
-fn happening_of(accepted: &Module, inv: u32, word: u32, effect: &CellEffect) -> Happening
-    ensures { (s : State) → result ≡ spec.happening_of accepted.now s inv word (full effect.now) }
+fn happening_of(m: &Runnable, inv: u32, word: u32, effect: &CellEffect) -> Happening
+    ensures { (s : State) → result ≡ spec.happening_of m.now s inv word (full effect.now) }
 {
     match effect {
         CellEffect::Gives { .. } => plain(inv, word),
-        CellEffect::Sets { root, .. } => written(accepted, inv, word, *root),
+        CellEffect::Sets { root, .. } => written(m.accepted(), inv, word, *root),
     }
 }
 
@@ -75,9 +74,9 @@ pub(crate) fn cell_event(
     requires none { recorded.old.gathered ≡ None }
     requires reached { IsReached m.now recorded.old.state inv inst.now }
     requires step { IsCellStep m.now recorded.old.state inv inst.now step }
-    ensures { Made (spec.happening_of m.now.accepted recorded.old.state inv inst.now.word (full step.effect)) (spec.apply m.now.accepted inv inst.now (full step.effect) recorded.old.state) (effect_weight m.now recorded.old.state inv inst.now (full step.effect)) (Ok result) recorded.old recorded.new }
+    ensures { Made (spec.happening_of m.now recorded.old.state inv inst.now.word (full step.effect)) (spec.apply m.now inv inst.now (full step.effect) recorded.old.state) (effect_weight m.now recorded.old.state inv inst.now (full step.effect)) (Ok result) recorded.old recorded.new }
 {
-    let happening = happening_of(m.accepted(), inv, step.word, &step.effect);
+    let happening = happening_of(m, inv, step.word, &step.effect);
     let next = step.next;
     match step.effect {
         CellEffect::Gives { slot, value } => {

@@ -113,9 +113,9 @@ fn perform(
     requires fits { Fits m.now recorded.old.state inv inst.now (shown effect row.old) }
     requires taken { IsTaken recorded.old.state inv effect row.old }
     requires single { IsSingleBack m.now recorded.old.state inv inst.now (shown effect row.old) }
-    ensures { Made (spec.happening_of m.now.accepted recorded.old.state inv inst.now.word (shown effect row.old)) (spec.apply m.now.accepted inv inst.now (shown effect row.old) recorded.old.state) (effect_weight m.now recorded.old.state inv inst.now (shown effect row.old)) result recorded.old recorded.new }
+    ensures { Made (spec.happening_of m.now recorded.old.state inv inst.now.word (shown effect row.old)) (spec.apply m.now inv inst.now (shown effect row.old) recorded.old.state) (effect_weight m.now recorded.old.state inv inst.now (shown effect row.old)) result recorded.old recorded.new }
 {
-    let happening = happening_of(m.accepted(), recorded.whole(), inv, inst.word, &effect);
+    let happening = happening_of(m, recorded.whole(), inv, inst.word, &effect);
     match recorded.mark(happening) {
         Ok(()) => {
             let done = apply(alloc, m, recorded, inv, inst, effect, row);

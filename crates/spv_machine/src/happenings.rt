@@ -8,7 +8,7 @@ use spv_base::{Happening, Kind, Root};
 use spv_index::literal_operand;
 use spv_ops::storage_class;
 use spv_sites::{Control, Effect};
-use spv_state::Whole;
+use spv_state::{Runnable, Whole};
 use spv_valid::Module;
 
 /// An event that writes nothing that all invocations see.
@@ -80,20 +80,21 @@ fn arrival(inv: u32, word: u32, opens: bool) -> Happening
 
 /// The event of an effect, in the state before it.
 pub(crate) fn happening_of(
-    accepted: &Module,
+    m: &Runnable,
     whole: &Whole,
     inv: u32,
     word: u32,
     effect: &Effect,
 ) -> Happening
     requires { inv < length whole.now.statuses.list }
-    ensures { (v : Value) → result ≡ spec.happening_of accepted.now whole.now inv word (shown effect.now v) }
+    ensures { (v : Value) → result ≡ spec.happening_of m.now whole.now inv word (shown effect.now v) }
 {
     match &effect.control {
-        Control::Next => store_happening(accepted, inv, word, effect),
-        Control::Wait => arrival(inv, word, whole.statuses().all_wait_with(inv, word)),
-        Control::Jump { .. } | Control::Enter(_) | Control::Leave | Control::Give => {
-            plain(inv, word)
+        Control::Next => store_happening(m.accepted(), inv, word, effect),
+        Control::Wait => {
+            let counts = m.setup().finished_count();
+            arrival(inv, word, whole.statuses().opens_with(counts, inv, word))
         }
+        Control::Jump { .. } | Control::Enter(_) | Control::Leave(_) => plain(inv, word),
     }
 }

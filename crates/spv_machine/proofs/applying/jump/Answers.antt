@@ -1,12 +1,11 @@
-use Rattle.std.proofs.Common.{◌≡◌, ◌∙◌, ◌+◌, List, Some, ℕ, ap, length, map, refl, rules, subst, sym}
+use Rattle.std.proofs.Common.{◌≡◌, ◌∙◌, ◌+◌, Some, ℕ, ap, length, map, refl, subst, sym}
 use Rattle.std.proofs.lemmas.Result.{on_ok_weaker}
 use Rattle.spv_base.specs.Entries.{reads}
 use Rattle.spv_sites.specs.Planned.{phi_value}
 use Rattle.spv_valid.specs.Acceptance.{Accepted}
-use Rattle.spv_sites.specs.declared.effects.PhiValue.{PhiValue}
 use Rattle.spv_journal.specs.Held.{Records}
 use Rattle.spv_state.specs.Events.{pass}
-use Rattle.spv_state.specs.State.{State, on_frame, with_pc, with_registers}
+use Rattle.spv_state.specs.State.{State, on_frame, with_pc}
 use Rattle.spv_machine.specs.Step.{first_of, jump, to_block}
 use Rattle.spv_machine.specs.Weights.{events_before}
 use Rattle.spv_machine.proofs.StatusSteps.{reached_frame, reached_inside}
@@ -34,14 +33,11 @@ returns c =
     let i = c.args.inv in
     let s = c.args.recorded.now.state in
     let first = c.first_word.ensures ∙ ap (λ (x : Accepted). first_of x c.args.block) c.accepted-accepted.ensures.module in
-    let same : c.as_mut_slice.result.now ≡ c.args.phis.items = search rules in
-    let put = c.in_ok-put_phis.ensures.registers ∙ ap (λ (ps : List PhiValue). on_frame i (with_registers (map phi_value ps)) s) same in
     let moved : on_frame i (with_pc c.first_word.result) c.put_phis.new.recorded.state ≡ to_block a i c.args.block (map phi_value c.args.phis.items) s
-    = jump_is c.args.m.now i c.args.block c.first_word.result (map phi_value c.args.phis.items) s c.put_phis.new.recorded.state put first in
+    = jump_is c.args.m.now i c.args.block c.first_word.result (map phi_value c.args.phis.items) s c.put_phis.new.recorded.state c.in_ok-put_phis.ensures.registers first in
     let events = events_before a (jump a i c.args.block (map phi_value c.args.phis.items) s) i in
-    let one = subst (λ (ps : List PhiValue). Records (length ps) c.args.recorded.now c.put_phis.new.recorded) same c.put_phis.ensures.recorded in
     let two = subst (λ (x : State). Records (events_before a (pass a i x) i + 1) c.put_phis.new.recorded c.come_to.new.recorded) moved c.come_to.ensures.recorded in
     record {
       ok = on_ok_weaker c.come_to.result (λ come. come ∙ ap (pass a i) moved) c.come_to.ensures.ok;
-      recorded = records_on (length c.args.phis.items) (events + 1) c.args.recorded.now c.put_phis.new.recorded c.come_to.new.recorded one two;
+      recorded = records_on (length c.args.phis.items) (events + 1) c.args.recorded.now c.put_phis.new.recorded c.come_to.new.recorded c.put_phis.ensures.recorded two;
     }

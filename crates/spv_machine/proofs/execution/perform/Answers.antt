@@ -2,7 +2,6 @@ use Rattle.std.proofs.Common.{◌≡◌, ◌∙◌, ◌<◌, ap, length, sym, su
 use Rattle.std.proofs.lemmas.Option.{slice_get_within}
 use Rattle.std.proofs.lemmas.Result.{on_ok_weaker}
 use Rattle.spv_base.specs.declared.happenings.Happening.{Happening}
-use Rattle.spv_valid.specs.Acceptance.{Accepted}
 use Rattle.spv_sites.specs.Fits.{Fits}
 use Rattle.spv_sites.specs.Planned.{IsTaken, shown}
 use Rattle.spv_journal.specs.Held.{Held as Recorded, IsMaking, Records}
@@ -13,7 +12,7 @@ use Rattle.spv_machine.specs.Recording.{Made, effect_entries}
 use Rattle.spv_machine.specs.Step.{apply, happening_of}
 use Rattle.spv_machine.specs.Weights.{effect_weight}
 use Rattle.spv_machine.proofs.EventLemmas.{happening_inv}
-use Rattle.spv_machine.proofs.Recording.{effect_fits, made_is, marked_making}
+use Rattle.spv_machine.proofs.Recording.{effect_fits, made_is, marked_making, turns_few}
 use Rattle.spv_machine.proofs.execution.perform.Goals as goal
 
 pub happening_of-happening-requires : goal.happening_of-happening-requires
@@ -24,7 +23,7 @@ pub apply-done-requires-clause-making : goal.apply-done-requires-clause-making
 apply-done-requires-clause-making c =
     let h = c.happening_of-happening.result in
     let inv : h.inv ≡ c.args.inv
-    = ap (λ (x : Happening). x.inv) (c.happening_of-happening.ensures c.args.row.now) ∙ happening_inv c.accepted.result.now c.whole.result.now c.args.inv c.args.inst.now.word (shown c.args.effect c.args.row.now) in
+    = ap (λ (x : Happening). x.inv) (c.happening_of-happening.ensures c.args.row.now) ∙ happening_inv c.args.m.now c.whole.result.now c.args.inv c.args.inst.now.word (shown c.args.effect c.args.row.now) in
     subst (IsMaking c.mark.new.self.gathered) inv (marked_making h c.args.recorded.now c.mark.new.self c.in-Ok.ensures.ok)
 
 pub apply-done-requires-clause-reached : goal.apply-done-requires-clause-reached
@@ -43,11 +42,10 @@ returns-in-Ok c =
     let i = c.args.inv in
     let d = c.args.inst.now in
     let e = shown c.args.effect c.args.row.now in
-    let h : c.happening_of-happening.result ≡ happening_of p.accepted s i d.word e
-    = c.happening_of-happening.ensures c.args.row.now ∙ ap (λ (x : Accepted). happening_of x c.whole.result.now i d.word e) c.accepted.ensures.module ∙ ap (λ (x : State). happening_of p.accepted x i d.word e) c.whole.ensures in
-    let t = apply p.accepted i d e s in
-    let few = subst (λ (x : Recorded). Records (effect_entries p.accepted i e (apply p.accepted i d e x.state)) c.mark.new.self c.apply-done.new.recorded) c.in-Ok.ensures.ok c.apply-done.ensures.recorded in
-    let reaches = on_ok_weaker c.apply-done.result (λ done. done ∙ ap (λ (x : Recorded). apply p.accepted i d e x.state) c.in-Ok.ensures.ok) c.apply-done.ensures.ok in
-    subst (λ (g : Happening). Made g (apply p.accepted i d e s) (effect_weight p s i d e) c.finished.result c.args.recorded.now c.finished.new.recorded) h
+    let h : c.happening_of-happening.result ≡ happening_of p s i d.word e = c.happening_of-happening.ensures c.args.row.now ∙ ap (λ (x : State). happening_of p x i d.word e) c.whole.ensures in
+    let t = apply p i d e s in
+    let few = subst (λ (x : Recorded). Records (effect_entries p.accepted i e (apply p i d e x.state)) c.mark.new.self c.apply-done.new.recorded) c.in-Ok.ensures.ok c.apply-done.ensures.recorded in
+    let reaches = on_ok_weaker c.apply-done.result (λ done. done ∙ ap (λ (x : Recorded). apply p i d e x.state) c.in-Ok.ensures.ok) c.apply-done.ensures.ok in
+    subst (λ (g : Happening). Made g (apply p i d e s) (effect_weight p s i d e) c.finished.result c.args.recorded.now c.finished.new.recorded) h
     (made_is c.happening_of-happening.result (effect_entries p.accepted i e t) c.args.recorded.now c.mark.new.self c.apply-done.new.recorded c.requires.none c.in-Ok.ensures.ok few (effect_weight p s i d e) t
-    c.apply-done.result c.finished.result c.finished.new.recorded (effect_fits p s i d e c.requires.single) reaches c.finished.ensures.ok c.finished.ensures.err)
+    c.apply-done.result c.finished.result c.finished.new.recorded (effect_fits p s i d e (turns_few s i c.args.effect c.args.row.now c.requires.taken) c.requires.single) reaches c.finished.ensures.ok c.finished.ensures.err)

@@ -42,20 +42,20 @@ returns-in-Ok c =
     let d = c.due_inst-inst.result.now in
     let e = shown c.in-Ok.effect c.due.new.row in
     let w : ℕ = effect_weight p s i d e in
-    let next : State = apply p.accepted i d e s in
-    let h : Happening = happening_of p.accepted s i d.word e in
+    let next : State = apply p i d e s in
+    let h : Happening = happening_of p s i d.word e in
     let old = c.args.recorded.now in
     let new = c.perform.new.recorded in
     let known : Facts p.accepted = facts p.accepted c.accepted-accepted.result.now c.accepted-accepted.ensures.module c.insts-insts.ensures.accepted c.insts-insts.ensures.valid in
     let reached : IsReached p s i d = subst (λ (x : State). IsReached p x i d) c.whole-whole.ensures c.due_inst-inst.ensures in
     let fits : Fits p s i d e = subst (λ (x : State). Fits p x i d e) c.whole.ensures c.in-Ok.ensures.fits in
-    let due : step_of p s i ≡ Moves h next = subst (λ (x : State). step_of p x i ≡ Moves (happening_of p.accepted x i d.word e) (apply p.accepted i d e x)) c.whole.ensures c.in-Ok.ensures.due in
+    let due : step_of p s i ≡ Moves h next = subst (λ (x : State). step_of p x i ≡ Moves (happening_of p x i d.word e) (apply p i d e x)) c.whole.ensures c.in-Ok.ensures.due in
     let weight : weight_of p s i ≡ w = subst (λ (x : State). weight_of p x i ≡ effect_weight p x i d e) c.whole.ensures c.in-Ok.ensures.weight in
     record {
       does = subst (λ (n : ℕ). Does i (step_of p s i) n c.perform.result (seen old) (seen new)) (sym weight) (made_does i (step_of p s i) w h next c.perform.result old new due c.perform.ensures);
       none = made_none h next w c.perform.result old new c.requires.none c.perform.ensures;
       sound = made_keeps (IsSound p) h next w c.perform.result old new c.requires.sound (applied_sound p known s i d e reached fits) c.perform.ensures;
-      invocations = made_keeps (λ (x : State). length x.statuses.list ≡ length s.statuses.list) h next w c.perform.result old new refl (applied_count p.accepted i d e s) c.perform.ensures;
+      invocations = made_keeps (λ (x : State). length x.statuses.list ≡ length s.statuses.list) h next w c.perform.result old new refl (applied_count p i d e s) c.perform.ensures;
     }
 
 -- ---- where it is predecoded
@@ -69,8 +69,8 @@ returns-in-Some c =
     let step = c.in-Some.step in
     let e = full step.effect in
     let w : ℕ = effect_weight p s i d e in
-    let next : State = apply p.accepted i d e s in
-    let h : Happening = happening_of p.accepted s i d.word e in
+    let next : State = apply p i d e s in
+    let h : Happening = happening_of p s i d.word e in
     let old = c.args.recorded.now in
     let new = c.cell_event.new.recorded in
     let did : Result Did StepErr = Ok c.cell_event.result in
@@ -82,5 +82,5 @@ returns-in-Some c =
           (made_does i (step_of p s i) w h next did old new (cell_moves p s i d step reached is) c.cell_event.ensures);
       none = made_none h next w did old new c.requires.none c.cell_event.ensures;
       sound = made_keeps (IsSound p) h next w did old new c.requires.sound (applied_sound p known s i d e reached is.effect.fits) c.cell_event.ensures;
-      invocations = made_keeps (λ (x : State). length x.statuses.list ≡ length s.statuses.list) h next w did old new refl (applied_count p.accepted i d e s) c.cell_event.ensures;
+      invocations = made_keeps (λ (x : State). length x.statuses.list ≡ length s.statuses.list) h next w did old new refl (applied_count p i d e s) c.cell_event.ensures;
     }
