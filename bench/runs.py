@@ -6,18 +6,21 @@
 A call of a file `*.runs` is a line `== WHAT: MODULE: WORDS`, the text of the setup, and behind `-- commands` the input. The
 transcripts are worked out by hand from the manual, docs/SETUP.md and the standard; the numbers in runs_of_values.py and
 arithmetic.py by Python, and those of memory.runs, flow.runs and group.runs, and of the runs that docs/MANUAL.md speaks of, by the
-interpreters memory_runs.py, flow.py, group_runs.py and manual_runs.py; those of source.runs by hand in source_runs.py and
-stop_runs.py, those of traces.runs by sessions.py and random_sessions.py, and those of variables.runs by hand in variable_runs.py and
-by variables_told.py; those of `make` by stops.py. None is taken from the program that is tested.
+interpreters memory_runs.py, flow.py, group_runs.py and manual_runs.py; those with barriers before which invocations return by hand and
+by sessions.py in barrier_runs.py, those of pointers.runs by hand and by pointers.py in pointer_runs.py; those of source.runs by hand in
+source_runs.py and stop_runs.py, those of traces.runs by sessions.py and random_sessions.py, and those of variables.runs by hand in
+variable_runs.py and by variables_told.py; those of `make` by stops.py. None is taken from the program that is tested.
 """
 import os
 import struct
 import arithmetic
+import barrier_runs
 import flow
 import group_runs
 import make
 import manual_runs
 import memory_runs
+import pointer_runs
 import random_sessions
 import runs_of_places as places
 import runs_of_setups as setups
@@ -283,8 +286,8 @@ def calls():
         ("several", "blocks.spv", DEBUG, setup, "goto 1\n", DONE, out) for setup, out in setups.OF_TWO
     ]
     by_file = [
-        ("memory.runs", [memory_runs]), ("flow.runs", [flow]), ("group.runs", [group_runs]), ("source.runs", [source_runs, stop_runs]), ("traces.runs", [traces, random_sessions]),
-        ("variables.runs", [variable_runs, variables_told]),
+        ("memory.runs", [memory_runs]), ("flow.runs", [flow]), ("group.runs", [group_runs, barrier_runs]), ("pointers.runs", [pointer_runs]),
+        ("source.runs", [source_runs, stop_runs]), ("traces.runs", [traces, random_sessions]), ("variables.runs", [variable_runs, variables_told]),
     ]
     for file, runs in by_file:
         yield file, [(what, name, DEBUG, *row) for each in runs for what, name, *row in each.calls()]
@@ -448,6 +451,8 @@ def modules():
     yield from source_runs.modules()
     yield from variable_runs.modules()
     yield from stop_runs.modules_in_gate()
+    yield from pointer_runs.modules()
+    yield from barrier_runs.modules()
     for n in (1, 64):
         yield made_file(n), make.module(n)
 

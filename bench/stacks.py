@@ -2,13 +2,17 @@
 invocation is of, which instruction comes next in it, and what its registers hold.
 
 An event is one executable instruction of the invocation that the schedule names next, or nothing where that one is finished or waits
-at a barrier. A run ends before an access that finds no part of memory. Integers have 32 bits, and undefined ones are None; a pointer is a variable's room and a path. Opcodes are those of
-SPIR-V 1.6, section 3.42; debug instructions are passed.
+at a barrier. A barrier opens where an arrival makes all invocations stand at it; where the finished ones count as arrived, as soon as all
+others stand at it, by an arrival or by the return of the last one that was missing. A run ends before an access that finds no part of
+memory. Integers that are computed have 32 bits, and undefined ones are None; a pointer is a variable's room and a path of signed indexes.
+Opcodes are those of SPIR-V 1.6, section 3.42; debug instructions are passed.
 """
 import struct
 
 LOCAL_SIZE, LOCAL_SIZE_ID, BUILT_IN, BINDING = 17, 38, 11, 33
 VOID, BOOL, INT, VECTOR, ARRAY, RUNTIME_ARRAY, STRUCT, POINTER, FUNCTION_TYPE = 19, 20, 21, 23, 28, 29, 30, 32, 33
+# What has no result type: names, entry points, modes, decorations and types.
+DECLARATIONS = {5, 6, 15, 16, 71, 72, 331, *range(19, 34)}
 INPUT, WORKGROUP, PRIVATE, FUNCTION, BUFFER = 1, 4, 6, 7, 12
 WORKGROUPS, WORKGROUP_ID, LOCAL_ID, GLOBAL_ID, LOCAL_INDEX = 24, 26, 27, 28, 29
 PASSED = {0, 8, 59, 245, 246, 247, 317}
@@ -20,8 +24,8 @@ class Fault(Exception):
     pass
 
 
-def signed(number):
-    return number - (1 << 32) if number >> 31 else number
+def signed(number, width=32):
+    return number - (1 << width) if number >> (width - 1) else number
 
 
 COMPUTED = {
@@ -68,7 +72,7 @@ class Module:
             elif block is not None:
                 self.put(at, op, args, function, block)
             at += count
-        self.result_types = {args[1]: args[0] for op, args in self.insts.values() if len(args) > 1 and args[0] in self.types}
+        self.result_types = {args[1]: args[0] for op, args in self.insts.values() if len(args) > 1 and op not in DECLARATIONS and args[0] in self.types}
         for block in self.blocks.values():
             self.after.update(zip(block["stops"], block["stops"][1:]))
         if self.size_ids:
@@ -96,16 +100,24 @@ class Module:
             self.decorations[args[0], args[1]] = args[2]
         elif op in (VOID, BOOL, INT, VECTOR, ARRAY, RUNTIME_ARRAY, STRUCT, POINTER, FUNCTION_TYPE):
             self.types[args[0]] = (op, *args[1:])
-        elif op in (41, 42):
-            self.constants[args[1]] = int(op == 41)
-        elif op == 43:
-            self.constants[args[1]] = args[2]
+        elif op in (41, 42, 48, 49):
+            self.constants[args[1]] = int(op in (41, 48))
+        elif op in (43, 50):
+            self.constants[args[1]] = self.number(args[0], args[2:])
         elif op == 44:
             self.constants[args[1]] = [self.constants[id] for id in args[2:]]
         elif op in (1, 46):
             self.constants[args[1]] = self.filled(args[0], lambda: None if op == 1 else 0)
         elif op == 59:
             self.variables[args[1]] = (args[2], self.types[args[0]][2], args[3] if len(args) > 3 else None)
+
+    def number(self, ty, words):
+        """The bits of a literal, as many as its type has."""
+        return sum(word << 32 * k for k, word in enumerate(words)) & (1 << self.types[ty][1]) - 1
+
+    def index(self, id, value):
+        """What an id is as an index, whatever its type says of signs."""
+        return signed(value, self.types[self.result_types[id]][1])
 
     def filled(self, ty, given):
         """A value of a type whose scalars are given one after the other."""
@@ -121,7 +133,7 @@ def text(module, ty, value):
     """A value as it is shown."""
     kind, *args = module.types[ty]
     if kind == POINTER:
-        return "&%%%d" % value[0].id + "".join("[%d]" % signed(index) for index in value[1])
+        return "&%%%d" % value[0].id + "".join("[%d]" % index for index in value[1])
     if kind == STRUCT:
         return "{" + ", ".join("%d = %s" % (k, text(module, part, value[k])) for k, part in enumerate(args)) + "}"
     if isinstance(value, list):
@@ -130,7 +142,8 @@ def text(module, ty, value):
         return "<undefined>"
     if kind == BOOL:
         return "true" if value else "false"
-    return str(signed(value) if args[1] else value)
+    width, is_signed = args
+    return str(signed(value, width) if is_signed else value)
 
 
 def part(value, index):
@@ -162,6 +175,8 @@ class Invocation:
 
 class Group:
     """A workgroup whose buffers have words, under a schedule."""
+
+    finished_count = False
 
     def __init__(self, module, buffers, schedule):
         self.m, self.schedule, self.events, self.rooms, self.fault = module, schedule, 0, {}, None
@@ -241,7 +256,7 @@ class Group:
         if op == 61:
             return self.load(values[0])
         if op in (65, 66):
-            return values[0][0], values[0][1] + tuple(values[1:])
+            return values[0][0], values[0][1] + tuple(self.m.index(id, value) for id, value in zip(args[3:], values[1:]))
         if op == 80:
             flat = self.m.types[args[0]][0] == VECTOR
             return [part for value in values for part in (value if flat and isinstance(value, list) else [value])]
@@ -270,6 +285,7 @@ class Group:
         one.frames.pop()
         if not one.frames:
             one.status = "finished"
+            self.open()
             return
         frame = one.frames[-1]
         result = self.m.insts[frame.word][1][1]
@@ -300,9 +316,7 @@ class Group:
             self.go(one, op, args)
         elif op == 224:
             one.status = "arrived"
-            if all(each.status == "arrived" and each.frames[-1].word == frame.word for each in self.invocations):
-                for each in self.invocations:
-                    each.status = "passed"
+            self.open()
         else:
             if op == 62:
                 self.store(self.value(one, args[0]), self.value(one, args[1]))
@@ -311,6 +325,13 @@ class Group:
             elif op != 225:
                 frame.registers[args[1]] = self.result(one, op, args)
             frame.word = self.m.after[frame.word]
+
+    def open(self):
+        """The barrier opens, where all that have to stand at it do: all invocations, or all that aren't finished."""
+        awaited = [one for one in self.invocations if not (self.finished_count and one.status == "finished")]
+        if all(one.status == "arrived" for one in awaited) and len({one.frames[-1].word for one in awaited}) == 1:
+            for one in awaited:
+                one.status = "passed"
 
     def event(self):
         """Makes an event, or finds that it can't be made; gives the invocation that the schedule names."""

@@ -30,7 +30,7 @@ const GROUPS: [(&str, &str, &str); 9] = [
 ];
 
 /// The files of calls, in the order of the output.
-const CALLS: [&str; 11] = [
+const CALLS: [&str; 12] = [
     "commands.runs",
     "words.runs",
     "setups.runs",
@@ -39,6 +39,7 @@ const CALLS: [&str; 11] = [
     "memory.runs",
     "flow.runs",
     "group.runs",
+    "pointers.runs",
     "source.runs",
     "traces.runs",
     "variables.runs",
