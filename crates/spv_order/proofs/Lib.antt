@@ -1,0 +1,3 @@
+mod SweepLemmas
+mod TouchLemmas
+mod OrderLemmas

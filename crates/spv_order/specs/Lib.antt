@@ -1,0 +1,5 @@
+pub mod Order
+pub mod Arrivals
+pub mod Touches
+pub mod Reaches
+pub mod Sweep
