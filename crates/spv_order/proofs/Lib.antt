@@ -1,3 +1,4 @@
 mod SweepLemmas
 mod TouchLemmas
 mod OrderLemmas
+mod ExchangeLemmas

@@ -3,3 +3,4 @@ pub mod Arrivals
 pub mod Touches
 pub mod Reaches
 pub mod Sweep
+pub mod Exchanges
