@@ -17,9 +17,9 @@ use Rattle.spv_line.specs.Words.{words_in}
 use Rattle.spv_cmd.specs.Numbers.{number_of}
 use Rattle.spv_cmd.specs.Paths.{IsPath, path_of}
 use Rattle.spv_cmd.specs.Places.{IsPlace, place_of}
-use Rattle.spv_cmd.specs.Grammar.{Arguments, row, spelling, built, keyword_in, is_built, IsOne, IsNumber, IsPositive, IsCount, Means, AreWords, IsLine}
-use Rattle.spv_cmd.specs.Grammar.Arguments.{none, number, positive, count, path, place}
-use Rattle.spv_cmd.specs.Commands.{said_by_one, at_least_one, positive_of, count_of, meant, refused, command_or_refused, command_with, command_in, command_of, IsUnknown}
+use Rattle.spv_cmd.specs.Grammar.{Arguments, row, spelling, built, keyword_in, is_built, IsOne, IsNumber, IsPositive, IsCount, AreNumbers, Means, AreWords, IsLine}
+use Rattle.spv_cmd.specs.Grammar.Arguments.{none, number, positive, count, path, place, numbers}
+use Rattle.spv_cmd.specs.Commands.{said_by_one, at_least_one, positive_of, count_of, numbers_of, meant, refused, command_or_refused, command_with, command_in, command_of, IsUnknown}
 use Rattle.spv_cmd.specs.Answers.{Reads, IsNoKeyword, AreRefused, IsRefused, IsFirstRefused, IsBlank, IsSplit}
 use Rattle.spv_cmd.proofs.CutLemmas.{when, made_of, path_said, path_sound, place_said, place_sound}
 use Rattle.spv_cmd.proofs.KeywordLemmas.{one_keyword}
@@ -69,6 +69,23 @@ count_sound : (words : List (List ℕ)) (n : ℕ) → count_of words ≡ Some n 
 count_sound [] n h = let one : n ≡ 1 = cc in inl (refl, one)
 count_sound (word ∷ words) n h = inr (positive_sound (word ∷ words) n h)
 
+numbers_said : (words : List (List ℕ)) (k n : ℕ) → AreNumbers words k n → numbers_of words ≡ Some (k, n)
+numbers_said words k n h =
+    ap numbers_of h.2 ∙ ap (λ (o : Option ℕ). option_and_then {U = ℕ × ℕ} (λ j. option_map (λ m. (j, m)) (positive_of h.1)) o) h.3
+    ∙ ap (λ (o : Option ℕ). option_map (λ m. (k, m)) o) (positive_said h.1 n h.4)
+
+numbers_sound : (words : List (List ℕ)) (k n : ℕ) → numbers_of words ≡ Some (k, n) → AreNumbers words k n
+numbers_sound [] k n h = absurd (cc)
+numbers_sound (word ∷ words) k n h = by (number_of word) refl h
+  where
+    by : (o : Option ℕ) → number_of word ≡ o → option_and_then {U = ℕ × ℕ} (λ j. option_map (λ m. (j, m)) (positive_of words)) o ≡ Some (k, n) → AreNumbers (word ∷ words) k n
+    by None e is = absurd (cc)
+    by (Some j) e is =
+        let made = made_of (λ m. (j, m)) (positive_of words) (k, n) is in
+        let first : k ≡ j = ap (λ (p : ℕ × ℕ). p.0) made.2 in
+        let second : n ≡ made.0 = ap (λ (p : ℕ × ℕ). p.1) made.2 in
+        (word, words, refl, e ∙ ap Some (sym first), positive_sound words n (made.1 ∙ ap Some (sym second)))
+
 pub is_meant : (a : Arguments) (words : List (List ℕ)) (c : Command) → Means a words c → meant a words ≡ Some c
 is_meant (none it) words c h = ap (meant (none it)) h.0 ∙ ap Some (sym h.1)
 is_meant (number make) words c h = ap (option_map make) (number_said words h.0 h.2) ∙ ap Some (sym h.1)
@@ -76,6 +93,7 @@ is_meant (positive make) words c h = ap (option_map make) (positive_said words h
 is_meant (count make) words c h = ap (option_map make) (count_said words h.0 h.2) ∙ ap Some (sym h.1)
 is_meant (path make) words c h = ap (option_map make) (one_said IsPath path_of path_said words h.0 h.2) ∙ ap Some (sym h.1)
 is_meant (place make) words c h = ap (option_map make) (one_said IsPlace place_of place_said words h.0 h.2) ∙ ap Some (sym h.1)
+is_meant (numbers make) words c h = ap (option_map (λ (p : ℕ × ℕ). make p.0 p.1)) (numbers_said words h.0 h.1 h.3) ∙ ap Some (sym h.2)
 
 meant_sound : (a : Arguments) (words : List (List ℕ)) (c : Command) → meant a words ≡ Some c → Means a words c
 meant_sound (none it) [] c h = let same : c ≡ it = cc in (refl, same)
@@ -85,6 +103,7 @@ meant_sound (positive make) words c h = let made = made_of make (positive_of wor
 meant_sound (count make) words c h = let made = made_of make (count_of words) c h in (made.0, made.2, count_sound words made.0 made.1)
 meant_sound (path make) words c h = let made = made_of make (said_by_one path_of words) c h in (made.0, made.2, one_sound IsPath path_of path_sound words made.0 made.1)
 meant_sound (place make) words c h = let made = made_of make (said_by_one place_of words) c h in (made.0, made.2, one_sound IsPlace place_of place_sound words made.0 made.1)
+meant_sound (numbers make) words c h = let made = made_of (λ (p : ℕ × ℕ). make p.0 p.1) (numbers_of words) c h in (made.0.0, made.0.1, made.2, numbers_sound words made.0.0 made.0.1 made.1)
 
 not_meant : (a : Arguments) (words : List (List ℕ)) → ((c : Command) → ¬ Means a words c) → meant a words ≡ None
 not_meant a words lacks = by (meant a words) refl

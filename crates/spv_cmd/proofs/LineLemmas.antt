@@ -20,8 +20,8 @@ use Rattle.spv_line.specs.Words.{is_space, is_other, words_in}
 use Rattle.spv_cmd.specs.Paths.{is_name, is_name_byte, is_part, is_path, part_text, parts_text, path_text}
 use Rattle.spv_cmd.specs.Places.{is_place, place_text}
 use Rattle.spv_cmd.specs.Grammar.{Arguments, row, spelling, Means, AreWords, IsLine}
-use Rattle.spv_cmd.specs.Grammar.Arguments.{none, number, positive, count, path, place}
-use Rattle.spv_cmd.specs.Lines.{Written, blank, alone, with_number, with_count, with_path, with_place, written, text_of, HasForm, line_of}
+use Rattle.spv_cmd.specs.Grammar.Arguments.{none, number, positive, count, path, place, numbers}
+use Rattle.spv_cmd.specs.Lines.{Written, blank, alone, with_number, with_count, with_path, with_place, with_numbers, written, text_of, HasForm, line_of}
 use Rattle.spv_cmd.proofs.BoolLemmas.{all_also}
 use Rattle.spv_line.proofs.Exports.{some_word, decimal_digits, decimal_some}
 use Rattle.spv_line.specs.Numbers.{is_digit}
@@ -51,6 +51,13 @@ two_words word next whole some whole' some' =
     ap (filter (λ w. not (nat_eq (length w) 0))) (slice_split_at is_space word 32 next (no_space word whole) refl)
     ∙ some_word word (slice_split is_space next) some
     ∙ ap (λ ws. word ∷ ws) (one_word next whole' some')
+
+three_words : (word next last : List ℕ) → list_all is_other word ≡ true → 0 < length word → list_all is_other next ≡ true → 0 < length next → list_all is_other last ≡ true → 0 < length last
+    → words_in (word ++ 32 ∷ (next ++ 32 ∷ last)) ≡ word ∷ next ∷ last ∷ []
+three_words word next last whole some whole' some' whole'' some'' =
+    ap (filter (λ w. not (nat_eq (length w) 0))) (slice_split_at is_space word 32 (next ++ 32 ∷ last) (no_space word whole) refl)
+    ∙ some_word word (slice_split is_space (next ++ 32 ∷ last)) some
+    ∙ ap (λ ws. word ∷ ws) (two_words next last whole' some' whole'' some'')
 
 -- ---- texts without spaces
 
@@ -131,6 +138,17 @@ path_line k make p e five h = argument_line k (make p) (path_text p) (path_whole
 place_line : (k : Keyword) (make : Option (List ℕ) × ℕ → Command) (p : Option (List ℕ) × ℕ) → (row k).1 ≡ place make → length (spelling k) ≤ 5 → (is_place p ≡ true) × (length (place_text p) ≤ 4090) → IsLine (spelling k ++ 32 ∷ place_text p) (make p)
 place_line k make p e five h = argument_line k (make p) (place_text p) (place_whole p h.0).0 (place_whole p h.0).1 (omega (arith, five, h.1)) (subst (λ a. Means a (place_text p ∷ []) (make p)) (sym e) (p, refl, (place_text p, refl, place_again p h.0)))
 
+numbers_line : (k : Keyword) (make : ℕ → ℕ → Command) (m n : ℕ) → (row k).1 ≡ numbers make → m ≤ 4294967295 → (1 ≤ n) × (n ≤ 4294967295) → IsLine (spelling k ++ 32 ∷ (decimal m ++ 32 ∷ decimal n)) (make m n)
+numbers_line k make m n e l h =
+    let short = length-append (spelling k) (32 ∷ (decimal m ++ 32 ∷ decimal n)) in
+    let shorter = length-append (decimal m) (32 ∷ decimal n) in
+    let first : length (decimal m) ≤ 10 = length-decimal-le 10 m (omega arith) (omega (arith, l)) (omega (arith, l)) in
+    let second : length (decimal n) ≤ 10 = length-decimal-le 10 n (omega arith) (omega (arith, h.1)) (omega (arith, h.1)) in (
+      omega (arith, short, shorter, first, second, keyword_short k),
+      subst (λ ws. AreWords ws (make m n)) (sym (three_words (spelling k) (decimal m) (decimal n) (keyword_whole k) (keyword_some k) (decimal_whole m l) (decimal_some m l) (decimal_whole n h.1) (decimal_some n h.1)))
+          (k, refl, subst (λ a. Means a (decimal m ∷ decimal n ∷ []) (make m n)) (sym e) (m, n, refl, (decimal m, decimal n ∷ [], refl, number_decimal m l, (h.0, (decimal n, refl, number_decimal n h.1))))),
+    )
+
 -- ---- what is written of a command, by the row of its keyword
 
 abbrev alone_made : Arguments → Option Command
@@ -154,6 +172,10 @@ abbrev place_made : Option (List ℕ) × ℕ → Arguments → Option Command
 place_made p (place make) = Some (make p)
 place_made p _ = None
 
+abbrev numbers_made : (k n : ℕ) → Arguments → Option Command
+numbers_made k n (numbers make) = Some (make k n)
+numbers_made k n _ = None
+
 abbrev made : Written → Option Command
 made blank = Some command.Empty
 made (alone k) = alone_made (row k).1
@@ -161,6 +183,7 @@ made (with_number k n) = number_made n (row k).1
 made (with_count k n) = count_made n (row k).1
 made (with_path k p) = path_made p (row k).1
 made (with_place k p) = place_made p (row k).1
+made (with_numbers k m n) = numbers_made m n (row k).1
 
 made_again : (it : Command) → made (written it) ≡ Some it
 made_again = grind arith
@@ -179,6 +202,7 @@ alone_again k (positive make) it e h = absurd (cc)
 alone_again k (count make) it e h = absurd (cc)
 alone_again k (path make) it e h = absurd (cc)
 alone_again k (place make) it e h = absurd (cc)
+alone_again k (numbers make) it e h = absurd (cc)
 
 number_again : (k : Keyword) (n : ℕ) (a : Arguments) (it : Command) → (row k).1 ≡ a → number_made n a ≡ Some it → n ≤ 4294967295 → IsLine (spelling k ++ 32 ∷ decimal n) it
 number_again k n (number make) it e h l = let same : make n ≡ it = cc in subst (IsLine (spelling k ++ 32 ∷ decimal n)) same (number_line k make n e l)
@@ -187,6 +211,7 @@ number_again k n (positive make) it e h l = absurd (cc)
 number_again k n (count make) it e h l = absurd (cc)
 number_again k n (path make) it e h l = absurd (cc)
 number_again k n (place make) it e h l = absurd (cc)
+number_again k n (numbers make) it e h l = absurd (cc)
 
 count_again : (k : Keyword) (n : ℕ) (a : Arguments) (it : Command) → (row k).1 ≡ a → count_made n a ≡ Some it → (1 ≤ n) × (n ≤ 4294967295) → IsLine (spelling k ++ 32 ∷ decimal n) it
 count_again k n (positive make) it e h l = let same : make n ≡ it = cc in subst (IsLine (spelling k ++ 32 ∷ decimal n)) same (positive_line k make n e l)
@@ -195,6 +220,7 @@ count_again k n (none that) it e h l = absurd (cc)
 count_again k n (number make) it e h l = absurd (cc)
 count_again k n (path make) it e h l = absurd (cc)
 count_again k n (place make) it e h l = absurd (cc)
+count_again k n (numbers make) it e h l = absurd (cc)
 
 text_again : (k : Keyword) (p : PathText) (a : Arguments) (it : Command) → (row k).1 ≡ a → path_made p a ≡ Some it → length (spelling k) ≤ 5 → (is_path p ≡ true) × (length (path_text p) ≤ 4090) → IsLine (spelling k ++ 32 ∷ path_text p) it
 text_again k p (path make) it e h five l = let same : make p ≡ it = cc in subst (IsLine (spelling k ++ 32 ∷ path_text p)) same (path_line k make p e five l)
@@ -203,6 +229,7 @@ text_again k p (number make) it e h five l = absurd (cc)
 text_again k p (positive make) it e h five l = absurd (cc)
 text_again k p (count make) it e h five l = absurd (cc)
 text_again k p (place make) it e h five l = absurd (cc)
+text_again k p (numbers make) it e h five l = absurd (cc)
 
 source_again : (k : Keyword) (p : Option (List ℕ) × ℕ) (a : Arguments) (it : Command) → (row k).1 ≡ a → place_made p a ≡ Some it → length (spelling k) ≤ 5 → (is_place p ≡ true) × (length (place_text p) ≤ 4090) → IsLine (spelling k ++ 32 ∷ place_text p) it
 source_again k p (place make) it e h five l = let same : make p ≡ it = cc in subst (IsLine (spelling k ++ 32 ∷ place_text p)) same (place_line k make p e five l)
@@ -211,6 +238,16 @@ source_again k p (number make) it e h five l = absurd (cc)
 source_again k p (positive make) it e h five l = absurd (cc)
 source_again k p (count make) it e h five l = absurd (cc)
 source_again k p (path make) it e h five l = absurd (cc)
+source_again k p (numbers make) it e h five l = absurd (cc)
+
+numbers_again : (k : Keyword) (m n : ℕ) (a : Arguments) (it : Command) → (row k).1 ≡ a → numbers_made m n a ≡ Some it → m ≤ 4294967295 → (1 ≤ n) × (n ≤ 4294967295) → IsLine (spelling k ++ 32 ∷ (decimal m ++ 32 ∷ decimal n)) it
+numbers_again k m n (numbers make) it e h l p = let same : make m n ≡ it = cc in subst (IsLine (spelling k ++ 32 ∷ (decimal m ++ 32 ∷ decimal n))) same (numbers_line k make m n e l p)
+numbers_again k m n (none that) it e h l p = absurd (cc)
+numbers_again k m n (number make) it e h l p = absurd (cc)
+numbers_again k m n (positive make) it e h l p = absurd (cc)
+numbers_again k m n (count make) it e h l p = absurd (cc)
+numbers_again k m n (path make) it e h l p = absurd (cc)
+numbers_again k m n (place make) it e h l p = absurd (cc)
 
 written_line : (w : Written) (it : Command) → made w ≡ Some it → HasForm w → IsLine (text_of w) it
 written_line blank it e h = let same : it ≡ command.Empty = cc in (omega arith, same)
@@ -219,6 +256,7 @@ written_line (with_number k n) it e h = number_again k n (row k).1 it refl e h
 written_line (with_count k n) it e h = count_again k n (row k).1 it refl e h
 written_line (with_path k p) it e h = text_again k p (row k).1 it refl e (path_short k p it e) h
 written_line (with_place k p) it e h = source_again k p (row k).1 it refl e (place_short k p it e) h
+written_line (with_numbers k m n) it e h = numbers_again k m n (row k).1 it refl e h.0 (h.1, h.2)
 
 pub line_again : (it : Command) → HasForm (written it) → IsLine (line_of it) it
 line_again it h = written_line (written it) it (made_again it) h

@@ -10,7 +10,7 @@ use Rattle.spv_line.specs.Words.{words_in, HasFirstWord}
 use Rattle.spv_cmd.specs.Paths.{IsPath}
 use Rattle.spv_cmd.specs.Places.{IsPlace}
 use Rattle.spv_cmd.specs.Grammar.{Arguments, IsOne, IsNumber, IsPositive, IsCount, Means}
-use Rattle.spv_cmd.specs.Grammar.Arguments.{number, positive, count, path, place}
+use Rattle.spv_cmd.specs.Grammar.Arguments.{number, positive, count, path, place, numbers}
 use Rattle.spv_cmd.specs.Answers.{Reads}
 use Rattle.spv_cmd.proofs.ReadsLemmas.{reads_err, reads_through}
 
@@ -50,3 +50,12 @@ pub count_reads : (text : List ℕ) (result : Result ℕ (Fail CmdRefusal)) (r :
     → Reads (IsPositive (words_in text)) result → Reads (IsCount (words_in text)) result
 count_reads text (Ok n) r b h e f reads = inr reads
 count_reads text (Err error) r b h e f reads = reads_err (IsPositive (words_in text)) (IsCount (words_in text)) error (no_count text r b h e f) reads
+
+-- ---- two numbers
+
+-- where the words behind the first are no number of at least 1
+pub no_numbers : (make : ℕ → ℕ → Command) (words rest : List (List ℕ)) (word : List ℕ) → words ≡ word ∷ rest → ((n : ℕ) → ¬ IsPositive rest n) → (c : Command) → ¬ Means (numbers make) words c
+no_numbers make words rest word e lacks c m =
+    let other : words ≡ m.3.0 ∷ m.3.1 = m.3.2 in
+    let same : m.3.1 ≡ rest = cc in
+    lacks m.1 (subst (λ ws. IsPositive ws m.1) same m.3.4)

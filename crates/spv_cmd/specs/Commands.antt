@@ -10,7 +10,7 @@ use Rattle.spv_cmd.specs.Numbers.{number_of}
 use Rattle.spv_cmd.specs.Paths.{path_of}
 use Rattle.spv_cmd.specs.Places.{place_of}
 use Rattle.spv_cmd.specs.Grammar.{Arguments, row, built, keyword_in, is_built}
-use Rattle.spv_cmd.specs.Grammar.Arguments.{none, number, positive, count, path, place}
+use Rattle.spv_cmd.specs.Grammar.Arguments.{none, number, positive, count, path, place, numbers}
 
 -- what one word says; no word, or more than one, says nothing
 abbrev pub said_by_one : {T : Type 0} → (List ℕ → Option T) → List (List ℕ) → Option T
@@ -28,6 +28,10 @@ abbrev pub count_of : List (List ℕ) → Option ℕ
 count_of [] = Some 1
 count_of (word ∷ words) = positive_of (word ∷ words)
 
+abbrev pub numbers_of : List (List ℕ) → Option (ℕ × ℕ)
+numbers_of [] = None
+numbers_of (word ∷ words) = option_and_then (λ k. option_map (λ n. (k, n)) (positive_of words)) (number_of word)
+
 -- the command that the words after a command's own mean
 abbrev pub meant : Arguments → List (List ℕ) → Option Command
 meant (none it) [] = Some it
@@ -37,6 +41,7 @@ meant (positive make) words = option_map make (positive_of words)
 meant (count make) words = option_map make (count_of words)
 meant (path make) words = option_map make (said_by_one path_of words)
 meant (place make) words = option_map make (said_by_one place_of words)
+meant (numbers make) words = option_map (λ p. make p.0 p.1) (numbers_of words)
 
 abbrev pub refused : ℕ → Result Command CmdRefusal
 refused code = Err (record { code = code })

@@ -22,6 +22,8 @@ pub data Arguments : Type 0 where
   path : (PathText → Command) → Arguments
   -- a line of a source file
   place : (Option (List ℕ) × ℕ → Command) → Arguments
+  -- a number, and one of at least 1
+  numbers : (ℕ → ℕ → Command) → Arguments
 
 -- ---- the rows
 
@@ -54,6 +56,9 @@ row the.Delete = (codes "delete", number command.Delete)
 row the.Watch = (codes "watch", path command.Watch)
 row the.Unwatch = (codes "unwatch", number command.Unwatch)
 row the.Info = (codes "info", none command.Info)
+row the.Tally = (codes "tally", none command.Tally)
+row the.Drop = (codes "drop", number command.DropProbe)
+row the.Halt = (codes "halt", numbers command.Halt)
 row the.Quit = (codes "quit", none command.Quit)
 
 abbrev pub spelling : Keyword → List ℕ
@@ -66,7 +71,7 @@ abbrev pub built : List Keyword
 built =
     the.Goto ∷ the.Fwd ∷ the.Back ∷ the.Stepi ∷ the.Rstepi ∷ the.Step ∷ the.Next ∷ the.Finish ∷ the.Rstep ∷ the.Rnext ∷ the.Rfinish ∷ the.Continue ∷ the.Rcontinue
     ∷ the.Where ∷ the.Group ∷ the.Focus ∷ the.Bt ∷ the.Frame ∷ the.Locals ∷ the.Globals ∷ the.Print ∷ the.Regs ∷ the.List
-    ∷ the.Break ∷ the.Delete ∷ the.Watch ∷ the.Unwatch ∷ the.Info ∷ the.Quit ∷ []
+    ∷ the.Break ∷ the.Delete ∷ the.Watch ∷ the.Unwatch ∷ the.Info ∷ the.Tally ∷ the.Drop ∷ the.Halt ∷ the.Quit ∷ []
 
 -- the keyword among these that a word is
 abbrev pub keyword_in : List Keyword → List ℕ → Option Keyword
@@ -90,6 +95,9 @@ IsPositive words n = (1 ≤ n) × IsNumber words n
 abbrev pub IsCount : List (List ℕ) → ℕ → Type 0
 IsCount words n = ((words ≡ []) × (n ≡ 1)) ⊎ IsPositive words n
 
+abbrev pub AreNumbers : List (List ℕ) → (k n : ℕ) → Type 0
+AreNumbers words k n = (word : List ℕ) × (rest : List (List ℕ)) × (words ≡ word ∷ rest) × (number_of word ≡ Some k) × IsPositive rest n
+
 -- with these arguments, the words after the command's own mean this command
 abbrev pub Means : Arguments → List (List ℕ) → Command → Type 0
 Means (none it) words that = (words ≡ []) × (that ≡ it)
@@ -98,6 +106,7 @@ Means (positive make) words that = (n : ℕ) × (that ≡ make n) × IsPositive 
 Means (count make) words that = (n : ℕ) × (that ≡ make n) × IsCount words n
 Means (path make) words that = (p : PathText) × (that ≡ make p) × IsOne (IsPath p) words
 Means (place make) words that = (p : Option (List ℕ) × ℕ) × (that ≡ make p) × IsOne (IsPlace p) words
+Means (numbers make) words that = (k n : ℕ) × (that ≡ make k n) × AreNumbers words k n
 
 -- the words of a line mean this command: none is the empty command, and else the first is a keyword and the others are
 -- what its row says

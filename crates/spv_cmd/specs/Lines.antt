@@ -17,6 +17,7 @@ pub data Written : Type 0 where
   with_count : Keyword → ℕ → Written
   with_path : Keyword → PathText → Written
   with_place : Keyword → Option (List ℕ) × ℕ → Written
+  with_numbers : Keyword → (number count : ℕ) → Written
 
 abbrev pub written : Command → Written
 written command.Empty = blank
@@ -48,6 +49,9 @@ written (command.Delete n) = with_number the.Delete n
 written (command.Watch p) = with_path the.Watch p
 written (command.Unwatch n) = with_number the.Unwatch n
 written command.Info = alone the.Info
+written command.Tally = alone the.Tally
+written (command.DropProbe n) = with_number the.Drop n
+written (command.Halt k n) = with_numbers the.Halt k n
 written command.Quit = alone the.Quit
 
 abbrev pub text_of : Written → List ℕ
@@ -57,6 +61,7 @@ text_of (with_number keyword n) = spelling keyword ++ (codes " " ++ decimal n)
 text_of (with_count keyword n) = spelling keyword ++ (codes " " ++ decimal n)
 text_of (with_path keyword p) = spelling keyword ++ (codes " " ++ path_text p)
 text_of (with_place keyword p) = spelling keyword ++ (codes " " ++ place_text p)
+text_of (with_numbers keyword k n) = spelling keyword ++ (codes " " ++ (decimal k ++ (codes " " ++ decimal n)))
 
 -- a number is of 32 bits, a count at least 1, and paths and places have their forms and leave room for the word
 abbrev pub HasForm : Written → Type 0
@@ -66,6 +71,7 @@ HasForm (with_number keyword n) = n ≤ 4294967295
 HasForm (with_count keyword n) = (1 ≤ n) × (n ≤ 4294967295)
 HasForm (with_path keyword p) = (is_path p ≡ true) × (length (path_text p) ≤ 4090)
 HasForm (with_place keyword p) = (is_place p ≡ true) × (length (place_text p) ≤ 4090)
+HasForm (with_numbers keyword k n) = (k ≤ 4294967295) × (1 ≤ n) × (n ≤ 4294967295)
 
 abbrev pub line_of : Command → List ℕ
 line_of it = text_of (written it)

@@ -4,7 +4,8 @@ ghost use Rattle.spv_line.specs.Words.{words_in};
 ghost use Rattle.spv_cmd.specs.Paths.{IsPath};
 ghost use Rattle.spv_cmd.specs.Places.{IsPlace};
 ghost use Rattle.spv_cmd.specs.Grammar.{IsOne, IsNumber, IsPositive, IsCount, Means};
-ghost use Rattle.spv_cmd.specs.Grammar.Arguments.{none};
+ghost use Rattle.spv_cmd.specs.Grammar.Arguments.{none, numbers};
+ghost use Rattle.spv_cmd.specs.declared.command.Command.TheVariants.{Halt};
 ghost use Rattle.spv_cmd.specs.Answers.{Reads};
 
 use crate::command::{BreakPlace, Command, Count, ValuePath};
@@ -56,6 +57,20 @@ pub fn count(arguments: &[u8]) -> Result<Count, Fail<CmdRefusal>>
         return Ok(Count::new(1));
     }
     positive(arguments)
+}
+
+/// The number of a probe, and one of at least 1: when it stops a run.
+pub fn halt(arguments: &[u8]) -> Result<Command, Fail<CmdRefusal>>
+    ensures { Reads (Means (numbers Halt) (words_in arguments.now)) result }
+{
+    let Some((word, rest)) = next_word(arguments) else {
+        return Err(WRONG_ARGUMENTS);
+    };
+    let Some(k) = numbers::number(word) else {
+        return Err(WRONG_ARGUMENTS);
+    };
+    let n = positive(rest)?;
+    Ok(Command::Halt { k, n })
 }
 
 /// A path.

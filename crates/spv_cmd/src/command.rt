@@ -191,9 +191,9 @@ pub enum Command {
     Rnext,
     /// `rfinish`: back out of the frame.
     Rfinish,
-    /// `continue`: to the next break or watch that hits.
+    /// `continue`: to the next break, watch or halt that hits.
     Continue,
-    /// `rcontinue`: back to the last break or watch that hit.
+    /// `rcontinue`: back to the last break, watch or halt that hit.
     Rcontinue,
     /// `where`: where the focus stands.
     Place,
@@ -225,6 +225,12 @@ pub enum Command {
     Unwatch(u32),
     /// `info`: the size of the module and of the run.
     Info,
+    /// `tally`: how many events each probe hit.
+    Tally,
+    /// `drop k`: drops probe k.
+    DropProbe(u32),
+    /// `halt k n`: stops where the tally of probe k comes to a multiple of n.
+    Halt { k: u32, n: Count },
     /// `quit`: ends the session.
     Quit,
 }

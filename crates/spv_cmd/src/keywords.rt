@@ -64,6 +64,12 @@ pub enum Keyword {
     Unwatch,
     /// `info`
     Info,
+    /// `tally`
+    Tally,
+    /// `drop`
+    Drop,
+    /// `halt`
+    Halt,
     /// `quit`
     Quit,
 }
@@ -72,7 +78,7 @@ pub enum Keyword {
 type Row = (Keyword, &'static [u8], bool);
 
 /// All of them, in the order above.
-const ROWS: [Row; 29] = [
+const ROWS: [Row; 32] = [
     (Keyword::Goto, b"goto", true),
     (Keyword::Fwd, b"fwd", true),
     (Keyword::Back, b"back", true),
@@ -101,6 +107,9 @@ const ROWS: [Row; 29] = [
     (Keyword::Watch, b"watch", true),
     (Keyword::Unwatch, b"unwatch", true),
     (Keyword::Info, b"info", true),
+    (Keyword::Tally, b"tally", true),
+    (Keyword::Drop, b"drop", true),
+    (Keyword::Halt, b"halt", true),
     (Keyword::Quit, b"quit", true),
 ];
 

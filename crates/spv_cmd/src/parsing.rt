@@ -8,7 +8,7 @@ ghost use Rattle.spv_cmd.specs.Commands.{command_of, refused, IsUnknown};
 ghost use Rattle.spv_cmd.specs.Grammar.{row, spelling, is_built, Means, IsLine};
 ghost use Rattle.spv_cmd.specs.Answers.{Reads, IsDue, IsAnswer, IsRefused, IsFirstRefused, IsBlank, IsSplit};
 
-use crate::arguments::{count, none, number, path, place, positive};
+use crate::arguments::{count, halt, none, number, path, place, positive};
 use crate::command::Command;
 use crate::keywords::{Keyword, find_keyword};
 use spv_base::{CmdRefusal, Fail};
@@ -113,6 +113,9 @@ fn command(alloc: Global, keyword: Keyword, arguments: &[u8]) -> Result<Command,
         Keyword::Watch => Ok(Command::Watch(path(alloc, arguments)?)),
         Keyword::Unwatch => Ok(Command::Unwatch(number(arguments)?)),
         Keyword::Info => none(arguments, Command::Info),
+        Keyword::Tally => none(arguments, Command::Tally),
+        Keyword::Drop => Ok(Command::DropProbe(number(arguments)?)),
+        Keyword::Halt => halt(arguments),
         Keyword::Quit => none(arguments, Command::Quit),
     }
 }

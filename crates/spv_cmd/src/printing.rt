@@ -68,6 +68,9 @@ fn push_command(alloc: Global, text: &mut Vec<u8>, command: &Command) -> Result<
         Command::Watch(path) => push_path(alloc, text, Keyword::Watch, path),
         Command::Unwatch(n) => push_keyword_number(alloc, text, Keyword::Unwatch, *n),
         Command::Info => push_word(text, Keyword::Info),
+        Command::Tally => push_word(text, Keyword::Tally),
+        Command::DropProbe(n) => push_keyword_number(alloc, text, Keyword::Drop, *n),
+        Command::Halt { k, n } => push_numbers(alloc, text, Keyword::Halt, *k, *n),
         Command::Quit => push_word(text, Keyword::Quit),
     }
 }
@@ -107,6 +110,24 @@ fn push_count(
     ensures range { count ≤ 4294967295 }
 {
     push_keyword_number(alloc, text, keyword, count.get())
+}
+
+/// Appends a keyword, a number, and one of at least 1.
+fn push_numbers(
+    alloc: Global,
+    text: &mut Vec<u8>,
+    keyword: Keyword,
+    number: u32,
+    count: Count,
+) -> Result<(), NoMemory>
+    ensures text { OnOk result (text.new.items ≡ text.old.items ++ (spelling keyword ++ 32 ∷ (decimal number ++ 32 ∷ decimal count))) }
+    ensures number { number ≤ 4294967295 }
+    ensures least { 1 ≤ count }
+    ensures range { count ≤ 4294967295 }
+{
+    push_keyword_number(alloc, text, keyword, number)?;
+    text.extend_from_slice(b" ")?;
+    push_number(alloc, text, u64::from(count.get()))
 }
 
 /// Appends a part of a path.

@@ -1,7 +1,8 @@
-use Rattle.std.proofs.Common.{ap}
+use Rattle.std.proofs.Common.{ap, subst, sym}
 use Rattle.spv_cmd.specs.declared.command.Command.TheVariants as command
 use Rattle.spv_line.specs.Words.{words_in}
-use Rattle.spv_cmd.specs.Grammar.{row}
+use Rattle.spv_cmd.specs.Answers.{Reads}
+use Rattle.spv_cmd.specs.Grammar.{Means, row}
 use Rattle.spv_cmd.proofs.RowLemmas.{number_err, positive_err, count_err, path_err, place_err}
 use Rattle.spv_cmd.proofs.parsing.command.Goals as goal
 
@@ -40,3 +41,9 @@ returns-in_err-path-in-Watch c = path_err (row c.args.keyword).1 command.Watch (
 
 pub returns-in_err-number-in-Unwatch : goal.returns-in_err-number-in-Unwatch
 returns-in_err-number-in-Unwatch c = number_err (row c.args.keyword).1 command.Unwatch (words_in c.args.arguments.now) c.in_err-number-in-Unwatch.field-0.0 c.from_residual-in_err-number-in-Unwatch.result (ap (λ k. (row k).1) c.in-Unwatch.is) c.from_residual-in_err-number-in-Unwatch.ensures.1 c.in_err-number-in-Unwatch.ensures
+
+pub returns-in_err-number-in-Drop : goal.returns-in_err-number-in-Drop
+returns-in_err-number-in-Drop c = number_err (row c.args.keyword).1 command.DropProbe (words_in c.args.arguments.now) c.in_err-number-in-Drop.field-0.0 c.from_residual-in_err-number-in-Drop.result (ap (λ k. (row k).1) c.in-Drop.is) c.from_residual-in_err-number-in-Drop.ensures.1 c.in_err-number-in-Drop.ensures
+
+pub returns-in-Halt : goal.returns-in-Halt
+returns-in-Halt c = subst (λ k. Reads (Means (row k).1 (words_in c.args.arguments.now)) c.halt.result) (sym c.in-Halt.is) c.halt.ensures
