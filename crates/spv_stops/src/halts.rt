@@ -21,7 +21,7 @@ impl Model for Halts {
 }
 
 impl Halts {
-    ghost use Rattle.std.specs.Prelude.{◌≡◌, ◌<◌, [], OnOk, OnErr};
+    ghost use Rattle.std.specs.Prelude.{◌≡◌, ◌<◌, ◌==◌, [], OnOk, OnErr, length};
     ghost use Rattle.spv_stops.specs.Halts.{with_halt, without_halt, is_halted};
 
     /// No halts. Takes no memory.
@@ -31,6 +31,13 @@ impl Halts {
         Halts {
             halts: Vec::new(alloc),
         }
+    }
+
+    /// Whether no probe has a halt.
+    pub fn is_empty(&self) -> bool
+        ensures { result ≡ (length self.now == 0) }
+    {
+        self.halts.is_empty()
     }
 
     /// Sets the halt of the probe `k` to multiples of `n`, in the place of an earlier one.
