@@ -1,7 +1,7 @@
 -- What a kit has counted: of one event more, of one less, and with one probe less.
-use Rattle.std.proofs.Common.{◌≡◌, ℕ, zero, suc, ◌+◌, ◌-◌, ◌<◌, ◌^◌, ◌==◌, Bool, true, false, cond, List, [], ◌∷◌, ◌++◌, length, map, get_or, set, Option, Some, None, refl, sym, ap, ◌∙◌, arith}
-use Rattle.std.specs.Prelude.{IfSome, All, IsTrue, count_by, option_map, if◌then◌else◌}
-use Rattle.std.specs.List.{AllZip}
+use Rattle.std.proofs.Common.{◌≡◌, ℕ, zero, suc, ◌+◌, ◌-◌, ◌<◌, ◌^◌, ◌==◌, ◌||◌, Bool, true, false, cond, List, [], ◌∷◌, ◌++◌, length, map, get_or, set, Option, Some, None, refl, sym, ap, ap₂, ◌∙◌, subst, arith}
+use Rattle.std.specs.Prelude.{IfSome, All, IsTrue, is_some, count_by, option_map, if◌then◌else◌}
+use Rattle.std.specs.List.{AllZip, list_any}
 use Rattle.std.proofs.lemmas.List.Sums.{sum_by-append, count_by-le-length}
 use Rattle.std.proofs.lemmas.List.Elements.{All-nil, All-cons, All-head, All-tail}
 use Rattle.spv_base.specs.declared.happenings.Happening.{Happening}
@@ -145,3 +145,46 @@ module _ {P : Type 0} (tally : P → ℕ) (test : P → Happening → Bool) wher
   pub follows_above : (h : Happening) (tests : List (Option (Happening → Bool))) (events : List Happening) (boxes : List (Option P)) → Follows tally test tests (events ++ h ∷ []) boxes → AllAbove tally test h boxes
   follows_above h tests events boxes f =
       zip_each (HasCounted tally test (events ++ h ∷ [])) (λ p. IsTrue (test p h) → 0 < tally p) (λ hit p was. above_by (test p h) (tally p) (count_by hit events) (last_one h events hit p was)) tests boxes f
+
+  -- ---- the tests of a kit
+
+  same_test : (hit : Happening → Bool) (p : P) → ((h : Happening) → test p h ≡ hit h) → test p ≡ hit
+  same_test hit p f = λ i. λ h. f h i
+
+  test_alike : (events : List Happening) (hit : Option (Happening → Bool)) (p : Option P) → Alike (HasCounted tally test events) hit p → option_map test p ≡ hit
+  test_alike events (Some hit) (Some p) r = ap (λ (f : Happening → Bool). Some f) (same_test hit p r.test_is)
+  test_alike events (Some hit) None r = elim r [ ]
+  test_alike events None (Some p) r = elim r [ ]
+  test_alike events None None r = refl
+
+  -- a kit that follows has these tests
+  pub follows_tests : (tests : List (Option (Happening → Bool))) (events : List Happening) (boxes : List (Option P)) → Follows tally test tests events boxes → tests_of test boxes ≡ tests
+  follows_tests [] events [] f = refl
+  follows_tests [] events (b ∷ bs) f = elim f [ ]
+  follows_tests (t ∷ ts) events [] f = elim f [ ]
+  follows_tests (t ∷ ts) events (b ∷ bs) f = ap₂ (λ (x : Option (Happening → Bool)) (xs : List (Option (Happening → Bool))). x ∷ xs) (test_alike events t b f.0) (follows_tests ts events bs f.1)
+
+  -- so a kit that follows others' tests follows its own
+  pub follows_own : (tests : List (Option (Happening → Bool))) (events : List Happening) (boxes : List (Option P)) → Follows tally test tests events boxes → Follows tally test (tests_of test boxes) events boxes
+  follows_own tests events boxes f = subst (λ (ts : List (Option (Happening → Bool))). Follows tally test ts events boxes) (sym (follows_tests tests events boxes f)) f
+
+  -- where no probe is there, any events are followed
+  none_alike : (events : List Happening) (p : Option P) → is_some p ≡ false → Alike (HasCounted tally test events) (option_map test p) p
+  none_alike events (Some p) e = absurd (cc)
+  none_alike events None e = tt
+
+  either_none : (a b : Bool) → a || b ≡ false → (a ≡ false) × (b ≡ false)
+  either_none true b e = absurd (cc)
+  either_none false b e = (refl, e)
+
+  pub follows_none : (boxes : List (Option P)) → list_any is_some boxes ≡ false → (events : List Happening) → Follows tally test (tests_of test boxes) events boxes
+  follows_none [] e events = tt
+  follows_none (b ∷ bs) e events = let both = either_none (is_some b) (list_any is_some bs) e in (none_alike events b both.0, follows_none bs both.1 events)
+
+  any_test : (p : Option P) → is_some (option_map test p) ≡ is_some p
+  any_test (Some p) = refl
+  any_test None = refl
+
+  pub any_tests : (boxes : List (Option P)) → list_any is_some (tests_of test boxes) ≡ list_any is_some boxes
+  any_tests [] = refl
+  any_tests (b ∷ bs) = ap₂ (λ (x y : Bool). x || y) (any_test b) (any_tests bs)

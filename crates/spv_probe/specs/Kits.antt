@@ -1,6 +1,6 @@
 -- Kits: a place for each probe that was handed in, numbered from 1. The place of one that was dropped is empty. A probe is seen through
 -- its tally and its test.
-use Rattle.std.specs.Prelude.{◌≡◌, ℕ, ◌-◌, ◌^◌, ◌<◌, ◌==◌, Bool, IsTrue, List, get_or, Option, Some, None, IfSome, All, count_by, if◌then◌else◌}
+use Rattle.std.specs.Prelude.{◌≡◌, ℕ, ◌-◌, ◌^◌, ◌<◌, ◌==◌, Bool, IsTrue, List, get_or, map, option_map, Option, Some, None, IfSome, All, count_by, if◌then◌else◌}
 use Rattle.std.specs.List.{AllZip}
 use Rattle.spv_base.specs.declared.happenings.Happening.{Happening}
 use Rattle.spv_base.specs.Counting.{Counts, Uncounts}
@@ -15,6 +15,10 @@ Alike R (Some a) (Some b) = R a b
 Alike R (Some a) None = ⊥
 Alike R None (Some b) = ⊥
 Alike R None None = Unit {0}
+
+-- the test of each probe, at its number; none where it was dropped
+abbrev pub tests_of : {P : Type 0} → (P → Happening → Bool) → List (Option P) → List (Option (Happening → Bool))
+tests_of test boxes = map (option_map test) boxes
 
 -- each count is below the greatest u64
 abbrev pub AllBelow : {P : Type 0} → (P → ℕ) → List (Option P) → Type 0

@@ -1,7 +1,8 @@
 //! The boxed probes of a session.
-ghost use Rattle.std.specs.Prelude.{◌≡◌, ◌-◌, ◌++◌, ◌∷◌, [], List, Bool, Option, Some, None, Ok, Err, IfOk, OnOk, OnErr, All, is_some, option_map, map, set, count_by, if◌then◌else◌};
+ghost use Rattle.std.specs.Prelude.{◌≡◌, ◌-◌, ◌++◌, ◌∷◌, [], List, Bool, Option, Some, None, Ok, Err, IfOk, OnOk, OnErr, All, is_some, option_map, map, set, count_by, if◌then◌else◌, false};
+ghost use Rattle.std.specs.List.{list_any};
 ghost use Rattle.spv_base.specs.declared.happenings.Happening.{Happening as AnyHappening};
-ghost use Rattle.spv_probe.specs.Kits.{place, AllBelow, AllAbove, AllCount, AllUncount, Follows};
+ghost use Rattle.spv_probe.specs.Kits.{place, tests_of, AllBelow, AllAbove, AllCount, AllUncount, Follows};
 
 use crate::slots;
 use spv_base::{CmdRefusal, Happening, NoMemory, Probe};
@@ -25,6 +26,23 @@ impl Kit {
     {
         let boxes = slots::filled(alloc, probes)?;
         Ok(Kit { boxes })
+    }
+
+    /// A kit without probes. Takes no memory.
+    pub fn empty(alloc: Global) -> Kit
+        ensures { result.boxes.items ≡ [] }
+    {
+        Kit {
+            boxes: Vec::new(alloc),
+        }
+    }
+
+    /// Whether a probe is there.
+    pub fn has_one(&self) -> bool
+        ensures one { result ≡ list_any is_some (tests_of (λ p. test p) self.now.boxes.items) }
+        ensures none { result ≡ false → (events : List AnyHappening) → Follows (λ p. tally p) (λ p. test p) (tests_of (λ p. test p) self.now.boxes.items) events self.now.boxes.items }
+    {
+        slots::any(&self.boxes)
     }
 
     /// Counts an event in each probe that is there.

@@ -1,4 +1,4 @@
-//! Probes that count stores, lines and arrivals at barriers, and the kit that holds the boxes of a session. No command hands one in yet.
+//! Probes that count stores, lines and arrivals at barriers, and the kit that holds the boxes of a session.
 #![tactic(auto)]
 
 mod barriers;

@@ -1,5 +1,6 @@
 //! The places of a kit.
-ghost use Rattle.std.specs.Prelude.{◌≡◌, ◌-◌, ◌^◌, ◌<◌, Some, IsTrue, IfOk, IfSome, option_map, map};
+ghost use Rattle.std.specs.Prelude.{◌≡◌, ◌-◌, ◌^◌, ◌<◌, Some, IsTrue, IfOk, IfSome, is_some, option_map, map};
+ghost use Rattle.std.specs.List.{list_any};
 ghost use Rattle.spv_base.specs.Counting.{Counts, Uncounts};
 ghost use Rattle.spv_probe.specs.Kits.{place, Alike};
 
@@ -24,6 +25,13 @@ pub(crate) fn back(slot: &mut Option<Box<dyn Probe>>, h: &Happening)
     if let Some(probe) = slot {
         probe.back(h);
     }
+}
+
+/// Whether a probe is there.
+pub(crate) fn any(slots: &[Option<Box<dyn Probe>>]) -> bool
+    ensures { result ≡ list_any is_some slots.now }
+{
+    slots.iter().any(|slot| slot.is_some())
 }
 
 /// The count of the probe with this number, if one is there.
