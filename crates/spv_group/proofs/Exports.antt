@@ -7,3 +7,5 @@ pub use Rattle.spv_group.proofs.WindowLemmas.{range_more, windows_rise}
 pub use Rattle.spv_group.proofs.PositionsLemmas.{greatest_is, least_is}
 -- An event is one of the invocation that its entry names, and where it is idle nothing changes.
 pub use Rattle.spv_group.proofs.EventLemmas.{entry_is, idle_still, event_behind, event_before, IsBehind}
+-- What happened up to the next position, and that nothing did up to the first.
+pub use Rattle.spv_group.proofs.Tellings.{between_more, between_none}

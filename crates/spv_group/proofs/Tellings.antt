@@ -21,7 +21,7 @@ one : (f : ℕ → Option Happening) (n : ℕ) (h : Happening) → f n ≡ Some 
 one f n h e = grind arith
 
 -- what happened up to the next position
-between_more : (p : Program) (es : List ℕ) (k n : ℕ) (h : Happening) → k ≤ n → happening_at p es n ≡ Some h → happenings_between p es k (n + 1) ≡ happenings_between p es k n ++ h ∷ []
+pub between_more : (p : Program) (es : List ℕ) (k n : ℕ) (h : Happening) → k ≤ n → happening_at p es n ≡ Some h → happenings_between p es k (n + 1) ≡ happenings_between p es k n ++ h ∷ []
 unfolding happenings_between
 between_more p es k n h l is =
     let count : (n + 1) - k ≡ suc (n - k) = omega arith in
@@ -32,7 +32,7 @@ between_more p es k n h l is =
     ∙ ap (λ m. filter_map (happening_at p es) (range_with_len k (n - k)) ++ filter_map (happening_at p es) (m ∷ [])) here
     ∙ ap (λ l. filter_map (happening_at p es) (range_with_len k (n - k)) ++ l) (one (happening_at p es) n h is)
 
-between_none : (p : Program) (es : List ℕ) (k : ℕ) → happenings_between p es k k ≡ []
+pub between_none : (p : Program) (es : List ℕ) (k : ℕ) → happenings_between p es k k ≡ []
 unfolding happenings_between
 between_none p es k = let no : k - k ≡ 0 = omega arith in ap (λ c. filter_map (happening_at p es) (range_with_len k c)) no
 

@@ -271,8 +271,8 @@ impl Group {
     }
 
     /// Goes back to a position without undoing: a run from the start on makes it again, and another from there to the old position
-    /// tells each event that is taken back. Both together take a step for each event before the old position. After want of memory the
-    /// group is as before.
+    /// tells each event that is taken back. Both together take a step for each event before the old position. After want of memory, of the
+    /// one who is told too, the group is as before.
     pub fn back_to<W: Witness, L: Ledger>(
         &mut self,
         target: u64,

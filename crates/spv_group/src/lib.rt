@@ -15,4 +15,4 @@ pub use motion::{Back, Forth};
 pub use positions::positions_are_found;
 pub use spv_journal::{FrameChange, Touch};
 pub use windows::windows_are_least;
-pub use witness::{Nobody, Witness};
+pub use witness::Witness;

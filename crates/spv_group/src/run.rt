@@ -235,7 +235,7 @@ impl Run {
     {
         'up: while self.position < target {
             let happening = self.make_next(alloc, m, schedule, steps)?;
-            witness.tell(&happening);
+            witness.tell(&happening)?;
         }
         Ok(())
     }

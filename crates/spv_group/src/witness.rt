@@ -1,8 +1,8 @@
 //! Who is told of the events that a group takes back.
-ghost use Rattle.std.specs.Prelude.{List, [], ◌∷◌, ◌++◌};
+ghost use Rattle.std.specs.Prelude.{List, [], ◌∷◌, ◌++◌, OnOk};
 ghost use Rattle.spv_base.specs.declared.happenings.Happening.{Happening};
 
-use spv_base::Happening;
+use spv_base::{Happening, NoMemory};
 
 /// Who is told of events. What was told stands for nothing where the call that told it finds no memory.
 pub trait Witness {
@@ -10,16 +10,6 @@ pub trait Witness {
     ghost follows: { List Happening → Self → Type 0 };
 
     /// Is told of an event.
-    fn tell(&mut self, happening: &Happening)
-        ensures { (before : List Happening) → follows before self.old → follows (before ++ happening.now ∷ []) self.new };
-}
-
-/// Nobody, who keeps nothing of what is told.
-#[derive(Drop)]
-pub struct Nobody;
-
-impl Witness for Nobody {
-    ghost follows = { λ events it. Unit {0} };
-
-    fn tell(&mut self, _happening: &Happening) {}
+    fn tell(&mut self, happening: &Happening) -> Result<(), NoMemory>
+        ensures { (before : List Happening) → follows before self.old → OnOk result (follows (before ++ happening.now ∷ []) self.new) };
 }

@@ -26,12 +26,19 @@ returns-in_err-happening g c = record {
   cost = way_takes_more c.args.self.now.position c.args.target c.args.steps.now c.up.self.position c.up.steps c.make_next.new.steps c.up.invariant.way c.up-test.true c.make_next.ensures.cost;
 }
 
+pub returns-in_err-tell : goal.returns-in_err-tell
+returns-in_err-tell g c = record {
+  told = λ before h. no_success c.from_residual-in_err-tell.result _ _ c.from_residual-in_err-tell.ensures.1;
+  counted = counts_on c.args.steps.now c.up.steps c.make_next.new.steps c.up.invariant.way.counted c.make_next.ensures.counted;
+  cost = way_takes_more c.args.self.now.position c.args.target c.args.steps.now c.up.self.position c.up.steps c.make_next.new.steps c.up.invariant.way c.up-test.true c.make_next.ensures.cost;
+}
+
 pub up-preserved : goal.up-preserved
 up-preserved g c = record {
   run = subst (λ (l : ℕ). IsRun c.args.m.now c.args.schedule.now l c.make_next.new.self.world c.make_next.new.self.position) c.up.invariant.run.room c.make_next.ensures.run;
   way = way_goes_on c.args.self.now.position c.args.target c.args.steps.now c.up.self.position c.up.steps c.make_next.new.self.position c.make_next.new.steps c.up.invariant.way c.up-test.true c.in_ok-happening.ensures.position c.make_next.ensures.counted c.make_next.ensures.cost;
   told = λ before h. one_more g.W.Witness.follows c.args.m.now c.args.schedule.now.list c.args.self.now.position c.up.self.position c.make_next.new.self.position before c.in_ok-happening.happening c.tell.new.self c.up.invariant.way.later c.in_ok-happening.ensures.position c.in_ok-happening.ensures.event
-      (c.tell.ensures (before ++ happenings_between c.args.m.now c.args.schedule.now.list c.args.self.now.position c.up.self.position) (c.up.invariant.told before h));
+      (c.in_ok-tell.ensures (before ++ happenings_between c.args.m.now c.args.schedule.now.list c.args.self.now.position c.up.self.position) (c.up.invariant.told before h));
 }
 
 pub up-smaller : goal.up-smaller
