@@ -5,7 +5,7 @@ use Rattle.spv_base.specs.declared.happenings.Happening.{Happening}
 use Rattle.spv_group.specs.Group.{Held as Group, Undoing, group_at}
 use Rattle.spv_group.specs.Positions.{greatest_of}
 use Rattle.spv_search.specs.Again.{IsTarget}
-use Rattle.spv_search.specs.Costs.{backward_cost}
+use Rattle.spv_search.specs.Costs.{again_cost, backward_cost, lead_cost, return_cost}
 use Rattle.spv_search.specs.Own.{own_backward, own_next}
 use Rattle.spv_search.specs.Sights.{IsLeft}
 use Rattle.spv_search.specs.Stops.{IsStop, IsTold}
@@ -52,8 +52,35 @@ stop_same noted hit other command i from to s same is = record {
 not_within : (a b : ℕ) → b < a → nat_le a b ≡ false
 not_within a b l = grind arith
 
-pub again_costs : (kept to before later : ℕ) → 0 < kept → to ≤ kept → later ≤ before + 2 * kept → later ≤ before + backward_cost kept to
-again_costs kept to before later some l takes = let beyond : nat_le kept (to - 1) ≡ false = not_within kept (to - 1) (omega arith) in rw beyond takes
+pub again_costs : (told : Bool) (kept to before later : ℕ) → 0 < kept → to ≤ kept → later ≤ before + cond told (3 * kept + 1) (2 * kept) → later ≤ before + backward_cost told kept to
+again_costs told kept to before later some l takes = let beyond : nat_le kept (to - 1) ≡ false = not_within kept (to - 1) (omega arith) in rw beyond takes
+
+-- a run from the start on, behind a return there
+again_by : (told b : Bool) (kept from n before later : ℕ) → n ≤ from → later ≤ before + cond b (cond told from 0) 0 + n → later ≤ before + again_cost told from
+again_by true true kept from n before later l takes = omega arith
+again_by true false kept from n before later l takes = omega arith
+again_by false true kept from n before later l takes = omega arith
+again_by false false kept from n before later l takes = omega arith
+
+pub again_enough : (told : Bool) (kept from n before later : ℕ) → n ≤ from → later ≤ before + return_cost told kept from 0 + n → later ≤ before + again_cost told from
+again_enough told kept from n before later l takes = again_by told (nat_lt 0 kept) kept from n before later l takes
+
+-- where the position was found, or wasn't
+pub found_takes : (told other : Bool) (n kept before first later : ℕ) → other ≡ told → n ≡ kept → first ≡ before → later ≤ first + again_cost other n → later ≤ before + cond told (3 * kept + 1) (2 * kept)
+found_takes true true n kept before first later e f h l = omega arith
+found_takes false false n kept before first later e f h l = omega arith
+found_takes true false n kept before first later e f h l = absurd (cc)
+found_takes false true n kept before first later e f h l = absurd (cc)
+
+-- and the way there
+pub led_takes : (told other third : Bool) (n m kept to before first found later : ℕ) → other ≡ told → third ≡ told → n ≡ kept → m ≡ n → to ≤ kept → first ≡ before
+    → found ≤ first + again_cost other n → later ≤ found + lead_cost third m to → later ≤ before + cond told (3 * kept + 1) (2 * kept)
+led_takes true true true n m kept to before first found later e f h i j k x y = omega arith
+led_takes false false false n m kept to before first found later e f h i j k x y = omega arith
+led_takes true false third n m kept to before first found later e f h i j k x y = absurd (cc)
+led_takes false true third n m kept to before first found later e f h i j k x y = absurd (cc)
+led_takes true true false n m kept to before first found later e f h i j k x y = absurd (cc)
+led_takes false false true n m kept to before first found later e f h i j k x y = absurd (cc)
 
 -- the event at the last position that was left is what the command asks for
 pub target_here : (hit : Group → Bool) (command : Backward) (i : ℕ) (from now : Undoing) (w : Way) (target : Target) → IsLeft (passes_backward hit command i from.group) i from now w

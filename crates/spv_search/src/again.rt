@@ -4,16 +4,19 @@ ghost use Rattle.spv_group.specs.Group.{Held, Undoing, end_in, entries_in, group
 ghost use Rattle.spv_group.specs.Run.{happening_before};
 ghost use Rattle.spv_search.specs.Again as spec;
 ghost use Rattle.spv_search.specs.Again.{IsAdded, IsFoundAgain, IsFoundOf, IsLookedBefore, IsTarget};
+ghost use Rattle.spv_search.specs.Costs.{again_cost};
 ghost use Rattle.spv_search.specs.Keys.{IsFocus, depth_in};
 ghost use Rattle.spv_search.specs.Sights.{IsLeft, IsSeen};
 ghost use Rattle.spv_search.specs.Own.{own_next};
 ghost use Rattle.spv_search.specs.Targets.{passes_backward};
+ghost use Rattle.spv_search.specs.Told.{has_probe};
 ghost use Rattle.spv_state.specs.Program.{Program};
 
 use crate::backward::{Search, Way, make};
 use crate::commands::Backward;
 use crate::focus::Key;
 use crate::hits::{Hits, Looked, passes_here};
+use crate::lead::return_to;
 use crate::moves::moves;
 use crate::own::{holds_here, holds_next, seen};
 use spv_base::{Happening, NoMemory, Steps};
@@ -109,6 +112,7 @@ fn look_here<H: Hits>(
 ) -> Result<Looked, NoMemory>
     requires focus { IsFocus group.now.group search.now.focus.inv search.now.focus.tables.now search.now.focus.lines.now }
     requires suits { H.suits hits.old group.now.group.program }
+    requires follows { H.follows hits.old group.now.group }
     requires event { happening_before group.now.group.program (entries_in group.now.group) group.now.group.position ≡ Some happening.now }
     requires seen { IsSeen search.now.focus.tables.now search.now.command search.now.focus.inv (group_at (group.now.group.position - 1) group.now.group) before }
     requires noted { H.noted hits.old (group_at (group.now.group.position - 1) group.now.group) }
@@ -118,6 +122,8 @@ fn look_here<H: Hits>(
     ensures hits { (g : Held) → H.hits hits.new g ≡ H.hits hits.old g }
     ensures told { (g : Held) → H.told hits.new g ≡ H.told hits.old g }
     ensures suits { (p : Program) → H.suits hits.old p → H.suits hits.new p }
+    ensures tests { H.tests hits.new ≡ H.tests hits.old }
+    ensures follows { H.follows hits.new group.now.group }
 {
     if group.position() >= search.position {
         hits.note(group)?;
@@ -148,6 +154,7 @@ fn go_past<H: Hits, L: Ledger>(
 ) -> Result<(), NoMemory>
     requires focus { IsFocus group.old.group search.now.focus.inv search.now.focus.tables.now search.now.focus.lines.now }
     requires suits { H.suits hits.old group.old.group.program }
+    requires follows { H.follows hits.old group.old.group }
     requires noted { H.noted hits.old group.old.group }
     requires before { group.old.group.position < end_in group.old.group }
     ensures same { group.new.group ≡ group_at group.new.group.position group.old.group }
@@ -163,13 +170,15 @@ fn go_past<H: Hits, L: Ledger>(
     ensures hits { (g : Held) → H.hits hits.new g ≡ H.hits hits.old g }
     ensures told { (g : Held) → H.told hits.new g ≡ H.told hits.old g }
     ensures suits { (p : Program) → H.suits hits.old p → H.suits hits.new p }
+    ensures tests { H.tests hits.new ≡ H.tests hits.old }
+    ensures follows { H.follows hits.new group.new.group }
     ensures counted { steps.old ≤ steps.new }
     ensures cost { steps.new ≤ steps.old + 1 }
     ensures exact { OnOk result (steps.new ≡ steps.old + 1) }
 {
     let event = group.position();
     let before = seen(search.command, &search.focus, group)?;
-    let happening = make(group, steps)?;
+    let happening = make(group, hits, steps)?;
     let looked = look_here(group, search, before, hits, &happening)?;
     let moved = asks_for_next(search.command) && moves(search.focus.inv, &happening);
     let _behind = group.position();
@@ -187,6 +196,7 @@ fn find_again<H: Hits, L: Ledger>(
 ) -> Result<Target, NoMemory>
     requires focus { IsFocus group.old.group search.now.focus.inv search.now.focus.tables.now search.now.focus.lines.now }
     requires suits { H.suits hits.old group.old.group.program }
+    requires follows { H.follows hits.old group.old.group }
     ensures target { IfOk result (λ target. (from : Undoing) → search.now.position ≡ from.group.position → search.now.depth ≡ depth_in from.group search.now.focus.inv
         → IsLeft (passes_backward (H.hits hits.old) search.now.command search.now.focus.inv from.group) search.now.focus.inv from group.old way
         → (group.old.group.position < from.group.position → own_next search.now.command search.now.focus.inv from.group group.old.group ≡ false)
@@ -199,11 +209,13 @@ fn find_again<H: Hits, L: Ledger>(
     ensures hits { (g : Held) → H.hits hits.new g ≡ H.hits hits.old g }
     ensures told { (g : Held) → H.told hits.new g ≡ H.told hits.old g }
     ensures suits { (p : Program) → H.suits hits.old p → H.suits hits.new p }
+    ensures tests { H.tests hits.new ≡ H.tests hits.old }
+    ensures follows { H.follows hits.new group.new.group }
     ensures counted { steps.old ≤ steps.new }
-    ensures cost { steps.new ≤ steps.old + group.old.group.position }
+    ensures cost { steps.new ≤ steps.old + again_cost (has_probe (H.tests hits.old)) group.old.group.position }
 {
     let end = group.position();
-    group.restart()?;
+    return_to(alloc, group, 0, hits, steps)?;
     hits.note(group)?;
     let mut found = Found {
         last: 0,
@@ -229,6 +241,7 @@ pub(crate) fn target_before<H: Hits, L: Ledger>(
 ) -> Result<Target, NoMemory>
     requires focus { IsFocus group.old.group search.now.focus.inv search.now.focus.tables.now search.now.focus.lines.now }
     requires suits { H.suits hits.old group.old.group.program }
+    requires follows { H.follows hits.old group.old.group }
     ensures target { IfOk result (λ target. (from : Undoing) → search.now.position ≡ from.group.position → search.now.depth ≡ depth_in from.group search.now.focus.inv
         → IsLeft (passes_backward (H.hits hits.old) search.now.command search.now.focus.inv from.group) search.now.focus.inv from group.old way
         → IsTarget (H.hits hits.old) search.now.command search.now.focus.inv from.group target) }
@@ -240,8 +253,10 @@ pub(crate) fn target_before<H: Hits, L: Ledger>(
     ensures hits { (g : Held) → H.hits hits.new g ≡ H.hits hits.old g }
     ensures told { (g : Held) → H.told hits.new g ≡ H.told hits.old g }
     ensures suits { (p : Program) → H.suits hits.old p → H.suits hits.new p }
+    ensures tests { H.tests hits.new ≡ H.tests hits.old }
+    ensures follows { H.follows hits.new group.new.group }
     ensures counted { steps.old ≤ steps.new }
-    ensures cost { steps.new ≤ steps.old + group.old.group.position }
+    ensures cost { steps.new ≤ steps.old + again_cost (has_probe (H.tests hits.old)) group.old.group.position }
 {
     let position = group.position();
     if position < search.position && holds_next(search.command, &way) {

@@ -9,6 +9,7 @@ ghost use Rattle.spv_search.specs.Sights.{IsLeft, IsNoted, IsWay};
 ghost use Rattle.spv_search.specs.Own.{own_backward};
 ghost use Rattle.spv_search.specs.Stops.{IsLooked, IsStop, IsTold, done_backward};
 ghost use Rattle.spv_search.specs.Targets.{backward_target, passes_backward};
+ghost use Rattle.spv_search.specs.Told.{has_probe};
 ghost use Rattle.spv_state.specs.Program.{Program};
 
 use crate::again::target_before;
@@ -30,34 +31,60 @@ pub struct Way {
     pub next: bool,
 }
 
-/// Makes the next event, which no end keeps from happening, with one step.
-pub(crate) fn make<L: Ledger>(
+/// Makes the next event, which no end keeps from happening, with one step, and tells the probes of it.
+pub(crate) fn make<H: Hits, L: Ledger>(
     group: &mut Group,
+    hits: &mut H,
     steps: &mut Steps<L>,
 ) -> Result<Happening, NoMemory>
-    requires { group.old.group.position < end_in group.old.group }
+    requires before { group.old.group.position < end_in group.old.group }
+    requires suits { H.suits hits.old group.old.group.program }
+    requires follows { H.follows hits.old group.old.group }
     ensures gone { IfOk result (λ h. HasGone h group.old group.new) }
     ensures err { IfErr result (λ e. group.new ≡ group.old) }
+    ensures hits { (g : Held) → H.hits hits.new g ≡ H.hits hits.old g }
+    ensures told { (g : Held) → H.told hits.new g ≡ H.told hits.old g }
+    ensures suits { (p : Program) → H.suits hits.old p → H.suits hits.new p }
+    ensures tests { H.tests hits.new ≡ H.tests hits.old }
+    ensures noted { (g : Held) → H.noted hits.old g → H.noted hits.new g }
+    ensures follows { H.follows hits.new group.new.group }
     ensures cost { steps.new ≡ steps.old + 1 }
 {
+    let _position = group.position();
     match group.forth(steps)? {
-        Forth::Went(happening) => Ok(happening),
+        Forth::Went(happening) => {
+            hits.forth(group.module().accepted(), &happening);
+            Ok(happening)
+        }
         Forth::AtEnd(_) => unreachable!(),
     }
 }
 
-/// Takes back the last event, which is kept, with no step.
-pub(crate) fn undo<L: Ledger>(
+/// Takes back the last event, which is kept, with no step, and tells the probes of it.
+pub(crate) fn undo<H: Hits, L: Ledger>(
     group: &mut Group,
+    hits: &mut H,
     steps: &mut Steps<L>,
 ) -> Result<Happening, NoMemory>
-    requires { group.old.kept < group.old.group.position }
+    requires kept { group.old.kept < group.old.group.position }
+    requires suits { H.suits hits.old group.old.group.program }
+    requires follows { H.follows hits.old group.old.group }
     ensures returned { IfOk result (λ h. HasReturned h group.old group.new) }
     ensures err { IfErr result (λ e. group.new ≡ group.old) }
+    ensures hits { (g : Held) → H.hits hits.new g ≡ H.hits hits.old g }
+    ensures told { (g : Held) → H.told hits.new g ≡ H.told hits.old g }
+    ensures suits { (p : Program) → H.suits hits.old p → H.suits hits.new p }
+    ensures tests { H.tests hits.new ≡ H.tests hits.old }
+    ensures left { (g : Held) → H.left hits.old g → H.left hits.new g }
+    ensures follows { H.follows hits.new group.new.group }
     ensures cost { steps.new ≡ steps.old }
 {
+    let _position = group.position();
     match group.back(steps)? {
-        Back::Went(happening) => Ok(happening),
+        Back::Went(happening) => {
+            hits.back(group.module().accepted(), &happening);
+            Ok(happening)
+        }
         Back::AtStart => unreachable!(),
     }
 }
@@ -84,6 +111,7 @@ fn look_behind<H: Hits>(
 ) -> Result<Looked, NoMemory>
     requires focus { IsFocus group.now.group search.now.focus.inv search.now.focus.tables.now search.now.focus.lines.now }
     requires suits { H.suits hits.old group.now.group.program }
+    requires follows { H.follows hits.old group.now.group }
     requires event { happening_at group.now.group.program (entries_in group.now.group) group.now.group.position ≡ Some happening.now }
     requires left { H.left hits.old (group_at (group.now.group.position + 1) group.now.group) }
     ensures looked { IfOk result (λ looked. (p : ℕ)
@@ -94,6 +122,8 @@ fn look_behind<H: Hits>(
     ensures hits { (g : Held) → H.hits hits.new g ≡ H.hits hits.old g }
     ensures told { (g : Held) → H.told hits.new g ≡ H.told hits.old g }
     ensures suits { (p : Program) → H.suits hits.old p → H.suits hits.new p }
+    ensures tests { H.tests hits.new ≡ H.tests hits.old }
+    ensures follows { H.follows hits.new group.now.group }
 {
     let done = holds_next(search.command, way)
         || holds_behind(search.command, &search.focus, group, noted, happening)?;
@@ -111,6 +141,7 @@ fn take_back<H: Hits, L: Ledger>(
 ) -> Result<Looked, NoMemory>
     requires focus { IsFocus group.old.group search.now.focus.inv search.now.focus.tables.now search.now.focus.lines.now }
     requires suits { H.suits hits.old group.old.group.program }
+    requires follows { H.follows hits.old group.old.group }
     requires noted { H.noted hits.old group.old.group }
     requires kept { group.old.kept < group.old.group.position }
     requires few { way.old.count + group.old.group.position ≤ 4194304 }
@@ -128,11 +159,13 @@ fn take_back<H: Hits, L: Ledger>(
     ensures hits { (g : Held) → H.hits hits.new g ≡ H.hits hits.old g }
     ensures told { (g : Held) → H.told hits.new g ≡ H.told hits.old g }
     ensures suits { (p : Program) → H.suits hits.old p → H.suits hits.new p }
+    ensures tests { H.tests hits.new ≡ H.tests hits.old }
+    ensures follows { H.follows hits.new group.new.group }
     ensures cost { steps.new ≡ steps.old }
 {
     let here = noted(search.command, &search.focus, group, search.depth)?;
     hits.leave(group)?;
-    let happening = undo(group, steps)?;
+    let happening = undo(group, hits, steps)?;
     let looked = look_behind(group, search, way, here, hits, &happening)?;
     let moved = moves(search.focus.inv, &happening);
     *way = Way {
@@ -153,6 +186,7 @@ fn search_kept<H: Hits, L: Ledger>(
 ) -> Result<Option<Stopped>, NoMemory>
     requires focus { IsFocus group.old.group search.now.focus.inv search.now.focus.tables.now search.now.focus.lines.now }
     requires suits { H.suits hits.old group.old.group.program }
+    requires follows { H.follows hits.old group.old.group }
     requires depth { search.now.depth ≡ depth_in group.old.group search.now.focus.inv }
     requires begun { way.old.count ≡ 0 }
     ensures stops { IfOk result (λ found. MatchOption found
@@ -165,6 +199,8 @@ fn search_kept<H: Hits, L: Ledger>(
     ensures hits { (g : Held) → H.hits hits.new g ≡ H.hits hits.old g }
     ensures told { (g : Held) → H.told hits.new g ≡ H.told hits.old g }
     ensures suits { (p : Program) → H.suits hits.old p → H.suits hits.new p }
+    ensures tests { H.tests hits.new ≡ H.tests hits.old }
+    ensures follows { H.follows hits.new group.new.group }
     ensures counted { steps.old ≤ steps.new }
     ensures cost { steps.new ≤ steps.old + 1 }
     ensures none { IfOk result (λ found. IsNone found → steps.new ≡ steps.old) }
@@ -175,7 +211,7 @@ fn search_kept<H: Hits, L: Ledger>(
         let left = group.position();
         let looked = take_back(group, search, way, hits, steps)?;
         if looked.passes && left < from {
-            let event = Some(make(group, steps)?);
+            let event = Some(make(group, hits, steps)?);
             let done = looked.done;
             return Ok(Some(Stopped { done, event }));
         }
@@ -189,8 +225,8 @@ fn search_kept<H: Hits, L: Ledger>(
 
 /// Goes back to the last position before this one where something hits or what the command asks for holds, or to the start where there is
 /// none. Where all events that are looked at are kept, it takes a step at most. Else it takes two for each event before the least position
-/// that is kept, at most: they are made from the start on, once to find the position, and once to go there. After want of memory the group is
-/// at some position of its run.
+/// that is kept, at most: they are made from the start on, once to find the position, and once to go there; and once more where a probe is
+/// told of them. After want of memory the group is at some position of its run. The probes follow it.
 pub fn search_backward<H: Hits, L: Ledger>(
     alloc: Global,
     group: &mut Group,
@@ -201,6 +237,7 @@ pub fn search_backward<H: Hits, L: Ledger>(
 ) -> Result<Stopped, NoMemory>
     requires focus { IsFocus group.old.group focus.now.inv focus.now.tables.now focus.now.lines.now }
     requires suits { H.suits hits.old group.old.group.program }
+    requires follows { H.follows hits.old group.old.group }
     ensures target { OnOk result (group.new.group.position ≡ backward_target (H.hits hits.old) command focus.now.inv group.old.group) }
     ensures done { IfOk result (λ stopped. stopped.done ≡ done_backward command focus.now.inv group.old.group group.new.group) }
     ensures event { IfOk result (λ stopped. IsTold (H.noted hits.new) (H.hits hits.old) group.old.group group.new.group stopped.event) }
@@ -209,10 +246,12 @@ pub fn search_backward<H: Hits, L: Ledger>(
     ensures within { group.new.group.position ≤ end_in group.old.group }
     ensures kept { group.new.kept ≤ max group.old.kept (window_in group.new) }
     ensures counted { steps.old ≤ steps.new }
-    ensures cost { steps.new ≤ steps.old + backward_cost group.old.kept (backward_target (H.hits hits.old) command focus.now.inv group.old.group) }
+    ensures cost { steps.new ≤ steps.old + backward_cost (has_probe (H.tests hits.old)) group.old.kept (backward_target (H.hits hits.old) command focus.now.inv group.old.group) }
     ensures hits { (g : Held) → H.hits hits.new g ≡ H.hits hits.old g }
     ensures told { (g : Held) → H.told hits.new g ≡ H.told hits.old g }
     ensures suits { (p : Program) → H.suits hits.old p → H.suits hits.new p }
+    ensures tests { H.tests hits.new ≡ H.tests hits.old }
+    ensures follows { H.follows hits.new group.new.group }
 {
     let search = Search {
         command,
@@ -228,7 +267,7 @@ pub fn search_backward<H: Hits, L: Ledger>(
         return Ok(stopped);
     }
     let target = target_before(alloc, group, &search, way, hits, steps)?;
-    let event = lead_to(group, target.position, hits, steps)?;
+    let event = lead_to(alloc, group, target.position, hits, steps)?;
     let done = target.done;
     Ok(Stopped { done, event })
 }

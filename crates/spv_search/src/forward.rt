@@ -20,19 +20,31 @@ use spv_base::{Happening, NoMemory, Steps};
 use spv_group::{Forth, Group};
 use std::sync::ledger::Ledger;
 
-/// Makes the next event; there is none at the end.
-pub(crate) fn go_on<L: Ledger>(
+/// Makes the next event, and tells the probes of it; there is none at the end.
+pub fn go_on<H: Hits, L: Ledger>(
     group: &mut Group,
+    hits: &mut H,
     steps: &mut Steps<L>,
 ) -> Result<Option<Happening>, NoMemory>
+    requires suits { H.suits hits.old group.old.group.program }
+    requires follows { H.follows hits.old group.old.group }
     ensures goes { IsForth result group.old group.new }
     ensures most { group.old.group.position ≤ 4194304 }
+    ensures hits { (g : Held) → H.hits hits.new g ≡ H.hits hits.old g }
+    ensures told { (g : Held) → H.told hits.new g ≡ H.told hits.old g }
+    ensures suits { (p : Program) → H.suits hits.old p → H.suits hits.new p }
+    ensures tests { H.tests hits.new ≡ H.tests hits.old }
+    ensures noted { (g : Held) → H.noted hits.old g → H.noted hits.new g }
+    ensures follows { H.follows hits.new group.new.group }
     ensures counted { steps.old + (group.new.group.position - group.old.group.position) ≤ steps.new }
     ensures cost { steps.new ≤ steps.old + 1 }
 {
     let _position = group.position();
     match group.forth(steps)? {
-        Forth::Went(happening) => Ok(Some(happening)),
+        Forth::Went(happening) => {
+            hits.forth(group.module().accepted(), &happening);
+            Ok(Some(happening))
+        }
         Forth::AtEnd(_) => Ok(None),
     }
 }
@@ -50,6 +62,7 @@ fn look_here<H: Hits>(
 ) -> Result<Looked, NoMemory>
     requires focus { IsFocus group.now.group focus.now.inv focus.now.tables.now focus.now.lines.now }
     requires suits { H.suits hits.old group.now.group.program }
+    requires follows { H.follows hits.old group.now.group }
     requires event { happening_before group.now.group.program (entries_in group.now.group) group.now.group.position ≡ Some happening.now }
     requires noted { H.noted hits.old (group_at (group.now.group.position - 1) group.now.group) }
     ensures looked { IfOk result (λ looked. (g : Held) → named_key focus.now.tables.now from.now ≡ key_in g focus.now.inv
@@ -59,6 +72,8 @@ fn look_here<H: Hits>(
     ensures hits { (g : Held) → H.hits hits.new g ≡ H.hits hits.old g }
     ensures told { (g : Held) → H.told hits.new g ≡ H.told hits.old g }
     ensures suits { (p : Program) → H.suits hits.old p → H.suits hits.new p }
+    ensures tests { H.tests hits.new ≡ H.tests hits.old }
+    ensures follows { H.follows hits.new group.now.group }
 {
     let done = holds_forward(command, focus, group, from, count, happening)?;
     let passes = done || hits.hits_here(group, happening)?;
@@ -76,6 +91,7 @@ pub fn search_forward<H: Hits, L: Ledger>(
 ) -> Result<Stopped, NoMemory>
     requires focus { IsFocus group.old.group focus.now.inv focus.now.tables.now focus.now.lines.now }
     requires suits { H.suits hits.old group.old.group.program }
+    requires follows { H.follows hits.old group.old.group }
     ensures target { OnOk result (group.new.group.position ≡ forward_target (H.hits hits.old) command focus.now.inv group.old.group) }
     ensures done { IfOk result (λ stopped. stopped.done ≡ done_forward command focus.now.inv group.old.group group.new.group) }
     ensures event { IfOk result (λ stopped. IsTold (H.noted hits.new) (H.hits hits.old) group.old.group group.new.group stopped.event) }
@@ -88,12 +104,14 @@ pub fn search_forward<H: Hits, L: Ledger>(
     ensures hits { (g : Held) → H.hits hits.new g ≡ H.hits hits.old g }
     ensures told { (g : Held) → H.told hits.new g ≡ H.told hits.old g }
     ensures suits { (p : Program) → H.suits hits.old p → H.suits hits.new p }
+    ensures tests { H.tests hits.new ≡ H.tests hits.old }
+    ensures follows { H.follows hits.new group.new.group }
 {
     let _position = group.position();
     let from = focus.key(group)?;
     hits.note(group)?;
     let mut count = 0u64;
-    'up: while let Some(happening) = go_on(group, steps)? {
+    'up: while let Some(happening) = go_on(group, hits, steps)? {
         count = counted(count, moves(focus.inv, &happening));
         let looked = look_here(group, focus, command, &from, count, hits, &happening)?;
         if looked.passes {

@@ -10,10 +10,11 @@ mod hits;
 mod lead;
 mod moves;
 mod own;
+mod past;
 
 pub use backward::search_backward;
 pub use commands::{Backward, Forward, Stopped};
 pub use focus::Focus;
-pub use forward::search_forward;
+pub use forward::{go_on, search_forward};
 pub use hits::{Hits, Never};
 pub use lead::return_to;

@@ -7,6 +7,8 @@ use Rattle.spv_search.specs.Own.{own_before}
 use Rattle.spv_search.proofs.AgainLemmas.{again_begins}
 use Rattle.spv_search.proofs.FoundLemmas.{again_target}
 use Rattle.spv_search.proofs.OwnLemmas.{none_at_start}
+use Rattle.spv_search.proofs.SearchLemmas.{again_enough}
+use Rattle.spv_search.specs.Told.{has_probe}
 use Rattle.spv_search.proofs.again.find_again.Goals as goal
 
 pub up-init : goal.up-init
@@ -14,19 +16,23 @@ up-init g c =
     let i = c.args.search.now.focus.inv in
     let command = c.args.search.now.command in
     let first = c.args.group.now.group in
-    let start : c.restart.new.self.group.position ≡ 0 = ap (λ (x : Group). x.position) c.in_ok-restart.ensures.start in
+    let back = c.in_ok-return_to.ensures in
+    let start : c.return_to.new.group.group.position ≡ 0 = back.target in
     record {
-      same = c.in_ok-restart.ensures.start ∙ ap (λ n. group_at n first) (sym start);
-      limit = c.in_ok-restart.ensures.limit;
+      same = back.same;
+      limit = back.limit;
       until = omega (arith, start);
-      kept = omega (arith, c.in_ok-restart.ensures.kept);
-      counted = omega (arith, start);
-      hits = c.in_ok-note.ensures.same;
-      told = c.in_ok-note.ensures.told;
-      suits = c.in_ok-note.ensures.suits;
+      kept = back.kept;
+      counted = back.counted;
+      cost = omega (arith, start, back.cost);
+      hits = λ x. c.in_ok-note.ensures.same x ∙ back.hits x;
+      told = λ x. c.in_ok-note.ensures.told x ∙ back.told x;
+      suits = λ p is. c.in_ok-note.ensures.suits p (back.suits p is);
+      tests = c.in_ok-note.ensures.tests ∙ back.tests;
+      follows = c.in_ok-note.ensures.follows c.return_to.new.group.group back.follows;
       noted = c.in_ok-note.ensures.noted;
       found = λ p depth. again_begins (passes_before (g.H.Hits.hits c.args.hits.now) command i p first) (λ m. own_before command i p (group_at m first)) (asks_for_next command) c.args.search.now.position first i
-          c.restart.new.self.group.position (record { last = 0; done = false; movers = c.new.result }) start refl refl (none_at_start command i p (group_at 0 first) refl) c.new.ensures.items;
+          c.return_to.new.group.group.position (record { last = 0; done = false; movers = c.new.result }) start refl refl (none_at_start command i p (group_at 0 first) refl) c.new.ensures.items;
     }
 
 pub up-preserved : goal.up-preserved
@@ -41,10 +47,13 @@ up-preserved g c =
       limit = done.limit ∙ up.limit;
       until = omega (arith, on, c.up-test.true, c.position.ensures.position);
       kept = omega (arith, done.kept, up.kept, rises);
-      counted = omega (arith, done.exact, up.counted, on);
+      counted = omega (arith, done.exact, up.counted);
+      cost = omega (arith, done.exact, up.cost, on);
       hits = λ x. done.hits x ∙ up.hits x;
       told = λ x. done.told x ∙ up.told x;
       suits = λ p is. done.suits p (up.suits p is);
+      tests = done.tests ∙ up.tests;
+      follows = done.follows;
       noted = done.noted;
       found = λ p depth. done.found p c.args.group.now.group hit up.hits depth up.same (up.found p depth);
     }
@@ -71,3 +80,23 @@ returns-clause-target g c =
     again_target hit i from c.args.group.now c.args.way f c.target_of.result command c.up.group.group.position left next
     (subst (λ n. IsFoundOf hit command i from.group n c.args.group.now.group c.up.group.group.position f) position (c.up.invariant.found from.group depth)) there
     (c.target_of.ensures.position ∙ ap (λ m. later_of f.last m) mover) (c.target_of.ensures.done ∙ ap (λ m. is_mover f.last m || f.done) mover)
+
+pub returns-in_err-return_to-clause-cost : goal.returns-in_err-return_to-clause-cost
+returns-in_err-return_to-clause-cost g c =
+    again_enough (has_probe (g.H.Hits.tests c.args.hits.now)) c.args.group.now.kept c.args.group.now.group.position 0 c.args.steps.now c.return_to.new.steps (omega arith) (omega (arith, c.in_err-return_to.ensures.cost))
+
+pub returns-in_err-note-clause-cost : goal.returns-in_err-note-clause-cost
+returns-in_err-note-clause-cost g c =
+    again_enough (has_probe (g.H.Hits.tests c.args.hits.now)) c.args.group.now.kept c.args.group.now.group.position 0 c.args.steps.now c.return_to.new.steps (omega arith) (omega (arith, c.in_ok-return_to.ensures.cost))
+
+pub returns-in_err-go_past-clause-cost : goal.returns-in_err-go_past-clause-cost
+returns-in_err-go_past-clause-cost g c =
+    let up = c.up.invariant in
+    again_enough (has_probe (g.H.Hits.tests c.args.hits.now)) c.args.group.now.kept c.args.group.now.group.position (c.up.group.group.position + 1) c.args.steps.now c.go_past.new.steps
+    (omega (arith, c.up-test.true, c.position.ensures.position, c.position-end.ensures.position)) (omega (arith, up.cost, c.in_err-go_past.ensures.cost))
+
+pub returns-clause-cost : goal.returns-clause-cost
+returns-clause-cost g c =
+    let up = c.up.invariant in
+    again_enough (has_probe (g.H.Hits.tests c.args.hits.now)) c.args.group.now.kept c.args.group.now.group.position c.up.group.group.position c.args.steps.now c.up.steps
+    (omega (arith, up.until, c.position-end.ensures.position)) up.cost

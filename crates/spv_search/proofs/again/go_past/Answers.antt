@@ -26,11 +26,12 @@ returns-clause-found g c =
     ] in
     let on : c.make.new.group.group.position ≡ n + 1 = ap (λ (x : Group). x.position) gone.same in
     on_ok_weaker c.add.result
-    (λ added. λ p first hit same depth here is. (
+    (λ added. λ p first hit alike depth here is. (
+    let same = λ (x : Group). sym (sym (c.in_ok-happening.ensures.hits x)) ∙ alike x in
     let there : c.make.new.group.group ≡ group_at (n + 1) first = gone.same ∙ ap (λ (x : Group). group_at (n + 1) x) here in
     let event : happening_at first.program (entries_in first) n ≡ Some h = subst (λ (x : Group). happening_at x.program (entries_in x) n ≡ Some h) here gone.event in
     let looked = c.in_ok-looked.ensures.looked p depth in
-    let other = g.H.Hits.hits c.args.hits.now in
+    let other = g.H.Hits.hits c.make.new.hits in
     subst (λ k. IsFoundOf hit command i p from first k c.add.new.found) (sym on)
     (again_more (passes_before hit command i p first) (λ m. own_before command i p (group_at m first)) (asks_for_next command) from first i n c.args.found.now c.add.new.found is h l c.if-asks_for_next.moved event
     (here_passes other hit command i from (n + 1) p first c.make.new.group.group l there looked same)

@@ -2,8 +2,9 @@ use Rattle.std.proofs.Common.{◌≡◌, ◌∙◌, ◌+◌, ◌*◌, ◌≤◌,
 use Rattle.spv_group.specs.Group.{Held as Group, group_at}
 use Rattle.spv_group.specs.Positions.{greatest_of}
 use Rattle.spv_search.specs.Targets.{passes_backward}
+use Rattle.spv_search.specs.Told.{has_probe}
 use Rattle.spv_search.proofs.BackLemmas.{same_test}
-use Rattle.spv_search.proofs.SearchLemmas.{again_costs, greatest_same, left_same, stop_same}
+use Rattle.spv_search.proofs.SearchLemmas.{again_costs, found_takes, greatest_same, led_takes, left_same, stop_same}
 use Rattle.spv_search.proofs.StopLemmas.{stop_at}
 use Rattle.spv_search.proofs.TargetLemmas.{greatest_before}
 use Rattle.spv_search.proofs.backward.search_backward.Goals as goal
@@ -25,7 +26,9 @@ returns-in_err-target-clause-cost g c =
     let some : 0 < from.kept = omega (arith, here, left.some) in
     let none = rw c.in_default.is at c.in_ok-stopped.ensures.none in
     let first : c.search_kept.new.steps ≡ c.args.steps.now = none refl in
-    again_costs from.kept (greatest_of test 0 p) c.args.steps.now c.target_before.new.steps some (omega (arith, before, here)) (omega (arith, first, here, c.in_err-target.ensures.cost))
+    let told = has_probe (g.H.Hits.tests c.args.hits.now) in
+    again_costs told from.kept (greatest_of test 0 p) c.args.steps.now c.target_before.new.steps some (omega (arith, before, here))
+    (found_takes told _ now.group.position from.kept c.args.steps.now c.search_kept.new.steps c.target_before.new.steps (ap has_probe c.in_ok-stopped.ensures.tests) here first c.in_err-target.ensures.cost)
 
 pub lead_to-requires-clause-within : goal.lead_to-requires-clause-within
 lead_to-requires-clause-within g c =
@@ -67,8 +70,10 @@ returns-in_err-event-clause-cost g c =
     let is = c.in_ok-target.ensures.target from c.position.ensures.position c.in_ok-depth.ensures (left_same (passes_backward other command i from.group) test i from now c.search_kept.new.way same left) in
     let target : c.in_ok-target.target.position ≡ greatest_of test 0 p = is.position ∙ greatest_same (passes_backward other command i from.group) test 0 p same in
     let there : c.target_before.new.group.group.position ≡ now.group.position = c.in_ok-target.ensures.position in
-    let takes : c.lead_to.new.steps ≤ c.args.steps.now + 2 * from.kept = omega (arith, first, here, target, before, c.in_ok-target.ensures.cost, c.in_err-event.ensures.cost) in
-    again_costs from.kept (greatest_of test 0 p) c.args.steps.now c.lead_to.new.steps some (omega (arith, before, here)) takes
+    let told = has_probe (g.H.Hits.tests c.args.hits.now) in
+    let takes = led_takes told _ _ now.group.position c.target_before.new.group.group.position from.kept c.in_ok-target.target.position c.args.steps.now c.search_kept.new.steps c.target_before.new.steps c.lead_to.new.steps
+        (ap has_probe c.in_ok-stopped.ensures.tests) (ap has_probe (c.in_ok-target.ensures.tests ∙ c.in_ok-stopped.ensures.tests)) here there (omega (arith, target, before, here)) first c.in_ok-target.ensures.cost c.in_err-event.ensures.cost in
+    again_costs told from.kept (greatest_of test 0 p) c.args.steps.now c.lead_to.new.steps some (omega (arith, before, here)) takes
 
 pub returns-clause-cost : goal.returns-clause-cost
 returns-clause-cost g c =
@@ -90,8 +95,10 @@ returns-clause-cost g c =
     let is = c.in_ok-target.ensures.target from c.position.ensures.position c.in_ok-depth.ensures (left_same (passes_backward other command i from.group) test i from now c.search_kept.new.way same left) in
     let target : c.in_ok-target.target.position ≡ greatest_of test 0 p = is.position ∙ greatest_same (passes_backward other command i from.group) test 0 p same in
     let there : c.target_before.new.group.group.position ≡ now.group.position = c.in_ok-target.ensures.position in
-    let takes : c.lead_to.new.steps ≤ c.args.steps.now + 2 * from.kept = omega (arith, first, here, target, before, c.in_ok-target.ensures.cost, c.in_ok-event.ensures.cost) in
-    again_costs from.kept (greatest_of test 0 p) c.args.steps.now c.lead_to.new.steps some (omega (arith, before, here)) takes
+    let told = has_probe (g.H.Hits.tests c.args.hits.now) in
+    let takes = led_takes told _ _ now.group.position c.target_before.new.group.group.position from.kept c.in_ok-target.target.position c.args.steps.now c.search_kept.new.steps c.target_before.new.steps c.lead_to.new.steps
+        (ap has_probe c.in_ok-stopped.ensures.tests) (ap has_probe (c.in_ok-target.ensures.tests ∙ c.in_ok-stopped.ensures.tests)) here there (omega (arith, target, before, here)) first c.in_ok-target.ensures.cost c.in_ok-event.ensures.cost in
+    again_costs told from.kept (greatest_of test 0 p) c.args.steps.now c.lead_to.new.steps some (omega (arith, before, here)) takes
 
 pub returns-clause-target : goal.returns-clause-target
 returns-clause-target g c =

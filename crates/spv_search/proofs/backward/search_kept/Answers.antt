@@ -21,6 +21,8 @@ down-init g c =
       hits = c.in_ok-note.ensures.same;
       told = c.in_ok-note.ensures.told;
       suits = c.in_ok-note.ensures.suits;
+      tests = c.in_ok-note.ensures.tests;
+      follows = c.in_ok-note.ensures.follows c.args.group.now.group c.requires.follows;
       noted = c.in_ok-note.ensures.noted;
       counted = refl;
     }
@@ -39,8 +41,8 @@ returns-then-left-from-clause-stops g c =
     let below : down.group.position < p = omega (arith, c.if-left-from.true, c.position-left.ensures.position, c.position-from.ensures.position) in
     let done = c.in_ok-looked.ensures in
     let looked = looked_from (g.H.Hits.hits c.down.hits) hit command i p from.group down.group c.in_ok-looked.looked back.same same c.down.invariant.hits (done.looked p depth back.way below) in
-    stop_found (g.H.Hits.noted c.take_back.new.hits) hit command i from down c.take_back.new.group c.make.new.group c.down.way c.in_ok-looked.looked c.in_ok-make.field-0 back below done.same done.position
-    c.in_ok-make.ensures.gone done.noted looked c.if-looked.true
+    stop_found (g.H.Hits.noted c.make.new.hits) hit command i from down c.take_back.new.group c.make.new.group c.down.way c.in_ok-looked.looked c.in_ok-make.field-0 back below done.same done.position
+    c.in_ok-make.ensures.gone (c.in_ok-make.ensures.noted c.take_back.new.group.group done.noted) looked c.if-looked.true
 
 pub down-preserved : goal.down-preserved
 down-preserved g c =
@@ -65,6 +67,8 @@ down-preserved g c =
       hits = λ x. done.hits x ∙ c.down.invariant.hits x;
       told = λ x. done.told x ∙ c.down.invariant.told x;
       suits = λ p is. done.suits p (c.down.invariant.suits p is);
+      tests = done.tests ∙ c.down.invariant.tests;
+      follows = done.follows;
       noted = done.noted;
       counted = done.cost ∙ c.down.invariant.counted;
     }

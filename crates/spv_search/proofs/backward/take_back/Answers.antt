@@ -16,5 +16,5 @@ returns-clause-looked g c =
     let u = c.undo.new.group.group in
     let first = c.args.group.now.group in
     let back = c.in_ok-happening.ensures.returned in
-    λ p depth way below. looked_back s.focus.tables.now (g.H.Hits.hits c.leave.new.self) (g.H.Hits.hits c.args.hits.now) s.command s.focus.inv p u first c.in_ok-here.here c.args.way.now c.in_ok-looked.looked back.same back.position
-    c.in_ok-leave.ensures.same (c.in_ok-here.ensures (group_at p first) depth) way below (c.in_ok-looked.ensures.looked p)
+    λ p depth way below. looked_back s.focus.tables.now (g.H.Hits.hits c.undo.new.hits) (g.H.Hits.hits c.args.hits.now) s.command s.focus.inv p u first c.in_ok-here.here c.args.way.now c.in_ok-looked.looked back.same back.position
+    (λ x. c.in_ok-happening.ensures.hits x ∙ c.in_ok-leave.ensures.same x) (c.in_ok-here.ensures (group_at p first) depth) way below (c.in_ok-looked.ensures.looked p)

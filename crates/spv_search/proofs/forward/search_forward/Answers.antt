@@ -17,6 +17,8 @@ up-init g c =
       hits = c.in_ok-note.ensures.same;
       told = c.in_ok-note.ensures.told;
       suits = c.in_ok-note.ensures.suits;
+      tests = c.in_ok-note.ensures.tests;
+      follows = c.in_ok-note.ensures.follows c.args.group.now.group c.requires.follows;
       noted = c.in_ok-note.ensures.noted;
       from = c.in_ok-from.ensures;
     }
@@ -75,7 +77,7 @@ returns-then-looked-clause-target g c =
     let more : c.go_on.new.steps ≡ c.up.steps + 1 = omega (arith, here, c.in_ok-happening.ensures.counted, c.in_ok-happening.ensures.cost) in
     let same = same_on test i from c.up.group next c.up.count c.args.steps.now c.up.steps h on gone c.counted-count.result counted in
     let looked = c.in_ok-looked.ensures.looked from.group c.up.invariant.from (count_on test i from c.up.group next c.up.count c.args.steps.now c.up.steps h on gone c.counted-count.result counted) in
-    let passes = test_there (g.H.Hits.hits c.up.hits) hit c.args.command i from.group next.group c.in_ok-looked.looked.passes same c.up.invariant.hits
+    let passes = test_there (g.H.Hits.hits c.go_on.new.hits) hit c.args.command i from.group next.group c.in_ok-looked.looked.passes same (λ x. c.in_ok-happening.ensures.hits x ∙ c.up.invariant.hits x)
     looked.passes in
     onward_found test i from c.up.group next c.up.count c.args.steps.now c.up.steps h on gone c.counted-count.result counted (passes ∙ c.if-looked.true)
 
@@ -139,13 +141,15 @@ up-preserved g c =
     let more : c.go_on.new.steps ≡ c.up.steps + 1 = omega (arith, here, c.in_ok-happening.ensures.counted, c.in_ok-happening.ensures.cost) in
     let same = same_on test i from c.up.group next c.up.count c.args.steps.now c.up.steps h on gone c.counted-count.result counted in
     let looked = c.in_ok-looked.ensures.looked from.group c.up.invariant.from (count_on test i from c.up.group next c.up.count c.args.steps.now c.up.steps h on gone c.counted-count.result counted) in
-    let passes = test_there (g.H.Hits.hits c.up.hits) hit c.args.command i from.group next.group c.in_ok-looked.looked.passes same c.up.invariant.hits
+    let passes = test_there (g.H.Hits.hits c.go_on.new.hits) hit c.args.command i from.group next.group c.in_ok-looked.looked.passes same (λ x. c.in_ok-happening.ensures.hits x ∙ c.up.invariant.hits x)
     looked.passes in
     record {
       on = onward_goes_on test i from c.up.group next c.up.count c.args.steps.now c.up.steps h on gone c.counted-count.result counted c.go_on.new.steps more (passes ∙ c.if-looked.false);
-      hits = λ x. c.in_ok-looked.ensures.hits x ∙ c.up.invariant.hits x;
-      told = λ x. c.in_ok-looked.ensures.told x ∙ c.up.invariant.told x;
-      suits = λ p is. c.in_ok-looked.ensures.suits p (c.up.invariant.suits p is);
+      hits = λ x. c.in_ok-looked.ensures.hits x ∙ (c.in_ok-happening.ensures.hits x ∙ c.up.invariant.hits x);
+      told = λ x. c.in_ok-looked.ensures.told x ∙ (c.in_ok-happening.ensures.told x ∙ c.up.invariant.told x);
+      suits = λ p is. c.in_ok-looked.ensures.suits p (c.in_ok-happening.ensures.suits p (c.up.invariant.suits p is));
+      tests = c.in_ok-looked.ensures.tests ∙ (c.in_ok-happening.ensures.tests ∙ c.up.invariant.tests);
+      follows = c.in_ok-looked.ensures.follows;
       noted = rw c.if-looked.false at c.in_ok-looked.ensures.noted;
       from = c.up.invariant.from;
     }
@@ -184,4 +188,4 @@ returns-clause-event g c =
     let i = c.args.focus.now.inv in
     let from = c.args.group.now in
     let stays = rw c.in_default.is at c.in_ok-happening.ensures.goes in
-    ended_told (g.H.Hits.noted c.up.hits) hit c.args.command i from c.up.group c.go_on.new.group c.up.count c.args.steps.now c.up.steps c.up.invariant.on stays.1
+    ended_told (g.H.Hits.noted c.go_on.new.hits) hit c.args.command i from c.up.group c.go_on.new.group c.up.count c.args.steps.now c.up.steps c.up.invariant.on stays.1

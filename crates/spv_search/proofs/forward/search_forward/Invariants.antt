@@ -12,6 +12,8 @@ invariant-up g l = record {
   hits : (x : Held) → g.H.Hits.hits l.hits x ≡ g.H.Hits.hits l.fn.hits x;
   told : (x : Held) → g.H.Hits.told l.hits x ≡ g.H.Hits.told l.fn.hits x;
   suits : (p : Program) → g.H.Hits.suits l.fn.hits p → g.H.Hits.suits l.hits p;
+  tests : g.H.Hits.tests l.hits ≡ g.H.Hits.tests l.fn.hits;
+  follows : g.H.Hits.follows l.hits l.group.group;
   noted : g.H.Hits.noted l.hits l.group.group;
   from : named_key l.focus.tables.now l.from ≡ key_in l.fn.group.group l.focus.inv;
 }

@@ -1,7 +1,7 @@
 use Rattle.std.proofs.Common.{◌≡◌, ◌∙◌, ◌+◌, ◌≤◌, ap, sym, arith}
 use Rattle.spv_group.specs.Group.{Held as Group, group_at, window_in}
 use Rattle.spv_group.proofs.Exports.{window_later}
-use Rattle.spv_search.proofs.lead.return_to.Goals as goal
+use Rattle.spv_search.proofs.lead.make_to.Goals as goal
 
 pub up-preserved : goal.up-preserved
 up-preserved g c =
@@ -17,4 +17,9 @@ up-preserved g c =
       until = omega (arith, on, c.up-test.true, c.position.ensures.position);
       kept = omega (arith, gone.kept, up.kept, rises);
       counted = omega (arith, c.in_ok-make.ensures.cost, up.counted, on);
+      hits = λ x. c.in_ok-make.ensures.hits x ∙ up.hits x;
+      told = λ x. c.in_ok-make.ensures.told x ∙ up.told x;
+      suits = λ p is. c.in_ok-make.ensures.suits p (up.suits p is);
+      tests = c.in_ok-make.ensures.tests ∙ up.tests;
+      follows = c.in_ok-make.ensures.follows;
     }
