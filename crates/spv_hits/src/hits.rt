@@ -21,6 +21,7 @@ use spv_expr::Sizes;
 use spv_group::Group;
 use spv_search::Hits;
 use spv_stops::{Breaks, Watches};
+use spv_valid::Module;
 use std::alloc::Global;
 use std::marker::Model;
 
@@ -329,13 +330,25 @@ impl<'a> StopHits<'a> {
 impl<'a> Hits for StopHits<'a> {
     ghost hits = { λ s g. hits s.tables s.breaks s.watches g };
 
-    ghost told = { λ s g. (breaks.break_numbers s.breaks g, watch_numbers s.tables s.watches g) };
+    ghost told = { λ s g. (breaks.break_numbers s.breaks g, watch_numbers s.tables s.watches g, []) };
 
     ghost suits = { λ s p. s.sizes ≡ typing_in p };
 
     ghost noted = { λ s g. IsNoted s g };
 
     ghost left = { λ s g. IsLeft s g };
+
+    ghost tests = { λ s. [] };
+
+    ghost follows = { λ s g. Unit {0} };
+
+    fn listens(&self) -> bool {
+        false
+    }
+
+    fn forth(&mut self, _module: &Module, _happening: &Happening) {}
+
+    fn back(&mut self, _module: &Module, _happening: &Happening) {}
 
     fn note(&mut self, group: &Group) -> Result<(), NoMemory> {
         self.note_all(group)

@@ -2,7 +2,7 @@
 ghost use Rattle.std.specs.Prelude.{◌≡◌};
 ghost use Rattle.spv_dbg.specs.Tables.{tables_of};
 ghost use Rattle.spv_scopes.specs.Lines.{lines_of};
-ghost use Rattle.spv_session.specs.Happenings.{is_barrier, line_of, lined};
+ghost use Rattle.spv_hits.specs.Happenings.{is_barrier, line_of, lined};
 
 use spv_base::{Happening, Kind};
 use spv_ops::op;
