@@ -7,6 +7,5 @@ pub mod Frames
 pub mod Shown
 pub mod Variables
 pub mod Info
-pub mod Happenings
 pub mod Typing
 pub mod Sights

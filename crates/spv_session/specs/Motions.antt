@@ -8,15 +8,17 @@ use Rattle.spv_search.specs.declared.commands.Backward.{Backward}
 use Rattle.spv_search.specs.Keys.{tables_in}
 use Rattle.spv_base.specs.declared.happenings.Happening.{Happening}
 use Rattle.spv_dbg.specs.Tables.{Tables}
+use Rattle.spv_stops.specs.Halts.{Halts}
 use Rattle.spv_stops.specs.Stops.{Stops}
 use Rattle.spv_stops.specs.Watches.{WatchKey}
 use Rattle.spv_stops.specs.declared.breaks.Breakpoint.{Breakpoint}
 use Rattle.spv_hits.specs.Breaks.{break_numbers, hitter}
+use Rattle.spv_hits.specs.Halts.{halt_numbers}
 use Rattle.spv_hits.specs.Watches.{watch_numbers}
 use Rattle.spv_hits.specs.Hits as stops
 use Rattle.spv_hits.specs.Hits.{has_some}
 use Rattle.spv_session.specs.declared.causes.Hit.{Hit}
-use Rattle.spv_session.specs.View.{View, moved_to}
+use Rattle.spv_session.specs.View.{Settings, View, moved_to}
 
 -- a motion, and at which positions what it was asked for is done
 pub data Motion : Type 0 where
@@ -52,13 +54,13 @@ search_back command v = backward (λ m. own_backward command v.focus v.group (gr
 
 -- ---- where motions lead
 
--- whether a break or a watch hits at a group's position; there are no halts so far
-abbrev pub hits_in : Stops Breakpoint → Stops WatchKey → Group → Bool
-hits_in breaks watches g = stops.hits (tables_in g) breaks watches g
+-- whether a break, a watch or a halt hits at a group's position, where the probes have these tests
+abbrev pub hits_in : Stops Breakpoint → Stops WatchKey → Halts → (tests : Settings) → Group → Bool
+hits_in breaks watches halts tests g = stops.hits (tables_in g) breaks watches g || has_some (halt_numbers halts tests g)
 
 -- whether one of a view's hits at a position
-abbrev pub hits : View → ℕ → Bool
-hits v m = hits_in v.breaks v.watches (group_at m v.group)
+abbrev pub hits : (tests : Settings) → View → ℕ → Bool
+hits tests v m = hits_in v.breaks v.watches v.halts tests (group_at m v.group)
 
 -- the position that a motion leads to, where these hit
 abbrev pub target : (View → ℕ → Bool) → View → Motion → ℕ
@@ -74,19 +76,19 @@ is_done v (backward own) m = has_moved v m && own m
 -- ---- what motions stop for
 
 abbrev pub no_hit : Hit
-no_hit = record { breaks = []; watches = [] }
+no_hit = record { breaks = []; watches = []; halts = [] }
 
--- the numbers of the breaks and of the watches that hit at a group's position
-abbrev pub hit_of : Tables → Stops Breakpoint → Stops WatchKey → Group → Hit
-hit_of t breaks watches g = record { breaks = break_numbers breaks g; watches = watch_numbers t watches g }
+-- the numbers of the breaks, of the watches and of the halts that hit at a group's position
+abbrev pub hit_of : Tables → Stops Breakpoint → Stops WatchKey → Halts → (tests : Settings) → Group → Hit
+hit_of t breaks watches halts tests g = record { breaks = break_numbers breaks g; watches = watch_numbers t watches g; halts = halt_numbers halts tests g }
 
-abbrev pub hit_at : View → ℕ → Hit
-hit_at v m = hit_of (tables_in v.group) v.breaks v.watches (group_at m v.group)
+abbrev pub hit_at : (tests : Settings) → View → ℕ → Hit
+hit_at tests v m = hit_of (tables_in v.group) v.breaks v.watches v.halts tests (group_at m v.group)
 
 -- Those that a motion stops for there. One to a number looks for none, and none is told where nothing moved.
-abbrev pub hit_by : View → Motion → ℕ → Hit
-hit_by v (straight n done) m = no_hit
-hit_by v _ m = if has_moved v m then hit_at v m else no_hit
+abbrev pub hit_by : (tests : Settings) → View → Motion → ℕ → Hit
+hit_by tests v (straight n done) m = no_hit
+hit_by tests v _ m = if has_moved v m then hit_at tests v m else no_hit
 
 -- the focus where a motion stops: where a break hit, the invocation of the event before, else as it was
 abbrev pub focus_by : Hit → Group → ℕ → ℕ

@@ -1,5 +1,5 @@
 -- The reply to a line, and the view after it. How a position was reached doesn't matter to it.
-use Rattle.std.specs.Prelude.{◌≡◌, ℕ, ◌==◌, nat_lt, Bool, true, false, List, [], ◌∷◌, ◌++◌, length, slice_get, Option, Some, None, if◌then◌else◌, Result, Ok, Err}
+use Rattle.std.specs.Prelude.{◌≡◌, ℕ, ◌==◌, nat_lt, Bool, true, false, List, [], ◌∷◌, ◌++◌, length, slice_get, Option, Some, None, is_some, count_by, if◌then◌else◌, Result, Ok, Err}
 use Rattle.std.specs.List.{enumerate_from, flat_map, range_with_len}
 use Rattle.std.specs.Option.{option_and_then, option_map_or}
 use Rattle.spv_base.specs.declared.causes.CmdRefusal.{CmdRefusal}
@@ -15,6 +15,8 @@ use Rattle.spv_group.specs.Group.{Held as Group, entries_in, invocations_in, sta
 use Rattle.spv_source.specs.Frames.{frame_line}
 use Rattle.spv_source.specs.Windows.{source_lines}
 use Rattle.spv_scopes.specs.Heads.{heads_with}
+use Rattle.spv_hits.specs.Halts.{told_before}
+use Rattle.spv_probe.specs.Kits.{place}
 use Rattle.spv_stops.specs.Breaks.{break_number}
 use Rattle.spv_stops.specs.Stops.{is_kept, next_number}
 use Rattle.spv_stops.specs.Watches.{WatchKey}
@@ -25,9 +27,9 @@ use Rattle.spv_session.specs.declared.causes.Hit.{Hit}
 use Rattle.spv_session.specs.Info.{module_words}
 use Rattle.spv_session.specs.Motions.{Motion, goto_motion, fwd_motion, back_motion, search_on, search_back, hits, target, is_done, hit_by, stopped_at}
 use Rattle.spv_session.specs.Shown.{focus_frames, innermost, line_file, real_frame, source_text}
-use Rattle.spv_session.specs.Texts.{refusal_line, registers_text, position_line, invocation_line, stop_line, info_line, break_line, deleted_line, watch_line, unwatched_line}
+use Rattle.spv_session.specs.Texts.{refusal_line, registers_text, position_line, invocation_line, stop_line, info_line, break_line, deleted_line, watch_line, unwatched_line, tally_line, dropped_line, halt_line}
 use Rattle.spv_session.specs.Variables.{id_line, id_told, line_in, named, path_line, selected, watch_key}
-use Rattle.spv_session.specs.View.{View, focus_on, frame_on, with_break, without_break, with_watch, without_watch}
+use Rattle.spv_session.specs.View.{Settings, View, focus_on, frame_on, tests_at, with_break, without_break, with_watch, without_watch, with_halt_of, without_probe}
 
 -- ---- refusals
 
@@ -43,7 +45,7 @@ no_such_frame = 4
 abbrev pub no_such_name : ℕ
 no_such_name = 5
 
--- of one that names a break or a watch which isn't kept
+-- of one that names a break or a watch which isn't kept, or a probe which isn't there
 abbrev pub no_such_number : ℕ
 no_such_number = 7
 
@@ -79,7 +81,7 @@ info_reply g = info_line (module_words g.program.accepted.insts) (length g.progr
 
 -- why a motion stopped at the view's position, and where the focus stands there
 abbrev pub stop_reply : Hit → Bool → View → List ℕ
-stop_reply hit done v = stop_line hit.breaks hit.watches done (v.group.position == 0) (end_cause_in v.group) ++ place_reply v
+stop_reply hit done v = stop_line hit.breaks hit.watches hit.halts done (v.group.position == 0) (end_cause_in v.group) ++ place_reply v
 
 -- ---- the table of commands
 
@@ -93,6 +95,8 @@ pub data Act : Type 0 where
   nothing : Act
   quits : Act
   shows : (View → Told) → Act
+  -- the same, by the tests of the probes
+  asks : (Settings → View → Told) → Act
   goes : (View → Motion) → Act
   -- the same, of a focus that isn't finished; else it is refused
   walks : (View → Motion) → Act
@@ -181,6 +185,24 @@ watch_told (Name name parts) v = told_with (watch_in v (Name name parts)) (named
 abbrev pub unwatch_told : ℕ → View → Told
 unwatch_told k v = if is_kept k v.watches then tells (unwatched_line k) (without_watch k v) else refuses no_such_number
 
+-- ---- probes
+
+-- how many of the events before the position a probe hits, by its number; nothing of one that was dropped
+abbrev pub tally_reply : Settings → View → ℕ → List ℕ
+tally_reply tests v k = option_map_or (λ hit. tally_line k (count_by hit (told_before v.group))) (place tests k) []
+
+-- of each probe, in the order of their numbers
+abbrev pub tally_told : Settings → View → Told
+tally_told tests v = tells (flat_map (tally_reply tests v) (range_with_len 1 (length tests))) v
+
+-- a probe is dropped, and its halt with it
+abbrev pub drop_told : ℕ → Settings → View → Told
+drop_told k tests v = if is_some (place tests k) then tells (dropped_line k) (without_probe k v) else refuses no_such_number
+
+-- the halt of a probe is set
+abbrev pub halt_told : (k n : ℕ) → Settings → View → Told
+halt_told k n tests v = if is_some (place tests k) then tells (halt_line k n) (with_halt_of k n v) else refuses no_such_number
+
 -- ---- the rows
 
 -- the focus becomes an invocation that exists
@@ -216,6 +238,9 @@ act (command.Break place) = shows (break_told place)
 act (command.Delete k) = shows (delete_told k)
 act (command.Watch path) = shows (watch_told path)
 act (command.Unwatch k) = shows (unwatch_told k)
+act command.Tally = asks tally_told
+act (command.DropProbe k) = asks (drop_told k)
+act (command.Halt k n) = asks (halt_told k n)
 act command.Quit = quits
 act _ = nothing
 
@@ -230,8 +255,8 @@ act_of (Ok it) = act it
 abbrev pub stopped : View → ℕ → Hit → Bool → List ℕ × View
 stopped v m hit done = (stop_reply hit done (stopped_at m hit v), stopped_at m hit v)
 
-abbrev pub motion_reply : View → Motion → List ℕ × View
-motion_reply v motion = stopped v (target hits v motion) (hit_by v motion (target hits v motion)) (is_done v motion (target hits v motion))
+abbrev pub motion_reply : Settings → View → Motion → List ℕ × View
+motion_reply tests v motion = stopped v (target (hits tests) v motion) (hit_by tests v motion (target (hits tests) v motion)) (is_done v motion (target (hits tests) v motion))
 
 -- the focus is finished
 abbrev pub is_over : View → Bool
@@ -241,14 +266,16 @@ abbrev pub told_reply : View → Told → List ℕ × View
 told_reply v (tells text w) = (text, w)
 told_reply v (refuses code) = (refusal_line code, v)
 
-abbrev pub reply_by : View → Act → List ℕ × View
-reply_by v (shows told) = told_reply v (told v)
-reply_by v (goes motion) = motion_reply v (motion v)
-reply_by v (walks motion) = if is_over v then told_reply v (refuses focus_finished) else motion_reply v (motion v)
-reply_by v _ = ([], v)
+abbrev pub reply_by : (tests : Settings) → View → Act → List ℕ × View
+reply_by tests v (shows told) = told_reply v (told v)
+reply_by tests v (asks told) = told_reply v (told tests v)
+reply_by tests v (goes motion) = motion_reply tests v (motion v)
+reply_by tests v (walks motion) = if is_over v then told_reply v (refuses focus_finished) else motion_reply tests v (motion v)
+reply_by tests v _ = ([], v)
 
-unfoldable pub reply : View → List ℕ → List ℕ × View
-reply v line = reply_by v (act_of (command_of line))
+-- by the settings of the kit that was handed in
+unfoldable pub reply : Settings → View → List ℕ → List ℕ × View
+reply settings v line = reply_by (tests_at settings v) v (act_of (command_of line))
 
 abbrev pub does_quit : Act → Bool
 does_quit quits = true
@@ -262,14 +289,15 @@ abbrev pub told_refusal : Told → Option ℕ
 told_refusal (tells text w) = None
 told_refusal (refuses code) = Some code
 
-abbrev pub refusal_by : View → Act → Option ℕ
-refusal_by v (shows told) = told_refusal (told v)
-refusal_by v (walks motion) = if is_over v then Some focus_finished else None
-refusal_by v _ = None
+abbrev pub refusal_by : (tests : Settings) → View → Act → Option ℕ
+refusal_by tests v (shows told) = told_refusal (told v)
+refusal_by tests v (asks told) = told_refusal (told tests v)
+refusal_by tests v (walks motion) = if is_over v then Some focus_finished else None
+refusal_by tests v _ = None
 
-unfoldable pub refusal_of : View → List ℕ → Option ℕ
-refusal_of v line = refusal_by v (act_of (command_of line))
+unfoldable pub refusal_of : Settings → View → List ℕ → Option ℕ
+refusal_of settings v line = refusal_by (tests_at settings v) v (act_of (command_of line))
 
 -- the line's command is refused with this number
-abbrev pub IsRefused : View → List ℕ → ℕ → Type 0
-IsRefused v line code = refusal_of v line ≡ Some code
+abbrev pub IsRefused : Settings → View → List ℕ → ℕ → Type 0
+IsRefused settings v line code = refusal_of settings v line ≡ Some code

@@ -110,24 +110,24 @@ end_causes (Some cause) = cause_text cause ∷ []
 abbrev pub numbered_text : List ℕ → ℕ → List ℕ
 numbered_text word k = word ++ decimal k
 
--- the breaks and the watches that hit
-abbrev pub hit_causes : (breaks watches : List ℕ) → List (List ℕ)
-hit_causes breaks watches = map (numbered_text (codes "break ")) breaks ++ map (numbered_text (codes "watch ")) watches
+-- the breaks, the watches and the halts that hit
+abbrev pub hit_causes : (breaks watches halts : List ℕ) → List (List ℕ)
+hit_causes breaks watches halts = map (numbered_text (codes "break ")) breaks ++ map (numbered_text (codes "watch ")) watches ++ map (numbered_text (codes "halt ")) halts
 
 -- what was asked for is done, the start, the end's cause
 abbrev pub place_causes : Bool → Bool → Option EndCause → List (List ℕ)
 place_causes done start cause = (if done then codes "done" ∷ [] else []) ++ (if start then codes "start" ∷ [] else []) ++ end_causes cause
 
 -- all that hold
-abbrev pub stop_causes : (breaks watches : List ℕ) → Bool → Bool → Option EndCause → List (List ℕ)
-stop_causes breaks watches done start cause = hit_causes breaks watches ++ place_causes done start cause
+abbrev pub stop_causes : (breaks watches halts : List ℕ) → Bool → Bool → Option EndCause → List (List ℕ)
+stop_causes breaks watches halts done start cause = hit_causes breaks watches halts ++ place_causes done start cause
 
 -- a cause behind those before it
 abbrev pub behind_comma : List ℕ → List ℕ
 behind_comma text = codes ", " ++ text
 
-abbrev pub stop_line : (breaks watches : List ℕ) → Bool → Bool → Option EndCause → List ℕ
-stop_line breaks watches done start cause = codes "stop: " ++ join_by (λ text. text) (codes ", ") (stop_causes breaks watches done start cause) ++ codes "\n"
+abbrev pub stop_line : (breaks watches halts : List ℕ) → Bool → Bool → Option EndCause → List ℕ
+stop_line breaks watches halts done start cause = codes "stop: " ++ join_by (λ text. text) (codes ", ") (stop_causes breaks watches halts done start cause) ++ codes "\n"
 
 -- ---- lists of stops
 
@@ -144,3 +144,16 @@ deleted_line k = codes "deleted " ++ decimal k ++ codes "\n"
 
 abbrev pub unwatched_line : ℕ → List ℕ
 unwatched_line k = codes "unwatched " ++ decimal k ++ codes "\n"
+
+-- ---- probes
+
+-- `probe K: N`
+abbrev pub tally_line : (k n : ℕ) → List ℕ
+tally_line k n = codes "probe " ++ decimal k ++ codes ": " ++ decimal n ++ codes "\n"
+
+abbrev pub dropped_line : ℕ → List ℕ
+dropped_line k = codes "dropped " ++ decimal k ++ codes "\n"
+
+-- `halt K every N`
+abbrev pub halt_line : (k n : ℕ) → List ℕ
+halt_line k n = codes "halt " ++ decimal k ++ codes " every " ++ decimal n ++ codes "\n"

@@ -1,10 +1,15 @@
--- A view: all that replies depend on. A group at a position of its run, the invocation and the frame that replies speak of, and what
--- motions stop at. No command changes the halts or the probes so far.
-use Rattle.std.specs.Prelude.{◌≡◌, ◌⊎◌, ℕ, List, []}
+-- A view: all that replies depend on, beside the settings of the probes. A group at a position of its run, the invocation and the frame
+-- that replies speak of, what motions stop at, and which probes were dropped.
+use Rattle.std.specs.Prelude.{◌≡◌, ◌⊎◌, ℕ, ◌-◌, Bool, List, [], ◌∷◌, ◌++◌, fold, set, Option, None}
+use Rattle.spv_base.specs.declared.happenings.Happening.{Happening}
 use Rattle.spv_stops.specs.declared.breaks.Breakpoint.{Breakpoint}
+use Rattle.spv_stops.specs.Halts.{Halts, with_halt, without_halt}
 use Rattle.spv_stops.specs.Watches.{WatchKey}
 use Rattle.spv_stops.specs.Stops.{Stops, with_stop, without_stop}
 use Rattle.spv_group.specs.Group.{Held as Group, Undoing, group_at}
+use Rattle.spv_probe.specs.Kits.{Follows, tests_of}
+use Rattle.spv_search.specs.Told.{Test}
+use Rattle.spv_hits.specs.Halts.{told_before}
 
 pub record View : Type 0 where
   pub group : Group
@@ -12,8 +17,8 @@ pub record View : Type 0 where
   pub frame : ℕ  -- which of the focus's shown frames is selected, 0 for the innermost
   pub breaks : Stops Breakpoint
   pub watches : Stops WatchKey
-  pub halts : List (ℕ × ℕ)  -- a probe's number, and the multiples of its tally to stop at
-  pub dropped : List ℕ  -- the numbers of the probes that were dropped
+  pub halts : Halts  -- a probe's number, and the multiples of its tally to stop at
+  pub dropped : List ℕ  -- the numbers of the probes that were dropped, in the order in which they were
 
 -- the view before the first command
 abbrev pub first_view : Group → View
@@ -51,6 +56,30 @@ with_watch w v = record v { watches = with_stop w v.watches }
 
 abbrev pub without_watch : ℕ → View → View
 without_watch k v = record v { watches = without_stop k v.watches }
+
+-- the halt of a probe, or none of a probe that is dropped
+abbrev pub with_halt_of : (k n : ℕ) → View → View
+with_halt_of k n v = record v { halts = with_halt k n v.halts }
+
+abbrev pub without_probe : ℕ → View → View
+without_probe k v = record v { halts = without_halt k v.halts; dropped = v.dropped ++ k ∷ [] }
+
+-- ---- probes
+
+-- The settings of a kit: the test of each probe that was handed in, at its number. Those that were dropped since are left out.
+abbrev pub Settings : Type 0
+Settings = List (Option Test)
+
+abbrev pub without_test : Settings → ℕ → Settings
+without_test tests k = set tests (k - 1) None
+
+abbrev pub tests_at : Settings → View → Settings
+tests_at settings v = fold without_test settings v.dropped
+
+-- The kit of a view has the probes that aren't dropped, with their settings, and each has counted the events before the position.
+pub record IsKitOf {P : Type 0} (tally : P → ℕ) (test : P → Happening → Bool) (settings : Settings) (v : View) (boxes : List (Option P)) : Type 0 where
+  pub tests : tests_of test boxes ≡ tests_at settings v
+  pub counted : Follows tally test (tests_of test boxes) (told_before v.group) boxes
 
 -- ---- what no reply depends on
 

@@ -8,11 +8,12 @@ use spv_base::{EndCause, NoMemory, Places};
 use spv_line::push_number;
 use std::alloc::Global;
 
-/// What a motion stops for: the numbers of the breaks and of the watches that hit.
+/// What a motion stops for: the numbers of the breaks, of the watches and of the probes whose halts hit.
 #[derive(Drop)]
 pub(crate) struct Hit {
     pub(crate) breaks: Places,
     pub(crate) watches: Places,
+    pub(crate) halts: Places,
 }
 
 impl Hit {
@@ -23,6 +24,7 @@ impl Hit {
         Hit {
             breaks: Places::new(alloc),
             watches: Places::new(alloc),
+            halts: Places::new(alloc),
         }
     }
 }
@@ -66,10 +68,11 @@ fn push_numbered(
 
 /// Appends what hit, each cause behind a comma.
 fn push_hit(alloc: Global, text: &mut Vec<u8>, hit: &Hit) -> Result<(), NoMemory>
-    ensures { OnOk result (text.new.items ≡ text.old.items ++ flat_map behind_comma (hit_causes hit.now.breaks hit.now.watches)) }
+    ensures { OnOk result (text.new.items ≡ text.old.items ++ flat_map behind_comma (hit_causes hit.now.breaks hit.now.watches hit.now.halts)) }
 {
     push_numbered(alloc, text, b"break ", hit.breaks.as_slice())?;
-    push_numbered(alloc, text, b"watch ", hit.watches.as_slice())
+    push_numbered(alloc, text, b"watch ", hit.watches.as_slice())?;
+    push_numbered(alloc, text, b"halt ", hit.halts.as_slice())
 }
 
 /// Appends what else holds where a motion stopped, each cause behind a comma.
@@ -115,7 +118,7 @@ pub(crate) fn push_stop(
     start: bool,
     cause: Option<EndCause>,
 ) -> Result<(), NoMemory>
-    ensures { OnOk result (text.new.items ≡ text.old.items ++ stop_line hit.now.breaks hit.now.watches done start cause) }
+    ensures { OnOk result (text.new.items ≡ text.old.items ++ stop_line hit.now.breaks hit.now.watches hit.now.halts done start cause) }
 {
     let mut causes = Vec::new(alloc);
     push_hit(alloc, &mut causes, hit)?;

@@ -4,10 +4,9 @@
 mod causes;
 mod debug_info;
 mod frames;
-mod happenings;
 mod info;
-mod kit;
 mod motions;
+mod probes;
 mod registers;
 mod searches;
 mod session;
@@ -16,6 +15,5 @@ mod stops;
 mod texts;
 mod variables;
 
-pub use kit::Kit;
 pub use registers::shown_registers_ascend;
 pub use session::{Core, Next, Session};

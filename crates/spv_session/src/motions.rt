@@ -2,6 +2,11 @@
 ghost use Rattle.std.specs.Prelude.{◌≡◌, ◌==◌, ◌<◌, ◌≤◌, ◌+◌, ◌-◌, ◌++◌, ◌&&◌, ℕ, OnOk, OnErr, max, min, not};
 ghost use Rattle.spv_group.specs.Costs.{run_cost};
 ghost use Rattle.spv_group.specs.Group.{end_in, group_at, invocations_in, window_in};
+ghost use Rattle.spv_dbg.specs.Tables.{tables_of};
+ghost use Rattle.spv_hits.specs.Halts.{told_before};
+ghost use Rattle.spv_probe.specs.Kits.{Follows, tests_of};
+ghost use Rattle.spv_scopes.specs.Lines.{lines_of};
+ghost use Rattle.spv_search.specs.Told.{has_probe};
 ghost use Rattle.spv_session.specs.Costs.{straight_cost};
 ghost use Rattle.spv_session.specs.Motions.{no_hit};
 ghost use Rattle.spv_session.specs.Reply.{stop_reply};
@@ -9,9 +14,15 @@ ghost use Rattle.spv_session.specs.View.{focus_on, moved_to, undoing_in, view_at
 
 use crate::causes::{Hit, push_stop};
 use crate::session::Core;
-use spv_base::{NoMemory, Steps};
-use spv_group::{Forth, Group};
-use spv_search::return_to;
+use spv_base::{NoMemory, Probe, Steps};
+use spv_group::Group;
+use spv_hits::WithProbes;
+use spv_probe::Kit;
+use spv_scopes::Lines;
+use spv_search::{Hits, Never, go_on, return_to};
+use spv_stops::Halts;
+use std::alloc::Global;
+use std::mem;
 use std::sync::ledger::Ledger;
 
 /// Where a motion is asked to lead.
@@ -62,17 +73,26 @@ impl Aim {
 
 /// Goes on to a position, or to the end where that comes first. It takes a step for each event, and one more at most where the
 /// end comes first. After want of memory the group is at some position on the way.
-fn go_on<L: Ledger>(group: &mut Group, target: u64, steps: &mut Steps<L>) -> Result<(), NoMemory>
+fn run_on<H: Hits, L: Ledger>(
+    group: &mut Group,
+    target: u64,
+    hits: &mut H,
+    steps: &mut Steps<L>,
+) -> Result<(), NoMemory>
+    requires suits { H.suits hits.old group.old.group.program }
+    requires follows { H.follows hits.old group.old.group }
     ensures target { OnOk result (group.new.group.position ≡ max group.old.group.position (min target (end_in group.old.group))) }
     ensures same { group.new.group ≡ group_at group.new.group.position group.old.group }
     ensures limit { group.new.limit ≡ group.old.limit }
     ensures within { group.new.group.position ≤ end_in group.old.group }
     ensures kept { group.new.kept ≤ max group.old.kept (window_in group.new) }
+    ensures tests { H.tests hits.new ≡ H.tests hits.old }
+    ensures follows { H.follows hits.new group.new.group }
     ensures counted { steps.old ≤ steps.new }
     ensures cost { steps.new ≤ steps.old + run_cost (end_in group.old.group) group.old.group.position target }
 {
     'up: while group.position() < target {
-        if let Forth::AtEnd(_) = group.forth(steps)? {
+        if go_on(group, hits, steps)?.is_none() {
             return Ok(());
         }
     }
@@ -80,45 +100,98 @@ fn go_on<L: Ledger>(group: &mut Group, target: u64, steps: &mut Steps<L>) -> Res
 }
 
 /// Goes to a position, or to the end where that comes first. One before the present is reached by undoing, or by a run from the start
-/// on where the events from there on aren't kept. After want of memory the group is at some position of its run.
-pub fn go_to<L: Ledger>(
+/// on where the events from there on aren't kept. After want of memory the group is at some position of its run. Probes follow it.
+pub fn go_to<H: Hits, L: Ledger>(
+    alloc: Global,
     group: &mut Group,
     target: u64,
+    hits: &mut H,
     steps: &mut Steps<L>,
 ) -> Result<(), NoMemory>
+    requires suits { H.suits hits.old group.old.group.program }
+    requires follows { H.follows hits.old group.old.group }
     ensures target { OnOk result (group.new.group.position ≡ min target (end_in group.old.group)) }
     ensures same { group.new.group ≡ group_at group.new.group.position group.old.group }
     ensures limit { group.new.limit ≡ group.old.limit }
     ensures within { group.new.group.position ≤ end_in group.old.group }
     ensures kept { group.new.kept ≤ max group.old.kept (window_in group.new) }
+    ensures tests { H.tests hits.new ≡ H.tests hits.old }
+    ensures follows { H.follows hits.new group.new.group }
     ensures counted { steps.old ≤ steps.new }
-    ensures cost { steps.new ≤ steps.old + straight_cost group.old.kept group.old.group target }
+    ensures cost { steps.new ≤ steps.old + straight_cost (has_probe (H.tests hits.old)) group.old.kept group.old.group target }
 {
     if target < group.position() {
-        return return_to(group, target, steps);
+        return return_to(alloc, group, target, hits, steps);
     }
-    go_on(group, target, steps)
+    run_on(group, target, hits, steps)
+}
+
+/// The same, where a kit follows the group.
+fn go_with<L: Ledger>(
+    alloc: Global,
+    group: &mut Group,
+    kit: &mut Kit,
+    halts: &Halts,
+    lines: &Lines,
+    target: u64,
+    steps: &mut Steps<L>,
+) -> Result<(), NoMemory>
+    requires lines { lines.now ≡ lines_of group.old.group.program.accepted (tables_of group.old.group.program.accepted) }
+    requires follows { Follows (λ p. (⟦<dyn Probe as Probe>⟧ p.vtable).tally p.value) (λ p. (⟦<dyn Probe as Probe>⟧ p.vtable).test p.value) (tests_of (λ p. (⟦<dyn Probe as Probe>⟧ p.vtable).test p.value) kit.old.boxes.items) (told_before group.old.group) kit.old.boxes.items }
+    ensures target { OnOk result (group.new.group.position ≡ min target (end_in group.old.group)) }
+    ensures same { group.new.group ≡ group_at group.new.group.position group.old.group }
+    ensures limit { group.new.limit ≡ group.old.limit }
+    ensures within { group.new.group.position ≤ end_in group.old.group }
+    ensures kept { group.new.kept ≤ max group.old.kept (window_in group.new) }
+    ensures tests { tests_of (λ p. (⟦<dyn Probe as Probe>⟧ p.vtable).test p.value) kit.new.boxes.items ≡ tests_of (λ p. (⟦<dyn Probe as Probe>⟧ p.vtable).test p.value) kit.old.boxes.items }
+    ensures follows { Follows (λ p. (⟦<dyn Probe as Probe>⟧ p.vtable).tally p.value) (λ p. (⟦<dyn Probe as Probe>⟧ p.vtable).test p.value) (tests_of (λ p. (⟦<dyn Probe as Probe>⟧ p.vtable).test p.value) kit.new.boxes.items) (told_before group.new.group) kit.new.boxes.items }
+    ensures counted { steps.old ≤ steps.new }
+    ensures cost { steps.new ≤ steps.old + straight_cost (has_probe (tests_of (λ p. (⟦<dyn Probe as Probe>⟧ p.vtable).test p.value) kit.old.boxes.items)) group.old.kept group.old.group target }
+{
+    let mut probes = WithProbes {
+        hits: Never,
+        kit: mem::replace(kit, Kit::empty(alloc)),
+        halts,
+        lines,
+    };
+    let gone = go_to(alloc, group, target, &mut probes, steps);
+    *kit = probes.kit;
+    gone
 }
 
 impl Core {
     /// Goes where a motion is asked to lead, and appends why it stopped. The innermost frame is selected then.
     pub(crate) fn go<L: Ledger>(
         &mut self,
+        kit: &mut Kit,
         aim: Aim,
         text: &mut Vec<u8>,
         steps: &mut Steps<L>,
     ) -> Result<(), NoMemory>
+        requires { Follows (λ p. (⟦<dyn Probe as Probe>⟧ p.vtable).tally p.value) (λ p. (⟦<dyn Probe as Probe>⟧ p.vtable).test p.value) (tests_of (λ p. (⟦<dyn Probe as Probe>⟧ p.vtable).test p.value) kit.old.boxes.items) (told_before self.old.view.group) kit.old.boxes.items }
         ensures text { OnOk result (text.new.items ≡ text.old.items ++ stop_reply no_hit (aim.exact && self.new.view.group.position == aim.position) self.new.view) }
         ensures view { OnOk result (self.new.view ≡ moved_to (min aim.position (end_in self.old.view.group)) self.old.view) }
         ensures group { self.new.view.group ≡ group_at self.new.view.group.position self.old.view.group }
         ensures same { OnErr result (self.new.view ≡ view_at self.new.view.group.position self.old.view) }
+        ensures dropped { self.new.view.dropped ≡ self.old.view.dropped }
         ensures limit { self.new.limit ≡ self.old.limit }
         ensures kept { self.new.kept ≤ max self.old.kept (window_in (undoing_in self.new)) }
         ensures within { self.new.view.group.position ≤ end_in self.old.view.group }
         ensures counted { steps.old ≤ steps.new }
-        ensures cost { steps.new ≤ steps.old + straight_cost self.old.kept self.old.view.group aim.position }
+        ensures cost { steps.new ≤ steps.old + straight_cost (has_probe (tests_of (λ p. (⟦<dyn Probe as Probe>⟧ p.vtable).test p.value) kit.old.boxes.items)) self.old.kept self.old.view.group aim.position }
+        ensures tests { tests_of (λ p. (⟦<dyn Probe as Probe>⟧ p.vtable).test p.value) kit.new.boxes.items ≡ tests_of (λ p. (⟦<dyn Probe as Probe>⟧ p.vtable).test p.value) kit.old.boxes.items }
+        ensures follows { Follows (λ p. (⟦<dyn Probe as Probe>⟧ p.vtable).tally p.value) (λ p. (⟦<dyn Probe as Probe>⟧ p.vtable).test p.value) (tests_of (λ p. (⟦<dyn Probe as Probe>⟧ p.vtable).test p.value) kit.new.boxes.items) (told_before self.new.view.group) kit.new.boxes.items }
     {
-        go_to(&mut self.group, aim.position, steps)?;
+        let lines = &self.info.lines;
+        go_with(
+            self.alloc,
+            &mut self.group,
+            kit,
+            &self.halts,
+            lines,
+            aim.position,
+            steps,
+        )?;
         let done = aim.exact && self.group.position() == aim.position;
         let hit = Hit::none(self.alloc);
         let focus = self.focus;
@@ -138,6 +211,7 @@ impl Core {
         ensures view { OnOk result (self.new.view ≡ focus_on focus self.old.view) }
         ensures err { OnErr result (self.new ≡ self.old) }
         ensures kept { self.new.kept ≡ self.old.kept }
+        ensures dropped { self.new.view.dropped ≡ self.old.view.dropped }
         ensures limit { self.new.limit ≡ self.old.limit }
     {
         let cause = self.group.end_cause()?;

@@ -1,37 +1,36 @@
 //! A kit of probes beside a group, and the replies to lines of input.
-ghost use Rattle.std.specs.Prelude.{◌≡◌, [], ℕ, ◌<◌, ◌≤◌, ◌+◌, ◌++◌, List, All, IfOk, Ok, Some, OnOk, OnErr, max, slice_get, vec_len, if◌then◌else◌};
+ghost use Rattle.std.specs.Prelude.{◌≡◌, [], ℕ, ◌<◌, ◌≤◌, ◌+◌, ◌++◌, List, All, IfOk, Ok, Some, OnOk, OnErr, map, max, slice_get, vec_len, if◌then◌else◌};
 ghost use Rattle.std.specs.Option.{option_map_or};
 ghost use Rattle.spv_base.specs.Prefix.{IsPrefixOf};
 ghost use Rattle.spv_cmd.specs.Commands.{command_of};
 ghost use Rattle.spv_group.specs.Group.{end_in, group_at, invocations_in, state_in, window_in};
+ghost use Rattle.spv_probe.specs.Kits.{tests_of};
 ghost use Rattle.spv_state.specs.State.{frames_of};
 ghost use Rattle.spv_search.specs.Keys.{shown_in};
 ghost use Rattle.spv_session.specs.Costs.{act_cost, line_cost};
-ghost use Rattle.spv_session.specs.Happenings.{lined};
 ghost use Rattle.spv_session.specs.Reply.{act_of, does_quit, focus_told, frame_told, frames_told, group_reply, info_reply, invocation_reply, is_quit, IsRefused, lines_told, place_reply, refusal_by, registers_told, reply, reply_by, select_told, told_refusal, told_reply};
 ghost use Rattle.spv_session.specs.Shown as spec;
 ghost use Rattle.spv_session.specs.Shown.{focus_frames};
 ghost use Rattle.spv_session.specs.Texts.{refusal_line, registers_text};
-ghost use Rattle.spv_session.specs.View.{IsEither, first_viewing, focus_on, undoing_in};
+ghost use Rattle.spv_session.specs.View.{IsEither, IsKitOf, Settings, first_viewing, focus_on, undoing_in};
 ghost use Rattle.spv_session.specs.declared.session.Next.TheVariants as answers;
 
 use crate::debug_info::DebugInfo;
 use crate::frames::{FOCUS_FINISHED, NO_SOURCE_TEXT, frame_with, push_frame_lines};
-use crate::happenings::lined;
 use crate::info::{Info, module_words, push_info};
-use crate::kit::Kit;
 use crate::motions::Aim;
 use crate::registers::push_registers;
 use crate::texts::{push_invocation, push_position, refusal_line};
-use spv_base::{CmdRefusal, Fail, Happening, NoMemory, Probe, Steps};
+use spv_base::{CmdRefusal, Fail, NoMemory, Probe, Steps};
 use spv_cmd::{Command, parse_built};
 use spv_dbg::ShownFrame;
 use spv_group::Group;
+use spv_probe::Kit;
 use spv_scopes::{innermost, shown};
 use spv_search::{Backward, Forward};
 use spv_source::{frame_line, source_lines};
 use spv_state::laws::top_frames_are_sound;
-use spv_stops::{Breaks, Watches};
+use spv_stops::{Breaks, Halts, Watches};
 use std::alloc::Global;
 use std::marker::Model;
 use std::sync::ledger::Ledger;
@@ -58,7 +57,7 @@ fn read(alloc: Global, line: &[u8]) -> Result<Result<Command, CmdRefusal>, NoMem
 }
 
 /// A group, about which lines of input ask, the debug information of its module, the invocation and the shown frame that replies speak of,
-/// and what motions stop at.
+/// what motions stop at, and the numbers of the probes that were dropped.
 pub struct Core {
     pub(crate) alloc: Global,
     pub(crate) group: Group,
@@ -67,6 +66,8 @@ pub struct Core {
     pub(crate) frame: u32,
     pub(crate) breaks: Breaks,
     pub(crate) watches: Watches,
+    pub(crate) halts: Halts,
+    pub(crate) dropped: Vec<u32>,
 }
 
 // Written out, so that it is proved once: a derived drop is proved again in each function that lets go of such a value.
@@ -80,11 +81,15 @@ impl Drop for Core {
             frame: _,
             breaks,
             watches,
+            halts,
+            dropped,
         } = self;
         drop(group);
         drop(info);
         drop(breaks);
         drop(watches);
+        drop(halts);
+        drop(dropped);
     }
 }
 
@@ -99,7 +104,7 @@ impl Model for Core {
 
     ghost Value = { Viewing };
 
-    ghost view = { λ s. record { view = record (first_view s.group.group) { focus = s.focus; frame = s.frame; breaks = s.breaks; watches = s.watches }; kept = s.group.kept; limit = s.group.limit } };
+    ghost view = { λ s. record { view = record (first_view s.group.group) { focus = s.focus; frame = s.frame; breaks = s.breaks; watches = s.watches; halts = s.halts; dropped = s.dropped.items }; kept = s.group.kept; limit = s.group.limit } };
 
     ghost invariant = { λ s. (s.group.group.position ≤ end_in s.group.group) × (s.focus < invocations_in s.group.group)
         × (s.info.tables ≡ tables_in s.group.group) × (s.info.lines ≡ lines_of s.group.group.program.accepted (tables_in s.group.group))
@@ -122,6 +127,8 @@ impl Core {
             frame: 0,
             breaks: Breaks::new(alloc),
             watches: Watches::new(alloc),
+            halts: Halts::new(alloc),
+            dropped: Vec::new(alloc),
         })
     }
 
@@ -129,27 +136,31 @@ impl Core {
     #[tactic(auto, using(crate::proofs::ReplyLemmas::same_view), unfolding(crate::specs::Reply::reply, crate::specs::Reply::is_quit, crate::specs::Reply::refusal_of, crate::specs::Costs::line_cost))]
     fn command<L: Ledger>(
         &mut self,
+        kit: &mut Kit,
         line: &[u8],
         out: &mut Vec<u8>,
         steps: &mut Steps<L>,
     ) -> Result<Next, NoMemory>
-        ensures text { OnOk result (out.new.items ≡ out.old.items ++ (reply self.old.view line.now).0) }
-        ensures view { OnOk result (self.new.view ≡ (reply self.old.view line.now).1) }
+        ghost settings: { Settings }
+        requires { IsKitOf (λ p. (⟦<dyn Probe as Probe>⟧ p.vtable).tally p.value) (λ p. (⟦<dyn Probe as Probe>⟧ p.vtable).test p.value) settings self.old.view kit.old.boxes.items }
+        ensures text { OnOk result (out.new.items ≡ out.old.items ++ (reply settings self.old.view line.now).0) }
+        ensures view { OnOk result (self.new.view ≡ (reply settings self.old.view line.now).1) }
         ensures next { IfOk result (λ next. next ≡ (if is_quit line.now then answers.Quit else answers.Go)) }
-        ensures front { OnErr result ((text : List ℕ) × (out.new.items ≡ out.old.items ++ text) × IsPrefixOf text (reply self.old.view line.now).0) }
+        ensures front { OnErr result ((text : List ℕ) × (out.new.items ≡ out.old.items ++ text) × IsPrefixOf text (reply settings self.old.view line.now).0) }
         ensures group { self.new.view.group ≡ group_at self.new.view.group.position self.old.view.group }
         ensures limit { self.new.limit ≡ self.old.limit }
         ensures kept { self.new.kept ≤ max self.old.kept (window_in (undoing_in self.new)) }
-        ensures same { IsEither self.new.view self.old.view (reply self.old.view line.now).1 }
+        ensures same { IsEither self.new.view self.old.view (reply settings self.old.view line.now).1 }
         ensures within { self.new.view.group.position ≤ end_in self.old.view.group }
-        ensures refused { (code : ℕ) → IsRefused self.old.view line.now code
-            → (self.new ≡ self.old) × OnOk result (out.new.items ≡ out.old.items ++ refusal_line code) }
+        ensures refused { (code : ℕ) → IsRefused settings self.old.view line.now code
+            → (self.new ≡ self.old) × (kit.new.boxes.items ≡ kit.old.boxes.items) × OnOk result (out.new.items ≡ out.old.items ++ refusal_line code) }
+        ensures kit { IsKitOf (λ p. (⟦<dyn Probe as Probe>⟧ p.vtable).tally p.value) (λ p. (⟦<dyn Probe as Probe>⟧ p.vtable).test p.value) settings self.new.view kit.new.boxes.items }
         ensures counted { steps.old ≤ steps.new }
-        ensures cost { steps.new ≤ steps.old + line_cost self.old.kept self.old.view line.now }
+        ensures cost { steps.new ≤ steps.old + line_cost settings self.old.kept self.old.view line.now }
     {
         let mut text = Vec::new(self.alloc);
         let command = read(self.alloc, line)?;
-        let next = self.answer(&command, &mut text, steps)?;
+        let next = self.answer(kit, &command, &mut text, steps)?;
         out.extend_from_slice(&text)?;
         Ok(next)
     }
@@ -157,21 +168,25 @@ impl Core {
     /// Carries a command out, and makes the text of its reply.
     fn answer<L: Ledger>(
         &mut self,
+        kit: &mut Kit,
         command: &Result<Command, CmdRefusal>,
         text: &mut Vec<u8>,
         steps: &mut Steps<L>,
     ) -> Result<Next, NoMemory>
-        ensures text { OnOk result (text.new.items ≡ text.old.items ++ (reply_by self.old.view (act_of command.now)).0) }
-        ensures view { OnOk result (self.new.view ≡ (reply_by self.old.view (act_of command.now)).1) }
+        ghost settings: { Settings }
+        requires { IsKitOf (λ p. (⟦<dyn Probe as Probe>⟧ p.vtable).tally p.value) (λ p. (⟦<dyn Probe as Probe>⟧ p.vtable).test p.value) settings self.old.view kit.old.boxes.items }
+        ensures text { OnOk result (text.new.items ≡ text.old.items ++ (reply_by (tests_of (λ p. (⟦<dyn Probe as Probe>⟧ p.vtable).test p.value) kit.old.boxes.items) self.old.view (act_of command.now)).0) }
+        ensures view { OnOk result (self.new.view ≡ (reply_by (tests_of (λ p. (⟦<dyn Probe as Probe>⟧ p.vtable).test p.value) kit.old.boxes.items) self.old.view (act_of command.now)).1) }
         ensures next { IfOk result (λ next. next ≡ (if does_quit (act_of command.now) then answers.Quit else answers.Go)) }
         ensures group { self.new.view.group ≡ group_at self.new.view.group.position self.old.view.group }
         ensures limit { self.new.limit ≡ self.old.limit }
         ensures kept { self.new.kept ≤ max self.old.kept (window_in (undoing_in self.new)) }
-        ensures same { OnErr result (IsEither self.new.view self.old.view (reply_by self.old.view (act_of command.now)).1) }
+        ensures same { OnErr result (IsEither self.new.view self.old.view (reply_by (tests_of (λ p. (⟦<dyn Probe as Probe>⟧ p.vtable).test p.value) kit.old.boxes.items) self.old.view (act_of command.now)).1) }
         ensures within { self.new.view.group.position ≤ end_in self.old.view.group }
-        ensures refused { (code : ℕ) → refusal_by self.old.view (act_of command.now) ≡ Some code → self.new ≡ self.old }
+        ensures refused { (code : ℕ) → refusal_by (tests_of (λ p. (⟦<dyn Probe as Probe>⟧ p.vtable).test p.value) kit.old.boxes.items) self.old.view (act_of command.now) ≡ Some code → (self.new ≡ self.old) × (kit.new.boxes.items ≡ kit.old.boxes.items) }
+        ensures kit { IsKitOf (λ p. (⟦<dyn Probe as Probe>⟧ p.vtable).tally p.value) (λ p. (⟦<dyn Probe as Probe>⟧ p.vtable).test p.value) settings self.new.view kit.new.boxes.items }
         ensures counted { steps.old ≤ steps.new }
-        ensures cost { steps.new ≤ steps.old + act_cost self.old.kept self.old.view (act_of command.now) }
+        ensures cost { steps.new ≤ steps.old + act_cost (tests_of (λ p. (⟦<dyn Probe as Probe>⟧ p.vtable).test p.value) kit.old.boxes.items) self.old.kept self.old.view (act_of command.now) }
     {
         let from = self.group.position();
         match command {
@@ -192,21 +207,28 @@ impl Core {
             Ok(Command::Delete(number)) => self.delete_break(*number, text)?,
             Ok(Command::Watch(path)) => self.add_watch(path, text)?,
             Ok(Command::Unwatch(number)) => self.delete_watch(*number, text)?,
-            Ok(Command::Goto(position)) => self.go(Aim::at(*position), text, steps)?,
-            Ok(Command::Fwd(count)) => self.go(Aim::forward(from, count.get()), text, steps)?,
-            Ok(Command::Back(count)) => self.go(Aim::back(from, count.get()), text, steps)?,
-            Ok(Command::Stepi(count)) => self.walk_on(Forward::Stepi(count.get()), text, steps)?,
-            Ok(Command::Rstepi(count)) => {
-                self.search_back(Backward::Rstepi(count.get()), text, steps)?
+            Ok(Command::Tally) => self.push_tallies(kit, text)?,
+            Ok(Command::DropProbe(number)) => self.drop_probe(kit, *number, text)?,
+            Ok(Command::Halt { k, n }) => self.set_halt(kit, *k, *n, text)?,
+            Ok(Command::Goto(position)) => self.go(kit, Aim::at(*position), text, steps)?,
+            Ok(Command::Fwd(count)) => {
+                self.go(kit, Aim::forward(from, count.get()), text, steps)?
             }
-            Ok(Command::Step) => self.walk_on(Forward::Step, text, steps)?,
-            Ok(Command::Next) => self.walk_on(Forward::Next, text, steps)?,
-            Ok(Command::Finish) => self.walk_on(Forward::Finish, text, steps)?,
-            Ok(Command::Rstep) => self.search_back(Backward::Rstep, text, steps)?,
-            Ok(Command::Rnext) => self.walk_back(Backward::Rnext, text, steps)?,
-            Ok(Command::Rfinish) => self.walk_back(Backward::Rfinish, text, steps)?,
-            Ok(Command::Continue) => self.search_on(Forward::Continue, text, steps)?,
-            Ok(Command::Rcontinue) => self.search_back(Backward::Rcontinue, text, steps)?,
+            Ok(Command::Back(count)) => self.go(kit, Aim::back(from, count.get()), text, steps)?,
+            Ok(Command::Stepi(count)) => {
+                self.walk_on(kit, Forward::Stepi(count.get()), text, steps)?
+            }
+            Ok(Command::Rstepi(count)) => {
+                self.search_back(kit, Backward::Rstepi(count.get()), text, steps)?
+            }
+            Ok(Command::Step) => self.walk_on(kit, Forward::Step, text, steps)?,
+            Ok(Command::Next) => self.walk_on(kit, Forward::Next, text, steps)?,
+            Ok(Command::Finish) => self.walk_on(kit, Forward::Finish, text, steps)?,
+            Ok(Command::Rstep) => self.search_back(kit, Backward::Rstep, text, steps)?,
+            Ok(Command::Rnext) => self.walk_back(kit, Backward::Rnext, text, steps)?,
+            Ok(Command::Rfinish) => self.walk_back(kit, Backward::Rfinish, text, steps)?,
+            Ok(Command::Continue) => self.search_on(kit, Forward::Continue, text, steps)?,
+            Ok(Command::Rcontinue) => self.search_back(kit, Backward::Rcontinue, text, steps)?,
             Ok(_) => {}
         }
         Ok(Next::Go)
@@ -219,6 +241,7 @@ impl Core {
         ensures err { OnErr result (self.new ≡ self.old) }
         ensures group { self.new.view.group ≡ self.old.view.group }
         ensures kept { self.new.kept ≡ self.old.kept }
+        ensures dropped { self.new.view.dropped ≡ self.old.view.dropped }
         ensures limit { self.new.limit ≡ self.old.limit }
         ensures refused { (code : ℕ) → told_refusal (focus_told inv self.old.view) ≡ Some code → self.new ≡ self.old }
     {
@@ -240,6 +263,7 @@ impl Core {
         ensures err { OnErr result (self.new ≡ self.old) }
         ensures group { self.new.view.group ≡ self.old.view.group }
         ensures kept { self.new.kept ≡ self.old.kept }
+        ensures dropped { self.new.view.dropped ≡ self.old.view.dropped }
         ensures limit { self.new.limit ≡ self.old.limit }
         ensures refused { (code : ℕ) → told_refusal (frame_told (select_told number self.old.view) (focus_frames self.old.view) number) ≡ Some code → self.new ≡ self.old }
     {
@@ -390,16 +414,9 @@ impl Core {
         let frame = self.innermost(inv)?;
         push_position(self.alloc, text, self.group.position(), inv, frame.as_ref())
     }
-
-    /// A happening of the run with its line, as probes are told it.
-    pub fn lined(&self, happening: Happening) -> Happening
-        ensures { result ≡ lined self.now.view.group.program.accepted happening }
-    {
-        lined(self.group.module().accepted(), &self.info.lines, happening)
-    }
 }
 
-/// A kit of probes, and beside it the group that lines of input ask about.
+/// A kit of probes that follows a run, and beside it the group that lines of input ask about.
 #[derive(Drop)]
 pub struct Session {
     pub kit: Kit,
@@ -407,7 +424,7 @@ pub struct Session {
 }
 
 impl Session {
-    /// A session over a group at its start, with the invocation 0 as its focus. The probes are dropped at once.
+    /// A session over a group at its start, with the invocation 0 as its focus, and with the probes that are handed in.
     pub fn open(
         alloc: Global,
         group: Group,
@@ -417,40 +434,46 @@ impl Session {
         requires few { vec_len probes ≤ 16 }
         requires unused { All (λ p. tally p ≡ 0) probes.items }
         ensures core { IfOk result (λ s. s.core ≡ first_viewing group) }
-        ensures kit { IfOk result (λ s. s.kit.boxes.items ≡ []) }
+        ensures kit { IfOk result (λ s. s.kit.boxes.items ≡ map Some probes.items) }
+        ensures follows { IfOk result (λ s. IsKitOf (λ p. tally p) (λ p. test p) (map (λ p. Some (test p)) probes.items) s.core.view s.kit.boxes.items) }
     {
-        drop(probes);
         Ok(Session {
-            kit: Kit::empty(alloc),
+            kit: Kit::new(alloc, probes)?,
             core: Core::open(alloc, group)?,
         })
     }
 
     /// Answers a line: appends the reply. Only a motion takes steps: forth one for each event, and at most one more; back none to a number
     /// and at most one else, where the events that it looks at are kept. Else it makes events from the start on: those before the number,
-    /// or twice as many as aren't kept. After want of memory a front of the reply was appended, the group is at some position of its run,
-    /// and all else of the view is the old one's or the reply's.
+    /// or twice as many as aren't kept; and where a probe is told of them, all before the position, or three times as many as aren't kept
+    /// and one. After want of memory a front of the reply was appended, the group is at some position of its run, and all else of the view is
+    /// the old one's or the reply's.
+    ///
+    /// The probes follow the run: whatever was answered, each that isn't dropped has its setting, and the count of the events before the
+    /// position, with their lines, that it hits.
     pub fn command<L: Ledger>(
         &mut self,
         line: &[u8],
         out: &mut Vec<u8>,
         steps: &mut Steps<L>,
     ) -> Result<Next, NoMemory>
-        ensures text { OnOk result (out.new.items ≡ out.old.items ++ (reply self.old.core.view line.now).0) }
-        ensures view { OnOk result (self.new.core.view ≡ (reply self.old.core.view line.now).1) }
+        ghost settings: { Settings }
+        requires { IsKitOf (λ p. (⟦<dyn Probe as Probe>⟧ p.vtable).tally p.value) (λ p. (⟦<dyn Probe as Probe>⟧ p.vtable).test p.value) settings self.old.core.view self.old.kit.boxes.items }
+        ensures text { OnOk result (out.new.items ≡ out.old.items ++ (reply settings self.old.core.view line.now).0) }
+        ensures view { OnOk result (self.new.core.view ≡ (reply settings self.old.core.view line.now).1) }
         ensures next { IfOk result (λ next. next ≡ (if is_quit line.now then answers.Quit else answers.Go)) }
-        ensures front { OnErr result ((text : List ℕ) × (out.new.items ≡ out.old.items ++ text) × IsPrefixOf text (reply self.old.core.view line.now).0) }
+        ensures front { OnErr result ((text : List ℕ) × (out.new.items ≡ out.old.items ++ text) × IsPrefixOf text (reply settings self.old.core.view line.now).0) }
         ensures group { self.new.core.view.group ≡ group_at self.new.core.view.group.position self.old.core.view.group }
         ensures limit { self.new.core.limit ≡ self.old.core.limit }
         ensures kept { self.new.core.kept ≤ max self.old.core.kept (window_in (undoing_in self.new.core)) }
-        ensures same { IsEither self.new.core.view self.old.core.view (reply self.old.core.view line.now).1 }
+        ensures same { IsEither self.new.core.view self.old.core.view (reply settings self.old.core.view line.now).1 }
         ensures within { self.new.core.view.group.position ≤ end_in self.old.core.view.group }
-        ensures refused { (code : ℕ) → IsRefused self.old.core.view line.now code
-            → (self.new.core ≡ self.old.core) × OnOk result (out.new.items ≡ out.old.items ++ refusal_line code) }
-        ensures kit { self.new.kit.boxes.items ≡ self.old.kit.boxes.items }
+        ensures refused { (code : ℕ) → IsRefused settings self.old.core.view line.now code
+            → (self.new.core ≡ self.old.core) × (self.new.kit.boxes.items ≡ self.old.kit.boxes.items) × OnOk result (out.new.items ≡ out.old.items ++ refusal_line code) }
+        ensures follows { IsKitOf (λ p. (⟦<dyn Probe as Probe>⟧ p.vtable).tally p.value) (λ p. (⟦<dyn Probe as Probe>⟧ p.vtable).test p.value) settings self.new.core.view self.new.kit.boxes.items }
         ensures counted { steps.old ≤ steps.new }
-        ensures cost { steps.new ≤ steps.old + line_cost self.old.core.kept self.old.core.view line.now }
+        ensures cost { steps.new ≤ steps.old + line_cost settings self.old.core.kept self.old.core.view line.now }
     {
-        self.core.command(line, out, steps)
+        self.core.command(&mut self.kit, line, out, steps)
     }
 }

@@ -78,6 +78,7 @@ impl Core {
         ensures same { OnErr result (IsEither self.new.view self.old.view (told_reply self.old.view (break_told place.now self.old.view)).1) }
         ensures group { self.new.view.group ≡ self.old.view.group }
         ensures kept { self.new.kept ≡ self.old.kept }
+        ensures dropped { self.new.view.dropped ≡ self.old.view.dropped }
         ensures limit { self.new.limit ≡ self.old.limit }
         ensures refused { (code : ℕ) → told_refusal (break_told place.now self.old.view) ≡ Some code → self.new ≡ self.old }
     {
@@ -95,6 +96,7 @@ impl Core {
         ensures same { OnErr result (IsEither self.new.view self.old.view (told_reply self.old.view (break_in self.old.view line file.now)).1) }
         ensures group { self.new.view.group ≡ self.old.view.group }
         ensures kept { self.new.kept ≡ self.old.kept }
+        ensures dropped { self.new.view.dropped ≡ self.old.view.dropped }
         ensures limit { self.new.limit ≡ self.old.limit }
         ensures refused { (code : ℕ) → told_refusal (break_in self.old.view line file.now) ≡ Some code → self.new ≡ self.old }
     {
@@ -113,6 +115,7 @@ impl Core {
         ensures same { OnErr result (IsEither self.new.view self.old.view (told_reply self.old.view (delete_told number self.old.view)).1) }
         ensures group { self.new.view.group ≡ self.old.view.group }
         ensures kept { self.new.kept ≡ self.old.kept }
+        ensures dropped { self.new.view.dropped ≡ self.old.view.dropped }
         ensures limit { self.new.limit ≡ self.old.limit }
         ensures refused { (code : ℕ) → told_refusal (delete_told number self.old.view) ≡ Some code → self.new ≡ self.old }
     {
@@ -129,6 +132,7 @@ impl Core {
         ensures same { OnErr result (IsEither self.new.view self.old.view (told_reply self.old.view (watch_told path.now self.old.view)).1) }
         ensures group { self.new.view.group ≡ self.old.view.group }
         ensures kept { self.new.kept ≡ self.old.kept }
+        ensures dropped { self.new.view.dropped ≡ self.old.view.dropped }
         ensures limit { self.new.limit ≡ self.old.limit }
         ensures refused { (code : ℕ) → told_refusal (watch_told path.now self.old.view) ≡ Some code → self.new ≡ self.old }
     {
@@ -186,6 +190,7 @@ impl Core {
         ensures same { OnErr result (IsEither self.new.view self.old.view (told_reply self.old.view (watch_with self.old.view key line.now)).1) }
         ensures group { self.new.view.group ≡ self.old.view.group }
         ensures kept { self.new.kept ≡ self.old.kept }
+        ensures dropped { self.new.view.dropped ≡ self.old.view.dropped }
         ensures limit { self.new.limit ≡ self.old.limit }
         ensures refused { (code : ℕ) → told_refusal (watch_with self.old.view key line.now) ≡ Some code → self.new ≡ self.old }
     {
@@ -203,6 +208,7 @@ impl Core {
         ensures same { OnErr result (IsEither self.new.view self.old.view (told_reply self.old.view (unwatch_told number self.old.view)).1) }
         ensures group { self.new.view.group ≡ self.old.view.group }
         ensures kept { self.new.kept ≡ self.old.kept }
+        ensures dropped { self.new.view.dropped ≡ self.old.view.dropped }
         ensures limit { self.new.limit ≡ self.old.limit }
         ensures refused { (code : ℕ) → told_refusal (unwatch_told number self.old.view) ≡ Some code → self.new ≡ self.old }
     {

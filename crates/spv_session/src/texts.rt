@@ -1,6 +1,6 @@
 //! The texts of replies.
 ghost use Rattle.std.specs.Prelude.{◌≡◌, ◌++◌, OnOk, option_copied};
-ghost use Rattle.spv_session.specs.Texts.{refusal_line, standing_text, position_line, status_text, invocation_line, break_line, deleted_line, watch_line, unwatched_line};
+ghost use Rattle.spv_session.specs.Texts.{refusal_line, standing_text, position_line, status_text, invocation_line, break_line, deleted_line, watch_line, unwatched_line, tally_line, dropped_line, halt_line};
 
 use spv_base::{CmdRefusal, NoMemory, Status4};
 use spv_dbg::ShownFrame;
@@ -156,6 +156,50 @@ pub(crate) fn push_unwatched(alloc: Global, text: &mut Vec<u8>, number: u32) -> 
 {
     text.extend_from_slice(b"unwatched ")?;
     push_number(alloc, text, u64::from(number))?;
+    text.extend_from_slice(b"\n")?;
+    Ok(())
+}
+
+/// Appends how many events a probe hit.
+pub(crate) fn push_tally(
+    alloc: Global,
+    text: &mut Vec<u8>,
+    number: u32,
+    count: u64,
+) -> Result<(), NoMemory>
+    ensures { OnOk result (text.new.items ≡ text.old.items ++ tally_line number count) }
+{
+    text.extend_from_slice(b"probe ")?;
+    push_number(alloc, text, u64::from(number))?;
+    text.extend_from_slice(b": ")?;
+    push_number(alloc, text, count)?;
+    text.extend_from_slice(b"\n")?;
+    Ok(())
+}
+
+/// Appends that a probe is dropped.
+pub(crate) fn push_dropped(alloc: Global, text: &mut Vec<u8>, number: u32) -> Result<(), NoMemory>
+    ensures { OnOk result (text.new.items ≡ text.old.items ++ dropped_line number) }
+{
+    text.extend_from_slice(b"dropped ")?;
+    push_number(alloc, text, u64::from(number))?;
+    text.extend_from_slice(b"\n")?;
+    Ok(())
+}
+
+/// Appends at which multiples of its tally a probe stops a run.
+pub(crate) fn push_halt(
+    alloc: Global,
+    text: &mut Vec<u8>,
+    number: u32,
+    every: u32,
+) -> Result<(), NoMemory>
+    ensures { OnOk result (text.new.items ≡ text.old.items ++ halt_line number every) }
+{
+    text.extend_from_slice(b"halt ")?;
+    push_number(alloc, text, u64::from(number))?;
+    text.extend_from_slice(b" every ")?;
+    push_number(alloc, text, u64::from(every))?;
     text.extend_from_slice(b"\n")?;
     Ok(())
 }

@@ -1,6 +1,6 @@
 use Rattle.std.proofs.Common.{◌≡◌, ◌≤◌, ◌+◌, ◌-◌, max}
 use Rattle.spv_group.specs.Group.{group_at, window_in}
-use Rattle.spv_session.proofs.motions.go_on.Given as goal
+use Rattle.spv_session.proofs.motions.run_on.Given as goal
 
 abbrev pub invariant-up : goal.invariant-up
 invariant-up g l = record {

@@ -1,7 +1,7 @@
 use Rattle.std.proofs.Common.{◌≡◌, ◌≤◌, ◌+◌, max, ap, ◌∙◌, arith}
 use Rattle.spv_group.specs.Group.{group_at, window_in}
 use Rattle.spv_group.proofs.Exports.{window_later}
-use Rattle.spv_session.proofs.motions.go_on.Goals as goal
+use Rattle.spv_session.proofs.motions.run_on.Goals as goal
 
 pub up-preserved : goal.up-preserved
 up-preserved g c =
