@@ -2,7 +2,7 @@
 use Rattle.std.proofs.Common.{◌≡◌, ◌≢◌, ◌↔◌, inl, inr, ℕ, ◌+◌, ◌≤◌, ◌<◌, List, [], ◌++◌, length, length-append, refl, sym, ap, ◌∙◌, subst, Option, Some, None, unwrap_or, Result, arith}
 use Rattle.std.specs.Io.KnownBytes.{Appends, Consumes}
 use Rattle.spv_base.specs.Outside.{Holds, HoldsMore}
-use Rattle.spv_loop.specs.Sessions.{Held as Group, View, first_view, reply}
+use Rattle.spv_loop.specs.Sessions.{Held as Group, Settings, View, first_view, reply}
 use Rattle.spv_loop.specs.declared.status.Status.{Status}
 use Rattle.spv_loop.specs.declared.status.Status.TheVariants.{Done, Usage, ModuleRefused, SetupRefused, FileFault, ReadFault, WriteFault, NoMemory, InputTooLong, FileTooLong}
 use Rattle.spv_app.specs.declared.opening.OpeningRefusal.{OpeningRefusal}
@@ -70,12 +70,12 @@ loop_whole r view SetupRefused xs got put left ok took few long says = absurd sa
 loop_whole r view FileFault xs got put left ok took few long says = absurd says
 loop_whole r view FileTooLong xs got put left ok took few long says = absurd says
 
-module _ (m : List ℕ → Option (List ℕ)) (names : PairNames) (before after : Outside) (unread : Type 0) (xs held : List ℕ) (status : Status)
+module _ (settings : Settings) (m : List ℕ → Option (List ℕ)) (names : PairNames) (before after : Outside) (unread : Type 0) (xs held : List ℕ) (status : Status)
     (told : before.files.told ≡ Some m) (left_is : before.streams.left ≡ Some xs) (held_is : before.streams.held ≡ Some held)
     (binary setup : List ℕ) (binary_is : m names.binary ≡ Some binary) (setup_is : m names.setup ≡ Some setup)
     (few_binary : length binary ≤ binary_limit) (few_setup : length setup ≤ setup_limit) (few : length xs ≤ input_limit) (ok : NothingFails status) where
   abbrev Due : Result Group OpeningRefusal → Type 0
-  Due opened = (after.streams.held ≡ Some (held ++ due_text opened xs)) × (status ≡ due_status opened)
+  Due opened = (after.streams.held ≡ Some (held ++ due_text settings opened xs)) × (status ≡ due_status opened)
 
   -- the pair that was read is the one that is told
   same_pair : (binary' setup' : List ℕ) → IsPair before.files.told names binary' setup' → opening binary' setup' ≡ opening binary setup
@@ -87,7 +87,7 @@ module _ (m : List ℕ → Option (List ℕ)) (names : PairNames) (before after 
   held_with : (put : List ℕ) → Appends before.streams.held after.streams.held put → after.streams.held ≡ Some (held ++ put)
   held_with put wrote = held_now held put after.streams.held (subst (λ h. Appends h after.streams.held put) held_is wrote)
 
-  due_of : Debugged names before after unread status → Due (opening binary setup)
+  due_of : Debugged settings names before after unread status → Due (opening binary setup)
   due_of (Unopened status says unread kept steps) =
       elim says [
         | inl fault ↦ absurd (ok.file fault.0)
@@ -98,7 +98,7 @@ module _ (m : List ℕ → Option (List ℕ)) (names : PairNames) (before after 
       let whole = line_whole (status_of_refusal refusal) status (refusal_line refusal) put ok says in
       subst Due (sym refused ∙ same_pair b s pair) (held_with put wrote ∙ ap (λ l. Some (held ++ l)) whole.1, whole.0)
   due_of (Opened status b s group asks pair opened ran) =
-      let whole = loop_whole reply (first_view group) status xs ran.got ran.put after.streams.left ok (subst (λ l. Consumes l after.streams.left ran.got) left_is ran.taken) few ran.too_long.0 ran.says in
+      let whole = loop_whole (reply settings) (first_view group) status xs ran.got ran.put after.streams.left ok (subst (λ l. Consumes l after.streams.left ran.got) left_is ran.taken) few ran.too_long.0 ran.says in
       subst Due (sym opened ∙ same_pair b s pair) (held_with ran.put ran.written ∙ ap (λ l. Some (held ++ l)) whole.1, whole.0)
 
 -- a status that tells faults isn't it where none was counted
@@ -117,12 +117,12 @@ nothing_fails status files_old files_new reads_old reads_new writes_old writes_n
   memory = memory;
 }
 
-pub headline : (names read_names : PairNames) (before after : Outside) (unread : Type 0) (status : Status)
+pub headline : (settings : Settings) (names read_names : PairNames) (before after : Outside) (unread : Type 0) (status : Status)
     (m : List ℕ → Option (List ℕ)) (binary setup xs held : List ℕ)
-    → read_names ≡ names → Debugged read_names before after unread status → NothingFails status
+    → read_names ≡ names → Debugged settings read_names before after unread status → NothingFails status
     → before.files.told ≡ Some m → m names.binary ≡ Some binary → m names.setup ≡ Some setup → length binary ≤ binary_limit → length setup ≤ setup_limit
     → before.streams.left ≡ Some xs → length xs ≤ input_limit → before.streams.held ≡ Some held
-    → (after.streams.held ≡ Some (held ++ due_text (opening binary setup) xs)) × (status ≡ due_status (opening binary setup))
-headline names read_names before after unread status m binary setup xs held same_names debugged ok told binary_is setup_is few_binary few_setup left_is few held_is =
-    due_of m names before after unread xs held status told left_is held_is binary setup binary_is setup_is few_binary few_setup few ok
-    (subst (λ n. Debugged n before after unread status) same_names debugged)
+    → (after.streams.held ≡ Some (held ++ due_text settings (opening binary setup) xs)) × (status ≡ due_status (opening binary setup))
+headline settings names read_names before after unread status m binary setup xs held same_names debugged ok told binary_is setup_is few_binary few_setup left_is few held_is =
+    due_of settings m names before after unread xs held status told left_is held_is binary setup binary_is setup_is few_binary few_setup few ok
+    (subst (λ n. Debugged settings n before after unread status) same_names debugged)

@@ -31,15 +31,15 @@ setup_fits n most =
 
 -- the command loop wrote the transcript
 pub ran_whole : (mod_bytes setup commands bytes : List ℕ) (start : Viewing) (before after : Streams) → viewed 1048576 (opening mod_bytes setup) ≡ Ok start
-    → before.left ≡ Some commands → before.held ≡ Some [] → after.held ≡ Some bytes → Ran reply line_cost start before after Done → running mod_bytes setup commands ≡ Ok bytes
+    → before.left ≡ Some commands → before.held ≡ Some [] → after.held ≡ Some bytes → Ran (reply []) (line_cost []) start before after Done → running mod_bytes setup commands ≡ Ok bytes
 unfolding running
 ran_whole mod_bytes setup commands bytes start before after opened left held now ran =
     let group = viewed_is 1048576 (opening mod_bytes setup) start opened in
     let took : Consumes (Some commands) after.left ran.got = subst (λ l. Consumes l after.left ran.got) left ran.taken in
     let wrote : after.held ≡ Some ([] ++ ran.put) = held_now [] ran.put after.held (subst (λ h. Appends h after.held ran.put) held ran.written) in
     let same : bytes ≡ ran.put = some_bytes (sym now ∙ wrote) in
-    let put : ran.put ≡ transcript reply start.view (lines_of commands) = ran.says.0 ∙ ap (λ l. transcript reply start.view (lines_of l)) (all_of commands ran.got after.left took) in
-    let from : transcript reply start.view (lines_of commands) ≡ transcript reply (first_view group.0) (lines_of commands) = ap (λ (v : Viewing). transcript reply v.view (lines_of commands)) group.2 in
+    let put : ran.put ≡ transcript (reply []) start.view (lines_of commands) = ran.says.0 ∙ ap (λ l. transcript (reply []) start.view (lines_of l)) (all_of commands ran.got after.left took) in
+    let from : transcript (reply []) start.view (lines_of commands) ≡ transcript (reply []) (first_view group.0) (lines_of commands) = ap (λ (v : Viewing). transcript (reply []) v.view (lines_of commands)) group.2 in
     rw group.1 (ap Ok (sym (same ∙ put ∙ from)))
   where
     some_bytes : {xs ys : List ℕ} → Some xs ≡ Some ys → xs ≡ ys

@@ -9,7 +9,7 @@ use Rattle.spv_arguments.specs.Requests.{Ask, PairNames, are_taken, check_name, 
 use Rattle.spv_arguments.specs.declared.request.Request.{Request}
 use Rattle.spv_arguments.specs.declared.request.Request.TheVariants as request
 use Rattle.spv_arguments.proofs.Exports.{names_check, names_debug, names_make, names_text, no_other, not_untaken}
-use Rattle.spv_loop.specs.Sessions.{first_view, reply}
+use Rattle.spv_loop.specs.Sessions.{Settings, first_view, reply}
 use Rattle.spv_loop.specs.CommandLoop.{Says, with_rest}
 use Rattle.spv_loop.specs.declared.status.Status.{Status}
 use Rattle.spv_loop.specs.declared.status.Status.TheVariants.{Done, Usage, FileFault, ReadFault, WriteFault, NoMemory, FileTooLong}
@@ -38,15 +38,15 @@ some_name x y e = cc
 some_number : (x y : ℕ) → Some x ≡ Some y → x ≡ y
 some_number x y e = cc
 
-module _ (words : List (String Global)) (before after : Outside) (unasked unread : Type 0) (status : Status) where
-  pub debugged_for : (r : Request) (names : PairNames) → Ask words r → Served r before after unasked unread status → debug_names words ≡ Some names → Debugged names before after unread status
-  debugged_for (request.Debug binary setup) names ask served due = subst (λ n. Debugged n before after unread status) (some_pair _ names (sym ask ∙ due)) served
+module _ (words : List (String Global)) (settings : Settings) (before after : Outside) (unasked unread : Type 0) (status : Status) where
+  pub debugged_for : (r : Request) (names : PairNames) → Ask words r → Served settings r before after unasked unread status → debug_names words ≡ Some names → Debugged settings names before after unread status
+  debugged_for (request.Debug binary setup) names ask served due = subst (λ n. Debugged settings n before after unread status) (some_pair _ names (sym ask ∙ due)) served
   debugged_for (request.Check binary) names ask served due = absurd (no_other words (codes "check") (codes "debug") refl (names_check words binary.now ask) (names_debug words names due))
   debugged_for (request.Make number) names ask served due = absurd (no_other words (codes "make") (codes "debug") refl (names_make words number ask.0) (names_debug words names due))
   debugged_for (request.Text binary) names ask served due = absurd (no_other words (codes "text") (codes "debug") refl (names_text words binary.now ask) (names_debug words names due))
   debugged_for (request.Help text) names ask served due = absurd (not_untaken words (codes "debug") (names_debug words names due) ask.0)
 
-  pub checked_for : (r : Request) (name : List ℕ) → Ask words r → Served r before after unasked unread status → check_name words ≡ Some name
+  pub checked_for : (r : Request) (name : List ℕ) → Ask words r → Served settings r before after unasked unread status → check_name words ≡ Some name
       → unread × (after.streams.steps ≡ before.streams.steps) × Checked name before.files after.files before.streams.held after.streams.held status
   checked_for (request.Debug binary setup) name ask served due = absurd (no_other words (codes "debug") (codes "check") refl (names_debug words _ ask) (names_check words name due))
   checked_for (request.Check binary) name ask served due =
@@ -55,7 +55,7 @@ module _ (words : List (String Global)) (before after : Outside) (unasked unread
   checked_for (request.Text binary) name ask served due = absurd (no_other words (codes "text") (codes "check") refl (names_text words binary.now ask) (names_check words name due))
   checked_for (request.Help text) name ask served due = absurd (not_untaken words (codes "check") (names_check words name due) ask.0)
 
-  pub texted_for : (r : Request) (name : List ℕ) → Ask words r → Served r before after unasked unread status → text_name words ≡ Some name
+  pub texted_for : (r : Request) (name : List ℕ) → Ask words r → Served settings r before after unasked unread status → text_name words ≡ Some name
       → unread × (after.streams.steps ≡ before.streams.steps) × Texted name before.files after.files before.streams.held after.streams.held status
   texted_for (request.Debug binary setup) name ask served due = absurd (no_other words (codes "debug") (codes "text") refl (names_debug words _ ask) (names_text words name due))
   texted_for (request.Check binary) name ask served due = absurd (no_other words (codes "check") (codes "text") refl (names_check words binary.now ask) (names_text words name due))
@@ -64,7 +64,7 @@ module _ (words : List (String Global)) (before after : Outside) (unasked unread
       (served.0, served.1, subst (λ n. Texted n before.files after.files before.streams.held after.streams.held status) (some_name binary.now name (sym ask ∙ due)) served.2)
   texted_for (request.Help text) name ask served due = absurd (not_untaken words (codes "text") (names_text words name due) ask.0)
 
-  pub made_for : (r : Request) (n : ℕ) → Ask words r → Served r before after unasked unread status → make_number words ≡ Some n
+  pub made_for : (r : Request) (n : ℕ) → Ask words r → Served settings r before after unasked unread status → make_number words ≡ Some n
       → unasked × unread × Made n before.streams.held after.streams.held before.streams.steps after.streams.steps status
   made_for (request.Debug binary setup) n ask served due = absurd (no_other words (codes "debug") (codes "make") refl (names_debug words _ ask) (names_make words n due))
   made_for (request.Check binary) n ask served due = absurd (no_other words (codes "check") (codes "make") refl (names_check words binary.now ask) (names_make words n due))
@@ -73,7 +73,7 @@ module _ (words : List (String Global)) (before after : Outside) (unasked unread
   made_for (request.Text binary) n ask served due = absurd (no_other words (codes "text") (codes "make") refl (names_text words binary.now ask) (names_make words n due))
   made_for (request.Help text) n ask served due = absurd (not_untaken words (codes "make") (names_make words n due) ask.0)
 
-  pub untaken_for : (r : Request) → Ask words r → Served r before after unasked unread status → are_taken (texts_of words) ≡ false
+  pub untaken_for : (r : Request) → Ask words r → Served settings r before after unasked unread status → are_taken (texts_of words) ≡ false
       → unasked × unread × (after.streams.steps ≡ before.streams.steps) × Untaken words before.streams.held after.streams.held status
   untaken_for (request.Debug binary setup) ask served due = absurd (not_untaken words (codes "debug") (names_debug words _ ask) due)
   untaken_for (request.Check binary) ask served due = absurd (not_untaken words (codes "check") (names_check words binary.now ask) due)
@@ -127,15 +127,15 @@ answered_not due line name before after held_before held_after status other file
 answered_not due line name before after held_before held_after status other file long memory write differs (Read _ binary put asks read wrote says) =
     λ e. line_not (due binary) status other (line binary) put says (differs binary) e (λ w. write (sym w)) (λ m. memory (sym m))
 
-debugged_not_usage : (names : PairNames) (before after : Outside) (unread : Type 0) (status : Status) → Debugged names before after unread status → status ≢ Usage
-debugged_not_usage names before after unread status (Unopened _ says kept held steps) = λ e. elim says [
+debugged_not_usage : (settings : Settings) (names : PairNames) (before after : Outside) (unread : Type 0) (status : Status) → Debugged settings names before after unread status → status ≢ Usage
+debugged_not_usage settings names before after unread status (Unopened _ says kept held steps) = λ e. elim says [
   | inl fault ↦ let bad : FileFault ≡ Usage = sym fault.0 ∙ e in absurd cc
   | inr (inl long) ↦ let bad : FileTooLong ≡ Usage = sym long.0 ∙ e in absurd cc
   | inr (inr memory) ↦ let bad : NoMemory ≡ Usage = sym memory.0 ∙ e in absurd cc
 ]
-debugged_not_usage names before after unread status (Refused _ binary setup refusal put asks pair refused kept wrote says steps) =
+debugged_not_usage settings names before after unread status (Refused _ binary setup refusal put asks pair refused kept wrote says steps) =
     line_not_usage (status_of_refusal refusal) status _ put says (refused_not refusal)
-debugged_not_usage names before after unread status (Opened _ binary setup group asks pair opened ran) = λ e. subst (λ s. Says reply s (first_view group) ran.got (with_rest ran.got after.streams.left) ran.put) e ran.says
+debugged_not_usage settings names before after unread status (Opened _ binary setup group asks pair opened ran) = λ e. subst (λ s. Says (reply settings) s (first_view group) ran.got (with_rest ran.got after.streams.left) ran.put) e ran.says
 
 check_not_usage : (r : Result Report Refusal) → check_status r ≢ Usage
 check_not_usage (Ok report) = λ e. absurd cc
@@ -149,14 +149,14 @@ make_not_usage : (r : Result MadeReport OpeningRefusal) → make_status r ≢ Us
 make_not_usage (Ok report) = λ e. absurd cc
 make_not_usage (Err refusal) = refused_not refusal
 
-pub served_not_usage : (r : Request) (before after : Outside) (unasked unread : Type 0) (status : Status) → Served r before after unasked unread status → status ≢ Usage
-served_not_usage (request.Debug binary setup) before after unasked unread status served = debugged_not_usage _ before after unread status served
-served_not_usage (request.Check binary) before after unasked unread status served =
+pub served_not_usage : (settings : Settings) (r : Request) (before after : Outside) (unasked unread : Type 0) (status : Status) → Served settings r before after unasked unread status → status ≢ Usage
+served_not_usage settings (request.Debug binary setup) before after unasked unread status served = debugged_not_usage settings _ before after unread status served
+served_not_usage settings (request.Check binary) before after unasked unread status served =
     answered_not _ _ binary.now before.files after.files before.streams.held after.streams.held status Usage (λ e. absurd cc) (λ e. absurd cc) (λ e. absurd cc) (λ e. absurd cc) (λ bytes. check_not_usage (checking bytes)) served.2
-served_not_usage (request.Make number) before after unasked unread status served = let made = served.2 in line_not_usage _ status _ made.0 made.2 (make_not_usage (making number))
-served_not_usage (request.Text binary) before after unasked unread status served =
+served_not_usage settings (request.Make number) before after unasked unread status served = let made = served.2 in line_not_usage _ status _ made.0 made.2 (make_not_usage (making number))
+served_not_usage settings (request.Text binary) before after unasked unread status served =
     answered_not _ _ binary.now before.files after.files before.streams.held after.streams.held status Usage (λ e. absurd cc) (λ e. absurd cc) (λ e. absurd cc) (λ e. absurd cc) (λ bytes. text_not_usage (texting bytes)) served.2
-served_not_usage (request.Help text) before after unasked unread status served = let helped = served.3 in line_not_usage Done status _ helped.0 helped.2 (λ e. absurd cc)
+served_not_usage settings (request.Help text) before after unasked unread status served = let helped = served.3 in line_not_usage Done status _ helped.0 helped.2 (λ e. absurd cc)
 
 -- ---- what is due where nothing fails
 
@@ -199,8 +199,8 @@ asks_nothing : (asked : Asked) → AsksFor asked asked []
 asks_nothing None = tt
 asks_nothing (Some names) = sym (append-nil names)
 
-pub nothing_debugged : (names : PairNames) (outside : Outside) (unread : Type 0) → unread → Debugged names outside outside unread NoMemory
-nothing_debugged names outside unread kept = Unopened NoMemory (inr (inr (refl, inl (asks_nothing outside.files.asked)))) kept (Keeps-refl outside.streams.held) refl
+pub nothing_debugged : (settings : Settings) (names : PairNames) (outside : Outside) (unread : Type 0) → unread → Debugged settings names outside outside unread NoMemory
+nothing_debugged settings names outside unread kept = Unopened NoMemory (inr (inr (refl, inl (asks_nothing outside.files.asked)))) kept (Keeps-refl outside.streams.held) refl
 
 pub nothing_answered : (due : List ℕ → Status) (line : List ℕ → List ℕ) (name : List ℕ) (files : Library) (held : Option (List ℕ)) → Answered due line name files files held held NoMemory
 nothing_answered due line name files held = Unread NoMemory (inr (inr (refl, inl (asks_nothing files.asked)))) (Keeps-refl held)

@@ -3,7 +3,7 @@ use Rattle.std.specs.Prelude.{◌≡◌, ◌⊎◌, ℕ, ◌≤◌, ◌<◌, Lis
 use Rattle.std.specs.Io.KnownBytes.{Appends, Keeps}
 use Rattle.spv_base.specs.Prefix.{IsProperPrefixOf}
 use Rattle.spv_base.specs.Outside.{Told, AsksFor, Holds, HoldsMore}
-use Rattle.spv_loop.specs.Sessions.{Held as Group, first_view, first_viewing, reply, line_cost}
+use Rattle.spv_loop.specs.Sessions.{Held as Group, Settings, first_view, first_viewing, reply, line_cost}
 use Rattle.spv_loop.specs.declared.status.Status.{Status}
 use Rattle.spv_loop.specs.declared.status.Status.TheVariants.{Done, ModuleRefused, SetupRefused, FileFault, WriteFault, NoMemory, FileTooLong}
 use Rattle.spv_app.specs.declared.opening.OpeningRefusal.{OpeningRefusal}
@@ -76,27 +76,27 @@ IsOneOf (Some names) name = (name ≡ names.binary) ⊎ (name ≡ names.setup)
 
 -- ---- a whole call of `debug`
 
--- A run of `debug`, by what the outside tells before and after it, and whether the input was left as it was.
-pub data Debugged (names : PairNames) (before after : Outside) (unread : Type 0) : Status → Type 0 where
+-- A run of `debug`, by the settings of the kit, what the outside tells before and after it, and whether the input was left as it was.
+pub data Debugged (settings : Settings) (names : PairNames) (before after : Outside) (unread : Type 0) : Status → Type 0 where
   -- no pair is opened, and none is refused: nothing is read, nothing is written, and there is no step
   Unopened : (status : Status) → SaysUnopened names before.files after.files status → unread → Keeps before.streams.held after.streams.held
-      → after.streams.steps ≡ before.streams.steps → Debugged names before after unread status
+      → after.streams.steps ≡ before.streams.steps → Debugged settings names before after unread status
   -- the pair is refused: nothing is read, there is no step, and the refusal's line is due
   Refused : (status : Status) (binary setup : List ℕ) (refusal : OpeningRefusal) (put : List ℕ) → AsksForBoth names before.files after.files
       → IsPair before.files.told names binary setup → opening binary setup ≡ Err refusal
       → unread → Appends before.streams.held after.streams.held put → SaysLine (status_of_refusal refusal) (refusal_line refusal) status put
-      → after.streams.steps ≡ before.streams.steps → Debugged names before after unread status
+      → after.streams.steps ≡ before.streams.steps → Debugged settings names before after unread status
   -- the pair is opened: the command loop runs from the first view of its group, which keeps at most 1,048,576 marks and entries of events
   Opened : (status : Status) (binary setup : List ℕ) (group : Group) → AsksForBoth names before.files after.files
       → IsPair before.files.told names binary setup → opening binary setup ≡ Ok group
-      → Ran reply line_cost (first_viewing (with_journal 1048576 group)) before.streams after.streams status → Debugged names before after unread status
+      → Ran (reply settings) (line_cost settings) (first_viewing (with_journal 1048576 group)) before.streams after.streams status → Debugged settings names before after unread status
 
 -- ---- what is due where nothing fails
 
 -- the refusal's line, or the replies to the lines of the input
-abbrev pub due_text : Result Group OpeningRefusal → List ℕ → List ℕ
-due_text (Err refusal) input = refusal_line refusal
-due_text (Ok group) input = transcript reply (first_view group) (lines_of input)
+abbrev pub due_text : Settings → Result Group OpeningRefusal → List ℕ → List ℕ
+due_text settings (Err refusal) input = refusal_line refusal
+due_text settings (Ok group) input = transcript (reply settings) (first_view group) (lines_of input)
 
 abbrev pub due_status : Result Group OpeningRefusal → Status
 due_status (Err refusal) = status_of_refusal refusal

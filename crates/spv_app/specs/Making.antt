@@ -1,5 +1,5 @@
 -- What `make` tells of a number: how long the inputs are that are made for it, and what is written where `debug` runs them in memory.
-use Rattle.std.specs.Prelude.{◌≤◌, ◌%◌, ◌^◌, ℕ, List, ◌++◌, length, codes, decimal, Option, Result, Ok, Err}
+use Rattle.std.specs.Prelude.{◌≤◌, ◌%◌, ◌^◌, ℕ, List, [], ◌++◌, length, codes, decimal, Option, Result, Ok, Err}
 use Rattle.std.specs.List.{sum}
 use Rattle.std.specs.Io.KnownBytes.{Appends}
 use Rattle.spv_base.specs.Answers.{after}
@@ -14,9 +14,9 @@ use Rattle.spv_app.specs.declared.opening.OpeningRefusal.{OpeningRefusal}
 use Rattle.spv_app.specs.Opening.{opening, refusal_line}
 use Rattle.spv_app.specs.Debug.{SaysLine, status_of_refusal}
 
--- the transcript of commands about a pair, or why the pair is refused
+-- the transcript of commands about a pair, with no probes, or why the pair is refused
 unfoldable pub running : (mod_bytes setup commands : List ℕ) → Result (List ℕ) OpeningRefusal
-running mod_bytes setup commands = after (opening mod_bytes setup) (λ group. Ok (transcript reply (first_view group) (lines_of commands)))
+running mod_bytes setup commands = after (opening mod_bytes setup) (λ group. Ok (transcript (reply []) (first_view group) (lines_of commands)))
 
 -- of the inputs that are made for a number
 abbrev pub made_transcript : ℕ → Result (List ℕ) OpeningRefusal

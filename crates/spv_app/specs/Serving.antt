@@ -3,6 +3,7 @@ use Rattle.std.specs.Prelude.{◌≡◌, ◌⊎◌, ◌≤◌, ℕ, List, Option
 use Rattle.std.specs.Io.KnownBytes.{Appends}
 use Rattle.spv_arguments.specs.declared.request.Request.{Request}
 use Rattle.spv_arguments.specs.declared.request.Request.TheVariants as request
+use Rattle.spv_loop.specs.Sessions.{Settings}
 use Rattle.spv_loop.specs.declared.status.Status.{Status}
 use Rattle.spv_loop.specs.declared.status.Status.TheVariants.{Done}
 use Rattle.spv_app.specs.Checking.{Checked}
@@ -15,16 +16,16 @@ use Rattle.spv_app.specs.Texting.{Texted}
 abbrev pub Helped : (text : List ℕ) → (held_before held_after : Option (List ℕ)) → Status → Type 0
 Helped text held_before held_after status = (put : List ℕ) × Appends held_before held_after put × SaysLine Done text status put
 
--- by what the outside tells before and after the call, whether the files were left as they were, and whether the input was
-abbrev pub Served : Request → (before after : Outside) → (unasked unread : Type 0) → Status → Type 0
-Served (request.Debug binary setup) before after unasked unread status = Debugged (record { binary = binary.now; setup = setup.now }) before after unread status
-Served (request.Check binary) before after unasked unread status =
+-- by the settings of the kit, what the outside tells before and after the call, whether the files were left as they were, and whether the input was
+abbrev pub Served : Settings → Request → (before after : Outside) → (unasked unread : Type 0) → Status → Type 0
+Served settings (request.Debug binary setup) before after unasked unread status = Debugged settings (record { binary = binary.now; setup = setup.now }) before after unread status
+Served settings (request.Check binary) before after unasked unread status =
     unread × (after.streams.steps ≡ before.streams.steps) × Checked binary.now before.files after.files before.streams.held after.streams.held status
-Served (request.Make number) before after unasked unread status =
+Served settings (request.Make number) before after unasked unread status =
     unasked × unread × Made number before.streams.held after.streams.held before.streams.steps after.streams.steps status
-Served (request.Text binary) before after unasked unread status =
+Served settings (request.Text binary) before after unasked unread status =
     unread × (after.streams.steps ≡ before.streams.steps) × Texted binary.now before.files after.files before.streams.held after.streams.held status
-Served (request.Help text) before after unasked unread status =
+Served settings (request.Help text) before after unasked unread status =
     unasked × unread × (after.streams.steps ≡ before.streams.steps) × Helped (string_bytes text) before.streams.held after.streams.held status
 
 -- inputs can be made for the number

@@ -1,5 +1,5 @@
 //! The top call.
-ghost use Rattle.std.specs.Prelude.{◌≡◌, ◌≢◌, ◌↔◌, ◌⊎◌, ◌<◌, ◌≤◌, ◌+◌, ◌-◌, ◌^◌, [], ◌∷◌, ◌++◌, false, true, List, ℕ, Option, Some, Ok, All, vec_len, length, IfOk, IfErr, IsOk, IsErrOf};
+ghost use Rattle.std.specs.Prelude.{◌≡◌, ◌≢◌, ◌↔◌, ◌⊎◌, ◌<◌, ◌≤◌, ◌+◌, ◌-◌, ◌^◌, [], ◌∷◌, ◌++◌, false, true, List, ℕ, Option, Some, Ok, All, map, vec_len, length, IfOk, IfErr, IsOk, IsErrOf};
 ghost use Rattle.std.specs.Io.KnownBytes.{Appends};
 ghost use Rattle.spv_arguments.specs.Requests.{PairNames, are_taken, check_name, debug_names, make_number, text_name, texts_of, AreFaulty};
 ghost use Rattle.spv_app.specs.CommandLine.{AskOne, usage_line};
@@ -103,7 +103,7 @@ fn debug<F: Files, I: Source, K: Sink, L: Ledger>(
     requires files { F.faults files.old < 2 ^ 64 - 1 }
     requires input { I.faults input.old < 2 ^ 64 - 1 }
     requires out { K.faults out.old < 2 ^ 64 - 1 }
-    ensures debugged { Debugged (record { binary = binary_name.now; setup = setup_name.now })
+    ensures debugged { Debugged (map (λ p. Some (test p)) kit.items) (record { binary = binary_name.now; setup = setup_name.now })
         (record { files = library F.contents F.asked F.taken F.failed_name files.old; streams = record { left = I.left input.old; held = K.taken out.old; offers = K.offers out.old; steps = steps.old } })
         (record { files = library F.contents F.asked F.taken F.failed_name files.new; streams = record { left = I.left input.new; held = K.taken out.new; offers = K.offers out.new; steps = steps.new } }) (input.new ≡ input.old) result }
     ensures file_fault { (result ≡ Status.FileFault) ↔ (F.faults files.old < F.faults files.new) }
@@ -198,18 +198,10 @@ fn tell_made<K: Sink>(alloc: Global, report: MadeReport, out: &mut K) -> Status
     }
 }
 
-/// Runs the inputs that are made for a number in memory, and tells how long they and the transcript are.
-fn make<K: Sink, L: Ledger>(
-    alloc: Global,
-    number: u32,
-    out: &mut K,
-    kit: Vec<Box<dyn Probe>>,
-    steps: &mut Steps<L>,
-) -> Status
+/// Runs the inputs that are made for a number in memory, with no probes, and tells how long they and the transcript are.
+fn make<K: Sink, L: Ledger>(alloc: Global, number: u32, out: &mut K, steps: &mut Steps<L>) -> Status
     requires low { 1 ≤ number }
     requires high { number ≤ 64 }
-    requires few { vec_len kit ≤ 16 }
-    requires unused { All (λ p. tally p ≡ 0) kit.items }
     requires out { K.faults out.old < 2 ^ 64 - 1 }
     ensures made { Made number (K.taken out.old) (K.taken out.new) steps.old steps.new result }
     ensures no_file { result ≢ Status.FileFault }
@@ -217,7 +209,7 @@ fn make<K: Sink, L: Ledger>(
     ensures count { (result ≡ Status.WriteFault) ↔ (K.faults out.old < K.faults out.new) }
     ensures counted { K.faults out.old ≤ K.faults out.new }
 {
-    match making(alloc, number, kit, steps) {
+    match making(alloc, number, steps) {
         Ok(report) => tell_made(alloc, report, out),
         Err(Fail::Refused(refusal)) => tell_refusal(alloc, refusal, out),
         Err(Fail::NoMemory) => Status::NoMemory,
@@ -251,7 +243,7 @@ fn serve<F: Files, I: Source, K: Sink, L: Ledger>(
     requires files { F.faults files.old < 2 ^ 64 - 1 }
     requires input { I.faults input.old < 2 ^ 64 - 1 }
     requires out { K.faults out.old < 2 ^ 64 - 1 }
-    ensures served { Served request.entry
+    ensures served { Served (map (λ p. Some (test p)) kit.items) request.entry
         (record { files = library F.contents F.asked F.taken F.failed_name files.old; streams = record { left = I.left input.old; held = K.taken out.old; offers = K.offers out.old; steps = steps.old } })
         (record { files = library F.contents F.asked F.taken F.failed_name files.new; streams = record { left = I.left input.new; held = K.taken out.new; offers = K.offers out.new; steps = steps.new } }) (files.new ≡ files.old) (input.new ≡ input.old) result }
     ensures file_fault { (result ≡ Status.FileFault) ↔ (F.faults files.old < F.faults files.new) }
@@ -266,14 +258,14 @@ fn serve<F: Files, I: Source, K: Sink, L: Ledger>(
             debug(alloc, binary, setup, files, input, out, kit, steps)
         }
         Request::Check { binary } => check(alloc, binary, files, out),
-        Request::Make { number } => make(alloc, number, out, kit, steps),
+        Request::Make { number } => make(alloc, number, out, steps),
         Request::Text { binary } => text(alloc, binary, files, out),
         Request::Help { text } => tell(out, text.as_bytes(), Status::Done),
     }
 }
 
 /// Does what the words say: `debug MODULE SETUP` reads the module and the setup, opens the pair, and answers the lines of the
-/// input, to its end or to `quit`; `check MODULE` reads the module, and tells whether it is accepted; `make N` runs the inputs
+/// input, to its end or to `quit`, with the probes of the kit; `check MODULE` reads the module, and tells whether it is accepted; `make N` runs the inputs
 /// that are made for the number, and tells how long they and the transcript are; `text MODULE` reads the module, and writes its
 /// listing. The first word is the program's name. Each answer is named by its status.
 pub fn debug_main<F: Files, I: Source, K: Sink, L: Ledger>(
@@ -298,7 +290,7 @@ pub fn debug_main<F: Files, I: Source, K: Sink, L: Ledger>(
         → I.left input.old ≡ Some xs → length xs ≤ input_limit → K.taken out.old ≡ Some before
         → F.faults files.new ≡ F.faults files.old → I.faults input.new ≡ I.faults input.old → K.faults out.new ≡ K.faults out.old
         → result ≢ Status.NoMemory
-        → (K.taken out.new ≡ Some (before ++ due_text (opening binary setup) xs)) × (result ≡ due_status (opening binary setup)) }
+        → (K.taken out.new ≡ Some (before ++ due_text (map (λ p. Some (test p)) kit.items) (opening binary setup) xs)) × (result ≡ due_status (opening binary setup)) }
 
     // For `check` they are the line that is due for the module: how much it holds, or its refusal.
     ensures check_headline { (name : List ℕ) (m : List ℕ → Option (List ℕ)) (binary before : List ℕ)
@@ -321,7 +313,7 @@ pub fn debug_main<F: Files, I: Source, K: Sink, L: Ledger>(
 
     // What each status says, whatever was told and whatever failed.
     ensures debugged { (names : PairNames) → debug_names words.now ≡ Some names
-        → Debugged names
+        → Debugged (map (λ p. Some (test p)) kit.items) names
         (record { files = library F.contents F.asked F.taken F.failed_name files.old; streams = record { left = I.left input.old; held = K.taken out.old; offers = K.offers out.old; steps = steps.old } })
         (record { files = library F.contents F.asked F.taken F.failed_name files.new; streams = record { left = I.left input.new; held = K.taken out.new; offers = K.offers out.new; steps = steps.new } }) (input.new ≡ input.old) result }
     ensures checked { (name : List ℕ) → check_name words.now ≡ Some name

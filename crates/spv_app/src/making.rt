@@ -1,5 +1,5 @@
 //! What is told of a run of made inputs.
-ghost use Rattle.std.specs.Prelude.{◌≡◌, ◌≤◌, ◌%◌, ◌^◌, All, length, vec_len};
+ghost use Rattle.std.specs.Prelude.{◌≡◌, ◌≤◌, ◌%◌, ◌^◌, length};
 ghost use Rattle.std.specs.List.{sum};
 ghost use Rattle.spv_base.specs.Answers.{Answers};
 ghost use Rattle.spv_ops.specs.Steps.{seen};
@@ -7,7 +7,7 @@ ghost use Rattle.spv_app.specs.Limits.{setup_limit};
 ghost use Rattle.spv_app.specs.Making.{making, running};
 
 use crate::opening::{OpeningRefusal, open_session};
-use spv_base::{Fail, MemorySink, MemorySource, Probe, Steps};
+use spv_base::{Fail, MemorySink, MemorySource, Steps};
 use spv_loop::{Status, run};
 use spv_make::{Made, make};
 use std::alloc::Global;
@@ -60,23 +60,20 @@ fn sum_of(bytes: &[u8]) -> u64
     total
 }
 
-/// The transcript of a run in memory.
+/// The transcript of a run in memory, with no probes.
 #[tactic(auto, unfolding(crate::specs::Making::running))]
 fn transcript_of<L: Ledger>(
     alloc: Global,
     binary: Vec<u8>,
     setup: Vec<u8>,
     commands: Vec<u8>,
-    kit: Vec<Box<dyn Probe>>,
     steps: &mut Steps<L>,
 ) -> Result<Vec<u8>, Fail<OpeningRefusal>>
     requires fits { length setup.items ≤ setup_limit }
-    requires few { vec_len kit ≤ 16 }
-    requires unused { All (λ p. tally p ≡ 0) kit.items }
     ensures due { Answers (running binary.items setup.items commands.items) (seen (λ text. text.items) result) }
     ensures counted { steps.old ≤ steps.new }
 {
-    let mut session = open_session(alloc, binary, setup, kit)?;
+    let mut session = open_session(alloc, binary, setup, Vec::new(alloc))?;
     let mut input = MemorySource::new(commands);
     let mut out = MemorySink::new(alloc);
     match run(alloc, &mut session, &mut input, &mut out, steps) {
@@ -91,13 +88,10 @@ fn transcript_of<L: Ledger>(
 pub fn making<L: Ledger>(
     alloc: Global,
     number: u32,
-    kit: Vec<Box<dyn Probe>>,
     steps: &mut Steps<L>,
 ) -> Result<MadeReport, Fail<OpeningRefusal>>
     requires low { 1 ≤ number }
     requires high { number ≤ 64 }
-    requires few { vec_len kit ≤ 16 }
-    requires unused { All (λ p. tally p ≡ 0) kit.items }
     ensures due { Answers (making number) result }
     ensures counted { steps.old ≤ steps.new }
 {
@@ -112,7 +106,6 @@ pub fn making<L: Ledger>(
         module.into_vec(),
         setup.into_vec(),
         commands.into_vec(),
-        kit,
         steps,
     )?;
     Ok(MadeReport {

@@ -1,11 +1,12 @@
 //! The opening of a pair of a module and a setup.
-ghost use Rattle.std.specs.Prelude.{◌≡◌, ◌≤◌, ◌<◌, All, IfOk, length, vec_len};
+ghost use Rattle.std.specs.Prelude.{◌≡◌, ◌≤◌, ◌<◌, All, IfOk, Some, length, map, vec_len};
 ghost use Rattle.spv_base.specs.Answers.{Answers};
 ghost use Rattle.spv_setup.specs.Settings.{settings_of};
 ghost use Rattle.spv_valid.specs.Validity.{IsValid};
 ghost use Rattle.spv_valid.specs.Acceptance.{invocations};
 ghost use Rattle.spv_app.specs.Limits.{setup_limit};
 ghost use Rattle.spv_app.specs.Opening.{opening, accepted_in, journaled, started, of_setup, of_module, viewed};
+ghost use Rattle.spv_loop.specs.Sessions.{IsKitOf};
 ghost use Rattle.spv_ops.specs.Steps.{seen};
 ghost use Rattle.spv_state.specs.Program.{schedule_for};
 
@@ -166,7 +167,7 @@ pub fn open_limited(
     start(alloc, accepted, setup, limit)
 }
 
-/// A session over a pair, at its first view. The probes are dropped at once.
+/// A session over a pair, at its first view, with the probes of the kit.
 #[tactic(auto, using(crate::proofs::Openings::viewed_as, crate::proofs::Openings::unviewed_as))]
 pub fn open_session(
     alloc: Global,
@@ -177,7 +178,8 @@ pub fn open_session(
     requires fits { length setup.items ≤ setup_limit }
     requires few { vec_len kit ≤ 16 }
     requires unused { All (λ p. tally p ≡ 0) kit.items }
-    ensures { Answers (viewed 1048576 (opening binary.items setup.items)) (seen (λ session. session.core) result) }
+    ensures due { Answers (viewed 1048576 (opening binary.items setup.items)) (seen (λ session. session.core) result) }
+    ensures kit { IfOk result (λ session. IsKitOf (λ p. tally p) (λ p. test p) (map (λ p. Some (test p)) kit.items) session.core.view session.kit.boxes.items) }
 {
     let group = open(alloc, binary, setup)?;
     Ok(Session::open(alloc, group, kit)?)

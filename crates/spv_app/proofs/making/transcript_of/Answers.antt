@@ -5,4 +5,4 @@ use Rattle.spv_app.proofs.making.transcript_of.Goals as goal
 pub returns-in-Done-clause-due : goal.returns-in-Done-clause-due
 returns-in-Done-clause-due g c =
     let left : Some (drop c.new-input.result.at c.new-input.result.bytes.items) ≡ Some c.args.commands.items = rw (c.new-input.ensures.at, c.new-input.ensures.bytes) refl in
-    ran_whole _ _ _ _ _ _ _ c.in_ok-session.ensures left (ap Some c.new-out.ensures.bytes) refl c.in-Done.ensures.ran
+    ran_whole _ _ _ _ _ _ _ c.in_ok-session.ensures.due left (ap Some c.new-out.ensures.bytes) refl c.in-Done.ensures.ran

@@ -7,7 +7,7 @@ use Rattle.spv_loop.proofs.command_loop.run.Given as goal
 
 abbrev pub invariant-loop-count : goal.invariant-loop-count
 invariant-loop-count g l = record {
-  stands : Stands reply line_cost l.fn.session.core (record { left = g.I.Source.left l.fn.input; held = g.K.Sink.taken l.fn.out; offers = g.K.Sink.offers l.fn.out; steps = l.fn.steps })
+  stands : Stands (reply g.settings) (line_cost g.settings) l.fn.session.core (record { left = g.I.Source.left l.fn.input; held = g.K.Sink.taken l.fn.out; offers = g.K.Sink.offers l.fn.out; steps = l.fn.steps })
       (record { left = g.I.Source.left l.input; held = g.K.Sink.taken l.out; offers = g.K.Sink.offers l.out; steps = l.steps }) l.session.core l.line.items l.taken;
   few : l.taken ≤ input_limit;
   reads : g.I.Source.faults l.input ≡ g.I.Source.faults l.fn.input;
@@ -17,3 +17,9 @@ invariant-loop-count g l = record {
 
 abbrev pub decreases-loop-count : goal.decreases-loop-count
 decreases-loop-count g l = 16777217 - l.taken
+
+abbrev pub ghost-answer_last : goal.ghost-answer_last
+ghost-answer_last g a = g.settings
+
+abbrev pub ghost-answer_piece : goal.ghost-answer_piece
+ghost-answer_piece g a = g.settings
