@@ -1,5 +1,5 @@
 //! How a call of the program ends.
-ghost use Rattle.std.specs.Prelude.{◌≡◌, ◌≢◌, ◌↔◌, ◌<◌, ◌≤◌, ◌-◌, ◌^◌, List, ℕ, Option, Some, length};
+ghost use Rattle.std.specs.Prelude.{◌≡◌, ◌≢◌, ◌↔◌, ◌<◌, ◌≤◌, ◌-◌, ◌^◌, All, IfOk, List, ℕ, Option, Some, length, vec_len};
 ghost use Rattle.std.specs.Process.{exit_status};
 ghost use Rattle.spv_app.specs.Checking.{checking, check_status};
 ghost use Rattle.spv_arguments.specs.Requests.{PairNames, check_name, debug_names, make_number, text_name};
@@ -11,7 +11,8 @@ ghost use Rattle.spv_app.specs.Texting.{texting, text_status};
 ghost use Rattle.spv_app.specs.Statuses.{input_limit, status_number};
 
 use spv_app::{Status, debug_main};
-use spv_base::{Files, Probe, Sink, Source, Steps};
+use spv_base::{Files, NoMemory, Probe, Sink, Source, Steps};
+use spv_probe::{Barriers, Lines, Stores};
 use std::alloc::Global;
 use std::process::ExitCode;
 use std::sync::ledger::Ledger;
@@ -30,7 +31,27 @@ pub fn exit_code(status: Status) -> ExitCode
     ExitCode::from(status.number())
 }
 
-/// Does what the words say, with no probes. The code tells how the call ended.
+/// A kit of three probes that have counted nothing.
+fn kit_of(
+    alloc: Global,
+    first: Box<dyn Probe>,
+    second: Box<dyn Probe>,
+    third: Box<dyn Probe>,
+) -> Result<Vec<Box<dyn Probe>>, NoMemory>
+    requires first { tally first ≡ 0 }
+    requires second { tally second ≡ 0 }
+    requires third { tally third ≡ 0 }
+    ensures few { IfOk result (λ kit. vec_len kit ≤ 16) }
+    ensures unused { IfOk result (λ kit. All (λ p. tally p ≡ 0) kit.items) }
+{
+    let mut kit = Vec::with_capacity(alloc, 3)?;
+    kit.push(first)?;
+    kit.push(second)?;
+    kit.push(third)?;
+    Ok(kit)
+}
+
+/// Does what the words say, with three probes: of stores, of lines and of barriers. The code tells how the call ended.
 pub fn end<F: Files, I: Source, K: Sink, L: Ledger>(
     alloc: Global,
     words: &[String],
@@ -71,7 +92,22 @@ pub fn end<F: Files, I: Source, K: Sink, L: Ledger>(
         → K.faults out.new ≡ K.faults out.old → result.status ≢ Status.NoMemory
         → exit_status result.code ≡ status_number (make_status (making n)) }
 {
-    let kit: Vec<Box<dyn Probe>> = Vec::new(alloc);
+    let no_memory = Ending {
+        status: Status::NoMemory,
+        code: exit_code(Status::NoMemory),
+    };
+    let Ok(stores) = Box::new(alloc, Stores::new(None)) else {
+        return no_memory;
+    };
+    let Ok(lines) = Box::new(alloc, Lines::new(None)) else {
+        return no_memory;
+    };
+    let Ok(barriers) = Box::new(alloc, Barriers::new()) else {
+        return no_memory;
+    };
+    let Ok(kit) = kit_of(alloc, stores, lines, barriers) else {
+        return no_memory;
+    };
     let status = debug_main(alloc, words, files, input, out, kit, steps);
     Ending {
         status,
