@@ -8,8 +8,8 @@ transcripts are worked out by hand from the manual, docs/SETUP.md and the standa
 arithmetic.py by Python, and those of memory.runs, flow.runs and group.runs, and of the runs that docs/MANUAL.md speaks of, by the
 interpreters memory_runs.py, flow.py, group_runs.py and manual_runs.py; those with barriers before which invocations return by hand and
 by sessions.py in barrier_runs.py, those of pointers.runs by hand and by pointers.py in pointer_runs.py; those of source.runs by hand in
-source_runs.py and stop_runs.py, those of traces.runs by sessions.py and random_sessions.py, and those of variables.runs by hand in
-variable_runs.py and by variables_told.py; those of `make` by stops.py. None is taken from the program that is tested.
+source_runs.py and stop_runs.py, those of traces.runs by sessions.py and random_sessions.py, those of probes.runs by
+hand in probe_runs.py, and those of variables.runs by hand in variable_runs.py and by variables_told.py; those of `make` by stops.py. None is taken from the program that is tested.
 """
 import os
 import struct
@@ -25,6 +25,7 @@ import random_sessions
 import runs_of_places as places
 import runs_of_setups as setups
 import runs_of_values as values
+import probe_runs
 import source_runs
 import stop_runs
 import traces
@@ -66,7 +67,7 @@ COMMANDS = [
         "goto 4\nregs\ngoto 0\nwhere\n",
         "stop: done, all finished\n@4 i=0 finished\nrefused: C12 focus finished\nstop: done, start\n" + 2 * "@0 i=0 %7 word 53\n",
     ),
-    ("jump\nGoto 1\ntally\ndrop 1\nhalt 1 1\norder 1 2\n", 6 * UNKNOWN),
+    ("jump\nGoto 1\norder 1 2\n", 3 * UNKNOWN),
     # a module without debug records has no variables, but ids
     (
         "print %10\nprint %9\nprint %5\nlocals\nglobals\nprint x\ngoto 3\nprint %10\nprint %9\nprint %7\ngoto 4\nprint %10\nprint %9\nprint %5\nlocals\nglobals\n",
@@ -287,7 +288,7 @@ def calls():
     ]
     by_file = [
         ("memory.runs", [memory_runs]), ("flow.runs", [flow]), ("group.runs", [group_runs, barrier_runs]), ("pointers.runs", [pointer_runs]),
-        ("source.runs", [source_runs, stop_runs]), ("traces.runs", [traces, random_sessions]), ("variables.runs", [variable_runs, variables_told]),
+        ("source.runs", [source_runs, stop_runs]), ("traces.runs", [traces, random_sessions]), ("variables.runs", [variable_runs, variables_told]), ("probes.runs", [probe_runs]),
     ]
     for file, runs in by_file:
         yield file, [(what, name, DEBUG, *row) for each in runs for what, name, *row in each.calls()]
@@ -416,9 +417,19 @@ LINES = [
     ("break", "C2"),
     ("delete 0", "delete 0"),
     ("delete", "C2"),
-    ("tally", "C1"),
-    ("drop 1", "C1"),
-    ("halt 1 2", "C1"),
+    ("tally", "tally"),
+    ("tally 1", "C2"),
+    ("drop 01", "drop 1"),
+    ("drop", "C2"),
+    ("halt 01 002", "halt 1 2"),
+    ("halt  4294967295 4294967295", "halt 4294967295 4294967295"),
+    ("halt 0 1", "halt 0 1"),
+    ("halt 1 0", "C2"),
+    ("halt 1", "C2"),
+    ("halt 1 2 3", "C2"),
+    ("halt 1 x", "C2"),
+    ("halt 1 4294967296", "C2"),
+    ("halt", "C2"),
     ("order 1 2", "C1"),
     ("help", "C1"),
 ]
@@ -489,6 +500,30 @@ def undone(n, back=100_000):
     return "".join(line + "\n" for line in lines)
 
 
+# The shader of 64 with a probe of the stores of invocation 5 to its Workgroup variable: it makes one, by the event 453.
+OWN = """own
+stop: done, all finished
+@1408 i=0 finished
+probe 1: 1
+halt 1 every 1
+stop: halt 1
+@454 i=0 main n.comp:8
+probe 1: 1
+stop: done
+@453 i=0 main n.comp:8
+probe 1: 0
+status 0
+"""
+
+
+def followed():
+    """The same sessions over a group that keeps ten marks and entries."""
+    out = "followed\n"
+    for what, _, _, _, _, written in probe_runs.calls():
+        out += "%s\n%s" % (what, written)
+    return out
+
+
 def limited(limit=10, events=4):
     """What a group keeps whose journal has room for so many marks and entries, where events of the first module are made, and where as
     many are taken back. Each of them is a mark and two entries: what is stored or set and the pc, or the frame and the status at the
@@ -510,7 +545,7 @@ def main():
             text += "== %s: %s: %s\n%s-- commands\n%s" % (what, module, words, setup, commands)
             out += "%s: %s: %s\n%sstatus %d\n" % (what, module, words, written, status)
         write(file, text)
-    out += made(1) + made(64) + undone(64) + limited()
+    out += made(1) + made(64) + undone(64) + limited() + followed() + OWN
     write("lines", "".join(line + "\n" for line, _ in LINES))
     out += "lines\n" + "".join(due + "\n" for _, due in LINES)
     with open(os.path.join(FOLDER, "stdout"), "w") as file:

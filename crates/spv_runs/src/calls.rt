@@ -1,8 +1,10 @@
 //! Calls of the program, each on a counter of its own, and what they write.
 ghost use Rattle.std.specs.Prelude.{◌≡◌, ◌<◌, IfOk};
 
+use crate::followed::kit_of;
 use spv_app::{Status, debug_main};
-use spv_base::{MemoryFiles, MemorySink, MemorySource, Probe, Steps};
+use spv_base::{MemoryFiles, MemorySink, MemorySource, Steps};
+use spv_probe::{Barriers, Lines, Stores};
 use std::alloc::Global;
 use std::collections::BTreeMap;
 use std::io::Write;
@@ -29,7 +31,7 @@ pub fn words_of(alloc: Global, line: &str) -> io::Result<Vec<String>> {
     Ok(words)
 }
 
-/// Does what the words say, with no probes.
+/// Does what the words say, with the three probes of the program.
 fn call_counted<L: Ledger>(
     alloc: Global,
     blank: Blank,
@@ -44,7 +46,18 @@ fn call_counted<L: Ledger>(
     requires parts { blank.parts ≡ L.parts }
     requires some { 0 < blank.parts }
 {
-    let kit: Vec<Box<dyn Probe>> = Vec::new(alloc);
+    let Ok(stores) = Box::new(alloc, Stores::new(None)) else {
+        return Status::NoMemory;
+    };
+    let Ok(lines) = Box::new(alloc, Lines::new(None)) else {
+        return Status::NoMemory;
+    };
+    let Ok(barriers) = Box::new(alloc, Barriers::new()) else {
+        return Status::NoMemory;
+    };
+    let Ok(kit) = kit_of(alloc, stores, lines, barriers) else {
+        return Status::NoMemory;
+    };
     let mut input = MemorySource::new(commands);
     let mut steps = Steps::<L>::new(blank);
     debug_main(alloc, words, files, &mut input, out, kit, &mut steps)

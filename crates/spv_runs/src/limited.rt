@@ -10,7 +10,7 @@ use std::sync::ledger::{Blank, Ledger};
 use std::{fs, io, rt};
 
 /// How many marks and entries the journal keeps at most.
-const LIMIT: usize = 10;
+pub const LIMIT: usize = 10;
 
 /// How many events are made, and then taken back.
 const EVENTS: usize = 4;

@@ -1,15 +1,19 @@
 //! Calls the program as a user would, and says what it writes and how it ends: blocks of instructions of each group that computes,
 //! calls that stand in files with their words, setups and commands, and inputs that are made from a number; and what a group keeps
-//! whose journal has little room. What is due is worked out by `bench/runs.py`.
+//! whose journal has little room, alone and in sessions with probes. What is due is worked out by `bench/runs.py`.
 #![tactic(auto)]
 
 mod calls;
+mod followed;
 mod limited;
 mod made;
+mod own;
 
 use crate::calls::{files_of, report};
+use crate::followed::report_followed;
 use crate::limited::report_limited;
 use crate::made::{report_made, report_undone};
+use crate::own::report_own;
 use spv_base::Fail;
 use spv_cmd::{parse, print};
 use std::io::Write;
@@ -29,6 +33,9 @@ const GROUPS: [(&str, &str, &str); 9] = [
     ("bytes", "first.spv", "bytes.commands"),
 ];
 
+/// The file of sessions that ask what probes have counted.
+const PROBES: &str = "probes.runs";
+
 /// The files of calls, in the order of the output.
 const CALLS: [&str; 12] = [
     "commands.runs",
@@ -43,6 +50,7 @@ const CALLS: [&str; 12] = [
     "source.runs",
     "traces.runs",
     "variables.runs",
+    PROBES,
 ];
 
 /// Says what `debug` writes for a module and some commands, and how it ends.
@@ -121,6 +129,8 @@ fn main(rt: HostRuntime) -> io::Result<()> {
     report_made(&rt, 64)?;
     report_undone(&rt, 64)?;
     report_limited(&rt, "first.spv")?;
+    report_followed(&rt, PROBES)?;
+    report_own(&rt, "source-exchange.spv")?;
     println!(rt; "lines")?;
     let lines = fs::read_to_string(&rt, "lines")?;
     for line in lines.split_terminator('\n') {
