@@ -1,4 +1,4 @@
-use Rattle.std.proofs.Common.{◌≡◌, ◌∙◌, ◌+◌, ◌≤◌, ℕ, List, false, ap, inl, inr, refl, subst, sym, arith}
+use Rattle.std.proofs.Common.{◌≡◌, ◌∙◌, ◌+◌, ◌≤◌, ℕ, List, false, ap, inl, inr, refl, subst, arith}
 use Rattle.std.specs.Prelude.{◌||◌}
 use Rattle.spv_group.specs.Group.{Held as Group, group_at, window_in}
 use Rattle.spv_group.proofs.Exports.{window_later}

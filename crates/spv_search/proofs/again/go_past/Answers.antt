@@ -1,4 +1,4 @@
-use Rattle.std.proofs.Common.{◌≡◌, ◌∙◌, ◌+◌, ap, sym, subst}
+use Rattle.std.proofs.Common.{◌≡◌, ◌∙◌, ◌+◌, ◌-◌, ap, sym, subst}
 use Rattle.std.specs.Prelude.{◌&&◌, Some}
 use Rattle.std.proofs.lemmas.Result.{on_ok_weaker}
 use Rattle.spv_group.specs.Group.{Held as Group, entries_in, group_at}
@@ -6,9 +6,18 @@ use Rattle.spv_group.specs.Run.{happening_at}
 use Rattle.spv_search.specs.Again.{IsFoundOf, asks_for_next, passes_before}
 use Rattle.spv_search.specs.Moves.{moves}
 use Rattle.spv_search.specs.Own.{own_before}
+use Rattle.spv_search.specs.Sights.{IsSeen}
 use Rattle.spv_search.proofs.AgainLemmas.{again_more, added_at, here_done, here_passes}
+use Rattle.spv_search.proofs.OwnLemmas.{back_again}
 use Rattle.spv_search.proofs.again.go_past.Goals as goal
 use Rattle.spv_search.proofs.again.go_past.Goals.{then-asks_for_next, else-asks_for_next}
+
+pub look_here-requires-clause-seen : goal.look_here-requires-clause-seen
+look_here-requires-clause-seen g c =
+    let u = c.args.group.now.group in
+    let now = c.make.new.group.group in
+    let before : group_at (now.position - 1) now ≡ u = ap (λ (x : Group). group_at (x.position - 1) x) c.in_ok-happening.ensures.gone.same ∙ ap (λ n. group_at n u) (back_again u.position) in
+    subst (λ (x : Group). IsSeen c.args.search.now.focus.tables.now c.args.search.now.command c.args.search.now.focus.inv x c.in_ok-before.before) (sym before) c.in_ok-before.ensures
 
 pub returns-clause-found : goal.returns-clause-found
 returns-clause-found g c =

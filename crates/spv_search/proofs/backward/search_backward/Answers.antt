@@ -1,4 +1,4 @@
-use Rattle.std.proofs.Common.{◌≡◌, ◌∙◌, ◌+◌, ◌*◌, ◌≤◌, ◌<◌, ℕ, ap, refl, arith}
+use Rattle.std.proofs.Common.{◌≡◌, ◌∙◌, ◌≤◌, ◌<◌, ℕ, ap, refl, arith}
 use Rattle.spv_group.specs.Group.{Held as Group, group_at}
 use Rattle.spv_group.specs.Positions.{greatest_of}
 use Rattle.spv_search.specs.Targets.{passes_backward}

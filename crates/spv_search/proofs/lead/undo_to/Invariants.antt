@@ -1,4 +1,4 @@
-use Rattle.std.proofs.Common.{◌≡◌, ◌≤◌, ◌-◌, ◌+◌}
+use Rattle.std.proofs.Common.{◌≡◌, ◌≤◌}
 use Rattle.spv_group.specs.Group.{Held, group_at}
 use Rattle.spv_state.specs.Program.{Program}
 use Rattle.spv_search.proofs.lead.undo_to.Given as goal
