@@ -4,3 +4,4 @@ mod ReadLemmas
 mod PlaceLemmas
 mod AlikeLemmas
 mod HitLemmas
+mod HaltLemmas

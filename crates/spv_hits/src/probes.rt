@@ -21,6 +21,7 @@ use spv_search::Hits;
 use spv_stops::Halts;
 use spv_valid::Module;
 use std::alloc::Global;
+use std::marker::PhantomData;
 
 /// Tests of positions, and beside them the probes that follow the run, with their halts. The tests follow no run themselves.
 #[derive(Drop)]
@@ -29,6 +30,8 @@ pub struct WithProbes<'a, H: Hits> {
     pub kit: Kit,
     pub halts: &'a Halts,
     pub lines: &'a Lines,
+    /// Nothing: it names the type of the kit's boxes, so that what is promised here can speak of their tallies.
+    pub of: PhantomData<Box<dyn Probe>>,
 }
 
 /// Whether the halt of the probe with this number hits behind an event. So many events that it hits aren't counted yet.
@@ -39,9 +42,12 @@ fn is_halted(kit: &Kit, halts: &Halts, k: u32, more: u64, told: &Happening) -> b
         → Follows (λ p. (⟦<dyn Probe as Probe>⟧ p.vtable).tally p.value) (λ p. (⟦<dyn Probe as Probe>⟧ p.vtable).test p.value) tests events kit.now.boxes.items
         → result ≡ halts_at halts.now tests events more told.now k }
 {
-    match (kit.hits(k, told), kit.count(k)) {
-        (Some(hits), Some(count)) => halts.hit(k, hits, count + more),
-        _ => false,
+    match kit.hits(k, told) {
+        Some(hits) => match kit.count(k) {
+            Some(count) => halts.hit(k, hits, count + more),
+            None => false,
+        },
+        None => false,
     }
 }
 

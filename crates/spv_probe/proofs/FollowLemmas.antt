@@ -6,7 +6,7 @@ use Rattle.std.proofs.lemmas.List.Sums.{sum_by-append, count_by-le-length}
 use Rattle.std.proofs.lemmas.List.Elements.{All-nil, All-cons, All-head, All-tail}
 use Rattle.spv_base.specs.declared.happenings.Happening.{Happening}
 use Rattle.spv_base.specs.Counting.{Counts, Uncounts}
-use Rattle.spv_probe.specs.Kits.{place, Alike, AllBelow, AllAbove, AllCount, AllUncount, HasCounted, Follows}
+use Rattle.spv_probe.specs.Kits.{place, tests_of, Alike, AllBelow, AllAbove, AllCount, AllUncount, HasCounted, Follows}
 
 -- ---- lists of places
 

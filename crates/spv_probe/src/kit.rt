@@ -1,5 +1,5 @@
 //! The boxed probes of a session.
-ghost use Rattle.std.specs.Prelude.{◌≡◌, ◌-◌, ◌++◌, ◌∷◌, [], List, Bool, Option, Some, None, Ok, Err, IfOk, OnOk, OnErr, All, is_some, option_map, map, set, count_by, if◌then◌else◌, false};
+ghost use Rattle.std.specs.Prelude.{◌≡◌, ◌≤◌, vec_len, ◌-◌, ◌++◌, ◌∷◌, [], List, Bool, Option, Some, None, Ok, Err, IfOk, OnOk, OnErr, All, is_some, option_map, map, set, count_by, if◌then◌else◌, false};
 ghost use Rattle.std.specs.List.{list_any};
 ghost use Rattle.spv_base.specs.declared.happenings.Happening.{Happening as AnyHappening};
 ghost use Rattle.spv_probe.specs.Kits.{place, tests_of, AllBelow, AllAbove, AllCount, AllUncount, Follows};
@@ -15,11 +15,13 @@ const NO_SUCH_NUMBER: CmdRefusal = CmdRefusal { code: 7 };
 #[derive(Drop)]
 pub struct Kit {
     pub boxes: Vec<Option<Box<dyn Probe>>>,
+    ghost few: { vec_len boxes ≤ 16 },
 }
 
 impl Kit {
     /// A kit of these probes, which have counted nothing.
     pub fn new(alloc: Global, probes: Vec<Box<dyn Probe>>) -> Result<Kit, NoMemory>
+        requires few { vec_len probes ≤ 16 }
         requires unused { All (λ p. tally p ≡ 0) probes.items }
         ensures boxes { IfOk result (λ kit. kit.boxes.items ≡ map Some probes.items) }
         ensures follows { IfOk result (λ kit. Follows (λ p. tally p) (λ p. test p) (map (λ p. Some (test p)) probes.items) [] kit.boxes.items) }

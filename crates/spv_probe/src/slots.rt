@@ -31,7 +31,12 @@ pub(crate) fn back(slot: &mut Option<Box<dyn Probe>>, h: &Happening)
 pub(crate) fn any(slots: &[Option<Box<dyn Probe>>]) -> bool
     ensures { result ≡ list_any is_some slots.now }
 {
-    slots.iter().any(|slot| slot.is_some())
+    for slot in slots {
+        if slot.is_some() {
+            return true;
+        }
+    }
+    false
 }
 
 /// The count of the probe with this number, if one is there.
