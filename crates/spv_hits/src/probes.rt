@@ -1,9 +1,8 @@
 //! Probes that follow a run, and their halts.
-ghost use Rattle.std.specs.Prelude.{◌≡◌, ◌+◌, ◌≤◌, ◌||◌, ℕ, List, Option, Some, IfOk, false, length, filter, option_map};
-ghost use Rattle.std.specs.List.{list_any, range_with_len};
+ghost use Rattle.std.specs.Prelude.{◌≡◌, ◌≤◌, ◌||◌, List, Option, Some, IfOk};
 ghost use Rattle.spv_base.specs.declared.happenings.Happening.{Happening as AnyHappening};
 ghost use Rattle.spv_dbg.specs.Tables.{tables_of};
-ghost use Rattle.spv_group.specs.Group.{Held, entries_in, group_at};
+ghost use Rattle.spv_group.specs.Group.{Held, entries_in};
 ghost use Rattle.spv_group.specs.Run.{happening_before};
 ghost use Rattle.spv_hits.specs.Halts.{halt_numbers, halts_at, halts_behind, told_before};
 ghost use Rattle.spv_hits.specs.Happenings.{lined};
