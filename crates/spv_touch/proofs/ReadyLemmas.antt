@@ -1,5 +1,7 @@
 -- What is told of an invocation's next event, by its status.
-use Rattle.std.proofs.Common.{◌≡◌, ◌∙◌, ◌&&◌, ◌||◌, not, ℕ, zero, suc, ◌-◌, ◌≤◌, ◌<◌, Bool, true, false, List, [], ◌∷◌, Option, Some, None, Result, Ok, Err, length, take, slice_get, refl, sym, ap, subst, arith}
+use Rattle.std.proofs.Common.{◌≡◌, ◌∙◌, ◌&&◌, ◌||◌, not, ℕ, zero, suc, ◌-◌, ◌≤◌, ◌<◌, Bool, true, false, nat_le, List, [], ◌∷◌, Option, Some, None, Result, Ok, Err, length, take, slice_get, refl, sym, ap, subst, arith}
+use Rattle.std.proofs.lemmas.List.{length-take-le}
+use Rattle.std.proofs.lemmas.Option.{slice_get-get_or}
 use Rattle.std.specs.Option.{is_some, option_and_then, option_map, option_map_or}
 use Rattle.spv_base.specs.declared.instructions.Inst.{Inst}
 use Rattle.spv_base.proofs.Exports.{change_here}
@@ -70,10 +72,13 @@ module _ (p : Program) (s : State) (i : ℕ) where
   top_left (f ∷ []) h = cc
   top_left (f ∷ g ∷ fs) h = omega arith
 
+  some_top : (f : Frame) (gs : List Frame) → 1 ≤ length gs → is_some (top gs) ≡ false → ⊥
+  some_top f gs low h = let e = slice_get-get_or gs (length gs - 1) f (omega (arith, low)) in absurd (cc)
+
   no_top_left : (fs : List Frame) → is_some (top (without_last fs)) ≡ false → length fs ≤ 1
   no_top_left [] h = omega arith
   no_top_left (f ∷ []) h = omega arith
-  no_top_left (f ∷ g ∷ fs) h = absurd (cc)
+  no_top_left (f ∷ g ∷ fs) h = absurd (some_top f (without_last (f ∷ g ∷ fs)) (let many = length-take-le (length (f ∷ g ∷ fs) - 1) (f ∷ g ∷ fs) (omega arith) in omega arith) h)
 
   pub left_over : top_of (pop_frame i s) i ≡ top (without_last (frames_of s i))
   left_over = ap (λ (k : Option Stacked). top (option_map_or (λ (x : Stacked). x.frames) k [])) (change_here i without_top s.stacks) ∙ by (slice_get s.stacks i)
@@ -81,3 +86,13 @@ module _ (p : Program) (s : State) (i : ℕ) where
       by : (o : Option Stacked) → top (option_map_or (λ (x : Stacked). x.frames) (option_map without_top o) []) ≡ top (without_last (option_map_or (λ (x : Stacked). x.frames) o []))
       by None = refl
       by (Some k) = refl
+
+  -- a return is one of the entry point where one frame is there at most
+  pub ending : (counts : Bool) (n : ℕ) → counts ≡ true → n ≡ length (frames_of s i) → nat_le n 1 ≡ (counts && not (is_some (top_of (pop_frame i s) i)))
+  ending counts n yes many =
+      last (is_some (top (without_last (frames_of s i)))) refl ∙ ap (λ (o : Option Frame). not (is_some o)) (sym left_over)
+      ∙ ap (λ (b : Bool). b && not (is_some (top_of (pop_frame i s) i))) (sym yes)
+    where
+      last : (t : Bool) → is_some (top (without_last (frames_of s i))) ≡ t → nat_le n 1 ≡ not t
+      last true h = let low = top_left (frames_of s i) h in grind arith
+      last false h = let high = no_top_left (frames_of s i) h in grind arith

@@ -60,7 +60,7 @@ use Rattle.spv_state.specs.declared.actions.Action.TheVariants.{Compute, Select,
 use Rattle.spv_state.specs.declared.actions.AtomicOp.{AtomicOp}
 use Rattle.spv_sites.specs.Atomics.{AtomicRow, atomic_by, atomic_row, compares, counts, first_of_three, loads, stores, target, updates}
 use Rattle.spv_sites.specs.Branches.{chosen_label, deciding_number, jump_by, switch_label}
-use Rattle.spv_sites.specs.Effects.{Effect, gives, loaded, operand, pointer, sets}
+use Rattle.spv_sites.specs.Effects.{Effect, gives, loaded, operand, pointer, scalar, sets}
 use Rattle.spv_sites.specs.Instructions.{effect_of, row}
 use Rattle.spv_sites.specs.Selects.{selected}
 use Rattle.spv_sites.specs.Sites.{IsShaped, IsSite, Site, accepted, values}
@@ -204,19 +204,31 @@ module _ (x : Site) (law : RulesAreTested) (plains : ValuesHaveShapes) (pointers
   -- ---- the rows that store
 
   -- an effect keeps outlines
-  Keeps : Result Effect Cause → Type 0
+  unfoldable Keeps : Result Effect Cause → Type 0
   Keeps (Ok e) = KeepsOutline x.state x.inv e.store
   Keeps (Err cause) = ⊤
 
+  stored : (e : Effect) → KeepsOutline x.state x.inv e.store → Keeps (Ok e)
+  unfolding Keeps
+  stored e kept = kept
+
+  unstored : (e : Effect) → e.store ≡ None → Keeps (Ok e)
+  unfolding Keeps
+  unstored e none = subst (KeepsOutline x.state x.inv) (sym none) tt
+
+  faulted : (cause : Cause) → Keeps (Err cause)
+  unfolding Keeps
+  faulted cause = tt
+
   behind : {A : Type 0} (r : Result A Cause) (g : A → Result Effect Cause) → ((a : A) → r ≡ Ok a → Keeps (g a)) → Keeps (r >>= g)
   behind (Ok a) g h = h a refl
-  behind (Err cause) g h = tt
+  behind (Err cause) g h = faulted cause
 
   store_row : action_of x.inst ≡ Store → Keeps (row x.program x.state x.inv x.frame x.inst Store)
   store_row acts =
       let rule : KeepsStore (known (accepted x)) x.inst = store_keeps law x (accepted x) refl ∣ accepts ∣₁ ∣ valid ∣₁ ∣ site ∣₁ (storing x.inst acts) in
       behind _ _ (λ named is. behind _ _ (λ u object. behind _ _ (λ q place. behind _ _ (λ w there.
-      kept_there q w u there (sized_alike rule.0.target w u rule.2.1.1 (typed 0 named is rule.0 rule.1 q place w there) (object_typed 1 u rule.0.target object rule.2.0 rule.2.1.1))))))
+      stored _ (kept_there q w u there (sized_alike rule.0.target w u rule.2.1.1 (typed 0 named is rule.0 rule.1 q place w there) (object_typed 1 u rule.0.target object rule.2.0 rule.2.1.1)))))))
 
   copy_row : action_of x.inst ≡ CopyMemory → Keeps (row x.program x.state x.inv x.frame x.inst CopyMemory)
   unfolding memory_rule atomic_rule composite_rule control_rule other_rule
@@ -224,8 +236,8 @@ module _ (x : Site) (law : RulesAreTested) (plains : ValuesHaveShapes) (pointers
       let op = acting x.inst CopyMemory acts in
       let rule : KeepsCopyMemory (known (accepted x)) x.inst = kept_by (accepted x) x.inst (body law x (accepted x) refl ∣ accepts ∣₁ ∣ valid ∣₁ ∣ site ∣₁ (copy_plain x.inst.op op)).1 63 op in
       behind _ _ (λ to is. behind _ _ (λ from also. behind _ _ (λ q place. behind _ _ (λ w there. behind _ _ (λ r source. behind _ _ (λ u copied.
-      kept_there q w u there (sized_alike rule.0.target w u rule.2.2.1.1 (typed 0 to is rule.0 rule.1 q place w there)
-      (subst (λ (t : ℕ). HasShape (accepted x).types no_roots t u) rule.2.2.0 (typed 1 from also rule.2.0 rule.2.1 r source u copied)))))))))
+      stored _ (kept_there q w u there (sized_alike rule.0.target w u rule.2.2.1.1 (typed 0 to is rule.0 rule.1 q place w there)
+      (subst (λ (t : ℕ). HasShape (accepted x).types no_roots t u) rule.2.2.0 (typed 1 from also rule.2.0 rule.2.1 r source u copied))))))))))
 
   first_is : (v : Value) → first_of_three x.program x.state x.inv x.frame x.inst ≡ Ok v → operand x.program x.state x.inv x.frame x.inst 0 ≡ Ok v
   first_is v h = by (values x 0) (values x 1) (values x 2) h
@@ -252,21 +264,28 @@ module _ (x : Site) (law : RulesAreTested) (plains : ValuesHaveShapes) (pointers
       where
         by_part : (q : Reference) → pointer named ≡ Ok q → (r : Result Value Cause) → loaded x.state x.inv q ≡ r
             → Keeps ((r >>= (λ v. Ok (q, lane_of v))) >>= (λ t. Ok (record (gives (Scalar t.1)) { store = Some (t.0, Scalar (new t)); result = give t })))
-        by_part q place (Ok w) there = integer_kept named q w (new (q, lane_of w)) is place there
-        by_part q place (Err cause) there = tt
+        by_part q place (Ok w) there = stored _ (integer_kept named q w (new (q, lane_of w)) is place there)
+        by_part q place (Err cause) there = faulted cause
 
         by_place : (r : Result Reference Cause) → pointer named ≡ r
             → Keeps ((r >>= (λ q. loaded x.state x.inv q >>= (λ v. Ok (q, lane_of v)))) >>= (λ t. Ok (record (gives (Scalar t.1)) { store = Some (t.0, Scalar (new t)); result = give t })))
         by_place (Ok q) place = by_part q place (loaded x.state x.inv q) refl
-        by_place (Err cause) place = tt
+        by_place (Err cause) place = faulted cause
+
+    abbrev three : Result Value Cause
+    three = first_of_three x.program x.state x.inv x.frame x.inst
+
+    abbrev lane : ℕ → Result Cell Cause
+    lane n = scalar x.program x.state x.inv x.frame x.inst n
 
     atomics_kept : (r : AtomicRow) → Keeps (atomic_by x.program x.state x.inv x.frame x.inst r)
-    atomics_kept loads = behind _ _ (λ v is. behind _ _ (λ t there. tt))
-    atomics_kept stores = behind _ _ (λ v is. behind _ _ (λ c has. over v (λ t. c) (λ t. None) (first_is v is)))
-    atomics_kept (counts new) = behind _ _ (λ v is. over v (λ t. new t.1) (λ t. Some (Scalar t.1)) (first_is v is))
-    atomics_kept (updates new) = behind _ _ (λ v is. behind _ _ (λ c has. over v (λ t. new t.1 c) (λ t. Some (Scalar t.1)) (first_is v is)))
+    atomics_kept loads = behind three _ (λ v is. behind (target x.state x.inv v) _ (λ t there. unstored _ refl))
+    atomics_kept stores = behind three _ (λ v is. behind (lane 3) _ (λ c has. over v (λ t. c) (λ t. None) (first_is v is)))
+    atomics_kept (counts new) = behind three _ (λ v is. over v (λ t. new t.1) (λ t. Some (Scalar t.1)) (first_is v is))
+    atomics_kept (updates new) = behind three _ (λ v is. behind (lane 3) _ (λ c has. over v (λ t. new t.1 c) (λ t. Some (Scalar t.1)) (first_is v is)))
     atomics_kept (compares new) =
-        behind _ _ (λ v is. behind _ _ (λ z unequal. behind _ _ (λ c has. behind _ _ (λ d compared. over v (λ t. new t.1 c d) (λ t. Some (Scalar t.1)) (first_is v is)))))
+        behind three _ (λ v is. behind (operand x.program x.state x.inv x.frame x.inst 3) _ (λ z unequal. behind (lane 4) _ (λ c has. behind (lane 5) _ (λ d compared.
+        over v (λ t. new t.1 c d) (λ t. Some (Scalar t.1)) (first_is v is)))))
 
   atomic_kept : (op : AtomicOp) → action_of x.inst ≡ Atomic op → Keeps (row x.program x.state x.inv x.frame x.inst (Atomic op))
   atomic_kept op acts =
@@ -276,42 +295,47 @@ module _ (x : Site) (law : RulesAreTested) (plains : ValuesHaveShapes) (pointers
   -- ---- all rows
 
   jumps : (label : Option ℕ) → Keeps (jump_by x.program x.state x.inv x.frame x.inst label)
-  jumps None = tt
-  jumps (Some block) = behind _ _ (λ phis is. tt)
+  jumps None = faulted _
+  jumps (Some block) = behind _ _ (λ phis is. unstored _ refl)
 
   choices : (b : Bool) (v : Value) (cause : Cause) → Keeps (if b then Ok (gives v) else Err cause)
-  choices true v cause = tt
-  choices false v cause = tt
+  choices true v cause = unstored _ refl
+  choices false v cause = faulted _
 
   selects : (c v w : Value) (o : Option Reference) → Keeps (selected x.program x.state x.inv x.frame x.inst c v w o)
-  selects c v w None = behind _ _ (λ u is. tt)
+  selects c v w None = behind _ _ (λ u is. unstored _ refl)
   selects c v w (Some q) = choices _ _ _
 
   by_action : (b : Action) → action_of x.inst ≡ b → Keeps (row x.program x.state x.inv x.frame x.inst b)
-  by_action Compute acts = behind _ _ (λ v is. tt)
+  by_action Compute acts = behind _ _ (λ v is. unstored _ refl)
   by_action Select acts = behind _ _ (λ c first. behind _ _ (λ v second. behind _ _ (λ w third. selects c v w (pointer_in (out-Value v)))))
-  by_action Load acts = behind _ _ (λ named is. behind _ _ (λ q place. behind _ _ (λ v there. tt)))
+  by_action Load acts = behind _ _ (λ named is. behind _ _ (λ q place. behind _ _ (λ v there. unstored _ refl)))
   by_action Store acts = store_row acts
   by_action CopyMemory acts = copy_row acts
-  by_action Chain acts = behind _ _ (λ base is. behind _ _ (λ cs all. behind _ _ (λ q place. tt)))
-  by_action PtrChain acts = behind _ _ (λ base is. behind _ _ (λ c has. behind _ _ (λ cs all. behind _ _ (λ q place. behind _ _ (λ r moved. tt)))))
-  by_action PtrEqual acts = behind _ _ (λ a first. behind _ _ (λ b second. behind _ _ (λ q one. behind _ _ (λ r other. tt))))
-  by_action PtrNotEqual acts = behind _ _ (λ a first. behind _ _ (λ b second. behind _ _ (λ q one. behind _ _ (λ r other. tt))))
-  by_action ArrayLength acts = behind _ _ (λ named is. behind _ _ (λ n many. tt))
+  by_action Chain acts = behind _ _ (λ base is. behind _ _ (λ cs all. behind _ _ (λ q place. unstored _ refl)))
+  by_action PtrChain acts = behind _ _ (λ base is. behind _ _ (λ c has. behind _ _ (λ cs all. behind _ _ (λ q place. behind _ _ (λ r moved. unstored _ refl)))))
+  by_action PtrEqual acts = behind _ _ (λ a first. behind _ _ (λ b second. behind _ _ (λ q one. behind _ _ (λ r other. unstored _ refl))))
+  by_action PtrNotEqual acts = behind _ _ (λ a first. behind _ _ (λ b second. behind _ _ (λ q one. behind _ _ (λ r other. unstored _ refl))))
+  by_action ArrayLength acts = behind _ _ (λ named is. behind _ _ (λ n many. unstored _ refl))
   by_action Branch acts = jumps (id_operand x.inst 0)
   by_action BranchConditional acts = behind _ _ (λ v is. behind _ _ (λ n which. jumps (chosen_label x.inst n)))
   by_action Switch acts = behind _ _ (λ v is. behind _ _ (λ n which. jumps (switch_label x.program.accepted.insts x.inst n)))
-  by_action Call acts = behind _ _ (λ rs all. tt)
-  by_action Return acts = tt
-  by_action ReturnValue acts = behind _ _ (λ v is. tt)
-  by_action Unreachable acts = tt
-  by_action ControlBarrier acts = behind _ _ (λ v is. tt)
-  by_action MemoryBarrier acts = behind _ _ (λ v first. behind _ _ (λ w second. tt))
+  by_action Call acts = behind _ _ (λ rs all. unstored _ refl)
+  by_action Return acts = unstored _ refl
+  by_action ReturnValue acts = behind _ _ (λ v is. unstored _ refl)
+  by_action Unreachable acts = faulted _
+  by_action ControlBarrier acts = behind _ _ (λ v is. unstored _ refl)
+  by_action MemoryBarrier acts = behind _ _ (λ v first. behind _ _ (λ w second. unstored _ refl))
   by_action (Atomic op) acts = atomic_kept op acts
+
+  kept_of : (r : Result Effect Cause) → Keeps r → (e : Effect) → r ≡ Ok e → KeepsOutline x.state x.inv e.store
+  unfolding Keeps
+  kept_of (Ok g) kept e is = let same : g ≡ e = cc in subst (λ (k : Effect). KeepsOutline x.state x.inv k.store) same kept
+  kept_of (Err cause) kept e is = absurd (cc)
 
   pub effects_keep : (e : Effect) → effect_of x.program x.state x.inv x.frame x.inst ≡ Ok e → KeepsOutline x.state x.inv e.store
   unfolding effect_of
-  effects_keep e is = subst Keeps is (by_action (action_of x.inst) refl)
+  effects_keep e is = kept_of (Ok e) (subst Keeps is (by_action (action_of x.inst) refl)) e refl
 
 -- ---- the event that is due
 

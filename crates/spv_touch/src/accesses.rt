@@ -138,13 +138,23 @@ fn control_barrier(site: &Site) -> Result<Event, NoMemory>
     Ok(untouching(site.alloc(), site.inv(), arrives))
 }
 
-/// OpReturnValue arrives where an OpReturn does.
+/// Whether an OpReturnValue arrives, as an OpReturn does, where its value is there.
+fn arrives_with_value(site: &Site, ending: bool) -> Result<bool, NoMemory>
+    ensures { IfOk result (λ arrives. arrives ≡ (is_some (values site.now 0) && ending)) }
+{
+    if !has_value(site, 0)? {
+        return Ok(false);
+    }
+    Ok(ending)
+}
+
+/// OpReturnValue.
 fn return_value(site: &Site, ending: bool) -> Result<Event, NoMemory>
     requires action { action_of site.now.inst ≡ Action.ReturnValue }
     requires ending { ending ≡ ends site.now.program site.now.state site.now.inv }
     ensures { IfOk result (Tells site.now.inv (seen site.now)) }
 {
-    let arrives = has_value(site, 0)? && ending;
+    let arrives = arrives_with_value(site, ending)?;
     Ok(untouching(site.alloc(), site.inv(), arrives))
 }
 
