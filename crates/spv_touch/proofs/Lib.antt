@@ -10,3 +10,7 @@ mod ShapeLemmas
 mod FitLemmas
 mod KindLemmas
 mod PlaceLemmas
+mod SeenLemmas
+mod ReadyLemmas
+mod SoundLemmas
+pub mod Exports
