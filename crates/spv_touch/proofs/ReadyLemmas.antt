@@ -1,5 +1,5 @@
 -- What is told of an invocation's next event, by its status.
-use Rattle.std.proofs.Common.{◌≡◌, ◌∙◌, ◌&&◌, ◌||◌, not, ℕ, zero, suc, ◌-◌, ◌≤◌, ◌<◌, Bool, true, false, nat_le, List, [], ◌∷◌, Option, Some, None, Result, Ok, Err, length, take, slice_get, refl, sym, ap, subst, arith}
+use Rattle.std.proofs.Common.{◌≡◌, ◌∙◌, ◌&&◌, not, ℕ, ◌-◌, ◌≤◌, Bool, true, false, nat_le, List, [], ◌∷◌, Option, Some, None, Result, Ok, Err, length, slice_get, refl, sym, ap, subst, arith}
 use Rattle.std.proofs.lemmas.List.{length-take-le}
 use Rattle.std.proofs.lemmas.Option.{slice_get-get_or}
 use Rattle.std.specs.Option.{is_some, option_and_then, option_map, option_map_or}
@@ -9,7 +9,6 @@ use Rattle.spv_index.specs.Definitions.{at}
 use Rattle.spv_frame.specs.Frames.{Held as Frame}
 use Rattle.spv_frame.specs.Stacks.{Stacked, top}
 use Rattle.spv_order.specs.declared.events.Event.{Event}
-use Rattle.spv_statuses.specs.declared.invocations.Status.{Status}
 use Rattle.spv_statuses.specs.declared.invocations.Status.TheVariants.{Ready, Arrived, Passed, Finished}
 use Rattle.spv_state.specs.Program.{Program}
 use Rattle.spv_state.specs.State.{State, frames_of, pop_frame, top_of, without_last, without_top}
@@ -17,7 +16,7 @@ use Rattle.spv_sites.specs.Effects.{Effect}
 use Rattle.spv_sites.specs.Instructions.{effect_of}
 use Rattle.spv_sites.specs.declared.causes.Cause.{Cause}
 use Rattle.spv_touch.specs.Seen.{Seen, Tells, seen_by, still}
-use Rattle.spv_touch.specs.Touching.{Due, IsEvent, Touching, arrives_by, arrives_of, due_as, due_by, due_in, due_of, nothing, read_pointer, touched_by, touched_of}
+use Rattle.spv_touch.specs.Touching.{Due, IsEvent, arrives_by, arrives_of, due_as, due_by, due_in, due_of, nothing, read_pointer, touched_by, touched_of}
 
 module _ (p : Program) (s : State) (i : ℕ) where
   -- what is told of the event that is due
@@ -89,9 +88,9 @@ module _ (p : Program) (s : State) (i : ℕ) where
 
   -- a return is one of the entry point where one frame is there at most
   pub ending : (counts : Bool) (n : ℕ) → counts ≡ true → n ≡ length (frames_of s i) → nat_le n 1 ≡ (counts && not (is_some (top_of (pop_frame i s) i)))
-  ending counts n yes many =
+  ending counts n so many =
       last (is_some (top (without_last (frames_of s i)))) refl ∙ ap (λ (o : Option Frame). not (is_some o)) (sym left_over)
-      ∙ ap (λ (b : Bool). b && not (is_some (top_of (pop_frame i s) i))) (sym yes)
+      ∙ ap (λ (b : Bool). b && not (is_some (top_of (pop_frame i s) i))) (sym so)
     where
       last : (t : Bool) → is_some (top (without_last (frames_of s i))) ≡ t → nat_le n 1 ≡ not t
       last true h = let low = top_left (frames_of s i) h in grind arith

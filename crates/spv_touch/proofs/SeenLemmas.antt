@@ -1,13 +1,13 @@
 -- What is told of an instruction's event, by the instruction's row.
-use Rattle.std.proofs.Common.{◌≡◌, ◌∙◌, ◌&&◌, ◌||◌, not, ℕ, zero, suc, ◌-◌, ◌≤◌, Bool, true, false, List, [], ◌∷◌, Option, Some, None, IsSome, Result, Ok, Err, ok_or, length, slice_get, refl, sym, ap, subst, arith}
-use Rattle.std.specs.Prelude.{if◌then◌else◌, ◌==◌, unwrap_or}
-use Rattle.std.specs.Option.{is_some, option_and_then, option_map, option_map_or}
-use Rattle.spv_base.specs.Cell.{Cell, defined_cell}
-use Rattle.spv_base.specs.declared.instructions.Inst.{Inst}
+use Rattle.std.proofs.Common.{◌≡◌, ◌∙◌, ◌&&◌, ℕ, Bool, true, false, List, [], Option, Some, None, IsSome, Result, Ok, Err, ok_or, refl, sym, ap, subst, arith}
+use Rattle.std.specs.Prelude.{if◌then◌else◌, unwrap_or}
+use Rattle.std.specs.Bool.{then_some}
+use Rattle.std.specs.Option.{is_some, option_and_then, option_map}
+use Rattle.spv_base.specs.Cell.{Cell}
 use Rattle.spv_base.specs.declared.values.Pointer.{Pointer}
 use Rattle.spv_base.specs.declared.values.Root.{Root}
 use Rattle.spv_base.specs.declared.values.Root.TheVariants.{Shared, Private, Local}
-use Rattle.spv_base.specs.declared.values.Value.{Value, Ptr, Scalar, out-Value}
+use Rattle.spv_base.specs.declared.values.Value.{Value, out-Value}
 use Rattle.spv_index.specs.Operands.{id_operand}
 use Rattle.spv_ops.specs.Steps.{◌>>=◌}
 use Rattle.spv_types.specs.Shapes.{pointer_in}
@@ -26,8 +26,8 @@ use Rattle.spv_sites.specs.Chains.{chained_pointer, indexes, indexes_from, ptr_c
 use Rattle.spv_sites.specs.Lengths.{length_of}
 use Rattle.spv_sites.specs.Effects.{Effect, Leave, Wait, gives, goes, loaded, operand, pointer, scalar, sets}
 use Rattle.spv_sites.specs.Instructions.{effect_of, row}
-use Rattle.spv_sites.specs.Selects.{chosen, selected}
-use Rattle.spv_sites.specs.Sites.{Site, accepted, due, values}
+use Rattle.spv_sites.specs.Selects.{selected}
+use Rattle.spv_sites.specs.Sites.{Site, due, values}
 use Rattle.spv_sites.specs.declared.causes.Cause.{Cause}
 use Rattle.spv_sites.specs.declared.causes.Cause.TheVariants.{NoValue, OutOfBounds}
 use Rattle.spv_touch.specs.Ranges.{leaves_at}
@@ -324,10 +324,10 @@ module _ (x : Site) (e : Event) where
       retold x.inv (seen x) (untouching a) e (is ∙ ap untouching (sym same)) (subst (λ (k : ℕ). Tells k (untouching a) e) inv tells)
 
 -- no leaves where a test holds
-pub chosen_leaves : {A : Type 0} (g : A → List Leaves) (b t : Bool) (v : A) (o : Option A) → o ≡ (if b then Some v else None) → b ≡ t → g v ≡ [] → option_map g o ≡ (if t then Some [] else None)
+pub chosen_leaves : {A : Type 0} (g : A → List Leaves) (b t : Bool) (v : A) (o : Option A) → o ≡ then_some b v → b ≡ t → g v ≡ [] → option_map g o ≡ (if t then Some [] else None)
 chosen_leaves g b t v o is same none = ap (option_map g) is ∙ by b ∙ ap (λ (c : Bool). if c then Some [] else None) same
   where
-    by : (c : Bool) → option_map g (if c then Some v else None) ≡ (if c then Some [] else None)
+    by : (c : Bool) → option_map g (then_some c v) ≡ (if c then Some [] else None)
     by true = ap (λ (l : List Leaves). Some l) none
     by false = refl
 

@@ -1,19 +1,15 @@
 -- What an event stores in a sound state of an accepted module has the outline of what was there: both are of the type to which the pointer's
 -- type points.
-use Rattle.std.proofs.Common.{◌≡◌, ◌∙◌, ◌&&◌, not, ℕ, ◌<◌, Bool, true, false, List, [], ◌∷◌, Option, Some, None, Result, Ok, Err, ok_or, length, slice_get, refl, sym, ap, subst, arith}
+use Rattle.std.proofs.Common.{◌≡◌, ◌∙◌, not, ℕ, ◌<◌, Bool, true, false, [], Option, Some, None, Result, Ok, Err, ok_or, length, slice_get, refl, sym, ap, subst}
 use Rattle.std.proofs.Math.Logic.{∥∥₁_elim}
-use Rattle.std.proofs.Props.{props}
 use Rattle.std.proofs.lemmas.Bool.{and_parts}
 use Rattle.std.proofs.lemmas.Option.{slice_get_within}
 use Rattle.std.specs.Prelude.{if◌then◌else◌, ⊤}
-use Rattle.std.specs.Coded.{codes}
-use Rattle.std.specs.List.{AllByRecursion}
 use Rattle.std.specs.Option.{option_and_then, option_map_or}
 use Rattle.spv_base.specs.Cell.{Cell}
 use Rattle.spv_base.specs.Entries.{reads}
 use Rattle.spv_base.specs.Parts.{part_at}
 use Rattle.spv_base.specs.Variables.{root_id}
-use Rattle.spv_base.specs.contracts.values.Value as value
 use Rattle.spv_base.specs.declared.instructions.Inst.{Inst}
 use Rattle.spv_base.specs.declared.values.Pointer.{Pointer as Reference}
 use Rattle.spv_base.specs.declared.values.Value.{Value, Scalar, out-Value}
@@ -44,7 +40,6 @@ use Rattle.spv_initial.specs.Variables.{targets_of}
 use Rattle.spv_frame.specs.Frames.{Held as Frame}
 use Rattle.spv_frame.specs.Stacks.{Stacked, top}
 use Rattle.spv_mem.specs.Memory.{IsMemory, load_of, root_value, roots_in}
-use Rattle.spv_mem.specs.Targets.{is_counted}
 use Rattle.spv_operands.specs.Shapes.{target_in}
 use Rattle.spv_operands.proofs.Exports.{sized_counted, target_parts}
 use Rattle.spv_results.specs.Operands.{known}
@@ -60,8 +55,10 @@ use Rattle.spv_state.specs.declared.actions.Action.TheVariants.{Compute, Select,
 use Rattle.spv_state.specs.declared.actions.AtomicOp.{AtomicOp}
 use Rattle.spv_sites.specs.Atomics.{AtomicRow, atomic_by, atomic_row, compares, counts, first_of_three, loads, stores, target, updates}
 use Rattle.spv_sites.specs.Branches.{chosen_label, deciding_number, jump_by, switch_label}
-use Rattle.spv_sites.specs.Effects.{Effect, gives, loaded, operand, pointer, scalar, sets}
+use Rattle.spv_sites.specs.Chains.{chained_pointer, indexes, indexes_from, ptr_chained}
+use Rattle.spv_sites.specs.Effects.{Effect, gives, loaded, operand, pointer, scalar}
 use Rattle.spv_sites.specs.Instructions.{effect_of, row}
+use Rattle.spv_sites.specs.Lengths.{length_of}
 use Rattle.spv_sites.specs.Selects.{selected}
 use Rattle.spv_sites.specs.Sites.{IsShaped, IsSite, Site, accepted, values}
 use Rattle.spv_sites.specs.declared.causes.Cause.{Cause}
@@ -224,6 +221,15 @@ module _ (x : Site) (law : RulesAreTested) (plains : ValuesHaveShapes) (pointers
   behind (Ok a) g h = h a refl
   behind (Err cause) g h = faulted cause
 
+  abbrev value : ℕ → Result Value Cause
+  value n = operand x.program x.state x.inv x.frame x.inst n
+
+  abbrev lane : ℕ → Result Cell Cause
+  lane n = scalar x.program x.state x.inv x.frame x.inst n
+
+  abbrev three : Result Value Cause
+  three = first_of_three x.program x.state x.inv x.frame x.inst
+
   store_row : action_of x.inst ≡ Store → Keeps (row x.program x.state x.inv x.frame x.inst Store)
   store_row acts =
       let rule : KeepsStore (known (accepted x)) x.inst = store_keeps law x (accepted x) refl ∣ accepts ∣₁ ∣ valid ∣₁ ∣ site ∣₁ (storing x.inst acts) in
@@ -272,19 +278,13 @@ module _ (x : Site) (law : RulesAreTested) (plains : ValuesHaveShapes) (pointers
         by_place (Ok q) place = by_part q place (loaded x.state x.inv q) refl
         by_place (Err cause) place = faulted cause
 
-    abbrev three : Result Value Cause
-    three = first_of_three x.program x.state x.inv x.frame x.inst
-
-    abbrev lane : ℕ → Result Cell Cause
-    lane n = scalar x.program x.state x.inv x.frame x.inst n
-
     atomics_kept : (r : AtomicRow) → Keeps (atomic_by x.program x.state x.inv x.frame x.inst r)
     atomics_kept loads = behind three _ (λ v is. behind (target x.state x.inv v) _ (λ t there. unstored _ refl))
     atomics_kept stores = behind three _ (λ v is. behind (lane 3) _ (λ c has. over v (λ t. c) (λ t. None) (first_is v is)))
     atomics_kept (counts new) = behind three _ (λ v is. over v (λ t. new t.1) (λ t. Some (Scalar t.1)) (first_is v is))
     atomics_kept (updates new) = behind three _ (λ v is. behind (lane 3) _ (λ c has. over v (λ t. new t.1 c) (λ t. Some (Scalar t.1)) (first_is v is)))
     atomics_kept (compares new) =
-        behind three _ (λ v is. behind (operand x.program x.state x.inv x.frame x.inst 3) _ (λ z unequal. behind (lane 4) _ (λ c has. behind (lane 5) _ (λ d compared.
+        behind three _ (λ v is. behind (value 3) _ (λ z unequal. behind (lane 4) _ (λ c has. behind (lane 5) _ (λ d compared.
         over v (λ t. new t.1 c d) (λ t. Some (Scalar t.1)) (first_is v is)))))
 
   atomic_kept : (op : AtomicOp) → action_of x.inst ≡ Atomic op → Keeps (row x.program x.state x.inv x.frame x.inst (Atomic op))
@@ -308,24 +308,25 @@ module _ (x : Site) (law : RulesAreTested) (plains : ValuesHaveShapes) (pointers
 
   by_action : (b : Action) → action_of x.inst ≡ b → Keeps (row x.program x.state x.inv x.frame x.inst b)
   by_action Compute acts = behind _ _ (λ v is. unstored _ refl)
-  by_action Select acts = behind _ _ (λ c first. behind _ _ (λ v second. behind _ _ (λ w third. selects c v w (pointer_in (out-Value v)))))
-  by_action Load acts = behind _ _ (λ named is. behind _ _ (λ q place. behind _ _ (λ v there. unstored _ refl)))
+  by_action Select acts = behind (value 0) _ (λ c first. behind (value 1) _ (λ v second. behind (value 2) _ (λ w third. selects c v w (pointer_in (out-Value v)))))
+  by_action Load acts = behind (value 0) _ (λ named is. behind (pointer named) _ (λ q place. behind (loaded x.state x.inv q) _ (λ v there. unstored _ refl)))
   by_action Store acts = store_row acts
   by_action CopyMemory acts = copy_row acts
-  by_action Chain acts = behind _ _ (λ base is. behind _ _ (λ cs all. behind _ _ (λ q place. unstored _ refl)))
-  by_action PtrChain acts = behind _ _ (λ base is. behind _ _ (λ c has. behind _ _ (λ cs all. behind _ _ (λ q place. behind _ _ (λ r moved. unstored _ refl)))))
-  by_action PtrEqual acts = behind _ _ (λ a first. behind _ _ (λ b second. behind _ _ (λ q one. behind _ _ (λ r other. unstored _ refl))))
-  by_action PtrNotEqual acts = behind _ _ (λ a first. behind _ _ (λ b second. behind _ _ (λ q one. behind _ _ (λ r other. unstored _ refl))))
-  by_action ArrayLength acts = behind _ _ (λ named is. behind _ _ (λ n many. unstored _ refl))
+  by_action Chain acts = behind (value 0) _ (λ base is. behind (indexes (values x) x.inst) _ (λ cs all. behind (chained_pointer base cs) _ (λ q place. unstored _ refl)))
+  by_action PtrChain acts =
+      behind (value 0) _ (λ base is. behind (lane 1) _ (λ c has. behind (indexes_from 2 (values x) x.inst) _ (λ cs all. behind (pointer base) _ (λ q place. behind (ptr_chained x.state.memory q c cs) _ (λ r moved. unstored _ refl)))))
+  by_action PtrEqual acts = behind (value 0) _ (λ a first. behind (value 1) _ (λ b second. behind (pointer a) _ (λ q one. behind (pointer b) _ (λ r other. unstored _ refl))))
+  by_action PtrNotEqual acts = behind (value 0) _ (λ a first. behind (value 1) _ (λ b second. behind (pointer a) _ (λ q one. behind (pointer b) _ (λ r other. unstored _ refl))))
+  by_action ArrayLength acts = behind (value 0) _ (λ named is. behind (length_of x.state x.inv x.inst named) _ (λ n many. unstored _ refl))
   by_action Branch acts = jumps (id_operand x.inst 0)
-  by_action BranchConditional acts = behind _ _ (λ v is. behind _ _ (λ n which. jumps (chosen_label x.inst n)))
-  by_action Switch acts = behind _ _ (λ v is. behind _ _ (λ n which. jumps (switch_label x.program.accepted.insts x.inst n)))
+  by_action BranchConditional acts = behind (value 0) _ (λ v is. behind (deciding_number v) _ (λ n which. jumps (chosen_label x.inst n)))
+  by_action Switch acts = behind (value 0) _ (λ v is. behind (deciding_number v) _ (λ n which. jumps (switch_label x.program.accepted.insts x.inst n)))
   by_action Call acts = behind _ _ (λ rs all. unstored _ refl)
   by_action Return acts = unstored _ refl
-  by_action ReturnValue acts = behind _ _ (λ v is. unstored _ refl)
+  by_action ReturnValue acts = behind (value 0) _ (λ v is. unstored _ refl)
   by_action Unreachable acts = faulted _
-  by_action ControlBarrier acts = behind _ _ (λ v is. unstored _ refl)
-  by_action MemoryBarrier acts = behind _ _ (λ v first. behind _ _ (λ w second. unstored _ refl))
+  by_action ControlBarrier acts = behind three _ (λ v is. unstored _ refl)
+  by_action MemoryBarrier acts = behind (value 0) _ (λ v first. behind (value 1) _ (λ w second. unstored _ refl))
   by_action (Atomic op) acts = atomic_kept op acts
 
   kept_of : (r : Result Effect Cause) → Keeps r → (e : Effect) → r ≡ Ok e → KeepsOutline x.state x.inv e.store
