@@ -5,7 +5,7 @@ use Rattle.std.proofs.lemmas.Bool.{ltb-true, ltb-false, leb-true, leb-false}
 use Rattle.spv_cmd.specs.Commands.{command_of}
 use Rattle.spv_group.specs.Group.{Held as Group, end_in}
 use Rattle.spv_search.specs.Costs.{forward_cost, backward_cost, return_cost}
-use Rattle.spv_session.specs.Costs.{straight_cost, motion_cost, act_cost, line_cost}
+use Rattle.spv_session.specs.Costs.{straight_cost, motion_cost, act_cost, cost_by, line_cost}
 use Rattle.spv_session.specs.Motions.{Motion, straight, forward, backward, hits, target}
 use Rattle.spv_session.specs.Reply.{Act, nothing, quits, shows, asks, goes, walks, act_of, is_over}
 use Rattle.spv_search.specs.Told.{has_probe}
@@ -56,5 +56,5 @@ act_rises tests j k v (goes motion) h = motion_rises tests j k v (motion v) h
 act_rises tests j k v (walks motion) h = walk_rises (is_over v) (motion_cost tests j v (motion v)) (motion_cost tests k v (motion v)) (motion_rises tests j k v (motion v) h)
 
 pub line_rises : (settings : Settings) (j k : ℕ) (v : View) (line : List ℕ) → j ≤ k → line_cost settings j v line ≤ line_cost settings k v line
-unfolding line_cost
+unfolding line_cost cost_by
 line_rises settings j k v line h = act_rises (tests_at settings v) j k v (act_of (command_of line)) h

@@ -6,4 +6,6 @@ mod InfoLemmas
 mod SightLemmas
 mod SearchLemmas
 mod CauseLemmas
+mod ProbeLemmas
+mod NowLemmas
 pub mod Exports

@@ -1,5 +1,5 @@
 -- The texts of all invocations, one after the other, a view of its own position, and the text of a refusal.
-use Rattle.std.proofs.Common.{◌≡◌, ◌∙◌, ℕ, ◌+◌, List, [], ◌∷◌, ◌++◌, Bool, true, false, cond, Some, None, Result, Ok, Err, OnErr, sym, ap, ap₂, subst, refl, arith, add-one, append-nil}
+use Rattle.std.proofs.Common.{◌≡◌, ◌∙◌, ℕ, ◌+◌, List, [], ◌∷◌, ◌++◌, Bool, true, false, cond, Some, None, Result, Ok, Err, OnErr, sym, ap, subst, refl, arith, add-one, append-nil}
 use Rattle.std.specs.List.{flat_map, range_with_len}
 use Rattle.std.proofs.lemmas.List.{flat_map_more}
 use Rattle.spv_base.specs.declared.causes.CmdRefusal.{CmdRefusal}
@@ -7,9 +7,15 @@ use Rattle.spv_base.specs.Prefix.{IsPrefixOf}
 use Rattle.spv_cmd.specs.declared.command.Command.{Command}
 use Rattle.spv_cmd.specs.Commands.{command_of}
 use Rattle.spv_group.proofs.Exports.{range_more}
-use Rattle.spv_session.specs.Reply.{Told, tells, refuses, Act, nothing, quits, shows, asks, goes, walks, act_of, focus_finished, is_over, motion_reply, reply_by, refusal_by, refusal_of, told_refusal, told_reply}
+use Rattle.spv_session.specs.Reply.{Told, tells, refuses, Act, nothing, quits, shows, asks, goes, walks, act_of, focus_finished, is_over, motion_reply, reply_by, refusal_by, line_refusal, told_refusal, told_reply}
 use Rattle.spv_session.specs.Texts.{refusal_line}
-use Rattle.spv_session.specs.View.{Settings, View, tests_at, view_at}
+use Rattle.spv_session.specs.View.{Settings, View, view_at}
+
+pub text_more_from : {A : Type 0} (f : ℕ → List A) (before text : List A) (k n : ℕ) → text ≡ before ++ flat_map f (range_with_len k n) → text ++ f (k + n) ≡ before ++ flat_map f (range_with_len k (n + 1))
+text_more_from f before text k n is = rw add-one (
+    ap (λ l. l ++ f (k + n)) is
+    ∙ flat_map_more f before (range_with_len k n) (k + n)
+    ∙ ap (λ l. before ++ flat_map f l) (sym (range_more k n)))
 
 pub text_more : {A : Type 0} (f : ℕ → List A) (before text : List A) (n : ℕ) → text ≡ before ++ flat_map f (range_with_len 0 n) → text ++ f n ≡ before ++ flat_map f (range_with_len 0 (n + 1))
 text_more f before text n is = rw add-one (
@@ -33,7 +39,7 @@ refused_walk true v moved code e = let same : focus_finished ≡ code = cc in ap
 refused_walk false v moved code e = absurd (cc)
 
 -- what is refused has its refusal's line
-pub refused_text : (tests : Settings) (v : View) (a : Act) (code : ℕ) → refusal_by tests v a ≡ Some code → (reply_by tests v a).0 ≡ refusal_line code
+refused_text : (tests : Settings) (v : View) (a : Act) (code : ℕ) → refusal_by tests v a ≡ Some code → (reply_by tests v a).0 ≡ refusal_line code
 refused_text tests v nothing code e = absurd (cc)
 refused_text tests v quits code e = absurd (cc)
 refused_text tests v (shows told) code e = refused_told v (told v) code e
@@ -42,10 +48,14 @@ refused_text tests v (goes motion) code e = absurd (cc)
 refused_text tests v (walks motion) code e = refused_walk (is_over v) v (motion_reply tests v (motion v)) code e
 
 -- a line that is refused, as the command that was read
-pub refused_as : (settings tests : Settings) (v : View) (line : List ℕ) (it : Result Command CmdRefusal) (code : ℕ) → tests ≡ tests_at settings v → it ≡ command_of line → refusal_of settings v line ≡ Some code
-    → refusal_by tests v (act_of it) ≡ Some code
-unfolding refusal_of
-refused_as settings tests v line it code same is e = ap₂ (λ (ts : Settings) (r : Result Command CmdRefusal). refusal_by ts v (act_of r)) same is ∙ e
+refused_as : (tests : Settings) (v : View) (line : List ℕ) (it : Result Command CmdRefusal) (code : ℕ) → it ≡ command_of line → line_refusal tests v line ≡ Some code → refusal_by tests v (act_of it) ≡ Some code
+unfolding line_refusal
+refused_as tests v line it code is e = ap (λ (r : Result Command CmdRefusal). refusal_by tests v (act_of r)) is ∙ e
+
+-- with its text
+pub refused_with : (tests : Settings) (v : View) (line : List ℕ) (it : Result Command CmdRefusal) (code : ℕ) → it ≡ command_of line → line_refusal tests v line ≡ Some code
+    → (refusal_by tests v (act_of it) ≡ Some code) × ((reply_by tests v (act_of it)).0 ≡ refusal_line code)
+refused_with tests v line it code is e = let refused = refused_as tests v line it code is e in (refused, refused_text tests v (act_of it) code refused)
 
 -- ---- want of memory
 

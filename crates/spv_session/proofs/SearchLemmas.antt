@@ -100,6 +100,10 @@ if_ok_then (Err e) P Q f h = tt
 pub at_stops : (P : Tables → Stops Breakpoint → Stops WatchKey → Type 0) (t u : Tables) (bs cs : Stops Breakpoint) (ws vs : Stops WatchKey) → t ≡ u → bs ≡ cs → ws ≡ vs → P t bs ws → P u cs vs
 at_stops P t u bs cs ws vs e f g p = subst (λ (x : Tables). P x cs vs) e (subst (λ (x : Stops Breakpoint). P t x vs) f (subst (λ (x : Stops WatchKey). P t bs x) g p))
 
+-- and by the kit and the focus
+pub at_asked : (P : Tables → Stops Breakpoint → Stops WatchKey → Settings → ℕ → Type 0) (t u : Tables) (bs cs : Stops Breakpoint) (ws vs : Stops WatchKey) (ks ls : Settings) (i j : ℕ) → t ≡ u → bs ≡ cs → ws ≡ vs → ks ≡ ls → i ≡ j → P t bs ws ks i → P u cs vs ls j
+at_asked P t u bs cs ws vs ks ls i j e f g h k p = subst (λ (n : ℕ). P u cs vs ls n) k (subst (λ (s : Settings). P u cs vs s i) h (at_stops (λ (x : Tables) (y : Stops Breakpoint) (z : Stops WatchKey). P x y z ks i) t u bs cs ws vs e f g p))
+
 -- what is told of the same numbers is the same
 hit_same : (from : ℕ) (event : Option Happening) (hit other : Group → Hit) (g : Group) → hit g ≡ other g → hit_told from event hit g ≡ hit_told from event other g
 hit_same from None hit other g e = refl
@@ -107,6 +111,14 @@ hit_same from (Some h) hit other g e = ap (λ (x : Hit). cond (not (g.position =
 
 abbrev pub numbers : Tables → Stops Breakpoint → Stops WatchKey → Halts → Settings → Group → List ℕ × List ℕ × List ℕ
 numbers t bs ws hs tests g = (break_numbers bs g, watch_numbers t ws g, halt_numbers hs tests g)
+
+abbrev lists : (x y z : List ℕ) → List ℕ × List ℕ × List ℕ
+lists x y z = (x, y, z)
+
+-- they are the same where breaks and watches tell the same, and the probes have the same tests
+pub same_numbers : (bs bs' ws ws' : List ℕ) (hs : Halts) (k k' : Settings) (g : Group) → bs' ≡ bs → ws' ≡ ws → k' ≡ k → lists bs' ws' (halt_numbers hs k' g) ≡ lists bs ws (halt_numbers hs k g)
+same_numbers bs bs' ws ws' hs k k' g e f h =
+    ap (λ (x : List ℕ). lists x ws' (halt_numbers hs k' g)) e ∙ ap (λ (y : List ℕ). lists bs y (halt_numbers hs k' g)) f ∙ ap (λ (t : Settings). lists bs ws (halt_numbers hs t g)) h
 
 hit_by_numbers : (p q : List ℕ × List ℕ × List ℕ) → p ≡ q → hit_with p.0 p.1 p.2 ≡ hit_with q.0 q.1 q.2
 hit_by_numbers p q e = ap (λ (x : List ℕ × List ℕ × List ℕ). hit_with x.0 x.1 x.2) e

@@ -24,5 +24,10 @@ act_cost tests kept v (goes motion) = motion_cost tests kept v (motion v)
 act_cost tests kept v (walks motion) = if is_over v then 0 else motion_cost tests kept v (motion v)
 act_cost tests kept v _ = 0
 
+-- of a line, by the tests of the probes that are there
+unfoldable pub cost_by : (tests : Settings) → (kept : ℕ) → View → List ℕ → ℕ
+cost_by tests kept v line = act_cost tests kept v (act_of (command_of line))
+
+-- by the settings of the kit that was handed in
 unfoldable pub line_cost : Settings → (kept : ℕ) → View → List ℕ → ℕ
-line_cost settings kept v line = act_cost (tests_at settings v) kept v (act_of (command_of line))
+line_cost settings kept v line = cost_by (tests_at settings v) kept v line

@@ -1,5 +1,5 @@
 -- The reply to a line, and the view after it. How a position was reached doesn't matter to it.
-use Rattle.std.specs.Prelude.{◌≡◌, ℕ, ◌==◌, nat_lt, Bool, true, false, List, [], ◌∷◌, ◌++◌, length, slice_get, Option, Some, None, is_some, count_by, if◌then◌else◌, Result, Ok, Err}
+use Rattle.std.specs.Prelude.{ℕ, ◌==◌, nat_lt, Bool, true, false, List, [], ◌∷◌, ◌++◌, length, slice_get, Option, Some, None, is_some, count_by, if◌then◌else◌, Result, Ok, Err}
 use Rattle.std.specs.List.{enumerate_from, flat_map, range_with_len}
 use Rattle.std.specs.Option.{option_and_then, option_map_or}
 use Rattle.spv_base.specs.declared.causes.CmdRefusal.{CmdRefusal}
@@ -273,9 +273,13 @@ reply_by tests v (goes motion) = motion_reply tests v (motion v)
 reply_by tests v (walks motion) = if is_over v then told_reply v (refuses focus_finished) else motion_reply tests v (motion v)
 reply_by tests v _ = ([], v)
 
+-- by the tests of the probes that are there
+unfoldable pub line_reply : (tests : Settings) → View → List ℕ → List ℕ × View
+line_reply tests v line = reply_by tests v (act_of (command_of line))
+
 -- by the settings of the kit that was handed in
 unfoldable pub reply : Settings → View → List ℕ → List ℕ × View
-reply settings v line = reply_by (tests_at settings v) v (act_of (command_of line))
+reply settings v line = line_reply (tests_at settings v) v line
 
 abbrev pub does_quit : Act → Bool
 does_quit quits = true
@@ -295,9 +299,5 @@ refusal_by tests v (asks told) = told_refusal (told tests v)
 refusal_by tests v (walks motion) = if is_over v then Some focus_finished else None
 refusal_by tests v _ = None
 
-unfoldable pub refusal_of : Settings → View → List ℕ → Option ℕ
-refusal_of settings v line = refusal_by (tests_at settings v) v (act_of (command_of line))
-
--- the line's command is refused with this number
-abbrev pub IsRefused : Settings → View → List ℕ → ℕ → Type 0
-IsRefused settings v line code = refusal_of settings v line ≡ Some code
+unfoldable pub line_refusal : (tests : Settings) → View → List ℕ → Option ℕ
+line_refusal tests v line = refusal_by tests v (act_of (command_of line))

@@ -3,6 +3,7 @@
 
 mod causes;
 mod debug_info;
+mod debugger;
 mod frames;
 mod info;
 mod motions;
@@ -15,5 +16,6 @@ mod stops;
 mod texts;
 mod variables;
 
+pub use debugger::Debugger;
 pub use registers::shown_registers_ascend;
 pub use session::{Core, Next, Session};

@@ -22,6 +22,7 @@ use spv_scopes::Lines;
 use spv_search::{Hits, Never, go_on, return_to};
 use spv_stops::Halts;
 use std::alloc::Global;
+use std::marker::PhantomData;
 use std::mem;
 use std::sync::ledger::Ledger;
 
@@ -92,9 +93,9 @@ fn run_on<H: Hits, L: Ledger>(
     ensures cost { steps.new ≤ steps.old + run_cost (end_in group.old.group) group.old.group.position target }
 {
     'up: while group.position() < target {
-        if go_on(group, hits, steps)?.is_none() {
+        let Some(_) = go_on(group, hits, steps)? else {
             return Ok(());
-        }
+        };
     }
     Ok(())
 }
@@ -153,6 +154,7 @@ fn go_with<L: Ledger>(
         kit: mem::replace(kit, Kit::empty(alloc)),
         halts,
         lines,
+        of: PhantomData,
     };
     let gone = go_to(alloc, group, target, &mut probes, steps);
     *kit = probes.kit;
@@ -210,6 +212,7 @@ impl Core {
         ensures text { OnOk result (text.new.items ≡ text.old.items ++ stop_reply hit.now done self.new.view) }
         ensures view { OnOk result (self.new.view ≡ focus_on focus self.old.view) }
         ensures err { OnErr result (self.new ≡ self.old) }
+        ensures group { self.new.view.group ≡ self.old.view.group }
         ensures kept { self.new.kept ≡ self.old.kept }
         ensures dropped { self.new.view.dropped ≡ self.old.view.dropped }
         ensures limit { self.new.limit ≡ self.old.limit }

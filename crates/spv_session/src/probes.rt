@@ -1,7 +1,7 @@
 //! The replies to the commands on probes.
-ghost use Rattle.std.specs.Prelude.{◌≡◌, ◌++◌, ℕ, OnOk, OnErr, Some};
+ghost use Rattle.std.specs.Prelude.{◌≡◌, ◌++◌, ℕ, OnOk, OnErr, Some, is_some};
 ghost use Rattle.spv_hits.specs.Halts.{told_before};
-ghost use Rattle.spv_probe.specs.Kits.{Follows, tests_of};
+ghost use Rattle.spv_probe.specs.Kits.{Follows, place, tests_of};
 ghost use Rattle.spv_session.specs.Reply.{drop_told, halt_told, tally_reply, tally_told, told_refusal, told_reply};
 ghost use Rattle.spv_session.specs.View.{IsKitOf, Settings, View};
 
@@ -14,6 +14,13 @@ use std::alloc::Global;
 
 /// The command names a probe that isn't there.
 const NO_SUCH_NUMBER: CmdRefusal = CmdRefusal { code: 7 };
+
+/// Whether the probe with this number is there.
+fn is_there(kit: &Kit, number: u32) -> bool
+    ensures { result ≡ is_some (place (tests_of (λ p. (⟦<dyn Probe as Probe>⟧ p.vtable).test p.value) kit.now.boxes.items) number) }
+{
+    kit.count(number).is_some()
+}
 
 /// Appends how many events a probe hit, where it is there.
 fn push_tally_of(alloc: Global, text: &mut Vec<u8>, kit: &Kit, number: u32) -> Result<(), NoMemory>
@@ -45,18 +52,18 @@ impl Core {
         number: u32,
         text: &mut Vec<u8>,
     ) -> Result<(), NoMemory>
-        ghost settings: { Settings }
-        requires { IsKitOf (λ p. (⟦<dyn Probe as Probe>⟧ p.vtable).tally p.value) (λ p. (⟦<dyn Probe as Probe>⟧ p.vtable).test p.value) settings self.old.view kit.old.boxes.items }
+        requires { (settings : Settings) × IsKitOf (λ p. (⟦<dyn Probe as Probe>⟧ p.vtable).tally p.value) (λ p. (⟦<dyn Probe as Probe>⟧ p.vtable).test p.value) settings self.old.view kit.old.boxes.items }
         ensures text { OnOk result (text.new.items ≡ text.old.items ++ (told_reply self.old.view (drop_told number (tests_of (λ p. (⟦<dyn Probe as Probe>⟧ p.vtable).test p.value) kit.old.boxes.items) self.old.view)).0) }
         ensures view { OnOk result (self.new.view ≡ (told_reply self.old.view (drop_told number (tests_of (λ p. (⟦<dyn Probe as Probe>⟧ p.vtable).test p.value) kit.old.boxes.items) self.old.view)).1) }
         ensures err { OnErr result (self.new ≡ self.old) }
         ensures group { self.new.view.group ≡ self.old.view.group }
         ensures kept { self.new.kept ≡ self.old.kept }
         ensures limit { self.new.limit ≡ self.old.limit }
-        ensures kit { IsKitOf (λ p. (⟦<dyn Probe as Probe>⟧ p.vtable).tally p.value) (λ p. (⟦<dyn Probe as Probe>⟧ p.vtable).test p.value) settings self.new.view kit.new.boxes.items }
+        ensures kit { (settings : Settings) → IsKitOf (λ p. (⟦<dyn Probe as Probe>⟧ p.vtable).tally p.value) (λ p. (⟦<dyn Probe as Probe>⟧ p.vtable).test p.value) settings self.old.view kit.old.boxes.items
+            → IsKitOf (λ p. (⟦<dyn Probe as Probe>⟧ p.vtable).tally p.value) (λ p. (⟦<dyn Probe as Probe>⟧ p.vtable).test p.value) settings self.new.view kit.new.boxes.items }
         ensures refused { (code : ℕ) → told_refusal (drop_told number (tests_of (λ p. (⟦<dyn Probe as Probe>⟧ p.vtable).test p.value) kit.old.boxes.items) self.old.view) ≡ Some code → (self.new ≡ self.old) × (kit.new.boxes.items ≡ kit.old.boxes.items) }
     {
-        if kit.count(number).is_none() {
+        if !is_there(kit, number) {
             text.extend_from_slice(refusal_line(NO_SUCH_NUMBER))?;
             return Ok(());
         }
@@ -84,7 +91,7 @@ impl Core {
         ensures dropped { self.new.view.dropped ≡ self.old.view.dropped }
         ensures refused { (code : ℕ) → told_refusal (halt_told number every (tests_of (λ p. (⟦<dyn Probe as Probe>⟧ p.vtable).test p.value) kit.now.boxes.items) self.old.view) ≡ Some code → self.new ≡ self.old }
     {
-        if kit.count(number).is_none() {
+        if !is_there(kit, number) {
             text.extend_from_slice(refusal_line(NO_SUCH_NUMBER))?;
             return Ok(());
         }

@@ -31,6 +31,7 @@ use spv_probe::Kit;
 use spv_search::{Backward, Focus, Forward, Stopped, search_backward, search_forward};
 use spv_stops::{Breaks, Halts, Watches};
 use std::alloc::Global;
+use std::marker::PhantomData;
 use std::mem;
 use std::sync::ledger::Ledger;
 
@@ -184,6 +185,7 @@ fn seek_on<L: Ledger>(
         kit: mem::replace(kit, Kit::empty(alloc)),
         halts: seeking.halts,
         lines: &seeking.info.lines,
+        of: PhantomData,
     };
     let stopped = search_forward(group, &focus, command, &mut hits, steps);
     let WithProbes {
@@ -191,6 +193,7 @@ fn seek_on<L: Ledger>(
         kit: followed,
         halts: _,
         lines: _,
+        of: _,
     } = hits;
     *kit = followed;
     found_at(alloc, group, kit, seeking, &stops, from, stopped?)
@@ -230,6 +233,7 @@ fn seek_back<L: Ledger>(
         kit: mem::replace(kit, Kit::empty(alloc)),
         halts: seeking.halts,
         lines: &seeking.info.lines,
+        of: PhantomData,
     };
     let stopped = search_backward(alloc, group, &focus, command, &mut hits, steps);
     let WithProbes {
@@ -237,6 +241,7 @@ fn seek_back<L: Ledger>(
         kit: followed,
         halts: _,
         lines: _,
+        of: _,
     } = hits;
     *kit = followed;
     found_at(alloc, group, kit, seeking, &stops, from, stopped?)

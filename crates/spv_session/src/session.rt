@@ -7,8 +7,8 @@ ghost use Rattle.spv_group.specs.Group.{end_in, group_at, invocations_in, state_
 ghost use Rattle.spv_probe.specs.Kits.{tests_of};
 ghost use Rattle.spv_state.specs.State.{frames_of};
 ghost use Rattle.spv_search.specs.Keys.{shown_in};
-ghost use Rattle.spv_session.specs.Costs.{act_cost, line_cost};
-ghost use Rattle.spv_session.specs.Reply.{act_of, does_quit, focus_told, frame_told, frames_told, group_reply, info_reply, invocation_reply, is_quit, IsRefused, lines_told, place_reply, refusal_by, registers_told, reply, reply_by, select_told, told_refusal, told_reply};
+ghost use Rattle.spv_session.specs.Costs.{act_cost, cost_by};
+ghost use Rattle.spv_session.specs.Reply.{act_of, does_quit, focus_told, frame_told, frames_told, group_reply, info_reply, invocation_reply, is_quit, line_refusal, line_reply, lines_told, place_reply, refusal_by, registers_told, reply_by, select_told, told_refusal, told_reply};
 ghost use Rattle.spv_session.specs.Shown as spec;
 ghost use Rattle.spv_session.specs.Shown.{focus_frames};
 ghost use Rattle.spv_session.specs.Texts.{refusal_line, registers_text};
@@ -32,7 +32,7 @@ use spv_source::{frame_line, source_lines};
 use spv_state::laws::top_frames_are_sound;
 use spv_stops::{Breaks, Halts, Watches};
 use std::alloc::Global;
-use std::marker::Model;
+use std::marker::{Model, PhantomData};
 use std::sync::ledger::Ledger;
 
 /// The command names an invocation that doesn't exist.
@@ -133,7 +133,7 @@ impl Core {
     }
 
     /// Answers a line, as the session's call of this name says.
-    #[tactic(auto, using(crate::proofs::ReplyLemmas::same_view), unfolding(crate::specs::Reply::reply, crate::specs::Reply::is_quit, crate::specs::Reply::refusal_of, crate::specs::Costs::line_cost))]
+    #[tactic(auto, using(crate::proofs::ReplyLemmas::same_view), unfolding(crate::specs::Reply::line_reply, crate::specs::Reply::is_quit, crate::specs::Reply::line_refusal, crate::specs::Costs::cost_by))]
     fn command<L: Ledger>(
         &mut self,
         kit: &mut Kit,
@@ -141,22 +141,22 @@ impl Core {
         out: &mut Vec<u8>,
         steps: &mut Steps<L>,
     ) -> Result<Next, NoMemory>
-        ghost settings: { Settings }
-        requires { IsKitOf (λ p. (⟦<dyn Probe as Probe>⟧ p.vtable).tally p.value) (λ p. (⟦<dyn Probe as Probe>⟧ p.vtable).test p.value) settings self.old.view kit.old.boxes.items }
-        ensures text { OnOk result (out.new.items ≡ out.old.items ++ (reply settings self.old.view line.now).0) }
-        ensures view { OnOk result (self.new.view ≡ (reply settings self.old.view line.now).1) }
+        requires { (settings : Settings) × IsKitOf (λ p. (⟦<dyn Probe as Probe>⟧ p.vtable).tally p.value) (λ p. (⟦<dyn Probe as Probe>⟧ p.vtable).test p.value) settings self.old.view kit.old.boxes.items }
+        ensures text { OnOk result (out.new.items ≡ out.old.items ++ (line_reply (tests_of (λ p. (⟦<dyn Probe as Probe>⟧ p.vtable).test p.value) kit.old.boxes.items) self.old.view line.now).0) }
+        ensures view { OnOk result (self.new.view ≡ (line_reply (tests_of (λ p. (⟦<dyn Probe as Probe>⟧ p.vtable).test p.value) kit.old.boxes.items) self.old.view line.now).1) }
         ensures next { IfOk result (λ next. next ≡ (if is_quit line.now then answers.Quit else answers.Go)) }
-        ensures front { OnErr result ((text : List ℕ) × (out.new.items ≡ out.old.items ++ text) × IsPrefixOf text (reply settings self.old.view line.now).0) }
+        ensures front { OnErr result ((text : List ℕ) × (out.new.items ≡ out.old.items ++ text) × IsPrefixOf text (line_reply (tests_of (λ p. (⟦<dyn Probe as Probe>⟧ p.vtable).test p.value) kit.old.boxes.items) self.old.view line.now).0) }
         ensures group { self.new.view.group ≡ group_at self.new.view.group.position self.old.view.group }
         ensures limit { self.new.limit ≡ self.old.limit }
         ensures kept { self.new.kept ≤ max self.old.kept (window_in (undoing_in self.new)) }
-        ensures same { IsEither self.new.view self.old.view (reply settings self.old.view line.now).1 }
+        ensures same { IsEither self.new.view self.old.view (line_reply (tests_of (λ p. (⟦<dyn Probe as Probe>⟧ p.vtable).test p.value) kit.old.boxes.items) self.old.view line.now).1 }
         ensures within { self.new.view.group.position ≤ end_in self.old.view.group }
-        ensures refused { (code : ℕ) → IsRefused settings self.old.view line.now code
+        ensures refused { (code : ℕ) → line_refusal (tests_of (λ p. (⟦<dyn Probe as Probe>⟧ p.vtable).test p.value) kit.old.boxes.items) self.old.view line.now ≡ Some code
             → (self.new ≡ self.old) × (kit.new.boxes.items ≡ kit.old.boxes.items) × OnOk result (out.new.items ≡ out.old.items ++ refusal_line code) }
-        ensures kit { IsKitOf (λ p. (⟦<dyn Probe as Probe>⟧ p.vtable).tally p.value) (λ p. (⟦<dyn Probe as Probe>⟧ p.vtable).test p.value) settings self.new.view kit.new.boxes.items }
+        ensures kit { (settings : Settings) → IsKitOf (λ p. (⟦<dyn Probe as Probe>⟧ p.vtable).tally p.value) (λ p. (⟦<dyn Probe as Probe>⟧ p.vtable).test p.value) settings self.old.view kit.old.boxes.items
+            → IsKitOf (λ p. (⟦<dyn Probe as Probe>⟧ p.vtable).tally p.value) (λ p. (⟦<dyn Probe as Probe>⟧ p.vtable).test p.value) settings self.new.view kit.new.boxes.items }
         ensures counted { steps.old ≤ steps.new }
-        ensures cost { steps.new ≤ steps.old + line_cost settings self.old.kept self.old.view line.now }
+        ensures cost { steps.new ≤ steps.old + cost_by (tests_of (λ p. (⟦<dyn Probe as Probe>⟧ p.vtable).test p.value) kit.old.boxes.items) self.old.kept self.old.view line.now }
     {
         let mut text = Vec::new(self.alloc);
         let command = read(self.alloc, line)?;
@@ -173,8 +173,7 @@ impl Core {
         text: &mut Vec<u8>,
         steps: &mut Steps<L>,
     ) -> Result<Next, NoMemory>
-        ghost settings: { Settings }
-        requires { IsKitOf (λ p. (⟦<dyn Probe as Probe>⟧ p.vtable).tally p.value) (λ p. (⟦<dyn Probe as Probe>⟧ p.vtable).test p.value) settings self.old.view kit.old.boxes.items }
+        requires { (settings : Settings) × IsKitOf (λ p. (⟦<dyn Probe as Probe>⟧ p.vtable).tally p.value) (λ p. (⟦<dyn Probe as Probe>⟧ p.vtable).test p.value) settings self.old.view kit.old.boxes.items }
         ensures text { OnOk result (text.new.items ≡ text.old.items ++ (reply_by (tests_of (λ p. (⟦<dyn Probe as Probe>⟧ p.vtable).test p.value) kit.old.boxes.items) self.old.view (act_of command.now)).0) }
         ensures view { OnOk result (self.new.view ≡ (reply_by (tests_of (λ p. (⟦<dyn Probe as Probe>⟧ p.vtable).test p.value) kit.old.boxes.items) self.old.view (act_of command.now)).1) }
         ensures next { IfOk result (λ next. next ≡ (if does_quit (act_of command.now) then answers.Quit else answers.Go)) }
@@ -184,7 +183,8 @@ impl Core {
         ensures same { OnErr result (IsEither self.new.view self.old.view (reply_by (tests_of (λ p. (⟦<dyn Probe as Probe>⟧ p.vtable).test p.value) kit.old.boxes.items) self.old.view (act_of command.now)).1) }
         ensures within { self.new.view.group.position ≤ end_in self.old.view.group }
         ensures refused { (code : ℕ) → refusal_by (tests_of (λ p. (⟦<dyn Probe as Probe>⟧ p.vtable).test p.value) kit.old.boxes.items) self.old.view (act_of command.now) ≡ Some code → (self.new ≡ self.old) × (kit.new.boxes.items ≡ kit.old.boxes.items) }
-        ensures kit { IsKitOf (λ p. (⟦<dyn Probe as Probe>⟧ p.vtable).tally p.value) (λ p. (⟦<dyn Probe as Probe>⟧ p.vtable).test p.value) settings self.new.view kit.new.boxes.items }
+        ensures kit { (settings : Settings) → IsKitOf (λ p. (⟦<dyn Probe as Probe>⟧ p.vtable).tally p.value) (λ p. (⟦<dyn Probe as Probe>⟧ p.vtable).test p.value) settings self.old.view kit.old.boxes.items
+            → IsKitOf (λ p. (⟦<dyn Probe as Probe>⟧ p.vtable).tally p.value) (λ p. (⟦<dyn Probe as Probe>⟧ p.vtable).test p.value) settings self.new.view kit.new.boxes.items }
         ensures counted { steps.old ≤ steps.new }
         ensures cost { steps.new ≤ steps.old + act_cost (tests_of (λ p. (⟦<dyn Probe as Probe>⟧ p.vtable).test p.value) kit.old.boxes.items) self.old.kept self.old.view (act_of command.now) }
     {
@@ -421,6 +421,8 @@ impl Core {
 pub struct Session {
     pub kit: Kit,
     pub core: Core,
+    /// Nothing: it names the type of the kit's boxes, so that what is promised of a session can speak of their tallies.
+    pub of: PhantomData<Box<dyn Probe>>,
 }
 
 impl Session {
@@ -436,10 +438,13 @@ impl Session {
         ensures core { IfOk result (λ s. s.core ≡ first_viewing group) }
         ensures kit { IfOk result (λ s. s.kit.boxes.items ≡ map Some probes.items) }
         ensures follows { IfOk result (λ s. IsKitOf (λ p. tally p) (λ p. test p) (map (λ p. Some (test p)) probes.items) s.core.view s.kit.boxes.items) }
+        ensures tests { IfOk result (λ s. tests_of (λ p. test p) s.kit.boxes.items ≡ map (λ p. Some (test p)) probes.items) }
+        ensures own { IfOk result (λ s. IsKitOf (λ p. tally p) (λ p. test p) (tests_of (λ p. test p) s.kit.boxes.items) s.core.view s.kit.boxes.items) }
     {
         Ok(Session {
             kit: Kit::new(alloc, probes)?,
             core: Core::open(alloc, group)?,
+            of: PhantomData,
         })
     }
 
@@ -457,22 +462,22 @@ impl Session {
         out: &mut Vec<u8>,
         steps: &mut Steps<L>,
     ) -> Result<Next, NoMemory>
-        ghost settings: { Settings }
-        requires { IsKitOf (λ p. (⟦<dyn Probe as Probe>⟧ p.vtable).tally p.value) (λ p. (⟦<dyn Probe as Probe>⟧ p.vtable).test p.value) settings self.old.core.view self.old.kit.boxes.items }
-        ensures text { OnOk result (out.new.items ≡ out.old.items ++ (reply settings self.old.core.view line.now).0) }
-        ensures view { OnOk result (self.new.core.view ≡ (reply settings self.old.core.view line.now).1) }
+        requires { (settings : Settings) × IsKitOf (λ p. (⟦<dyn Probe as Probe>⟧ p.vtable).tally p.value) (λ p. (⟦<dyn Probe as Probe>⟧ p.vtable).test p.value) settings self.old.core.view self.old.kit.boxes.items }
+        ensures text { OnOk result (out.new.items ≡ out.old.items ++ (line_reply (tests_of (λ p. (⟦<dyn Probe as Probe>⟧ p.vtable).test p.value) self.old.kit.boxes.items) self.old.core.view line.now).0) }
+        ensures view { OnOk result (self.new.core.view ≡ (line_reply (tests_of (λ p. (⟦<dyn Probe as Probe>⟧ p.vtable).test p.value) self.old.kit.boxes.items) self.old.core.view line.now).1) }
         ensures next { IfOk result (λ next. next ≡ (if is_quit line.now then answers.Quit else answers.Go)) }
-        ensures front { OnErr result ((text : List ℕ) × (out.new.items ≡ out.old.items ++ text) × IsPrefixOf text (reply settings self.old.core.view line.now).0) }
+        ensures front { OnErr result ((text : List ℕ) × (out.new.items ≡ out.old.items ++ text) × IsPrefixOf text (line_reply (tests_of (λ p. (⟦<dyn Probe as Probe>⟧ p.vtable).test p.value) self.old.kit.boxes.items) self.old.core.view line.now).0) }
         ensures group { self.new.core.view.group ≡ group_at self.new.core.view.group.position self.old.core.view.group }
         ensures limit { self.new.core.limit ≡ self.old.core.limit }
         ensures kept { self.new.core.kept ≤ max self.old.core.kept (window_in (undoing_in self.new.core)) }
-        ensures same { IsEither self.new.core.view self.old.core.view (reply settings self.old.core.view line.now).1 }
+        ensures same { IsEither self.new.core.view self.old.core.view (line_reply (tests_of (λ p. (⟦<dyn Probe as Probe>⟧ p.vtable).test p.value) self.old.kit.boxes.items) self.old.core.view line.now).1 }
         ensures within { self.new.core.view.group.position ≤ end_in self.old.core.view.group }
-        ensures refused { (code : ℕ) → IsRefused settings self.old.core.view line.now code
+        ensures refused { (code : ℕ) → line_refusal (tests_of (λ p. (⟦<dyn Probe as Probe>⟧ p.vtable).test p.value) self.old.kit.boxes.items) self.old.core.view line.now ≡ Some code
             → (self.new.core ≡ self.old.core) × (self.new.kit.boxes.items ≡ self.old.kit.boxes.items) × OnOk result (out.new.items ≡ out.old.items ++ refusal_line code) }
-        ensures follows { IsKitOf (λ p. (⟦<dyn Probe as Probe>⟧ p.vtable).tally p.value) (λ p. (⟦<dyn Probe as Probe>⟧ p.vtable).test p.value) settings self.new.core.view self.new.kit.boxes.items }
+        ensures follows { (settings : Settings) → IsKitOf (λ p. (⟦<dyn Probe as Probe>⟧ p.vtable).tally p.value) (λ p. (⟦<dyn Probe as Probe>⟧ p.vtable).test p.value) settings self.old.core.view self.old.kit.boxes.items
+            → IsKitOf (λ p. (⟦<dyn Probe as Probe>⟧ p.vtable).tally p.value) (λ p. (⟦<dyn Probe as Probe>⟧ p.vtable).test p.value) settings self.new.core.view self.new.kit.boxes.items }
         ensures counted { steps.old ≤ steps.new }
-        ensures cost { steps.new ≤ steps.old + line_cost settings self.old.core.kept self.old.core.view line.now }
+        ensures cost { steps.new ≤ steps.old + cost_by (tests_of (λ p. (⟦<dyn Probe as Probe>⟧ p.vtable).test p.value) self.old.kit.boxes.items) self.old.core.kept self.old.core.view line.now }
     {
         self.core.command(&mut self.kit, line, out, steps)
     }

@@ -10,6 +10,9 @@ invariant-up g l = record {
   until : l.group.group.position ≤ max l.fn.group.group.position l.target;
   counted : l.steps ≡ l.fn.steps + (l.group.group.position - l.fn.group.group.position);
   kept : l.group.kept ≤ max l.fn.group.kept (window_in l.group);
+  suits : g.H.Hits.suits l.hits l.fn.group.group.program;
+  tests : g.H.Hits.tests l.hits ≡ g.H.Hits.tests l.fn.hits;
+  follows : g.H.Hits.follows l.hits l.group.group;
 }
 
 abbrev pub decreases-up : goal.decreases-up

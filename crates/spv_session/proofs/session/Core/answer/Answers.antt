@@ -1,0 +1,58 @@
+use Rattle.spv_session.proofs.ProbeLemmas.{kit_same}
+use Rattle.spv_session.proofs.session.Core.answer.Goals as goal
+
+pub returns-in_err-look_at-in-Ok-Focus-clause-kit : goal.returns-in_err-look_at-in-Ok-Focus-clause-kit
+returns-in_err-look_at-in-Ok-Focus-clause-kit g c = λ settings kit.
+    kit_same (λ b. (goal.Probe-dyn g (b.vtable, b.value)).tally b.value) (λ b. (goal.Probe-dyn g (b.vtable, b.value)).test b.value) settings c.args.self.now.view c.look_at.new.self.view c.args.kit.now.boxes.items c.look_at.ensures.group c.look_at.ensures.dropped kit
+
+pub returns-in_ok-look_at-in-Ok-Focus-clause-kit : goal.returns-in_ok-look_at-in-Ok-Focus-clause-kit
+returns-in_ok-look_at-in-Ok-Focus-clause-kit g c = λ settings kit.
+    kit_same (λ b. (goal.Probe-dyn g (b.vtable, b.value)).tally b.value) (λ b. (goal.Probe-dyn g (b.vtable, b.value)).test b.value) settings c.args.self.now.view c.look_at.new.self.view c.args.kit.now.boxes.items c.look_at.ensures.group c.look_at.ensures.dropped kit
+
+pub returns-in_err-select-in-Ok-Frame-clause-kit : goal.returns-in_err-select-in-Ok-Frame-clause-kit
+returns-in_err-select-in-Ok-Frame-clause-kit g c = λ settings kit.
+    kit_same (λ b. (goal.Probe-dyn g (b.vtable, b.value)).tally b.value) (λ b. (goal.Probe-dyn g (b.vtable, b.value)).test b.value) settings c.args.self.now.view c.select.new.self.view c.args.kit.now.boxes.items c.select.ensures.group c.select.ensures.dropped kit
+
+pub returns-in_ok-select-in-Ok-Frame-clause-kit : goal.returns-in_ok-select-in-Ok-Frame-clause-kit
+returns-in_ok-select-in-Ok-Frame-clause-kit g c = λ settings kit.
+    kit_same (λ b. (goal.Probe-dyn g (b.vtable, b.value)).tally b.value) (λ b. (goal.Probe-dyn g (b.vtable, b.value)).test b.value) settings c.args.self.now.view c.select.new.self.view c.args.kit.now.boxes.items c.select.ensures.group c.select.ensures.dropped kit
+
+pub returns-in_err-add_break-in-Ok-Break-clause-kit : goal.returns-in_err-add_break-in-Ok-Break-clause-kit
+returns-in_err-add_break-in-Ok-Break-clause-kit g c = λ settings kit.
+    kit_same (λ b. (goal.Probe-dyn g (b.vtable, b.value)).tally b.value) (λ b. (goal.Probe-dyn g (b.vtable, b.value)).test b.value) settings c.args.self.now.view c.add_break.new.self.view c.args.kit.now.boxes.items c.add_break.ensures.group c.add_break.ensures.dropped kit
+
+pub returns-in_ok-add_break-in-Ok-Break-clause-kit : goal.returns-in_ok-add_break-in-Ok-Break-clause-kit
+returns-in_ok-add_break-in-Ok-Break-clause-kit g c = λ settings kit.
+    kit_same (λ b. (goal.Probe-dyn g (b.vtable, b.value)).tally b.value) (λ b. (goal.Probe-dyn g (b.vtable, b.value)).test b.value) settings c.args.self.now.view c.add_break.new.self.view c.args.kit.now.boxes.items c.add_break.ensures.group c.add_break.ensures.dropped kit
+
+pub returns-in_err-delete_break-in-Ok-Delete-clause-kit : goal.returns-in_err-delete_break-in-Ok-Delete-clause-kit
+returns-in_err-delete_break-in-Ok-Delete-clause-kit g c = λ settings kit.
+    kit_same (λ b. (goal.Probe-dyn g (b.vtable, b.value)).tally b.value) (λ b. (goal.Probe-dyn g (b.vtable, b.value)).test b.value) settings c.args.self.now.view c.delete_break.new.self.view c.args.kit.now.boxes.items c.delete_break.ensures.group c.delete_break.ensures.dropped kit
+
+pub returns-in_ok-delete_break-in-Ok-Delete-clause-kit : goal.returns-in_ok-delete_break-in-Ok-Delete-clause-kit
+returns-in_ok-delete_break-in-Ok-Delete-clause-kit g c = λ settings kit.
+    kit_same (λ b. (goal.Probe-dyn g (b.vtable, b.value)).tally b.value) (λ b. (goal.Probe-dyn g (b.vtable, b.value)).test b.value) settings c.args.self.now.view c.delete_break.new.self.view c.args.kit.now.boxes.items c.delete_break.ensures.group c.delete_break.ensures.dropped kit
+
+pub returns-in_err-add_watch-in-Ok-Watch-clause-kit : goal.returns-in_err-add_watch-in-Ok-Watch-clause-kit
+returns-in_err-add_watch-in-Ok-Watch-clause-kit g c = λ settings kit.
+    kit_same (λ b. (goal.Probe-dyn g (b.vtable, b.value)).tally b.value) (λ b. (goal.Probe-dyn g (b.vtable, b.value)).test b.value) settings c.args.self.now.view c.add_watch.new.self.view c.args.kit.now.boxes.items c.add_watch.ensures.group c.add_watch.ensures.dropped kit
+
+pub returns-in_ok-add_watch-in-Ok-Watch-clause-kit : goal.returns-in_ok-add_watch-in-Ok-Watch-clause-kit
+returns-in_ok-add_watch-in-Ok-Watch-clause-kit g c = λ settings kit.
+    kit_same (λ b. (goal.Probe-dyn g (b.vtable, b.value)).tally b.value) (λ b. (goal.Probe-dyn g (b.vtable, b.value)).test b.value) settings c.args.self.now.view c.add_watch.new.self.view c.args.kit.now.boxes.items c.add_watch.ensures.group c.add_watch.ensures.dropped kit
+
+pub returns-in_err-delete_watch-in-Ok-Unwatch-clause-kit : goal.returns-in_err-delete_watch-in-Ok-Unwatch-clause-kit
+returns-in_err-delete_watch-in-Ok-Unwatch-clause-kit g c = λ settings kit.
+    kit_same (λ b. (goal.Probe-dyn g (b.vtable, b.value)).tally b.value) (λ b. (goal.Probe-dyn g (b.vtable, b.value)).test b.value) settings c.args.self.now.view c.delete_watch.new.self.view c.args.kit.now.boxes.items c.delete_watch.ensures.group c.delete_watch.ensures.dropped kit
+
+pub returns-in_ok-delete_watch-in-Ok-Unwatch-clause-kit : goal.returns-in_ok-delete_watch-in-Ok-Unwatch-clause-kit
+returns-in_ok-delete_watch-in-Ok-Unwatch-clause-kit g c = λ settings kit.
+    kit_same (λ b. (goal.Probe-dyn g (b.vtable, b.value)).tally b.value) (λ b. (goal.Probe-dyn g (b.vtable, b.value)).test b.value) settings c.args.self.now.view c.delete_watch.new.self.view c.args.kit.now.boxes.items c.delete_watch.ensures.group c.delete_watch.ensures.dropped kit
+
+pub returns-in_err-set_halt-in-Ok-Halt-clause-kit : goal.returns-in_err-set_halt-in-Ok-Halt-clause-kit
+returns-in_err-set_halt-in-Ok-Halt-clause-kit g c = λ settings kit.
+    kit_same (λ b. (goal.Probe-dyn g (b.vtable, b.value)).tally b.value) (λ b. (goal.Probe-dyn g (b.vtable, b.value)).test b.value) settings c.args.self.now.view c.set_halt.new.self.view c.args.kit.now.boxes.items c.set_halt.ensures.group c.set_halt.ensures.dropped kit
+
+pub returns-in_ok-set_halt-in-Ok-Halt-clause-kit : goal.returns-in_ok-set_halt-in-Ok-Halt-clause-kit
+returns-in_ok-set_halt-in-Ok-Halt-clause-kit g c = λ settings kit.
+    kit_same (λ b. (goal.Probe-dyn g (b.vtable, b.value)).tally b.value) (λ b. (goal.Probe-dyn g (b.vtable, b.value)).test b.value) settings c.args.self.now.view c.set_halt.new.self.view c.args.kit.now.boxes.items c.set_halt.ensures.group c.set_halt.ensures.dropped kit
