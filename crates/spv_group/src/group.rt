@@ -1,5 +1,5 @@
 //! A run of a module that goes forth and back along its schedule.
-ghost use Rattle.std.specs.Prelude.{◌≡◌, ◌≤◌, ◌<◌, ◌-◌, ◌+◌, ◌++◌, List, Some, Ok, IfOk, IfSome, IsOk, OnOk, OnErr, length};
+ghost use Rattle.std.specs.Prelude.{◌≡◌, ◌≤◌, ◌<◌, ◌-◌, ◌+◌, ◌++◌, List, Some, Ok, IfOk, IfSome, IsOk, OnOk, OnErr, length, slice_get};
 ghost use Rattle.spv_base.specs.declared.happenings.Happening.{Happening as AnyHappening};
 ghost use Rattle.spv_journal.specs.Events.{size};
 ghost use Rattle.spv_state.specs.Program.{schedule_for};
@@ -160,6 +160,15 @@ impl Group {
         ensures some { 0 < result }
     {
         self.module.accepted().invocations()
+    }
+
+    /// The invocation of the next event; none where the schedule ends here.
+    pub fn next(&self) -> Option<u32>
+        ensures entry { result ≡ slice_get (entries_in self.now.group) self.now.group.position }
+        ensures exists { IfSome result (λ i. i < invocations_in self.now.group) }
+    {
+        runs_start_with_all();
+        self.schedule.at(self.run.position)
     }
 
     /// The state at the position. Its journal keeps the events from the least position that is kept on, and not more than the limit.
