@@ -2,7 +2,7 @@
 """Measures how many events a second a run makes, forward and back, outside the gate.
 
     bench/steps.py             prints the rows of docs/BENCH.md's tables on events
-    bench/steps.py forward     those of one table alone: forward, invocations, entries, back or again
+    bench/steps.py forward     those of one table alone: forward, invocations, entries, back, again or probes
 
 The environment's SPVDBG names the program, else it is that of crates/spvdbg. Times are of the processor, user and system
 together, as the system tells them of the ended process, so that other work on the machine counts as little as can be. Each is
@@ -198,7 +198,40 @@ def again():
         print("| %s | %s | %.2f s | %.2f s |" % (name, format(ENTRIES, ","), way - start, both - way))
 
 
-TABLES = {"forward": forward, "invocations": invocations, "entries": entries, "back": back, "again": again}
+def instructions(calls, commands):
+    """Instructions of the processor as callgrind counts them, the same at every call."""
+    words = ["valgrind", "--tool=callgrind", "--callgrind-out-file=/dev/null"] + calls.words
+    return int(calls.started(words, commands).communicate()[1].split("Collected : ")[1].split()[0])
+
+
+def of_length(calls, rounds, buffers=""):
+    """The same calls, under a setup whose entries end after so many rounds."""
+    with open(os.path.join(calls.folder, "setup"), "w") as file:
+        file.write("spvdbg-setup 1\n%srounds %d\n" % (buffers, rounds))
+    return calls
+
+
+def looped(kind, rounds):
+    """A shader of two invocations with its lines, whose loop goes on for as many turns as the first words of its buffer say."""
+    with open(os.path.join(TOP, "bench", "traces", "trace-loops-%s.spv" % kind), "rb") as file:
+        return of_length(called(file.read()), rounds, "buffer 0 0 hex %s\n" % ("ffffffff" * 2 + "00000000" * 14))
+
+
+def probes(events=64_000, early=640):
+    """`continue` to the end of so many events, with the three probes of the program and with none."""
+    print("| run | instructions an event without a probe | with three | speed that is left |\n|---|---|---|---|")
+    rows = [("1 KiB of a mixture", of_length(called(mixed(1 << 10)), events)), ("64 invocations with barriers", of_length(called(with_barriers(64), 64), events // 64))]
+    rows += [("loops.comp with its lines", looped("gVS", events // 2)), ("the same, optimized", looped("gVS-opt", events // 2))]
+    for name, calls in rows:
+        counts = []
+        for dropped in ("drop 1\ndrop 2\ndrop 3\n", ""):
+            there, whole = (instructions(calls, dropped + "goto %d\n" % early + more) for more in ("", "continue\n"))
+            counts.append((whole - there) / (events - early))
+        without, three = counts
+        print("| %s | %.0f | %.0f | %.2f |" % (name, without, three, without / three))
+
+
+TABLES = {"forward": forward, "invocations": invocations, "entries": entries, "back": back, "again": again, "probes": probes}
 
 
 def main():

@@ -9,3 +9,4 @@ mod StopLemmas
 mod AgainLemmas
 mod FoundLemmas
 mod SearchLemmas
+mod PastLemmas

@@ -21,8 +21,8 @@ pub record IsEvent (a : Accepted) (h : Happening) (g : Group) : Type 0 where
   pub most : g.position ≤ 4194304
 
 -- the events of a run of the module from the position of a group on, so many
-pub record IsPast (a : Accepted) (events : List Happening) (g : Group) : Type 0 where
+pub record IsPast (a : Accepted) (happened : List Happening) (g : Group) : Type 0 where
   pub accepted : a ≡ g.program.accepted
-  pub events : events ≡ happenings_between g.program (entries_in g) g.position (g.position + length events)
-  pub within : g.position + length events ≤ end_in g
-  pub most : g.position + length events ≤ 4194304
+  pub events : happened ≡ happenings_between g.program (entries_in g) g.position (g.position + length happened)
+  pub within : g.position + length happened ≤ end_in g
+  pub most : g.position + length happened ≤ 4194304

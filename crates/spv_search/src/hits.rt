@@ -1,5 +1,5 @@
 //! What searches stop at beside what their commands ask for.
-ghost use Rattle.std.specs.Prelude.{◌≡◌, ◌<◌, ◌+◌, ◌-◌, ◌||◌, ℕ, List, [], Bool, Some, IfOk, OnOk, if◌then◌else◌, false};
+ghost use Rattle.std.specs.Prelude.{◌≡◌, ◌<◌, ◌+◌, ◌-◌, ◌||◌, ℕ, List, [], Bool, Option, Some, IfOk, OnOk, if◌then◌else◌, false};
 ghost use Rattle.spv_group.specs.Group.{Held, entries_in, group_at};
 ghost use Rattle.spv_group.specs.Run.{happening_at, happening_before};
 ghost use Rattle.spv_search.specs.Told.{IsEvent, Test, has_probe};

@@ -72,7 +72,7 @@ returns-in_err-event-clause-cost g c =
     let there : c.target_before.new.group.group.position ≡ now.group.position = c.in_ok-target.ensures.position in
     let told = has_probe (g.H.Hits.tests c.args.hits.now) in
     let takes = led_takes told _ _ now.group.position c.target_before.new.group.group.position from.kept c.in_ok-target.target.position c.args.steps.now c.search_kept.new.steps c.target_before.new.steps c.lead_to.new.steps
-        (ap has_probe c.in_ok-stopped.ensures.tests) (ap has_probe (c.in_ok-target.ensures.tests ∙ c.in_ok-stopped.ensures.tests)) here there (omega (arith, target, before, here)) first c.in_ok-target.ensures.cost c.in_err-event.ensures.cost in
+    (ap has_probe c.in_ok-stopped.ensures.tests) (ap has_probe (c.in_ok-target.ensures.tests ∙ c.in_ok-stopped.ensures.tests)) here there (omega (arith, target, before, here)) first c.in_ok-target.ensures.cost c.in_err-event.ensures.cost in
     again_costs told from.kept (greatest_of test 0 p) c.args.steps.now c.lead_to.new.steps some (omega (arith, before, here)) takes
 
 pub returns-clause-cost : goal.returns-clause-cost
@@ -97,7 +97,7 @@ returns-clause-cost g c =
     let there : c.target_before.new.group.group.position ≡ now.group.position = c.in_ok-target.ensures.position in
     let told = has_probe (g.H.Hits.tests c.args.hits.now) in
     let takes = led_takes told _ _ now.group.position c.target_before.new.group.group.position from.kept c.in_ok-target.target.position c.args.steps.now c.search_kept.new.steps c.target_before.new.steps c.lead_to.new.steps
-        (ap has_probe c.in_ok-stopped.ensures.tests) (ap has_probe (c.in_ok-target.ensures.tests ∙ c.in_ok-stopped.ensures.tests)) here there (omega (arith, target, before, here)) first c.in_ok-target.ensures.cost c.in_ok-event.ensures.cost in
+    (ap has_probe c.in_ok-stopped.ensures.tests) (ap has_probe (c.in_ok-target.ensures.tests ∙ c.in_ok-stopped.ensures.tests)) here there (omega (arith, target, before, here)) first c.in_ok-target.ensures.cost c.in_ok-event.ensures.cost in
     again_costs told from.kept (greatest_of test 0 p) c.args.steps.now c.lead_to.new.steps some (omega (arith, before, here)) takes
 
 pub returns-clause-target : goal.returns-clause-target
