@@ -1,5 +1,5 @@
 //! What answers lines of input.
-ghost use Rattle.std.specs.Prelude.{◌≡◌, ◌≤◌, ◌+◌, ◌++◌, List, ℕ, IfOk, OnOk, max, if◌then◌else◌};
+ghost use Rattle.std.specs.Prelude.{◌≡◌, ◌≤◌, ◌+◌, ◌++◌, IfOk, OnOk, max, if◌then◌else◌};
 ghost use Rattle.spv_group.specs.Group.{group_at, window_in};
 ghost use Rattle.spv_probe.specs.Kits.{tests_of};
 ghost use Rattle.spv_session.specs.Costs.{line_cost};
