@@ -1,6 +1,6 @@
 -- Sessions that are opened over a pair.
-use Rattle.std.proofs.Common.{◌≡◌, ◌∙◌, ℕ, Result, Ok, Err, refl, ap, sym, subst}
-use Rattle.spv_loop.specs.Sessions.{Held as Group, Undoing, Viewing, first_viewing}
+use Rattle.std.proofs.Common.{◌≡◌, ◌∙◌, ℕ, List, [], map, Result, Ok, Err, refl, ap, sym, subst}
+use Rattle.spv_loop.specs.Sessions.{Held as Group, Settings, Undoing, Viewing, first_viewing, line_cost, reply}
 use Rattle.spv_app.specs.declared.opening.OpeningRefusal.{OpeningRefusal}
 use Rattle.spv_loop.specs.declared.status.Status.{Status}
 use Rattle.spv_loop.specs.CommandLoop.{Ran}
@@ -29,3 +29,11 @@ refused_is n (Err y) x e = let same : y ≡ x = cc in ap Err same
 -- a run of the command loop from what is the same
 pub ran_as : (reply : Reply) (cost : Cost) (start at : Viewing) (before after : Streams) (status : Status) → at ≡ start → Ran reply cost at before after status → Ran reply cost start before after status
 ran_as reply cost start at before after status e ran = subst (λ (s : Viewing). Ran reply cost s before after status) e ran
+
+-- and by what are the same settings
+pub ran_by : (settings tests : Settings) (start : Viewing) (before after : Streams) (status : Status) → tests ≡ settings → Ran (reply tests) (line_cost tests) start before after status → Ran (reply settings) (line_cost settings) start before after status
+ran_by settings tests start before after status e ran = subst (λ (s : Settings). Ran (reply s) (line_cost s) start before after status) e ran
+
+-- of no probes there are no tests
+pub none_tested : {A B : Type 0} (f : A → B) (xs : List A) (ys : List B) → ys ≡ map f xs → xs ≡ [] → ys ≡ []
+none_tested f xs ys e none = e ∙ ap (map f) none

@@ -6,7 +6,7 @@ ghost use Rattle.spv_valid.specs.Validity.{IsValid};
 ghost use Rattle.spv_valid.specs.Acceptance.{invocations};
 ghost use Rattle.spv_app.specs.Limits.{setup_limit};
 ghost use Rattle.spv_app.specs.Opening.{opening, accepted_in, journaled, started, of_setup, of_module, viewed};
-ghost use Rattle.spv_loop.specs.Sessions.{IsKitOf};
+ghost use Rattle.spv_loop.specs.Sessions.{IsKitOf, tests_of};
 ghost use Rattle.spv_ops.specs.Steps.{seen};
 ghost use Rattle.spv_state.specs.Program.{schedule_for};
 
@@ -179,7 +179,8 @@ pub fn open_session(
     requires few { vec_len kit ≤ 16 }
     requires unused { All (λ p. tally p ≡ 0) kit.items }
     ensures due { Answers (viewed 1048576 (opening binary.items setup.items)) (seen (λ session. session.core) result) }
-    ensures kit { IfOk result (λ session. IsKitOf (λ p. tally p) (λ p. test p) (map (λ p. Some (test p)) kit.items) session.core.view session.kit.boxes.items) }
+    ensures tests { IfOk result (λ session. tests_of (λ p. test p) session.kit.boxes.items ≡ map (λ p. Some (test p)) kit.items) }
+    ensures kit { IfOk result (λ session. IsKitOf (λ p. tally p) (λ p. test p) (tests_of (λ p. test p) session.kit.boxes.items) session.core.view session.kit.boxes.items) }
 {
     let group = open(alloc, binary, setup)?;
     Ok(Session::open(alloc, group, kit)?)

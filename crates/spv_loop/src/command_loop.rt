@@ -3,7 +3,7 @@ ghost use Rattle.std.specs.Prelude.{◌≡◌, ◌↔◌, ◌<◌, ◌≤◌, �
 ghost use Rattle.std.specs.Io.KnownBytes.{Appends, Consumes, Keeps, IsAtEnd};
 ghost use Rattle.spv_base.specs.Outside.{CountsFault};
 ghost use Rattle.spv_session.specs.Costs.{line_cost};
-ghost use Rattle.spv_session.specs.View.{IsKitOf, Settings};
+ghost use Rattle.spv_session.specs.View.{Settings};
 ghost use Rattle.spv_session.specs.Reply.{reply};
 ghost use Rattle.spv_loop.specs.Lines.{last_line};
 ghost use Rattle.spv_loop.specs.Transcript.{transcript, replies, Spends};
@@ -15,8 +15,8 @@ ghost use Rattle.spv_loop.specs.Stops.{StopSays, StopCounts};
 use crate::answer::{answer, answer_piece};
 use crate::limits::INPUT_LIMIT;
 use crate::status::{Status, Stop};
-use spv_base::{Failed, Probe, Sink, Source, Steps};
-use spv_session::{Next, Session};
+use spv_base::{Failed, Sink, Source, Steps};
+use spv_session::{Debugger, Next};
 use std::alloc::Global;
 use std::sync::ledger::Ledger;
 
@@ -41,25 +41,25 @@ fn read_piece<I: Source>(input: &mut I, buf: &mut [u8; PIECE], room: usize) -> R
 }
 
 /// Answers a last line without LF.
-fn answer_last<K: Sink, L: Ledger>(
+fn answer_last<S: Debugger, K: Sink, L: Ledger>(
     alloc: Global,
-    session: &mut Session,
+    session: &mut S,
     line: &[u8],
     out: &mut K,
     steps: &mut Steps<L>,
 ) -> Result<(), Stop>
     ghost settings: { Settings }
     requires out { K.faults out.old < 2 ^ 64 - 1 }
-    requires kit { IsKitOf (λ p. (⟦<dyn Probe as Probe>⟧ p.vtable).tally p.value) (λ p. (⟦<dyn Probe as Probe>⟧ p.vtable).test p.value) settings session.old.core.view session.old.kit.boxes.items }
-    ensures written { OnOk result (Appends (K.taken out.old) (K.taken out.new) (transcript (reply settings) session.old.core.view (last_line line.now))) }
-    ensures offers { MatchResult result (λ _. OffersAll (replies (reply settings) session.old.core.view (last_line line.now)) (K.offers out.old) (K.offers out.new))
-        (λ _. OffersFirst (replies (reply settings) session.old.core.view (last_line line.now)) (K.offers out.old) (K.offers out.new)) }
+    requires kit { S.follows settings session.old }
+    ensures written { OnOk result (Appends (K.taken out.old) (K.taken out.new) (transcript (reply settings) (S.viewing session.old).view (last_line line.now))) }
+    ensures offers { MatchResult result (λ _. OffersAll (replies (reply settings) (S.viewing session.old).view (last_line line.now)) (K.offers out.old) (K.offers out.new))
+        (λ _. OffersFirst (replies (reply settings) (S.viewing session.old).view (last_line line.now)) (K.offers out.old) (K.offers out.new)) }
     ensures stop { IfErr result (λ stop. (put : List ℕ) × Appends (K.taken out.old) (K.taken out.new) put
-        × StopSays stop put (transcript (reply settings) session.old.core.view (last_line line.now))) }
+        × StopSays stop put (transcript (reply settings) (S.viewing session.old).view (last_line line.now))) }
     ensures count { MatchResult result (λ _. K.faults out.new ≡ K.faults out.old) (λ stop. StopCounts stop (K.faults out.old) (K.faults out.new)) }
-    ensures kit { IsKitOf (λ p. (⟦<dyn Probe as Probe>⟧ p.vtable).tally p.value) (λ p. (⟦<dyn Probe as Probe>⟧ p.vtable).test p.value) settings session.new.core.view session.new.kit.boxes.items }
+    ensures kit { S.follows settings session.new }
     ensures counted { steps.old ≤ steps.new }
-    ensures cost { Spends (reply settings) (line_cost settings) session.old.core (last_line line.now) steps.old steps.new }
+    ensures cost { Spends (reply settings) (line_cost settings) (S.viewing session.old) (last_line line.now) steps.old steps.new }
 {
     if line.is_empty() {
         return Ok(());
@@ -68,10 +68,10 @@ fn answer_last<K: Sink, L: Ledger>(
     Ok(())
 }
 
-/// Takes lines from the input and answers each, to the input's end or to `quit`.
-pub fn run<I: Source, K: Sink, L: Ledger>(
+/// Takes lines from the input and answers each, by the settings that the probes were handed in with.
+fn answer_input<S: Debugger, I: Source, K: Sink, L: Ledger>(
     alloc: Global,
-    session: &mut Session,
+    session: &mut S,
     input: &mut I,
     out: &mut K,
     steps: &mut Steps<L>,
@@ -79,12 +79,12 @@ pub fn run<I: Source, K: Sink, L: Ledger>(
     ghost settings: { Settings }
     requires input { I.faults input.old < 2 ^ 64 - 1 }
     requires out { K.faults out.old < 2 ^ 64 - 1 }
-    requires kit { IsKitOf (λ p. (⟦<dyn Probe as Probe>⟧ p.vtable).tally p.value) (λ p. (⟦<dyn Probe as Probe>⟧ p.vtable).test p.value) settings session.old.core.view session.old.kit.boxes.items }
-    ensures ran { Ran (reply settings) (line_cost settings) session.old.core (record { left = I.left input.old; held = K.taken out.old; offers = K.offers out.old; steps = steps.old })
+    requires kit { S.follows settings session.old }
+    ensures ran { Ran (reply settings) (line_cost settings) (S.viewing session.old) (record { left = I.left input.old; held = K.taken out.old; offers = K.offers out.old; steps = steps.old })
         (record { left = I.left input.new; held = K.taken out.new; offers = K.offers out.new; steps = steps.new }) result }
     ensures read_fault { (result ≡ Status.ReadFault) ↔ (I.faults input.old < I.faults input.new) }
     ensures write_fault { (result ≡ Status.WriteFault) ↔ (K.faults out.old < K.faults out.new) }
-    ensures kit { IsKitOf (λ p. (⟦<dyn Probe as Probe>⟧ p.vtable).tally p.value) (λ p. (⟦<dyn Probe as Probe>⟧ p.vtable).test p.value) settings session.new.core.view session.new.kit.boxes.items }
+    ensures kit { S.follows settings session.new }
     ensures reads_counted { I.faults input.old ≤ I.faults input.new }
     ensures writes_counted { K.faults out.old ≤ K.faults out.new }
     // The input isn't read again once its end was told.
@@ -114,4 +114,29 @@ pub fn run<I: Source, K: Sink, L: Ledger>(
             Err(stop) => return Status::from(stop),
         }
     }
+}
+
+/// Takes lines from the input and answers each, to the input's end or to `quit`. The settings of the probes are the tests of those
+/// that are there at first.
+pub fn run<S: Debugger, I: Source, K: Sink, L: Ledger>(
+    alloc: Global,
+    session: &mut S,
+    input: &mut I,
+    out: &mut K,
+    steps: &mut Steps<L>,
+) -> Status
+    requires input { I.faults input.old < 2 ^ 64 - 1 }
+    requires out { K.faults out.old < 2 ^ 64 - 1 }
+    requires kit { S.follows (S.tests session.old) session.old }
+    ensures ran { Ran (reply (S.tests session.old)) (line_cost (S.tests session.old)) (S.viewing session.old) (record { left = I.left input.old; held = K.taken out.old; offers = K.offers out.old; steps = steps.old })
+        (record { left = I.left input.new; held = K.taken out.new; offers = K.offers out.new; steps = steps.new }) result }
+    ensures read_fault { (result ≡ Status.ReadFault) ↔ (I.faults input.old < I.faults input.new) }
+    ensures write_fault { (result ≡ Status.WriteFault) ↔ (K.faults out.old < K.faults out.new) }
+    ensures kit { S.follows (S.tests session.old) session.new }
+    ensures reads_counted { I.faults input.old ≤ I.faults input.new }
+    ensures writes_counted { K.faults out.old ≤ K.faults out.new }
+    // The input isn't read again once its end was told.
+    ensures ends { I.ends input.new ≤ I.ends input.old + 1 }
+{
+    answer_input(alloc, session, input, out, steps)
 }

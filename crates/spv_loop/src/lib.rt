@@ -9,5 +9,5 @@ pub mod status;
 
 pub use command_loop::run;
 pub use spv_group::{Group, LIMIT};
-pub use spv_session::Session;
+pub use spv_session::{Debugger, Session};
 pub use status::Status;

@@ -8,7 +8,7 @@ use Rattle.spv_loop.proofs.answer.answer_byte.Goals as goal
 
 pub returns-in_err-next-clause-offers : goal.returns-in_err-next-clause-offers
 returns-in_err-next-clause-offers g c =
-    let v = c.args.session.now.core.view in
+    let v = (g.S.Debugger.viewing c.args.session.now).view in
     let line = c.args.line.now.items in
     let due : ℕ → Type 0 = λ b. OffersFirst (replies (reply g.settings) v (ended_by line b)) (g.K.Sink.offers c.args.out.now) (g.K.Sink.offers c.answer.new.out) in
     let here : List ℕ → Type 0 = λ l. OffersFirst (replies (reply g.settings) v (l ∷ [])) (g.K.Sink.offers c.args.out.now) (g.K.Sink.offers c.answer.new.out) in
@@ -17,12 +17,12 @@ returns-in_err-next-clause-offers g c =
 
 pub returns-in_err-push-clause-offers : goal.returns-in_err-push-clause-offers
 returns-in_err-push-clause-offers g c =
-    let due = replies (reply g.settings) c.args.session.now.core.view (ended_by c.args.line.now.items c.args.byte) in
+    let due = replies (reply g.settings) (g.S.Debugger.viewing c.args.session.now).view (ended_by c.args.line.now.items c.args.byte) in
     stops c.from_residual-in_err-push.result _ due (g.K.Sink.offers c.args.out.now) (g.K.Sink.offers c.args.out.now) c.from_residual-in_err-push.ensures.1 (first_none due (g.K.Sink.offers c.args.out.now))
 
 pub returns-then-byte-eq-LF-clause-offers : goal.returns-then-byte-eq-LF-clause-offers
 returns-then-byte-eq-LF-clause-offers g c =
-    let v = c.args.session.now.core.view in
+    let v = (g.S.Debugger.viewing c.args.session.now).view in
     let line = c.args.line.now.items in
     let due : ℕ → Type 0 = λ b. OffersAll (replies (reply g.settings) v (ended_by line b)) (g.K.Sink.offers c.args.out.now) (g.K.Sink.offers c.answer.new.out) in
     let here : List ℕ → Type 0 = λ l. OffersAll (replies (reply g.settings) v (l ∷ [])) (g.K.Sink.offers c.args.out.now) (g.K.Sink.offers c.answer.new.out) in

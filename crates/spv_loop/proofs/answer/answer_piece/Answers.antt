@@ -23,21 +23,22 @@ loop-byte-preserved g c =
     let now : complete_from c.answer_byte.new.line.items bs ≡ later = ap (λ l. complete_from l bs) h.rest in
     let all : complete_from line (drop c.loop-byte.byte-index c.args.piece.now) ≡ ended_by line b ++ later = ap (complete_from line) e in
     record {
+      kit = h.kit;
       written = (
-        inv.written.0 ++ transcript (reply g.settings) c.loop-byte.session.core.view (ended_by line b),
+        inv.written.0 ++ transcript (reply g.settings) (g.S.Debugger.viewing c.loop-byte.session).view (ended_by line b),
         Appends-trans _ _ _ _ _ inv.written.1 h.written,
-        rw (h.view, now) (due_more (reply g.settings) inv.written.0 _ c.loop-byte.session.core.view (ended_by line b) later go (ap (λ l. inv.written.0 ++ transcript (reply g.settings) c.loop-byte.session.core.view l) (sym all) ∙ inv.written.2)),
+        rw (h.view, now) (due_more (reply g.settings) inv.written.0 _ (g.S.Debugger.viewing c.loop-byte.session).view (ended_by line b) later go (ap (λ l. inv.written.0 ++ transcript (reply g.settings) (g.S.Debugger.viewing c.loop-byte.session).view l) (sym all) ∙ inv.written.2)),
       );
       quit = ap has_quit now ∙ sym (quit_more (ended_by line b) later go) ∙ ap has_quit (sym all) ∙ inv.quit;
-      view = rw (h.view, now) (sym (view_more (reply g.settings) c.loop-byte.session.core.view (ended_by line b) later go) ∙ ap (view_after (reply g.settings) c.loop-byte.session.core.view) (sym all) ∙ inv.view);
+      view = rw (h.view, now) (sym (view_more (reply g.settings) (g.S.Debugger.viewing c.loop-byte.session).view (ended_by line b) later go) ∙ ap (view_after (reply g.settings) (g.S.Debugger.viewing c.loop-byte.session).view) (sym all) ∙ inv.view);
       rest = ap (λ l. rest_from l bs) h.rest ∙ ap (rest_from line) (sym e) ∙ inv.rest;
-      offering = subst (λ (ls : List (List ℕ)). IsOffering (reply g.settings) c.args.session.now.core.view c.answer_byte.new.session.core.view (complete_from c.args.line.now.items c.args.piece.now) ls (g.K.Sink.offers c.args.out.now) (g.K.Sink.offers c.answer_byte.new.out)) (sym now)
-          (offering_more (reply g.settings) c.args.session.now.core.view c.loop-byte.session.core.view c.answer_byte.new.session.core.view (complete_from c.args.line.now.items c.args.piece.now) (complete_from line (drop c.loop-byte.byte-index c.args.piece.now)) (ended_by line b) later
+      offering = subst (λ (ls : List (List ℕ)). IsOffering (reply g.settings) (g.S.Debugger.viewing c.args.session.now).view (g.S.Debugger.viewing c.answer_byte.new.session).view (complete_from c.args.line.now.items c.args.piece.now) ls (g.K.Sink.offers c.args.out.now) (g.K.Sink.offers c.answer_byte.new.out)) (sym now)
+          (offering_more (reply g.settings) (g.S.Debugger.viewing c.args.session.now).view (g.S.Debugger.viewing c.loop-byte.session).view (g.S.Debugger.viewing c.answer_byte.new.session).view (complete_from c.args.line.now.items c.args.piece.now) (complete_from line (drop c.loop-byte.byte-index c.args.piece.now)) (ended_by line b) later
           (g.K.Sink.offers c.args.out.now) (g.K.Sink.offers c.loop-byte.out) (g.K.Sink.offers c.answer_byte.new.out) inv.offering all go h.view h.offers);
       count = h.count ∙ inv.count;
       risen = omega (arith, inv.risen, h.counted);
-      spending = subst (λ (ls : List (List ℕ)). IsSpending (reply g.settings) (line_cost g.settings) c.args.session.now.core c.answer_byte.new.session.core (complete_from c.args.line.now.items c.args.piece.now) ls c.args.steps.now c.answer_byte.new.steps) (sym now)
-          (spending_more (reply g.settings) (line_cost g.settings) c.args.session.now.core c.loop-byte.session.core c.answer_byte.new.session.core (complete_from c.args.line.now.items c.args.piece.now) (complete_from line (drop c.loop-byte.byte-index c.args.piece.now)) (ended_by line b) later
+      spending = subst (λ (ls : List (List ℕ)). IsSpending (reply g.settings) (line_cost g.settings) (g.S.Debugger.viewing c.args.session.now) (g.S.Debugger.viewing c.answer_byte.new.session) (complete_from c.args.line.now.items c.args.piece.now) ls c.args.steps.now c.answer_byte.new.steps) (sym now)
+          (spending_more (reply g.settings) (line_cost g.settings) (g.S.Debugger.viewing c.args.session.now) (g.S.Debugger.viewing c.loop-byte.session) (g.S.Debugger.viewing c.answer_byte.new.session) (complete_from c.args.line.now.items c.args.piece.now) (complete_from line (drop c.loop-byte.byte-index c.args.piece.now)) (ended_by line b) later
           c.args.steps.now c.loop-byte.steps c.answer_byte.new.steps inv.spending all go h.view (h.reach (ap Ok c.in-Go.is)) h.cost);
     }
 
@@ -49,8 +50,8 @@ returns-in_err-answer_byte-clause-stop g c =
     let inv = c.loop-byte.invariant in
     let e : drop c.loop-byte.byte-index c.args.piece.now ≡ b ∷ bs = drop_more c.args.piece.now c.loop-byte.byte-index 0 c.loop-byte-test.true in
     hands_on _ _ _ c.from_residual.ensures.1
-    (stop_first (reply g.settings) _ _ _ _ inv.written.0 _ c.loop-byte.session.core.view (ended_by line b) (complete_from (line_after line b) bs) inv.written.1
-    (ap (λ l. inv.written.0 ++ transcript (reply g.settings) c.loop-byte.session.core.view (complete_from line l)) (sym e) ∙ inv.written.2)
+    (stop_first (reply g.settings) _ _ _ _ inv.written.0 _ (g.S.Debugger.viewing c.loop-byte.session).view (ended_by line b) (complete_from (line_after line b) bs) inv.written.1
+    (ap (λ l. inv.written.0 ++ transcript (reply g.settings) (g.S.Debugger.viewing c.loop-byte.session).view (complete_from line l)) (sym e) ∙ inv.written.2)
     c.in_err-answer_byte.ensures.stop)
 
 pub returns-in_err-answer_byte-clause-cost : goal.returns-in_err-answer_byte-clause-cost
@@ -59,7 +60,7 @@ returns-in_err-answer_byte-clause-cost g c =
     let bs = drop (c.loop-byte.byte-index + 1) c.args.piece.now in
     let line = c.loop-byte.line.items in
     let e : drop c.loop-byte.byte-index c.args.piece.now ≡ b ∷ bs = drop_more c.args.piece.now c.loop-byte.byte-index 0 c.loop-byte-test.true in
-    spending_stops (reply g.settings) (line_cost g.settings) c.args.session.now.core c.loop-byte.session.core (complete_from c.args.line.now.items c.args.piece.now) (complete_from line (drop c.loop-byte.byte-index c.args.piece.now)) (ended_by line b) (complete_from (line_after line b) bs)
+    spending_stops (reply g.settings) (line_cost g.settings) (g.S.Debugger.viewing c.args.session.now) (g.S.Debugger.viewing c.loop-byte.session) (complete_from c.args.line.now.items c.args.piece.now) (complete_from line (drop c.loop-byte.byte-index c.args.piece.now)) (ended_by line b) (complete_from (line_after line b) bs)
     c.args.steps.now c.loop-byte.steps c.answer_byte.new.steps c.loop-byte.invariant.spending (ap (complete_from line) e) c.in_err-answer_byte.ensures.cost
 
 pub returns-in-Quit-clause-cost : goal.returns-in-Quit-clause-cost
@@ -68,7 +69,7 @@ returns-in-Quit-clause-cost g c =
     let bs = drop (c.loop-byte.byte-index + 1) c.args.piece.now in
     let line = c.loop-byte.line.items in
     let e : drop c.loop-byte.byte-index c.args.piece.now ≡ b ∷ bs = drop_more c.args.piece.now c.loop-byte.byte-index 0 c.loop-byte-test.true in
-    spending_stops (reply g.settings) (line_cost g.settings) c.args.session.now.core c.loop-byte.session.core (complete_from c.args.line.now.items c.args.piece.now) (complete_from line (drop c.loop-byte.byte-index c.args.piece.now)) (ended_by line b) (complete_from (line_after line b) bs)
+    spending_stops (reply g.settings) (line_cost g.settings) (g.S.Debugger.viewing c.args.session.now) (g.S.Debugger.viewing c.loop-byte.session) (complete_from c.args.line.now.items c.args.piece.now) (complete_from line (drop c.loop-byte.byte-index c.args.piece.now)) (ended_by line b) (complete_from (line_after line b) bs)
     c.args.steps.now c.loop-byte.steps c.answer_byte.new.steps c.loop-byte.invariant.spending (ap (complete_from line) e) c.answer_byte.ensures.cost
 
 pub returns-in_err-answer_byte-clause-offers : goal.returns-in_err-answer_byte-clause-offers
@@ -78,8 +79,8 @@ returns-in_err-answer_byte-clause-offers g c =
     let line = c.loop-byte.line.items in
     let all = complete_from c.args.line.now.items c.args.piece.now in
     let e : drop c.loop-byte.byte-index c.args.piece.now ≡ b ∷ bs = drop_more c.args.piece.now c.loop-byte.byte-index 0 c.loop-byte-test.true in
-    stops c.from_residual.result _ (replies (reply g.settings) c.args.session.now.core.view all) (g.K.Sink.offers c.args.out.now) (g.K.Sink.offers c.answer_byte.new.out) c.from_residual.ensures.1
-    (offering_stops (reply g.settings) c.args.session.now.core.view c.loop-byte.session.core.view all (complete_from line (drop c.loop-byte.byte-index c.args.piece.now)) (ended_by line b) (complete_from (line_after line b) bs)
+    stops c.from_residual.result _ (replies (reply g.settings) (g.S.Debugger.viewing c.args.session.now).view all) (g.K.Sink.offers c.args.out.now) (g.K.Sink.offers c.answer_byte.new.out) c.from_residual.ensures.1
+    (offering_stops (reply g.settings) (g.S.Debugger.viewing c.args.session.now).view (g.S.Debugger.viewing c.loop-byte.session).view all (complete_from line (drop c.loop-byte.byte-index c.args.piece.now)) (ended_by line b) (complete_from (line_after line b) bs)
     (g.K.Sink.offers c.args.out.now) (g.K.Sink.offers c.loop-byte.out) (g.K.Sink.offers c.answer_byte.new.out) c.loop-byte.invariant.offering (ap (complete_from line) e) c.in_err-answer_byte.ensures.offers)
 
 pub returns-in-Quit-clause-offers : goal.returns-in-Quit-clause-offers
@@ -88,7 +89,7 @@ returns-in-Quit-clause-offers g c =
     let bs = drop (c.loop-byte.byte-index + 1) c.args.piece.now in
     let line = c.loop-byte.line.items in
     let e : drop c.loop-byte.byte-index c.args.piece.now ≡ b ∷ bs = drop_more c.args.piece.now c.loop-byte.byte-index 0 c.loop-byte-test.true in
-    offering_quits (reply g.settings) c.args.session.now.core.view c.loop-byte.session.core.view (complete_from c.args.line.now.items c.args.piece.now) (complete_from line (drop c.loop-byte.byte-index c.args.piece.now)) (ended_by line b) (complete_from (line_after line b) bs)
+    offering_quits (reply g.settings) (g.S.Debugger.viewing c.args.session.now).view (g.S.Debugger.viewing c.loop-byte.session).view (complete_from c.args.line.now.items c.args.piece.now) (complete_from line (drop c.loop-byte.byte-index c.args.piece.now)) (ended_by line b) (complete_from (line_after line b) bs)
     (g.K.Sink.offers c.args.out.now) (g.K.Sink.offers c.loop-byte.out) (g.K.Sink.offers c.answer_byte.new.out) c.loop-byte.invariant.offering (ap (complete_from line) e)
     (quits (has_quit (ended_by line b)) _ c.in-Quit.is c.in_ok-answer_byte.ensures.next) c.in_ok-answer_byte.ensures.offers
 
@@ -96,4 +97,4 @@ pub returns-clause-offers : goal.returns-clause-offers
 returns-clause-offers g c =
     let left = drop c.loop-byte.byte-index c.args.piece.now in
     let none : left ≡ [] = drop_all c.loop-byte.byte-index c.args.piece.now c.loop-byte-test.false in
-    c.loop-byte.invariant.offering.whole (g.K.Sink.offers c.loop-byte.out) (none_all (reply g.settings) c.loop-byte.session.core.view (complete_from c.loop-byte.line.items left) (g.K.Sink.offers c.loop-byte.out) (ap (complete_from c.loop-byte.line.items) none))
+    c.loop-byte.invariant.offering.whole (g.K.Sink.offers c.loop-byte.out) (none_all (reply g.settings) (g.S.Debugger.viewing c.loop-byte.session).view (complete_from c.loop-byte.line.items left) (g.K.Sink.offers c.loop-byte.out) (ap (complete_from c.loop-byte.line.items) none))

@@ -3,8 +3,8 @@ use Rattle.spv_session.specs.Costs.{line_cost}
 use Rattle.spv_session.specs.Reply.{reply}
 use Rattle.spv_loop.proofs.Pieces.{goes, quits}
 use Rattle.spv_loop.proofs.Runs.{Stands, stands_more, ran_read_fault, ran_end, ran_end_stop, ran_too_long, ran_quit, ran_stop}
-use Rattle.spv_loop.proofs.command_loop.run.Goals as goal
-use Rattle.spv_loop.proofs.command_loop.run.Goals.{in-Ok-answer_last, in-Err-answer_last}
+use Rattle.spv_loop.proofs.command_loop.answer_input.Goals as goal
+use Rattle.spv_loop.proofs.command_loop.answer_input.Goals.{in-Ok-answer_last, in-Err-answer_last}
 
 pub returns-in-Err-clause-ran : goal.returns-in-Err-clause-ran
 returns-in-Err-clause-ran g c = ran_read_fault (reply g.settings) (line_cost g.settings) _ _ _ _ _ _ _ c.loop-count.invariant.stands refl refl refl c.in-Err.ensures.kept c.loop-count.invariant.few
@@ -30,6 +30,7 @@ loop-count-preserved g c =
     let h = c.in-Ok-Go.ensures in
     let n = c.in-Ok.ensures.count_is in
     record {
+      kit = h.kit;
       stands = subst (Stands (reply g.settings) (line_cost g.settings) _ _ _ _ _) (ap (λ k. c.loop-count.taken + k) n)
           (stands_more (reply g.settings) (line_cost g.settings) _ _ _ _ _ _ _ _ _ _ c.loop-count.invariant.stands c.in-Ok.ensures.bytes h.written (goes _ _ c.in-Ok-Go.field-0-is h.next) h.view (h.rest (ap Ok c.in-Ok-Go.field-0-is)) h.offers h.counted (h.reach (ap Ok c.in-Ok-Go.field-0-is)) h.cost);
       few = omega (arith, c.in-Ok.ensures.bound);
