@@ -200,21 +200,11 @@ numbers_behind halts tests g h e =
     ∙ ap (λ before. halts_behind halts tests before 0 told) (told_more g h e)
     ∙ filter_same (halts_at halts tests (told_before g ++ told ∷ []) 0 told) (halts_at halts tests (told_before g) 1 told) (range_with_len 1 (length tests)) (λ k. same_halt halts (place tests k) (told_before g) told k)
 
--- ---- beside other tests
-
 -- a halt hits behind the event at the position, or none does
 pub hit_behind : (halts : Halts) (tests : List (Option Test)) (g : Group) (h : Happening) (a : Accepted) (hit : Bool) → a ≡ g.program.accepted → happening_at g.program (entries_in g) g.position ≡ Some h
     → hit ≡ has_some (halts_behind halts tests (told_before g) 1 (lined a h)) → hit ≡ has_some (halt_numbers halts tests (group_at (g.position + 1) g))
 hit_behind halts tests g h a hit same e is =
     is ∙ ap (λ b. has_some (halts_behind halts tests (told_before g) 1 (lined b h))) same ∙ ap has_some (sym (numbers_behind halts tests g h e))
-
-pub or_one : (other hit : Bool) → true ≡ hit → true ≡ (other || hit)
-or_one true hit e = refl
-or_one false hit e = e
-
-pub or_none : (b other hit : Bool) → b ≡ other → false ≡ hit → b ≡ (other || hit)
-or_none b true hit is e = is
-or_none b false hit is e = is ∙ e
 
 -- ---- a kit that is told of the event at a position
 

@@ -5,3 +5,4 @@ mod PlaceLemmas
 mod AlikeLemmas
 mod HitLemmas
 mod HaltLemmas
+pub mod Exports

@@ -32,7 +32,7 @@ fn line_of(module: &Module, lines: &Lines, kind: Kind, word: u32) -> u32
 }
 
 /// A happening of a run of this module, with its line.
-pub(crate) fn lined(module: &Module, lines: &Lines, happening: Happening) -> Happening
+pub fn lined(module: &Module, lines: &Lines, happening: Happening) -> Happening
     requires { lines.now ≡ lines_of module.now (tables_of module.now) }
     ensures { result ≡ lined module.now happening }
 {

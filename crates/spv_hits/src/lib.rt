@@ -1,5 +1,4 @@
-//! Whether breaks, watches and halts hit at a position of a group: what searches stop at beside what their commands ask for; and the probes
-//! that follow a run.
+//! Whether breaks, watches and halts of probes hit at a position of a group: what searches stop at beside what their commands ask for.
 #![tactic(auto)]
 
 mod bits;
@@ -12,5 +11,6 @@ mod probes;
 mod same;
 mod watches;
 
+pub use happenings::lined;
 pub use hits::StopHits;
-pub use probes::{WithProbes, halt_numbers};
+pub use probes::{any_halted, halt_numbers};

@@ -1,11 +1,10 @@
-//! Probes that follow a run, and their halts.
-ghost use Rattle.std.specs.Prelude.{◌≡◌, ◌≤◌, ◌||◌, List, Option, Some, IfOk};
+//! Where the halts of probes that follow a run hit.
+ghost use Rattle.std.specs.Prelude.{◌≡◌, ◌≤◌, List, Option, Some, IfOk};
 ghost use Rattle.spv_base.specs.declared.happenings.Happening.{Happening as AnyHappening};
 ghost use Rattle.spv_dbg.specs.Tables.{tables_of};
-ghost use Rattle.spv_group.specs.Group.{Held, entries_in};
+ghost use Rattle.spv_group.specs.Group.{entries_in};
 ghost use Rattle.spv_group.specs.Run.{happening_before};
 ghost use Rattle.spv_hits.specs.Halts.{halt_numbers, halts_at, halts_behind, told_before};
-ghost use Rattle.spv_hits.specs.Happenings.{lined};
 ghost use Rattle.spv_hits.specs.Hits.{has_some};
 ghost use Rattle.spv_probe.specs.Kits.{AllBelow, Follows, tests_of};
 ghost use Rattle.spv_scopes.specs.Lines.{lines_of};
@@ -16,22 +15,8 @@ use spv_base::{Happening, NoMemory, Places, Probe};
 use spv_group::Group;
 use spv_probe::Kit;
 use spv_scopes::Lines;
-use spv_search::Hits;
 use spv_stops::Halts;
-use spv_valid::Module;
 use std::alloc::Global;
-use std::marker::PhantomData;
-
-/// Tests of positions, and beside them the probes that follow the run, with their halts. The tests follow no run themselves.
-#[derive(Drop)]
-pub struct WithProbes<'a, H: Hits> {
-    pub hits: H,
-    pub kit: Kit,
-    pub halts: &'a Halts,
-    pub lines: &'a Lines,
-    /// Nothing: it names the type of the kit's boxes, so that what is promised here can speak of their tallies.
-    pub of: PhantomData<Box<dyn Probe>>,
-}
 
 /// Whether the halt of the probe with this number hits behind an event. So many events that it hits aren't counted yet.
 fn is_halted(kit: &Kit, halts: &Halts, k: u32, more: u64, told: &Happening) -> bool
@@ -50,8 +35,8 @@ fn is_halted(kit: &Kit, halts: &Halts, k: u32, more: u64, told: &Happening) -> b
     }
 }
 
-/// Whether the halt of a probe hits behind an event.
-fn any_halted(kit: &Kit, halts: &Halts, more: u64, told: &Happening) -> bool
+/// Whether the halt of a probe hits behind an event, told with its line. So many events that it hits aren't counted yet.
+pub fn any_halted(kit: &Kit, halts: &Halts, more: u64, told: &Happening) -> bool
     requires few { AllBelow (λ p. (⟦<dyn Probe as Probe>⟧ p.vtable).tally p.value) kit.now.boxes.items }
     requires more { more ≤ 1 }
     ensures { (tests : List (Option Test)) (events : List AnyHappening)
@@ -104,85 +89,4 @@ pub fn halt_numbers(
     }
     let told = lined(group.module().accepted(), lines, *happening);
     all_halted(alloc, kit, halts, &told)
-}
-
-impl<'a, H: Hits> WithProbes<'a, H> {
-    /// Whether a halt hits behind an event of a run of the module. So many events that its probe hits aren't counted yet.
-    #[inline(always)]
-    fn halts(&self, module: &Module, more: u64, happening: &Happening) -> bool
-        requires lines { self.now.lines.now ≡ lines_of module.now (tables_of module.now) }
-        requires few { AllBelow (λ p. (⟦<dyn Probe as Probe>⟧ p.vtable).tally p.value) self.now.kit.boxes.items }
-        requires more { more ≤ 1 }
-        ensures { (tests : List (Option Test)) (events : List AnyHappening)
-            → Follows (λ p. (⟦<dyn Probe as Probe>⟧ p.vtable).tally p.value) (λ p. (⟦<dyn Probe as Probe>⟧ p.vtable).test p.value) tests events self.now.kit.boxes.items
-            → result ≡ has_some (halts_behind self.now.halts.now tests events more (lined module.now happening.now)) }
-    {
-        if self.halts.is_empty() {
-            return false;
-        }
-        let told = lined(module, self.lines, *happening);
-        any_halted(&self.kit, self.halts, more, &told)
-    }
-}
-
-impl<'a, H: Hits> Hits for WithProbes<'a, H> {
-    ghost hits = { λ s g. H.hits s.hits g || has_some (halt_numbers s.halts.now (tests_of (λ p. (Probe-box p).test p.value) s.kit.boxes.items) g) };
-
-    ghost told = { λ s g. ((H.told s.hits g).0, (H.told s.hits g).1, halt_numbers s.halts.now (tests_of (λ p. (Probe-box p).test p.value) s.kit.boxes.items) g) };
-
-    ghost suits = { λ s p. H.suits s.hits p × (s.lines.now ≡ lines_of p.accepted (tables_of p.accepted)) };
-
-    ghost noted = { λ s g. H.noted s.hits g };
-
-    ghost left = { λ s g. H.left s.hits g };
-
-    ghost tests = { λ s. tests_of (λ p. (Probe-box p).test p.value) s.kit.boxes.items };
-
-    ghost follows = { λ s g. ((x : Held) → H.follows s.hits x)
-        × Follows (λ p. (Probe-box p).tally p.value) (λ p. (Probe-box p).test p.value) (tests_of (λ p. (Probe-box p).test p.value) s.kit.boxes.items) (told_before g) s.kit.boxes.items };
-
-    fn listens(&self) -> bool {
-        self.kit.has_one()
-    }
-
-    fn forth(&mut self, module: &Module, happening: &Happening) {
-        if self.kit.boxes.is_empty() {
-            return;
-        }
-        let told = lined(module, self.lines, *happening);
-        self.kit.forth(&told);
-    }
-
-    fn back(&mut self, module: &Module, happening: &Happening) {
-        if self.kit.boxes.is_empty() {
-            return;
-        }
-        let told = lined(module, self.lines, *happening);
-        self.kit.back(&told);
-    }
-
-    fn note(&mut self, group: &Group) -> Result<(), NoMemory> {
-        self.hits.note(group)
-    }
-
-    fn hits_here(&mut self, group: &Group, happening: &Happening) -> Result<bool, NoMemory> {
-        let _position = group.position();
-        if self.halts(group.module().accepted(), 0, happening) {
-            return Ok(true);
-        }
-        self.hits.hits_here(group, happening)
-    }
-
-    fn leave(&mut self, group: &Group) -> Result<(), NoMemory> {
-        self.hits.leave(group)
-    }
-
-    fn hits_behind(&mut self, group: &Group, happening: &Happening) -> Result<bool, NoMemory> {
-        let _position = group.position();
-        // The event was taken back, and the tally at the position behind it has it.
-        if self.halts(group.module().accepted(), 1, happening) {
-            return Ok(true);
-        }
-        self.hits.hits_behind(group, happening)
-    }
 }

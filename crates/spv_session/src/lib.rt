@@ -4,6 +4,7 @@
 mod causes;
 mod debug_info;
 mod debugger;
+mod following;
 mod frames;
 mod info;
 mod motions;

@@ -13,10 +13,10 @@ ghost use Rattle.spv_session.specs.Reply.{stop_reply};
 ghost use Rattle.spv_session.specs.View.{focus_on, moved_to, undoing_in, view_at};
 
 use crate::causes::{Hit, push_stop};
+use crate::following::WithProbes;
 use crate::session::Core;
 use spv_base::{NoMemory, Probe, Steps};
 use spv_group::Group;
-use spv_hits::WithProbes;
 use spv_probe::Kit;
 use spv_scopes::Lines;
 use spv_search::{Hits, Never, go_on, return_to};

@@ -21,12 +21,13 @@ ghost use Rattle.spv_session.specs.View.{undoing_in, view_at};
 
 use crate::causes::Hit;
 use crate::debug_info::DebugInfo;
+use crate::following::WithProbes;
 use crate::frames::FOCUS_FINISHED;
 use crate::session::Core;
 use crate::texts::refusal_line;
 use spv_base::{Happening, NoMemory, Places, Probe, Status4, Steps};
 use spv_group::Group;
-use spv_hits::{StopHits, WithProbes, halt_numbers};
+use spv_hits::{StopHits, halt_numbers};
 use spv_probe::Kit;
 use spv_search::{Backward, Focus, Forward, Stopped, search_backward, search_forward};
 use spv_stops::{Breaks, Halts, Watches};

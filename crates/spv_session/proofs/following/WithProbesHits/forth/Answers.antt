@@ -2,8 +2,8 @@ use Rattle.std.proofs.Common.{◌||◌, List, Option, ap}
 use Rattle.spv_search.specs.Told.{Test}
 use Rattle.spv_hits.specs.Halts.{halt_numbers}
 use Rattle.spv_hits.specs.Hits.{has_some}
-use Rattle.spv_hits.proofs.HaltLemmas.{forth_follows, forth_tests, told_below}
-use Rattle.spv_hits.proofs.probes.WithProbesHits.forth.Goals as goal
+use Rattle.spv_hits.proofs.Exports.{forth_follows, forth_tests, told_below}
+use Rattle.spv_session.proofs.following.WithProbesHits.forth.Goals as goal
 
 pub forth-requires : goal.forth-requires
 forth-requires g c =

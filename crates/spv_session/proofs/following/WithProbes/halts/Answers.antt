@@ -3,9 +3,8 @@ use Rattle.spv_base.specs.declared.happenings.Happening.{Happening}
 use Rattle.spv_hits.specs.Halts.{halts_behind}
 use Rattle.spv_hits.specs.Happenings.{lined}
 use Rattle.spv_hits.specs.Hits.{has_some}
-use Rattle.spv_hits.proofs.HaltLemmas.{none_set}
-use Rattle.spv_hits.proofs.NumberLemmas.{none_there}
-use Rattle.spv_hits.proofs.probes.WithProbes.halts.Goals as goal
+use Rattle.spv_hits.proofs.Exports.{none_set, none_there}
+use Rattle.spv_session.proofs.following.WithProbes.halts.Goals as goal
 
 pub returns-then-is_empty : goal.returns-then-is_empty
 returns-then-is_empty g c = λ tests events follows.

@@ -2,8 +2,8 @@ use Rattle.std.proofs.Common.{◌||◌, List, Option, ap}
 use Rattle.spv_search.specs.Told.{Test}
 use Rattle.spv_hits.specs.Halts.{halt_numbers}
 use Rattle.spv_hits.specs.Hits.{has_some}
-use Rattle.spv_hits.proofs.HaltLemmas.{back_above, back_follows, back_tests}
-use Rattle.spv_hits.proofs.probes.WithProbesHits.back.Goals as goal
+use Rattle.spv_hits.proofs.Exports.{back_above, back_follows, back_tests}
+use Rattle.spv_session.proofs.following.WithProbesHits.back.Goals as goal
 
 pub back-requires : goal.back-requires
 back-requires g c =

@@ -1,6 +1,6 @@
 use Rattle.std.proofs.Common.{arith}
-use Rattle.spv_hits.proofs.HaltLemmas.{told_below}
-use Rattle.spv_hits.proofs.probes.WithProbesHits.hits_here.Goals as goal
+use Rattle.spv_hits.proofs.Exports.{told_below}
+use Rattle.spv_session.proofs.following.WithProbesHits.hits_here.Goals as goal
 
 pub halts-requires-clause-few : goal.halts-requires-clause-few
 halts-requires-clause-few g c =
