@@ -1,19 +1,9 @@
--- The reply and the cost of a line by the tests of the probes that are there, and those tests before any probe is dropped.
+-- The tests of the probes of a session before any is dropped.
 use Rattle.std.proofs.Common.{◌≡◌, ◌∙◌, ℕ, Bool, List, Option, ap, subst, sym}
 use Rattle.spv_base.specs.declared.happenings.Happening.{Happening}
 use Rattle.spv_group.specs.Group.{Undoing}
 use Rattle.spv_probe.specs.Kits.{tests_of}
-use Rattle.spv_session.specs.View.{IsKitOf, Settings, View, Viewing, first_viewing, tests_at}
-use Rattle.spv_session.specs.Reply.{line_reply, reply}
-use Rattle.spv_session.specs.Costs.{cost_by, line_cost}
-
-pub reply_now : (settings tests : Settings) (v : View) (line : List ℕ) → tests ≡ tests_at settings v → line_reply tests v line ≡ reply settings v line
-unfolding reply
-reply_now settings tests v line e = ap (λ t. line_reply t v line) e
-
-pub cost_now : (settings tests : Settings) (k : ℕ) (v : View) (line : List ℕ) → tests ≡ tests_at settings v → cost_by tests k v line ≡ line_cost settings k v line
-unfolding line_cost
-cost_now settings tests k v line e = ap (λ t. cost_by t k v line) e
+use Rattle.spv_session.specs.View.{IsKitOf, Settings, Viewing, first_viewing, tests_at}
 
 module _ {P : Type 0} (tally : P → ℕ) (test : P → Happening → Bool) where
   -- before any probe is dropped the tests that are there are the settings

@@ -3,7 +3,6 @@
 
 mod causes;
 mod debug_info;
-mod debugger;
 mod following;
 mod frames;
 mod info;
@@ -17,6 +16,5 @@ mod stops;
 mod texts;
 mod variables;
 
-pub use debugger::Debugger;
 pub use registers::shown_registers_ascend;
 pub use session::{Core, Next, Session};

@@ -32,7 +32,7 @@ use spv_source::{frame_line, source_lines};
 use spv_state::laws::top_frames_are_sound;
 use spv_stops::{Breaks, Halts, Watches};
 use std::alloc::Global;
-use std::marker::{Model, PhantomData};
+use std::marker::Model;
 use std::sync::ledger::Ledger;
 
 /// The command names an invocation that doesn't exist.
@@ -421,8 +421,6 @@ impl Core {
 pub struct Session {
     pub kit: Kit,
     pub core: Core,
-    /// Nothing: it names the type of the kit's boxes, so that what is promised of a session can speak of their tallies.
-    pub of: PhantomData<Box<dyn Probe>>,
 }
 
 impl Session {
@@ -444,7 +442,6 @@ impl Session {
         Ok(Session {
             kit: Kit::new(alloc, probes)?,
             core: Core::open(alloc, group)?,
-            of: PhantomData,
         })
     }
 
