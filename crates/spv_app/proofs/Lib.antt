@@ -1,4 +1,5 @@
 mod Openings
+mod DebuggingLemmas
 mod Headlines
 mod Checks
 mod Readings

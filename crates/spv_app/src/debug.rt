@@ -118,7 +118,7 @@ fn debug<F: Files, I: Source, K: Sink, L: Ledger>(
         Err(error) => return Status::from(error),
     };
     match open_session(alloc, binary, setup, kit) {
-        Ok(mut session) => run(alloc, &mut session, input, out, steps),
+        Ok(mut debugging) => run(alloc, &mut debugging, input, out, steps),
         Err(Fail::Refused(refusal)) => tell_refusal(alloc, refusal, out),
         Err(Fail::NoMemory) => Status::NoMemory,
     }

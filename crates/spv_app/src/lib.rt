@@ -4,6 +4,7 @@
 pub mod acceptance;
 pub mod checking;
 pub mod debug;
+pub mod debugging;
 pub mod limits;
 pub mod making;
 pub mod opening;
@@ -11,5 +12,6 @@ pub mod texting;
 
 pub use checking::Report;
 pub use debug::debug_main;
+pub use debugging::Debugging;
 pub use opening::OpeningRefusal;
 pub use spv_loop::Status;

@@ -73,10 +73,10 @@ fn transcript_of<L: Ledger>(
     ensures due { Answers (running binary.items setup.items commands.items) (seen (λ text. text.items) result) }
     ensures counted { steps.old ≤ steps.new }
 {
-    let mut session = open_session(alloc, binary, setup, Vec::new(alloc))?;
+    let mut debugging = open_session(alloc, binary, setup, Vec::new(alloc))?;
     let mut input = MemorySource::new(commands);
     let mut out = MemorySink::new(alloc);
-    match run(alloc, &mut session, &mut input, &mut out, steps) {
+    match run(alloc, &mut debugging, &mut input, &mut out, steps) {
         Status::Done => Ok(out.bytes),
         // In memory nothing else fails, and the commands are short.
         _ => Err(Fail::NoMemory),

@@ -11,9 +11,10 @@ ghost use Rattle.spv_ops.specs.Steps.{seen};
 ghost use Rattle.spv_state.specs.Program.{schedule_for};
 
 use crate::acceptance::accepted_as;
+use crate::debugging::Debugging;
 use spv_base::{Fail, Probe, Refusal, SetupRefusal};
 use spv_fit::fit;
-use spv_loop::{Group, LIMIT, Session};
+use spv_loop::{Group, LIMIT};
 use spv_setup::{Schedule, Setup};
 use spv_state::Runnable;
 use spv_valid::Module;
@@ -174,14 +175,14 @@ pub fn open_session(
     binary: Vec<u8>,
     setup: Vec<u8>,
     kit: Vec<Box<dyn Probe>>,
-) -> Result<Session, Fail<OpeningRefusal>>
+) -> Result<Debugging, Fail<OpeningRefusal>>
     requires fits { length setup.items ≤ setup_limit }
     requires few { vec_len kit ≤ 16 }
     requires unused { All (λ p. tally p ≡ 0) kit.items }
-    ensures due { Answers (viewed 1048576 (opening binary.items setup.items)) (seen (λ session. session.core) result) }
-    ensures tests { IfOk result (λ session. tests_of (λ p. test p) session.kit.boxes.items ≡ map (λ p. Some (test p)) kit.items) }
-    ensures kit { IfOk result (λ session. IsKitOf (λ p. tally p) (λ p. test p) (tests_of (λ p. test p) session.kit.boxes.items) session.core.view session.kit.boxes.items) }
+    ensures due { Answers (viewed 1048576 (opening binary.items setup.items)) (seen (λ it. it.session.core) result) }
+    ensures tests { IfOk result (λ it. tests_of (λ p. test p) it.session.kit.boxes.items ≡ map (λ p. Some (test p)) kit.items) }
+    ensures kit { IfOk result (λ it. IsKitOf (λ p. tally p) (λ p. test p) (tests_of (λ p. test p) it.session.kit.boxes.items) it.session.core.view it.session.kit.boxes.items) }
 {
     let group = open(alloc, binary, setup)?;
-    Ok(Session::open(alloc, group, kit)?)
+    Ok(Debugging::open(alloc, group, kit)?)
 }

@@ -10,9 +10,10 @@ ghost use Rattle.spv_loop.specs.Transcript.{text_of, view_of, transcript, replie
 ghost use Rattle.spv_loop.specs.Offers.{OffersAll, OffersFirst};
 ghost use Rattle.spv_loop.specs.Stops.{next_of, StopSays, StopCounts};
 
+use crate::debugger::Debugger;
 use crate::status::Stop;
 use spv_base::{Sink, Steps, write_all};
-use spv_session::{Debugger, Next};
+use spv_session::Next;
 use std::alloc::Global;
 use std::sync::ledger::Ledger;
 

@@ -13,10 +13,11 @@ ghost use Rattle.spv_loop.specs.Offers.{OffersAll, OffersFirst};
 ghost use Rattle.spv_loop.specs.Stops.{StopSays, StopCounts};
 
 use crate::answer::{answer, answer_piece};
+use crate::debugger::Debugger;
 use crate::limits::INPUT_LIMIT;
 use crate::status::{Status, Stop};
 use spv_base::{Failed, Sink, Source, Steps};
-use spv_session::{Debugger, Next};
+use spv_session::Next;
 use std::alloc::Global;
 use std::sync::ledger::Ledger;
 

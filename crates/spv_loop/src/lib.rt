@@ -3,11 +3,13 @@
 
 pub mod answer;
 pub mod command_loop;
+pub mod debugger;
 pub mod limits;
 pub mod lines;
 pub mod status;
 
 pub use command_loop::run;
+pub use debugger::Debugger;
 pub use spv_group::{Group, LIMIT};
-pub use spv_session::{Debugger, Session};
+pub use spv_session::{Next, Session};
 pub use status::Status;

@@ -2,9 +2,10 @@
 ghost use Rattle.std.specs.Prelude.{◌≡◌, ◌<◌, ◌≤◌, All, IfOk, vec_len};
 
 use crate::limited::LIMIT;
+use spv_app::Debugging;
 use spv_app::opening::open_limited;
 use spv_base::{MemorySink, MemorySource, NoMemory, Probe, Steps};
-use spv_loop::{Group, Session, run};
+use spv_loop::{Group, run};
 use spv_probe::{Barriers, Lines, Stores};
 use std::alloc::Global;
 use std::io::Write;
@@ -48,11 +49,11 @@ fn replies<L: Ledger>(
     let lines = Box::new(alloc, Lines::new(None))?;
     let barriers = Box::new(alloc, Barriers::new())?;
     let kit = kit_of(alloc, stores, lines, barriers)?;
-    let mut session = Session::open(alloc, group, kit)?;
+    let mut debugging = Debugging::open(alloc, group, kit)?;
     let mut input = MemorySource::new(commands);
     let mut out = MemorySink::new(alloc);
     let mut steps = Steps::<L>::new(blank);
-    let _status = run(alloc, &mut session, &mut input, &mut out, &mut steps);
+    let _status = run(alloc, &mut debugging, &mut input, &mut out, &mut steps);
     Ok(out.bytes)
 }
 

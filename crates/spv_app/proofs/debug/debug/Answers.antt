@@ -12,7 +12,7 @@ returns-in-Err-clause-debugged g c = rw c.from.ensures (Unopened (status_of_file
 
 pub returns-in-Ok-open_session-clause-debugged : goal.returns-in-Ok-open_session-clause-debugged
 returns-in-Ok-open_session-clause-debugged g c =
-    let opened = viewed_is 1048576 (opening c.in-Ok.pair.0.items c.in-Ok.pair.1.items) c.in-Ok-open_session.session.core c.in-Ok-open_session.ensures.due in
+    let opened = viewed_is 1048576 (opening c.in-Ok.pair.0.items c.in-Ok.pair.1.items) c.in-Ok-open_session.debugging.session.core c.in-Ok-open_session.ensures.due in
     Opened _ c.in-Ok.pair.0.items c.in-Ok.pair.1.items opened.0 (c.in-Ok.ensures.asked refl) c.in-Ok.ensures.pair opened.1
     (ran_by _ _ (first_viewing (with_journal 1048576 opened.0)) _ _ _ c.in-Ok-open_session.ensures.tests
     (ran_as (reply _) (line_cost _) (first_viewing (with_journal 1048576 opened.0)) _ _ _ _ opened.2 c.run.ensures.ran))
