@@ -1,6 +1,8 @@
 -- The reply and the cost of a line by the tests of the probes that are there.
 use Rattle.std.proofs.Common.{◌≡◌, ℕ, List, ap}
-use Rattle.spv_loop.specs.Sessions.{Settings, View, cost_by, line_cost, line_reply, reply, tests_at}
+use Rattle.spv_session.specs.Costs.{cost_by, line_cost}
+use Rattle.spv_session.specs.Reply.{line_reply, reply}
+use Rattle.spv_session.specs.View.{Settings, View, tests_at}
 
 pub reply_now : (settings tests : Settings) (v : View) (line : List ℕ) → tests ≡ tests_at settings v → line_reply tests v line ≡ reply settings v line
 unfolding reply
