@@ -37,7 +37,7 @@ const GROUPS: [(&str, &str, &str); 9] = [
 const PROBES: &str = "probes.runs";
 
 /// The files of calls, in the order of the output.
-const CALLS: [&str; 12] = [
+const CALLS: [&str; 13] = [
     "commands.runs",
     "words.runs",
     "setups.runs",
