@@ -1,13 +1,18 @@
 -- The texts of all invocations, one after the other, a view of its own position, and the text of a refusal.
-use Rattle.std.proofs.Common.{◌≡◌, ◌∙◌, ℕ, ◌+◌, List, [], ◌∷◌, ◌++◌, Bool, true, false, cond, Some, None, Result, Ok, Err, OnErr, sym, ap, subst, refl, arith, add-one, append-nil}
+use Rattle.std.proofs.Common.{◌≡◌, ◌∙◌, ℕ, ◌+◌, List, [], ◌∷◌, ◌++◌, Bool, true, false, cond, Option, Some, None, Result, Ok, Err, OnErr, sym, ap, subst, refl, arith, add-one, append-nil}
 use Rattle.std.specs.List.{flat_map, range_with_len}
+use Rattle.std.specs.Option.{option_map_or}
+use Rattle.std.specs.Prelude.{slice_get}
 use Rattle.std.proofs.lemmas.List.{flat_map_more}
 use Rattle.spv_base.specs.declared.causes.CmdRefusal.{CmdRefusal}
 use Rattle.spv_base.specs.Prefix.{IsPrefixOf}
 use Rattle.spv_cmd.specs.declared.command.Command.{Command}
+use Rattle.spv_cmd.specs.declared.command.Command.TheVariants as command
 use Rattle.spv_cmd.specs.Commands.{command_of}
 use Rattle.spv_group.proofs.Exports.{range_more}
-use Rattle.spv_session.specs.Reply.{Told, tells, refuses, Act, nothing, quits, shows, asks, goes, walks, act_of, focus_finished, is_over, motion_reply, reply_by, refusal_by, line_refusal, told_refusal, told_reply}
+use Rattle.spv_dbg.specs.declared.frames.ShownFrame.{ShownFrame}
+use Rattle.spv_session.specs.Reply.{Told, tells, refuses, Act, nothing, quits, shows, asks, goes, walks, act_of, focus_finished, frame_told, frames_told, is_over, lines_told, locals_told, motion_reply, no_source_text, no_such_frame, registers_told, reply_by, refusal_by, line_refusal, told_refusal, told_reply}
+use Rattle.spv_session.specs.Shown.{focus_frames}
 use Rattle.spv_session.specs.Texts.{refusal_line}
 use Rattle.spv_session.specs.View.{Settings, View, view_at}
 
@@ -67,3 +72,37 @@ front_none (Err x) old new due e = ([], e ∙ sym (append-nil old), (due, refl))
 -- a text that was made from nothing is appended
 pub appended : (old other text start due line new : List ℕ) → new ≡ old ++ other → other ≡ text → text ≡ start ++ due → start ≡ [] → due ≡ line → new ≡ old ++ line
 appended old other text start due line new e f g h i = e ∙ ap (λ l. old ++ l) (f ∙ g ∙ ap (λ l. l ++ due) h ∙ i)
+
+-- ---- what is told of frames leaves the view the same
+
+module _ (tests : Settings) (v : View) where
+  shown_keeps : (asked : Result Command CmdRefusal) (it : Command) → v ≡ (reply_by tests v (act_of (Ok it))).1 → asked ≡ Ok it → v ≡ (reply_by tests v (act_of asked)).1
+  shown_keeps asked it keeps is = subst (λ x. v ≡ (reply_by tests v (act_of x)).1) (sym is) keeps
+
+  all_keep : (frames : List ShownFrame) → v ≡ (told_reply v (frames_told v frames)).1
+  all_keep [] = refl
+  all_keep (f ∷ fs) = refl
+
+  one_keeps : (told : ShownFrame → Told) → ((f : ShownFrame) → v ≡ (told_reply v (told f)).1) → (frames : List ShownFrame) (k : ℕ) → v ≡ (told_reply v (frame_told told frames k)).1
+  one_keeps told keeps [] k = refl
+  one_keeps told keeps (f ∷ fs) k = by_frame (slice_get (f ∷ fs) k)
+    where
+      by_frame : (o : Option ShownFrame) → v ≡ (told_reply v (option_map_or told o (refuses no_such_frame))).1
+      by_frame None = refl
+      by_frame (Some x) = keeps x
+
+  text_keeps : (o : Option (List ℕ)) → v ≡ (told_reply v (option_map_or (λ text. tells text v) o (refuses no_source_text))).1
+  text_keeps None = refl
+  text_keeps (Some text) = refl
+
+  pub bt_keeps : (asked : Result Command CmdRefusal) → asked ≡ Ok command.Bt → v ≡ (reply_by tests v (act_of asked)).1
+  bt_keeps asked is = shown_keeps asked command.Bt (all_keep (focus_frames v)) is
+
+  pub regs_keep : (asked : Result Command CmdRefusal) → asked ≡ Ok command.Regs → v ≡ (reply_by tests v (act_of asked)).1
+  regs_keep asked is = shown_keeps asked command.Regs (one_keeps (registers_told v) (λ f. refl) (focus_frames v) v.frame) is
+
+  pub list_keeps : (asked : Result Command CmdRefusal) → asked ≡ Ok command.List → v ≡ (reply_by tests v (act_of asked)).1
+  list_keeps asked is = shown_keeps asked command.List (one_keeps (lines_told v) (λ f. text_keeps _) (focus_frames v) v.frame) is
+
+  pub locals_keep : (asked : Result Command CmdRefusal) → asked ≡ Ok command.Locals → v ≡ (reply_by tests v (act_of asked)).1
+  locals_keep asked is = shown_keeps asked command.Locals (one_keeps (locals_told v) (λ f. refl) (focus_frames v) v.frame) is

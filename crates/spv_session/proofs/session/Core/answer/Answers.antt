@@ -1,4 +1,8 @@
+use Rattle.std.proofs.Common.{◌≡◌, Ok}
+use Rattle.spv_cmd.specs.declared.command.Command.TheVariants as command
+use Rattle.spv_probe.specs.Kits.{tests_of}
 use Rattle.spv_session.proofs.ProbeLemmas.{kit_same}
+use Rattle.spv_session.proofs.ReplyLemmas.{bt_keeps, list_keeps, locals_keep, regs_keep}
 use Rattle.spv_session.proofs.session.Core.answer.Goals as goal
 
 pub returns-in_err-look_at-in-Ok-Focus-clause-kit : goal.returns-in_err-look_at-in-Ok-Focus-clause-kit
@@ -56,3 +60,23 @@ returns-in_err-set_halt-in-Ok-Halt-clause-kit g c = λ settings kit.
 pub returns-in_ok-set_halt-in-Ok-Halt-clause-kit : goal.returns-in_ok-set_halt-in-Ok-Halt-clause-kit
 returns-in_ok-set_halt-in-Ok-Halt-clause-kit g c = λ settings kit.
     kit_same (λ b. (goal.Probe-dyn g (b.vtable, b.value)).tally b.value) (λ b. (goal.Probe-dyn g (b.vtable, b.value)).test b.value) settings c.args.self.now.view c.set_halt.new.self.view c.args.kit.now.boxes.items c.set_halt.ensures.group c.set_halt.ensures.dropped kit
+
+pub returns-in_ok-push_frames-in-Ok-Bt-clause-view : goal.returns-in_ok-push_frames-in-Ok-Bt-clause-view
+returns-in_ok-push_frames-in-Ok-Bt-clause-view g c =
+    let is : c.args.command.now ≡ Ok command.Bt = cc in
+    bt_keeps (tests_of (λ b. (goal.Probe-dyn g (b.vtable, b.value)).test b.value) c.args.kit.now.boxes.items) c.args.self.now.view c.args.command.now is
+
+pub returns-in_ok-push_registers-in-Ok-Regs-clause-view : goal.returns-in_ok-push_registers-in-Ok-Regs-clause-view
+returns-in_ok-push_registers-in-Ok-Regs-clause-view g c =
+    let is : c.args.command.now ≡ Ok command.Regs = cc in
+    regs_keep (tests_of (λ b. (goal.Probe-dyn g (b.vtable, b.value)).test b.value) c.args.kit.now.boxes.items) c.args.self.now.view c.args.command.now is
+
+pub returns-in_ok-push_lines-in-Ok-List-clause-view : goal.returns-in_ok-push_lines-in-Ok-List-clause-view
+returns-in_ok-push_lines-in-Ok-List-clause-view g c =
+    let is : c.args.command.now ≡ Ok command.List = cc in
+    list_keeps (tests_of (λ b. (goal.Probe-dyn g (b.vtable, b.value)).test b.value) c.args.kit.now.boxes.items) c.args.self.now.view c.args.command.now is
+
+pub returns-in_ok-push_locals-in-Ok-Locals-clause-view : goal.returns-in_ok-push_locals-in-Ok-Locals-clause-view
+returns-in_ok-push_locals-in-Ok-Locals-clause-view g c =
+    let is : c.args.command.now ≡ Ok command.Locals = cc in
+    locals_keep (tests_of (λ b. (goal.Probe-dyn g (b.vtable, b.value)).test b.value) c.args.kit.now.boxes.items) c.args.self.now.view c.args.command.now is
