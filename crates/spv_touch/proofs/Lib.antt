@@ -1,0 +1,11 @@
+mod OutlineLemmas
+mod PartLemmas
+mod MemoryLemmas
+mod RowLemmas
+mod EventLemmas
+mod StoreLemmas
+mod ChangeLemmas
+mod StepLemmas
+mod ShapeLemmas
+mod FitLemmas
+mod KindLemmas
