@@ -9,3 +9,4 @@ mod StepLemmas
 mod ShapeLemmas
 mod FitLemmas
 mod KindLemmas
+mod PlaceLemmas

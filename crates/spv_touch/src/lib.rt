@@ -2,6 +2,7 @@
 #![tactic(auto)]
 
 pub mod laws;
+pub mod ranges;
 pub mod touching;
 
 pub use touching::{Leaves, Touched};
