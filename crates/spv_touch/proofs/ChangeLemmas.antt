@@ -14,10 +14,11 @@ use Rattle.spv_mem.specs.Roots.{put_in}
 use Rattle.spv_frame.specs.Frames.{Held as Frame}
 use Rattle.spv_statuses.specs.declared.invocations.Status.{Status}
 use Rattle.spv_state.specs.State.{State, on_frame, on_frames, on_memory, pop_frame, push_frame, put_store, set_status, with_top, without_locals, without_top}
-use Rattle.spv_touch.specs.Ranges.{Holds, below, range}
+use Rattle.spv_order.specs.Order.{Holds}
+use Rattle.spv_touch.specs.Ranges.{below, range}
 use Rattle.spv_touch.specs.Touching.{leaves_below}
 use Rattle.spv_touch.specs.Views.{Differ, KeepsOutline, LookAlike, VariablesDiffer, outline}
-use Rattle.spv_touch.specs.declared.touching.Leaves.{Leaves}
+use Rattle.spv_order.specs.declared.events.Leaves.{Leaves}
 use Rattle.spv_touch.proofs.MemoryLemmas.{Agree, loads_alike, range_in, reads_agree}
 use Rattle.spv_touch.proofs.StoreLemmas.{all_still, all_then, put_alike, put_differs, writes_same, written}
 

@@ -18,7 +18,7 @@ use Rattle.spv_sites.specs.Effects.{Control, Effect, Next, Jump, Enter, Leave, W
 use Rattle.spv_sites.specs.Instructions.{effect_of}
 use Rattle.spv_touch.specs.Touching.{Due, arrives_by, arrives_of, due_as, due_by, due_in, due_of, leaves_below, nothing, read_operand, read_pointer, touched_by, touched_of}
 use Rattle.spv_touch.specs.Views.{AreApart, LookAlike}
-use Rattle.spv_touch.specs.declared.touching.Leaves.{Leaves}
+use Rattle.spv_order.specs.declared.events.Leaves.{Leaves}
 use Rattle.spv_touch.proofs.MemoryLemmas.{leaves_alike, loads_alike, loads_same}
 use Rattle.spv_touch.proofs.RowLemmas.{frames, popped, rows_framed, rows_same}
 

@@ -16,7 +16,7 @@ use Rattle.spv_machine.specs.Step as step
 use Rattle.spv_machine.specs.Step.{Outcome, Idles, Moves, Faults, step_of}
 use Rattle.spv_touch.specs.Touching.{touched_of}
 use Rattle.spv_touch.specs.Views.{AreApart, LookAlike}
-use Rattle.spv_touch.specs.declared.touching.Leaves.{Leaves}
+use Rattle.spv_order.specs.declared.events.Leaves.{Leaves}
 use Rattle.spv_touch.proofs.EventLemmas.{effects, listed}
 use Rattle.spv_touch.proofs.RowLemmas.{frames}
 use Rattle.spv_touch.proofs.StepLemmas.{due_is}

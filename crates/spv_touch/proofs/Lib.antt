@@ -10,3 +10,6 @@ mod ShapeLemmas
 mod FitLemmas
 mod KindLemmas
 mod PlaceLemmas
+mod SeenLemmas
+mod ReadyLemmas
+pub mod Exports

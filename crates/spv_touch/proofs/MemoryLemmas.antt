@@ -12,9 +12,10 @@ use Rattle.spv_base.specs.declared.values.Root.TheVariants.{Shared, Private, Loc
 use Rattle.spv_base.specs.declared.values.Value.{Value}
 use Rattle.spv_mem.specs.Memory.{Levels, load_of}
 use Rattle.spv_state.specs.State.{State}
-use Rattle.spv_touch.specs.Ranges.{Holds, before, below, count, leaves_at, range}
+use Rattle.spv_order.specs.Order.{Holds}
+use Rattle.spv_touch.specs.Ranges.{before, below, count, leaves_at, range}
 use Rattle.spv_touch.specs.Views.{AreApart, Differ, LookAlike, VariablesDiffer, outline}
-use Rattle.spv_touch.specs.declared.touching.Leaves.{Leaves}
+use Rattle.spv_order.specs.declared.events.Leaves.{Leaves}
 use Rattle.spv_touch.proofs.OutlineLemmas.{same_before, same_count, same_parts}
 use Rattle.spv_touch.proofs.PartLemmas.{same_part}
 

@@ -1,5 +1,5 @@
 -- Where a part lies in the row of its variable is where it lies behind the leaves before it.
-use Rattle.std.proofs.Common.{◌≡◌, ◌∙◌, ℕ, zero, suc, ◌+◌, ◌≤◌, List, [], ◌∷◌, ◌++◌, Option, Some, None, length, take, drop, refl, sym, ap, subst, arith}
+use Rattle.std.proofs.Common.{◌≡◌, ◌∙◌, ℕ, zero, suc, ◌+◌, ◌≤◌, List, [], ◌∷◌, ◌++◌, Option, Some, None, IsSome, length, take, drop, refl, sym, ap, subst, arith}
 use Rattle.std.specs.Option.{option_and_then, option_map_or}
 use Rattle.spv_base.specs.Cell.{Cell, undefined_cell}
 use Rattle.spv_base.specs.Entries.{reads}
@@ -94,3 +94,7 @@ own_private m id q is = ap (λ (r : Root). below m r q.path) is
 
 pub own_local : (m : Memory) (depth id : ℕ) (q : Pointer) → q.root ≡ Local depth id → leaves_at m q ≡ []
 own_local m depth id q is = ap (λ (r : Root). below m r q.path) is
+
+-- a part whose place is known is there
+pub place_there : (m : Memory) (i : ℕ) (q : Pointer) (n k : ℕ) → NamesRow m i q n k → IsSome (load_of m i q)
+place_there m i q n k row = subst (λ (o : Option Value). IsSome (option_and_then (λ v. part_at v q.path) o)) (sym row.is) row.row.there

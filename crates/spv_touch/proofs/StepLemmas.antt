@@ -24,7 +24,7 @@ use Rattle.spv_machine.specs.Step as step
 use Rattle.spv_machine.specs.Step.{Outcome, Idles, Moves, Faults, apply, first_of, go, go_on, happening_of, id_at, jump, leave, next_of, opened_at, put, put_result, resume, step_of, stored_at, to_block, to_next}
 use Rattle.spv_touch.specs.Touching.{Due, arrives_by, arrives_of, due_as, due_by, due_in, due_of, leaves_below, nothing, touched_by, touched_of}
 use Rattle.spv_touch.specs.Views.{AreApart, KeepsOutline, LookAlike, StoreFits}
-use Rattle.spv_touch.specs.declared.touching.Leaves.{Leaves}
+use Rattle.spv_order.specs.declared.events.Leaves.{Leaves}
 use Rattle.spv_touch.proofs.ChangeLemmas.{frame_alike, frame_other, in_turn, pop_alike, pop_other, push_alike, push_other, status_alike, status_other, store_alike, store_other, unchanged}
 use Rattle.spv_touch.proofs.EventLemmas.{effects, listed}
 use Rattle.spv_touch.proofs.RowLemmas.{depths, frames, popped}

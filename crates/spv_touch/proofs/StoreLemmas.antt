@@ -9,9 +9,10 @@ use Rattle.spv_base.specs.Variables.{Roots}
 use Rattle.spv_base.specs.declared.values.Value.{Value, List as Many}
 use Rattle.spv_types.specs.Rows.{leaves}
 use Rattle.spv_types.proofs.Exports.{changed, has_part, many_by}
-use Rattle.spv_touch.specs.Ranges.{Holds, range}
+use Rattle.spv_order.specs.Order.{Holds}
+use Rattle.spv_touch.specs.Ranges.{range}
 use Rattle.spv_touch.specs.Views.{Differ, VariablesDiffer, outline}
-use Rattle.spv_touch.specs.declared.touching.Leaves.{Leaves}
+use Rattle.spv_order.specs.declared.events.Leaves.{Leaves}
 use Rattle.spv_touch.proofs.OutlineLemmas.{outline_many, same_before, same_count}
 use Rattle.spv_touch.proofs.PartLemmas.{lies}
 

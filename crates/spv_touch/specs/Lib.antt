@@ -1,3 +1,4 @@
 pub mod Ranges
 pub mod Touching
 pub mod Views
+pub mod Seen

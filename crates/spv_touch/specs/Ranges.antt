@@ -1,6 +1,5 @@
 -- Leaves of the variables that all invocations share: by the variable's id and a number, in the order of the leaves of its value.
-use Rattle.std.specs.Prelude.{◌≡◌, ℕ, ◌+◌, ◌<◌, ◌≤◌, List, [], ◌∷◌, length, take, slice_get}
-use Rattle.std.specs.List.{Contains}
+use Rattle.std.specs.Prelude.{ℕ, ◌+◌, List, [], ◌∷◌, length, take, slice_get}
 use Rattle.std.specs.Option.{option_map_or}
 use Rattle.spv_base.specs.Entries.{reads}
 use Rattle.spv_base.specs.Parts.{part_at, parts_in}
@@ -10,7 +9,7 @@ use Rattle.spv_base.specs.declared.values.Root.TheVariants.{Shared, Private, Loc
 use Rattle.spv_base.specs.declared.values.Value.{Value, List as Many, out-Value}
 use Rattle.spv_types.specs.Rows.{leaves}
 use Rattle.spv_mem.specs.Memory.{Held as Memory}
-use Rattle.spv_touch.specs.declared.touching.Leaves.{Leaves}
+use Rattle.spv_order.specs.declared.events.Leaves.{Leaves}
 
 -- how many leaves a value has
 abbrev pub count : Value → ℕ
@@ -33,7 +32,3 @@ below m (Local depth id) path = []
 
 abbrev pub leaves_at : Memory → Pointer → List Leaves
 leaves_at m q = below m q.root q.path
-
--- the leaf of this number of this variable is in one of the ranges
-abbrev pub Holds : List Leaves → (root leaf : ℕ) → Type 0
-Holds ranges root leaf = (r : Leaves) × Contains ranges r × (r.root ≡ root) × (r.first ≤ leaf) × (leaf < r.end)

@@ -1,5 +1,5 @@
 -- What the next event of an invocation touches: the leaves of shared variables that it reads and those that it writes.
-use Rattle.std.specs.Prelude.{ℕ, ◌&&◌, not, Bool, true, false, List, [], Option, Some, None, Result, Ok, Err, slice_get}
+use Rattle.std.specs.Prelude.{◌≡◌, ℕ, ◌&&◌, not, Bool, true, false, List, [], Option, Some, None, Result, Ok, Err, slice_get}
 use Rattle.std.specs.Option.{is_some, option_and_then, option_map, option_map_or}
 use Rattle.spv_base.specs.declared.instructions.Inst.{Inst}
 use Rattle.spv_base.specs.declared.values.Pointer.{Pointer}
@@ -21,7 +21,8 @@ use Rattle.spv_sites.specs.Effects.{Control, Effect, Leave, Wait}
 use Rattle.spv_sites.specs.Instructions.{effect_of}
 use Rattle.spv_sites.specs.declared.causes.Cause.{Cause}
 use Rattle.spv_touch.specs.Ranges.{leaves_at}
-use Rattle.spv_touch.specs.declared.touching.Leaves.{Leaves}
+use Rattle.spv_order.specs.declared.events.Event.{Event}
+use Rattle.spv_order.specs.declared.events.Leaves.{Leaves}
 
 -- ---- the event that is due
 
@@ -99,3 +100,11 @@ arrives_by p s i _ = false
 
 unfoldable pub arrives_of : Program → State → ℕ → Bool
 arrives_of p s i = option_map_or (λ (e : Due). arrives_by p s i e.effect.control) (due_of p s i) false
+
+-- ---- the event, as far as its order matters
+
+pub record IsEvent (p : Program) (s : State) (i : ℕ) (e : Event) : Type 0 where
+  pub invocation : e.invocation ≡ i
+  pub arrives : e.arrives ≡ arrives_of p s i
+  pub reads : e.reads.items ≡ (touched_of p s i).reads
+  pub writes : e.writes.items ≡ (touched_of p s i).writes

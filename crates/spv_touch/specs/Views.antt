@@ -11,8 +11,8 @@ use Rattle.spv_mem.specs.Memory.{load_of}
 use Rattle.spv_state.specs.Program.{Program}
 use Rattle.spv_state.specs.State.{State}
 use Rattle.spv_touch.specs.Touching.{Due, due_of}
-use Rattle.spv_touch.specs.Ranges.{Holds}
-use Rattle.spv_touch.specs.declared.touching.Leaves.{Leaves}
+use Rattle.spv_order.specs.Order.{Holds}
+use Rattle.spv_order.specs.declared.events.Leaves.{Leaves}
 
 -- ---- values
 

@@ -6,11 +6,11 @@ ghost use Rattle.spv_base.specs.declared.values.Pointer.{Pointer};
 ghost use Rattle.spv_base.specs.declared.values.Value.{Value};
 ghost use Rattle.spv_machine.specs.Step.{Faults, Idles, Moves, step_of};
 ghost use Rattle.spv_mem.specs.Memory.{IsMemory};
+ghost use Rattle.spv_order.specs.declared.events.Leaves.{Leaves};
 ghost use Rattle.spv_sites.specs.Fits as spec;
 ghost use Rattle.spv_state.specs.Program.{Program};
 ghost use Rattle.spv_state.specs.State.{State};
 ghost use Rattle.spv_touch.specs.Touching.{arrives_of, due_of, touched_of};
-ghost use Rattle.spv_touch.specs.declared.touching.Leaves.{Leaves};
 ghost use Rattle.spv_touch.specs.Views.{AreApart, KeepsOutline, LookAlike, StoreFits};
 
 /// A law, with nothing to run: an event sees no shared leaf but those that it reads. Where two states look the same to an invocation but in

@@ -2,10 +2,10 @@
 ghost use Rattle.std.specs.Prelude.{◌≡◌, ◌+◌, IfOk};
 ghost use Rattle.spv_touch.specs.Ranges.{leaves_at};
 
-use crate::touching::Leaves;
 use spv_base::{NoMemory, Pointer, Root};
 use spv_mem::Memory;
 use spv_mem::places::Place;
+use spv_order::Leaves;
 use std::alloc::Global;
 
 /// The leaves at a place. There is no memory for a variable of 2 ^ 32 leaves.
