@@ -30,11 +30,11 @@ use Rattle.spv_touch.specs.Views.{KeepsOutline, outline}
 use Rattle.spv_touch.proofs.ShapeLemmas.{shapes_alike}
 
 -- what is there, by its parts
-both : {A B : Type 0} (o : Option A) (g : A → Option B) (w : B) → option_and_then g o ≡ Some w → (x : A) × (o ≡ Some x) × (g x ≡ Some w)
+pub both : {A B : Type 0} (o : Option A) (g : A → Option B) (w : B) → option_and_then g o ≡ Some w → (x : A) × (o ≡ Some x) × (g x ≡ Some w)
 both None g w h = cc
 both (Some x) g w h = (x, refl, h)
 
-counted_is : (o : Option ℕ) → is_some o ≡ true → (n : ℕ) × (o ≡ Some n)
+pub counted_is : (o : Option ℕ) → is_some o ≡ true → (n : ℕ) × (o ≡ Some n)
 counted_is None h = cc
 counted_is (Some n) h = (n, refl)
 

@@ -12,4 +12,5 @@ mod KindLemmas
 mod PlaceLemmas
 mod SeenLemmas
 mod ReadyLemmas
+mod SoundLemmas
 pub mod Exports

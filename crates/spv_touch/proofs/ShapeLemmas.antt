@@ -47,7 +47,7 @@ members_alike shape cells (m ∷ ms) (v ∷ vs) (u ∷ us) n alike p q k =
     let rest : map outline vs ≡ map outline us = members_alike shape cells ms vs us sum.1 alike p.1 q.1 sum.3 in
     cc
 
-scalar_outline : (P : Cell → Type 0) (v : Value) → IsSomeAnd (scalar_in (out-Value v)) P → outline v ≡ Scalar (undefined_cell 0)
+pub scalar_outline : (P : Cell → Type 0) (v : Value) → IsSomeAnd (scalar_in (out-Value v)) P → outline v ≡ Scalar (undefined_cell 0)
 scalar_outline P v h = level (out-Value v) refl h
   where
     level : (l : Value-F Value) → out-Value v ≡ l → IsSomeAnd (scalar_in l) P → outline v ≡ Scalar (undefined_cell 0)

@@ -9,9 +9,15 @@ ghost use Rattle.spv_mem.specs.Memory.{IsMemory};
 ghost use Rattle.spv_order.specs.declared.events.Leaves.{Leaves};
 ghost use Rattle.spv_sites.specs.Fits as spec;
 ghost use Rattle.spv_state.specs.Program.{Program};
+ghost use Rattle.spv_state.specs.Sound.{IsSound};
 ghost use Rattle.spv_state.specs.State.{State};
 ghost use Rattle.spv_touch.specs.Touching.{arrives_of, due_of, touched_of};
 ghost use Rattle.spv_touch.specs.Views.{AreApart, KeepsOutline, LookAlike, StoreFits};
+ghost use Rattle.spv_valid.specs.Acceptance.{IsAccepted};
+
+use spv_bodies::instructions_keep_their_rules;
+use spv_operands::laws::operands_have_shapes;
+use spv_valid::accepted_modules_are_valid;
 
 /// A law, with nothing to run: an event sees no shared leaf but those that it reads. Where two states look the same to an invocation but in
 /// leaves that its next event doesn't read, its next event is the same in both and touches the same leaves, or it idles or faults in both.
@@ -37,3 +43,13 @@ pub fn events_change_what_they_write()
 pub fn fitting_values_keep_outlines()
     ensures { (s : State) (i : ℕ) (o : Option (Pointer × Value)) → ∥ IsMemory s.memory ∥₁ → spec.StoreFits s i o → KeepsOutline s i o }
 {}
+
+/// A law, with nothing to run: in a sound state of an accepted module what the next event of an invocation stores has the outline of what is
+/// there, so that no leaf moves.
+pub fn stored_values_keep_outlines()
+    ensures { (p : Program) (s : State) (i : ℕ) → IsAccepted p.accepted → IsSound p s → StoreFits p s i }
+{
+    instructions_keep_their_rules();
+    operands_have_shapes();
+    accepted_modules_are_valid();
+}
