@@ -90,6 +90,10 @@ FIRST = [
     (65, 0x000300FD, 268, "M5 at word 65"),
     (65, 0x000200FD, 268, "M7 at word 65"),
     (66, 0x00000038, 268, "M5 at word 66"),
+    # another addressing model, and a workgroup of 1,024 invocations and of one more
+    (8, 1, 268, "M11 at word 7"),
+    (18, 1024, 268, None),
+    (18, 1025, 268, "M17 at word 0"),
 ]
 # Where its instructions begin, as `spirv-dis --offsets` lists them.
 STARTS = [5, 7, 10, 15, 21, 23, 26, 30, 34, 38, 42, 47, 49, 53, 56, 60, 65, 66, 67]

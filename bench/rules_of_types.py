@@ -91,6 +91,33 @@ def one_more(op, ty, words, code):
     return Rule(what, insts, code and (code, len(WITH_ONE)))
 
 
+# What a nest of structs begins with: a number, a vector, an array; and how deep this is nested itself.
+INNERMOST = [("a number", 1, 1), ("a vector", 2, 2), ("an array", 4, 2)]
+
+
+def limited(what, more, code):
+    """A module with more types, of which the last one breaks the limits or none does."""
+    front = START + [inst("TypeInt", 1, 32, 0), inst("TypeVector", 2, 1, 2), inst("Constant", 1, 3, 5), inst("TypeArray", 4, 1, 3)]
+    insts = front + more + [inst("TypeVoid", 50), inst("TypeFunction", 51, 50)] + main_function(50, 51, 52)
+    return Rule(what, insts, code and (code, len(front) + len(more) - 1))
+
+
+def rules_of_limits():
+    """A number is nested once, another type once more than its deepest part; a pointer doesn't count its target. No type has over 4,194,304 cells."""
+    for what, within, nesting in INNERMOST:
+        for deep, code in ((32, None), (33, 18)):
+            ids = [within] + list(range(100, 100 + deep - nesting))
+            yield limited("structs nested %d deep over %s" % (deep, what), [inst("TypeStruct", outer, inner, 1) for inner, outer in zip(ids, ids[1:])], code)
+    nest = [inst("TypeStruct", 100 + k, 99 + k if k else 1) for k in range(31)]
+    yield limited("a pointer to structs nested 32 deep", nest + [inst("TypePointer", 200, 7, 130)], None)
+    yield limited("an array of structs nested 32 deep", nest + [inst("TypeArray", 200, 130, 3)], 18)
+    for count, code in ((4_194_304, None), (4_194_305, 18)):
+        yield limited("an array of %s numbers" % format(count, ","), [inst("Constant", 1, 100, count), inst("TypeArray", 101, 1, 100)], code)
+    for members, code in ((2, None), (3, 18)):
+        halves = [inst("Constant", 1, 100, 2_097_152), inst("TypeArray", 101, 1, 100), inst("TypeStruct", 102, *[101] * members)]
+        yield limited("a struct of %d arrays of 2,097,152 numbers" % members, halves, code)
+
+
 def rules_of_types():
     for row in KEPT:
         yield one_more(*row, None)
@@ -98,6 +125,7 @@ def rules_of_types():
         yield one_more(*row, 12)
     for row in ELSEWHERE:
         yield one_more(*row)
+    yield from rules_of_limits()
 
 
 # Two buffers of one block: a uint and an array of two-component vectors of uint, which have 8 bytes each.
