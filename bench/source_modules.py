@@ -70,8 +70,9 @@ def add(result="-"):
 
 # ---- a workgroup of 64 that exchanges numbers over a barrier
 
-def exchange(ninth=None):
-    """The module; `ninth` is the Line for the ninth line of the source, where it isn't the right one."""
+def exchange(ninth=None, before=(), within=()):
+    """The module; `ninth` is the Line for the ninth line of the source, where it isn't the right one. More records may stand before the
+    functions and in the block."""
     texts = strings(file="n.comp", text=N_TEXT, nmain="main", ni="i", nb="b", nB="B", nv="v", nuint="uint")
     decorated = [
         (None, "Decorate", "index", 11, LOCAL_INDEX), (None, "Decorate", "B", 2), (None, "MemberDecorate", "B", 0, 35, 0), (None, "Decorate", "numbers", 6, 4),
@@ -92,7 +93,7 @@ def exchange(ninth=None):
     ]
     body = [
         ("main", "Function", "void", 0, "fn"), ("-", "Label"), ("i", "Variable", "to_local", FUNCTION), ("-", "DebugFunctionDefinition", "dmain", "main"),
-        scope("dmain"), line("source", 6), ("-", "DebugDeclare", "di", "i", "expression"), ("t1", "Load", "uint", "index"), (None, "Store", "i", "t1"),
+        scope("dmain"), line("source", 6), ("-", "DebugDeclare", "di", "i", "expression"), ("t1", "Load", "uint", "index"), (None, "Store", "i", "t1"), *within,
         line("source", 7), ("t2", "Load", "uint", "i"), ("t3", "Load", "uint", "i"), ("p1", "AccessChain", "to_number", "b", "c0", "t3"),
         ("t4", "Load", "uint", "p1"), ("p2", "AccessChain", "to_shared", "s", "t2"), (None, "Store", "p2", "t4"),
         line("source", 8), (None, "ControlBarrier", "c2", "c2", "c264"),
@@ -102,7 +103,7 @@ def exchange(ninth=None):
         line("source", 10), (None, "Return",), (None, "FunctionEnd",),
     ]
     imports = [("glsl", "ExtInstImport", '"GLSL.std.450"')]
-    return Assembled(start(64, ("index", "s", "b"), texts, (), decorated, imports) + types() + declared + described + body)
+    return Assembled(start(64, ("index", "s", "b"), texts, (), decorated, imports) + types() + declared + described + list(before) + body)
 
 
 # ---- calls that were inlined

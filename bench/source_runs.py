@@ -23,8 +23,14 @@ I_TEXT = "".join("%d of i\n" % n for n in range(1, 13))
 WITH_TEXT = source_modules.inlined(2, I_TEXT)
 # Of the ninth line the Line Start is a string.
 WITHOUT_NINTH = source_modules.exchange(("-", "DebugLine", "source", "file", "c9", "c0", "c0"))
+# Records that are malformed, each in a module of its own: what stands before the functions, and what stands in the block.
+MALFORMED = {
+    "value": source_modules.exchange(None, [("inner", "DebugLexicalBlock", "source", "c1", "c0", "dmain")], [("-", "DebugValue", "inner", "c7", "expression")]),
+    "scope": source_modules.exchange(None, [source_modules.scope("dmain")]),
+    "number": source_modules.exchange(None, [("-", "DebugUnknown", "c1")]),
+}
 MODULES = {
-    "exchange": EXCHANGE, "without-ninth": WITHOUT_NINTH, "inlined": INLINED, "with-text": WITH_TEXT, "stuck": STUCK, "called": CALLED, "both": BOTH,
+    **{"malformed-" + name: assembled for name, assembled in MALFORMED.items()}, "exchange": EXCHANGE, "without-ninth": WITHOUT_NINTH, "inlined": INLINED, "with-text": WITH_TEXT, "stuck": STUCK, "called": CALLED, "both": BOTH,
     "places": PLACES, "texts": TEXTS,
 }
 
@@ -102,6 +108,15 @@ NO_NINTH = [
     ("where", ["@640 i=0 main n.comp:8"]),
     ("goto 1344", ["stop: done", "@1344 i=0 main n.comp:10"]),
 ]
+
+
+
+def passed(assembled):
+    """A record that is malformed counts, and nothing else tells of it."""
+    at_63 = [("focus 63", ["@577 i=63 main n.comp:8"]), ("print i", ["i = 63"]), ("locals", ["i = 63"]), ("focus 0", ["@577 i=0 main n.comp:9"])]
+    at_end = [("goto 1408", ["stop: done, all finished", "@1408 i=0 finished"]), ("print b.v[0]", ["b.v[0] = 3"]), ("print b.v[63]", ["b.v[63] = 127"])]
+    return [("info", [counted(assembled, 1, 64, 1920)])] + WORKGROUP[1:] + [("goto 577", ["stop: done", "@577 i=0 main n.comp:9"])] + at_63 + at_end
+
 
 # In the other order of bytes the characters of strings are turned too.
 OTHER_ORDER = [
@@ -321,6 +336,7 @@ RUNS = [
     ("a workgroup in the other order of bytes", file_of("exchange-big"), BUFFER + "rounds 30\n", OTHER_ORDER),
     ("one invocation alone", file_of("exchange"), BUFFER + "move 0 12\n", ONE_ALONE),
     ("a line whose number is a string", file_of("without-ninth"), BUFFER + "rounds 30\n", NO_NINTH),
+    *[("a malformed record, a %s" % name, file_of("malformed-" + name), BUFFER + "rounds 30\n", passed(assembled)) for name, assembled in MALFORMED.items()],
     ("inlined calls", file_of("inlined"), "spvdbg-setup 1\nrounds 9\n", IN_MAIN),
     ("the selected frame", file_of("with-text"), ROUNDS, SELECTED),
     ("the selected frame at the end", file_of("with-text"), "spvdbg-setup 1\nmove 0 2\n", AT_THE_END),
@@ -361,7 +377,7 @@ def main():
         x, y, z = shaped.code.size
         session = Session(shaped, {0: NUMBERS}, schedule_of(setup, x * y * z))
         for command, due in rows:
-            if not due[0].startswith(("refused: C1 ", "refused: C2 ")):
+            if not due[0].startswith(("refused: C1 ", "refused: C2 ")) and command.split()[0] not in ("print", "locals"):
                 made = session.answer(command)
                 if made != due:
                     wrong += 1
