@@ -13,7 +13,7 @@ import make
 from listings import TOP
 
 FOLDER = os.path.join(TOP, "crates", "spv_rows")
-DONE, SETUP, FILE, READ, WRITE, LONG = 0, 4, 5, 6, 7, 9
+DONE, MODULE, SETUP, FILE, READ, WRITE, LONG, FILE_LONG = 0, 3, 4, 5, 6, 7, 9, 10
 DEBUG, CHECK = "spvdbg debug module.spv module.setup", "spvdbg check module.spv"
 TEN_ROUNDS, REFUSED = "spvdbg-setup 1\nrounds 10\n", "rounds 1\n"
 # One more byte than the input may have, and how many reads of 4,096 bytes take so many.
@@ -40,7 +40,7 @@ STREAMS = [
     ("all is well", COMMANDS, "", DONE, ALL, 2, 19, [29, 18, 35]),
     ("byte by byte", COMMANDS, "bytes of a read: 1\nbytes of a write: 1\n", DONE, ALL, 20, 19, down(29, 18, 35)),
     ("the first read fails", COMMANDS, "reads that fail: 0\n", READ, "", 1, 0, []),
-    ("a read fails behind a line", COMMANDS, "bytes of a read: 10\nreads that fail: 1\n", READ, FIRST, 2, 10, [29]),
+    ("a read fails behind a line", COMMANDS, "bytes of a read: 9\nreads that fail: 1\n", READ, FIRST, 2, 9, [29]),
     ("a read fails in a line", COMMANDS, "bytes of a read: 6\nreads that fail: 1\n", READ, "", 2, 6, []),
     ("the first write fails", COMMANDS, "writes that fail: 0\n", WRITE, "", 1, 19, [29]),
     ("the second write fails", COMMANDS, "writes that fail: 1\n", WRITE, FIRST, 1, 19, [29, 18]),
@@ -57,6 +57,7 @@ OFFERS = [
 ANY = f"bytes of a read: {TOO_LONG}\n"
 ENDLESS = [
     ("lines of spaces without end", "-- on and on\n" + 255 * " " + "\n\n", ANY, LONG, "", READS, TOO_LONG, []),
+    ("line feeds without end", "-- on and on\n\n\n", ANY, LONG, "", READS, TOO_LONG, []),
     ("a line without end", "goto 3\n-- on and on\nx\n", ANY, LONG, FIRST, READS, TOO_LONG, [29]),
     ("lines without end behind quit", "quit\n-- on and on\n\n\n", ANY, DONE, "", 1, 4096, []),
 ]
@@ -65,6 +66,12 @@ ENDLESS = [
 FILES = [
     ("the module isn't read", DEBUG, TEN_ROUNDS, "readings that fail: 0\n", FILE, "", "module.spv", []),
     ("the setup isn't read", DEBUG, TEN_ROUNDS, "readings that fail: 1\n", FILE, "", "module.setup", []),
+    # zeros fill the files: the next instruction of the module has no words, and the third line of the setup is one word
+    ("a module of as many bytes as it may have", DEBUG, TEN_ROUNDS, "bytes of the module: 4194304\n", MODULE, "module refused: M5 at word 67\n", "", [30]),
+    ("a module of one byte more", DEBUG, TEN_ROUNDS, "bytes of the module: 4194305\n", FILE_LONG, "", "", []),
+    ("a module to be checked of one byte more", CHECK, TEN_ROUNDS, "bytes of the module: 4194305\n", FILE_LONG, "", "", []),
+    ("a setup of as many bytes as it may have", DEBUG, TEN_ROUNDS, "bytes of the setup: 67108864\n", SETUP, "setup refused: S2 at line 3\n", "", [28]),
+    ("a setup of one byte more", DEBUG, TEN_ROUNDS, "bytes of the setup: 67108865\n", FILE_LONG, "", "", []),
     ("the setup is refused", DEBUG, REFUSED, "", SETUP, "setup refused: S1 at line 1\n", "", [28]),
     ("the refusal isn't written", DEBUG, REFUSED, "writes that fail: 0\n", WRITE, "", "", [28]),
     ("the module is checked", CHECK, TEN_ROUNDS, "", DONE, ACCEPTED, "", [36]),

@@ -33,13 +33,23 @@ fn most(alloc: Global, row: &str, name: &str) -> io::Result<usize> {
     }
 }
 
+/// A file with as many bytes as the row's line of this name says, zeros behind its own ones.
+fn filled(alloc: Global, row: &str, name: &str, mut bytes: Vec<u8>) -> io::Result<Vec<u8>> {
+    if let Some(count) = numbers(alloc, row, name)?.first() {
+        bytes.resize(*count as usize, 0)?;
+    }
+    Ok(bytes)
+}
+
 /// The files of a row: a module, and the row's setup.
 pub fn files(alloc: Global, row: &str, module: Vec<u8>, setup: &str) -> io::Result<FailingFiles>
     ensures { IfOk result (λ files. files.held.faults ≡ 0) }
 {
     let mut held = BTreeMap::new(alloc);
+    let module = filled(alloc, row, "bytes of the module:", module)?;
     held.insert(String::from_str(alloc, "module.spv")?, module)?;
     let setup = Vec::from_slice(alloc, setup.as_bytes())?;
+    let setup = filled(alloc, row, "bytes of the setup:", setup)?;
     held.insert(String::from_str(alloc, "module.setup")?, setup)?;
     let fails = numbers(alloc, row, "readings that fail:")?;
     Ok(FailingFiles::new(alloc, held, fails))
