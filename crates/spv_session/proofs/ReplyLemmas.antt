@@ -7,7 +7,7 @@ use Rattle.spv_base.specs.Prefix.{IsPrefixOf}
 use Rattle.spv_cmd.specs.declared.command.Command.{Command}
 use Rattle.spv_cmd.specs.Commands.{command_of}
 use Rattle.spv_group.proofs.Exports.{range_more}
-use Rattle.spv_session.specs.Reply.{Told, tells, refuses, Act, nothing, quits, shows, asks, goes, walks, act_of, focus_finished, is_over, motion_reply, reply_by, refusal_by, line_refusal, told_refusal, told_reply}
+use Rattle.spv_session.specs.Reply.{Told, tells, refuses, Act, nothing, quits, shows, asks, goes, walks, orders, order_told, act_of, focus_finished, is_over, motion_reply, reply_by, refusal_by, line_refusal, told_refusal, told_reply}
 use Rattle.spv_session.specs.Texts.{refusal_line}
 use Rattle.spv_session.specs.View.{Settings, View, view_at}
 
@@ -44,6 +44,7 @@ refused_text tests v nothing code e = absurd (cc)
 refused_text tests v quits code e = absurd (cc)
 refused_text tests v (shows told) code e = refused_told v (told v) code e
 refused_text tests v (asks told) code e = refused_told v (told tests v) code e
+refused_text tests v (orders a b) code e = refused_told v (order_told a b v) code e
 refused_text tests v (goes motion) code e = absurd (cc)
 refused_text tests v (walks motion) code e = refused_walk (is_over v) v (motion_reply tests v (motion v)) code e
 

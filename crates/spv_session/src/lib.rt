@@ -7,6 +7,7 @@ mod debugger;
 mod frames;
 mod info;
 mod motions;
+mod orders;
 mod probes;
 mod registers;
 mod searches;
