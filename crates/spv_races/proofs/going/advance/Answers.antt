@@ -1,4 +1,4 @@
-use Rattle.std.proofs.Common.{◌≡◌, ap, arith}
+use Rattle.std.proofs.Common.{ap, arith}
 use Rattle.spv_group.specs.Group.{Held}
 use Rattle.spv_races.proofs.WayLemmas.{forward}
 use Rattle.spv_races.proofs.going.advance.Goals as goal

@@ -1,4 +1,4 @@
-use Rattle.std.proofs.Common.{◌≡◌, ◌≤◌, ◌∙◌, ◌+◌, ◌-◌, refl, arith}
+use Rattle.std.proofs.Common.{◌≤◌, ◌∙◌, ◌+◌, refl, arith}
 use Rattle.spv_races.proofs.WayLemmas.{advanced, ended, on_begins, on_ends, on_then, same_end}
 use Rattle.spv_races.proofs.going.forth_to.Goals as goal
 

@@ -1,4 +1,4 @@
-use Rattle.std.proofs.Common.{◌≡◌, ◌≤◌, ◌∙◌, ◌+◌, ◌-◌, ℕ, List, refl, subst, sym, arith}
+use Rattle.std.proofs.Common.{◌≡◌, ◌≤◌, ◌∙◌, ◌+◌, ℕ, List, refl, subst, sym, arith}
 use Rattle.spv_exchanges.specs.Stretches.{AreEvents}
 use Rattle.spv_group.specs.Group.{entries_in}
 use Rattle.spv_order.specs.declared.events.Event.{Event}

@@ -1,5 +1,5 @@
-use Rattle.std.proofs.Common.{◌≡◌, ◌≤◌, ◌∙◌, List, Some, length, ap, subst, sym, arith}
-use Rattle.spv_group.specs.Group.{Held, end_in, entries_in, group_at}
+use Rattle.std.proofs.Common.{◌≡◌, ◌∙◌, List, ap, subst, arith}
+use Rattle.spv_group.specs.Group.{Held, entries_in, group_at}
 use Rattle.spv_order.specs.Order.{IsOrder}
 use Rattle.spv_order.specs.declared.events.Event.{Event}
 use Rattle.spv_order.specs.declared.orders.Answer.{Answer}
