@@ -23,18 +23,20 @@ PAST = "refused: C13 past the end"
 ARRIVAL, RETURN, LENGTH = 224, 253, 68
 
 # A block of a total and of three parts, one for each invocation.
-BLOCK = HEAD.format(size=3, names="") + """OpDecorate %block Block
+DECORATIONS = """OpDecorate %block Block
 OpMemberDecorate %block 0 Offset 0
 OpMemberDecorate %block 1 Offset 4
 OpDecorate %parts ArrayStride 4
 OpDecorate %data DescriptorSet 0
 OpDecorate %data Binding 0
-%three = OpConstant %uint 3
+"""
+BLOCK = HEAD.format(size=3, names=DECORATIONS) + """%three = OpConstant %uint 3
 %parts = OpTypeArray %uint %three
+%slots = OpTypeArray %uint %three
 %block = OpTypeStruct %uint %parts
 %to_block = OpTypePointer StorageBuffer %block
 %to_part = OpTypePointer StorageBuffer %uint
-%to_row = OpTypePointer Workgroup %parts
+%to_row = OpTypePointer Workgroup %slots
 %to_slot = OpTypePointer Workgroup %uint
 %data = OpVariable %to_block StorageBuffer
 %row = OpVariable %to_row Workgroup
