@@ -22,7 +22,10 @@ def tallies(*counts):
 
 # Counts follow forth and back, also where the events aren't kept, and a dropped probe has none.
 COUNTED = [
-    tallies(0, 0, 0), END, tallies(128, 320, 64), ("goto 576", in_n(576, 0, 8)), tallies(64, 192, 64), ("back 1", in_n(575, 0, 8)), tallies(64, 191, 63),
+    tallies(0, 0, 0), END, tallies(128, 320, 64), ("goto 576", in_n(576, 0, 8)), tallies(64, 192, 64),
+    # looking at an order moves them away and brings them back
+    ("order 448 512", ["order 448 512: free"]), tallies(64, 192, 64), ("order 600 1400", ["order 600 1400: free"]), tallies(64, 192, 64), ("where", in_n(576, 0, 8)[1:]),
+    ("order 0 600", ["order 0 600: event 512 arrives at a barrier"]), ("order 0 1409", ["refused: C13 past the end"]), tallies(64, 192, 64), ("back 1", in_n(575, 0, 8)), tallies(64, 191, 63),
     ("fwd 1", in_n(576, 0, 8)), tallies(64, 192, 64), ("goto 449", in_n(449, 0, 8)), tallies(1, 128, 0), ("goto 448", in_n(448, 0, 7)), tallies(0, 128, 0), ("stepi", in_n(449, 0, 8)),
     tallies(1, 128, 0), ("rstepi", in_n(448, 0, 7)), tallies(0, 128, 0), ("goto 1", in_n(1, 0, 6)), tallies(0, 1, 0), END, tallies(128, 320, 64), START, tallies(0, 0, 0),
     ("step", in_n(65, 0, 7)), tallies(0, 64, 0), ("finish", in_n(1345, 0, 0)), tallies(128, 257, 64), ("rcontinue", in_n(0, 0, 6, "start")), tallies(0, 0, 0),

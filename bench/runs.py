@@ -9,7 +9,8 @@ arithmetic.py by Python, and those of memory.runs, flow.runs and group.runs, and
 interpreters memory_runs.py, flow.py, group_runs.py and manual_runs.py; those with barriers before which invocations return by hand and
 by sessions.py in barrier_runs.py, those of pointers.runs by hand and by pointers.py in pointer_runs.py; those of source.runs by hand in
 source_runs.py and stop_runs.py, those of traces.runs by sessions.py and random_sessions.py, those of probes.runs by
-hand in probe_runs.py, and those of variables.runs by hand in variable_runs.py and by variables_told.py; those of `make` by stops.py. None is taken from the program that is tested.
+hand in probe_runs.py, those of order.runs by hand and by stacks.py in order_runs.py, and those of variables.runs by hand in
+variable_runs.py and by variables_told.py; those of `make` by stops.py. None is taken from the program that is tested.
 """
 import os
 import struct
@@ -20,6 +21,7 @@ import group_runs
 import make
 import manual_runs
 import memory_runs
+import order_runs
 import pointer_runs
 import random_sessions
 import runs_of_places as places
@@ -67,7 +69,7 @@ COMMANDS = [
         "goto 4\nregs\ngoto 0\nwhere\n",
         "stop: done, all finished\n@4 i=0 finished\nrefused: C12 focus finished\nstop: done, start\n" + 2 * "@0 i=0 %7 word 53\n",
     ),
-    ("jump\nGoto 1\norder 1 2\n", 3 * UNKNOWN),
+    ("jump\nGoto 1\norders 1 2\norder 1 2\n", 3 * UNKNOWN + "order 1 2: free\n"),
     # a module without debug records has no variables, but ids
     (
         "print %10\nprint %9\nprint %5\nlocals\nglobals\nprint x\ngoto 3\nprint %10\nprint %9\nprint %7\ngoto 4\nprint %10\nprint %9\nprint %5\nlocals\nglobals\n",
@@ -289,6 +291,7 @@ def calls():
     by_file = [
         ("memory.runs", [memory_runs]), ("flow.runs", [flow]), ("group.runs", [group_runs, barrier_runs]), ("pointers.runs", [pointer_runs]),
         ("source.runs", [source_runs, stop_runs]), ("traces.runs", [traces, random_sessions]), ("variables.runs", [variable_runs, variables_told]), ("probes.runs", [probe_runs]),
+        ("order.runs", [order_runs]),
     ]
     for file, runs in by_file:
         yield file, [(what, name, DEBUG, *row) for each in runs for what, name, *row in each.calls()]
@@ -430,7 +433,16 @@ LINES = [
     ("halt 1 x", "C2"),
     ("halt 1 4294967296", "C2"),
     ("halt", "C2"),
-    ("order 1 2", "C1"),
+    ("order 1 2", "order 1 2"),
+    (" order  0  004294967295", "order 0 4294967295"),
+    ("order 3 3", "C2"),
+    ("order 4 3", "C2"),
+    ("order 1", "C2"),
+    ("order", "C2"),
+    ("order 1 2 3", "C2"),
+    ("order 1 x", "C2"),
+    ("order 0 4294967296", "C2"),
+    ("Order 1 2", "C1"),
     ("help", "C1"),
 ]
 

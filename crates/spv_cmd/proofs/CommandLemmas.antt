@@ -17,9 +17,9 @@ use Rattle.spv_line.specs.Words.{words_in}
 use Rattle.spv_cmd.specs.Numbers.{number_of}
 use Rattle.spv_cmd.specs.Paths.{IsPath, path_of}
 use Rattle.spv_cmd.specs.Places.{IsPlace, place_of}
-use Rattle.spv_cmd.specs.Grammar.{Arguments, row, spelling, built, keyword_in, is_built, IsOne, IsNumber, IsPositive, IsCount, AreNumbers, Means, AreWords, IsLine}
-use Rattle.spv_cmd.specs.Grammar.Arguments.{none, number, positive, count, path, place, numbers}
-use Rattle.spv_cmd.specs.Commands.{said_by_one, at_least_one, positive_of, count_of, numbers_of, meant, refused, command_or_refused, command_with, command_in, command_of, IsUnknown}
+use Rattle.spv_cmd.specs.Grammar.{Arguments, row, spelling, built, keyword_in, is_built, IsOne, IsNumber, IsPositive, IsCount, IsStretch, AreNumbers, Means, AreWords, IsLine}
+use Rattle.spv_cmd.specs.Grammar.Arguments.{none, number, positive, count, path, place, numbers, stretch}
+use Rattle.spv_cmd.specs.Commands.{said_by_one, at_least_one, positive_of, count_of, numbers_of, ascending, stretch_of, meant, refused, command_or_refused, command_with, command_in, command_of, IsUnknown}
 use Rattle.spv_cmd.specs.Answers.{Reads, IsNoKeyword, AreRefused, IsRefused, IsFirstRefused, IsBlank, IsSplit}
 use Rattle.spv_cmd.proofs.CutLemmas.{when, made_of, path_said, path_sound, place_said, place_sound}
 use Rattle.spv_cmd.proofs.KeywordLemmas.{one_keyword}
@@ -86,6 +86,31 @@ numbers_sound (word ∷ words) k n h = by (number_of word) refl h
         let second : n ≡ made.0 = ap (λ (p : ℕ × ℕ). p.1) made.2 in
         (word, words, refl, e ∙ ap Some (sym first), positive_sound words n (made.1 ∙ ap Some (sym second)))
 
+ascending_is : (a b : ℕ) → a < b → ascending a b ≡ Some (a, b)
+ascending_is a b h = let below : nat_lt a b ≡ true = grind arith in ap (λ t. cond t (Some (a, b)) None) below
+
+stretch_said : (words : List (List ℕ)) (s : ℕ × ℕ) → IsStretch words s → stretch_of words ≡ Some s
+stretch_said words s h =
+    ap stretch_of h.3 ∙ ap (λ (o : Option ℕ). option_and_then {U = ℕ × ℕ} (λ a. option_and_then (ascending a) (said_by_one number_of h.2)) o) h.4
+    ∙ ap (λ (o : Option ℕ). option_and_then (ascending s.0) o) (number_said h.2 s.1 h.5) ∙ ascending_is s.0 s.1 h.0
+
+abbrev pair_in : Option (ℕ × ℕ) → ℕ × ℕ
+pair_in None = (0, 0)
+pair_in (Some p) = p
+
+stretch_sound : (words : List (List ℕ)) (s : ℕ × ℕ) → stretch_of words ≡ Some s → IsStretch words s
+stretch_sound [] s h = absurd (cc)
+stretch_sound (word ∷ words) s h = by (number_of word) (said_by_one number_of words) refl refl h
+  where
+    by : (o p : Option ℕ) → number_of word ≡ o → said_by_one number_of words ≡ p → option_and_then {U = ℕ × ℕ} (λ a. option_and_then (ascending a) p) o ≡ Some s → IsStretch (word ∷ words) s
+    by None p e f is = absurd (cc)
+    by (Some a) None e f is = absurd (cc)
+    by (Some a) (Some b) e f is =
+        let some = when (nat_lt a b) (Some (a, b)) s is in
+        let first : a ≡ s.0 = ap (λ o. (pair_in o).0) some.1 in
+        let second : b ≡ s.1 = ap (λ o. (pair_in o).1) some.1 in
+        (subst (λ x. x < s.1) first (subst (λ x. a < x) second (ltb-true a b some.0)), word, words, refl, e ∙ ap Some first, number_sound words s.1 (f ∙ ap Some second))
+
 pub is_meant : (a : Arguments) (words : List (List ℕ)) (c : Command) → Means a words c → meant a words ≡ Some c
 is_meant (none it) words c h = ap (meant (none it)) h.0 ∙ ap Some (sym h.1)
 is_meant (number make) words c h = ap (option_map make) (number_said words h.0 h.2) ∙ ap Some (sym h.1)
@@ -94,6 +119,7 @@ is_meant (count make) words c h = ap (option_map make) (count_said words h.0 h.2
 is_meant (path make) words c h = ap (option_map make) (one_said IsPath path_of path_said words h.0 h.2) ∙ ap Some (sym h.1)
 is_meant (place make) words c h = ap (option_map make) (one_said IsPlace place_of place_said words h.0 h.2) ∙ ap Some (sym h.1)
 is_meant (numbers make) words c h = ap (option_map (λ (p : ℕ × ℕ). make p.0 p.1)) (numbers_said words h.0 h.1 h.3) ∙ ap Some (sym h.2)
+is_meant (stretch make) words c h = ap (option_map make) (stretch_said words h.0 h.2) ∙ ap Some (sym h.1)
 
 meant_sound : (a : Arguments) (words : List (List ℕ)) (c : Command) → meant a words ≡ Some c → Means a words c
 meant_sound (none it) [] c h = let same : c ≡ it = cc in (refl, same)
@@ -104,6 +130,7 @@ meant_sound (count make) words c h = let made = made_of make (count_of words) c 
 meant_sound (path make) words c h = let made = made_of make (said_by_one path_of words) c h in (made.0, made.2, one_sound IsPath path_of path_sound words made.0 made.1)
 meant_sound (place make) words c h = let made = made_of make (said_by_one place_of words) c h in (made.0, made.2, one_sound IsPlace place_of place_sound words made.0 made.1)
 meant_sound (numbers make) words c h = let made = made_of (λ (p : ℕ × ℕ). make p.0 p.1) (numbers_of words) c h in (made.0.0, made.0.1, made.2, numbers_sound words made.0.0 made.0.1 made.1)
+meant_sound (stretch make) words c h = let made = made_of make (stretch_of words) c h in (made.0, made.2, stretch_sound words made.0 made.1)
 
 not_meant : (a : Arguments) (words : List (List ℕ)) → ((c : Command) → ¬ Means a words c) → meant a words ≡ None
 not_meant a words lacks = by (meant a words) refl

@@ -20,8 +20,8 @@ use Rattle.spv_line.specs.Words.{is_space, is_other, words_in}
 use Rattle.spv_cmd.specs.Paths.{is_name, is_name_byte, is_part, is_path, part_text, parts_text, path_text}
 use Rattle.spv_cmd.specs.Places.{is_place, place_text}
 use Rattle.spv_cmd.specs.Grammar.{Arguments, row, spelling, Means, AreWords, IsLine}
-use Rattle.spv_cmd.specs.Grammar.Arguments.{none, number, positive, count, path, place, numbers}
-use Rattle.spv_cmd.specs.Lines.{Written, blank, alone, with_number, with_count, with_path, with_place, with_numbers, written, text_of, HasForm, line_of}
+use Rattle.spv_cmd.specs.Grammar.Arguments.{none, number, positive, count, path, place, numbers, stretch}
+use Rattle.spv_cmd.specs.Lines.{Written, blank, alone, with_number, with_count, with_path, with_place, with_numbers, with_stretch, written, text_of, HasForm, line_of}
 use Rattle.spv_cmd.proofs.BoolLemmas.{all_also}
 use Rattle.spv_line.proofs.Exports.{some_word, decimal_digits, decimal_some}
 use Rattle.spv_line.specs.Numbers.{is_digit}
@@ -138,15 +138,30 @@ path_line k make p e five h = argument_line k (make p) (path_text p) (path_whole
 place_line : (k : Keyword) (make : Option (List ℕ) × ℕ → Command) (p : Option (List ℕ) × ℕ) → (row k).1 ≡ place make → length (spelling k) ≤ 5 → (is_place p ≡ true) × (length (place_text p) ≤ 4090) → IsLine (spelling k ++ 32 ∷ place_text p) (make p)
 place_line k make p e five h = argument_line k (make p) (place_text p) (place_whole p h.0).0 (place_whole p h.0).1 (omega (arith, five, h.1)) (subst (λ a. Means a (place_text p ∷ []) (make p)) (sym e) (p, refl, (place_text p, refl, place_again p h.0)))
 
-numbers_line : (k : Keyword) (make : ℕ → ℕ → Command) (m n : ℕ) → (row k).1 ≡ numbers make → m ≤ 4294967295 → (1 ≤ n) × (n ≤ 4294967295) → IsLine (spelling k ++ 32 ∷ (decimal m ++ 32 ∷ decimal n)) (make m n)
-numbers_line k make m n e l h =
+pair_short : (k : Keyword) (m n : ℕ) → m ≤ 4294967295 → n ≤ 4294967295 → length (spelling k ++ 32 ∷ (decimal m ++ 32 ∷ decimal n)) ≤ 4096
+pair_short k m n l h =
     let short = length-append (spelling k) (32 ∷ (decimal m ++ 32 ∷ decimal n)) in
     let shorter = length-append (decimal m) (32 ∷ decimal n) in
     let first : length (decimal m) ≤ 10 = length-decimal-le 10 m (omega arith) (omega (arith, l)) (omega (arith, l)) in
-    let second : length (decimal n) ≤ 10 = length-decimal-le 10 n (omega arith) (omega (arith, h.1)) (omega (arith, h.1)) in (
-      omega (arith, short, shorter, first, second, keyword_short k),
-      subst (λ ws. AreWords ws (make m n)) (sym (three_words (spelling k) (decimal m) (decimal n) (keyword_whole k) (keyword_some k) (decimal_whole m l) (decimal_some m l) (decimal_whole n h.1) (decimal_some n h.1)))
-          (k, refl, subst (λ a. Means a (decimal m ∷ decimal n ∷ []) (make m n)) (sym e) (m, n, refl, (decimal m, decimal n ∷ [], refl, number_decimal m l, (h.0, (decimal n, refl, number_decimal n h.1))))),
+    let second : length (decimal n) ≤ 10 = length-decimal-le 10 n (omega arith) (omega (arith, h)) (omega (arith, h)) in
+    omega (arith, short, shorter, first, second, keyword_short k)
+
+pair_words : (k : Keyword) (m n : ℕ) → m ≤ 4294967295 → n ≤ 4294967295 → words_in (spelling k ++ 32 ∷ (decimal m ++ 32 ∷ decimal n)) ≡ spelling k ∷ decimal m ∷ decimal n ∷ []
+pair_words k m n l h = three_words (spelling k) (decimal m) (decimal n) (keyword_whole k) (keyword_some k) (decimal_whole m l) (decimal_some m l) (decimal_whole n h) (decimal_some n h)
+
+numbers_line : (k : Keyword) (make : ℕ → ℕ → Command) (m n : ℕ) → (row k).1 ≡ numbers make → m ≤ 4294967295 → (1 ≤ n) × (n ≤ 4294967295) → IsLine (spelling k ++ 32 ∷ (decimal m ++ 32 ∷ decimal n)) (make m n)
+numbers_line k make m n e l h = (
+  pair_short k m n l h.1,
+  subst (λ ws. AreWords ws (make m n)) (sym (pair_words k m n l h.1))
+      (k, refl, subst (λ a. Means a (decimal m ∷ decimal n ∷ []) (make m n)) (sym e) (m, n, refl, (decimal m, decimal n ∷ [], refl, number_decimal m l, (h.0, (decimal n, refl, number_decimal n h.1))))),
+)
+
+stretch_line : (k : Keyword) (make : ℕ × ℕ → Command) (s : ℕ × ℕ) → (row k).1 ≡ stretch make → (s.0 < s.1) × (s.1 ≤ 4294967295) → IsLine (spelling k ++ 32 ∷ (decimal s.0 ++ 32 ∷ decimal s.1)) (make s)
+stretch_line k make s e h =
+    let first : s.0 ≤ 4294967295 = omega (arith, h.0, h.1) in (
+      pair_short k s.0 s.1 first h.1,
+      subst (λ ws. AreWords ws (make s)) (sym (pair_words k s.0 s.1 first h.1))
+          (k, refl, subst (λ a. Means a (decimal s.0 ∷ decimal s.1 ∷ []) (make s)) (sym e) (s, refl, (h.0, decimal s.0, decimal s.1 ∷ [], refl, number_decimal s.0 first, (decimal s.1, refl, number_decimal s.1 h.1)))),
     )
 
 -- ---- what is written of a command, by the row of its keyword
@@ -176,6 +191,10 @@ abbrev numbers_made : (k n : ℕ) → Arguments → Option Command
 numbers_made k n (numbers make) = Some (make k n)
 numbers_made k n _ = None
 
+abbrev stretch_made : ℕ × ℕ → Arguments → Option Command
+stretch_made s (stretch make) = Some (make s)
+stretch_made s _ = None
+
 abbrev made : Written → Option Command
 made blank = Some command.Empty
 made (alone k) = alone_made (row k).1
@@ -184,6 +203,7 @@ made (with_count k n) = count_made n (row k).1
 made (with_path k p) = path_made p (row k).1
 made (with_place k p) = place_made p (row k).1
 made (with_numbers k m n) = numbers_made m n (row k).1
+made (with_stretch k s) = stretch_made s (row k).1
 
 made_again : (it : Command) → made (written it) ≡ Some it
 made_again = grind arith
@@ -203,6 +223,7 @@ alone_again k (count make) it e h = absurd (cc)
 alone_again k (path make) it e h = absurd (cc)
 alone_again k (place make) it e h = absurd (cc)
 alone_again k (numbers make) it e h = absurd (cc)
+alone_again k (stretch make) it e h = absurd (cc)
 
 number_again : (k : Keyword) (n : ℕ) (a : Arguments) (it : Command) → (row k).1 ≡ a → number_made n a ≡ Some it → n ≤ 4294967295 → IsLine (spelling k ++ 32 ∷ decimal n) it
 number_again k n (number make) it e h l = let same : make n ≡ it = cc in subst (IsLine (spelling k ++ 32 ∷ decimal n)) same (number_line k make n e l)
@@ -212,6 +233,7 @@ number_again k n (count make) it e h l = absurd (cc)
 number_again k n (path make) it e h l = absurd (cc)
 number_again k n (place make) it e h l = absurd (cc)
 number_again k n (numbers make) it e h l = absurd (cc)
+number_again k n (stretch make) it e h l = absurd (cc)
 
 count_again : (k : Keyword) (n : ℕ) (a : Arguments) (it : Command) → (row k).1 ≡ a → count_made n a ≡ Some it → (1 ≤ n) × (n ≤ 4294967295) → IsLine (spelling k ++ 32 ∷ decimal n) it
 count_again k n (positive make) it e h l = let same : make n ≡ it = cc in subst (IsLine (spelling k ++ 32 ∷ decimal n)) same (positive_line k make n e l)
@@ -221,6 +243,7 @@ count_again k n (number make) it e h l = absurd (cc)
 count_again k n (path make) it e h l = absurd (cc)
 count_again k n (place make) it e h l = absurd (cc)
 count_again k n (numbers make) it e h l = absurd (cc)
+count_again k n (stretch make) it e h l = absurd (cc)
 
 text_again : (k : Keyword) (p : PathText) (a : Arguments) (it : Command) → (row k).1 ≡ a → path_made p a ≡ Some it → length (spelling k) ≤ 5 → (is_path p ≡ true) × (length (path_text p) ≤ 4090) → IsLine (spelling k ++ 32 ∷ path_text p) it
 text_again k p (path make) it e h five l = let same : make p ≡ it = cc in subst (IsLine (spelling k ++ 32 ∷ path_text p)) same (path_line k make p e five l)
@@ -230,6 +253,7 @@ text_again k p (positive make) it e h five l = absurd (cc)
 text_again k p (count make) it e h five l = absurd (cc)
 text_again k p (place make) it e h five l = absurd (cc)
 text_again k p (numbers make) it e h five l = absurd (cc)
+text_again k p (stretch make) it e h five l = absurd (cc)
 
 source_again : (k : Keyword) (p : Option (List ℕ) × ℕ) (a : Arguments) (it : Command) → (row k).1 ≡ a → place_made p a ≡ Some it → length (spelling k) ≤ 5 → (is_place p ≡ true) × (length (place_text p) ≤ 4090) → IsLine (spelling k ++ 32 ∷ place_text p) it
 source_again k p (place make) it e h five l = let same : make p ≡ it = cc in subst (IsLine (spelling k ++ 32 ∷ place_text p)) same (place_line k make p e five l)
@@ -239,6 +263,7 @@ source_again k p (positive make) it e h five l = absurd (cc)
 source_again k p (count make) it e h five l = absurd (cc)
 source_again k p (path make) it e h five l = absurd (cc)
 source_again k p (numbers make) it e h five l = absurd (cc)
+source_again k p (stretch make) it e h five l = absurd (cc)
 
 numbers_again : (k : Keyword) (m n : ℕ) (a : Arguments) (it : Command) → (row k).1 ≡ a → numbers_made m n a ≡ Some it → m ≤ 4294967295 → (1 ≤ n) × (n ≤ 4294967295) → IsLine (spelling k ++ 32 ∷ (decimal m ++ 32 ∷ decimal n)) it
 numbers_again k m n (numbers make) it e h l p = let same : make m n ≡ it = cc in subst (IsLine (spelling k ++ 32 ∷ (decimal m ++ 32 ∷ decimal n))) same (numbers_line k make m n e l p)
@@ -248,6 +273,17 @@ numbers_again k m n (positive make) it e h l p = absurd (cc)
 numbers_again k m n (count make) it e h l p = absurd (cc)
 numbers_again k m n (path make) it e h l p = absurd (cc)
 numbers_again k m n (place make) it e h l p = absurd (cc)
+numbers_again k m n (stretch make) it e h l p = absurd (cc)
+
+stretch_again : (k : Keyword) (s : ℕ × ℕ) (a : Arguments) (it : Command) → (row k).1 ≡ a → stretch_made s a ≡ Some it → (s.0 < s.1) × (s.1 ≤ 4294967295) → IsLine (spelling k ++ 32 ∷ (decimal s.0 ++ 32 ∷ decimal s.1)) it
+stretch_again k s (stretch make) it e h l = let same : make s ≡ it = cc in subst (IsLine (spelling k ++ 32 ∷ (decimal s.0 ++ 32 ∷ decimal s.1))) same (stretch_line k make s e l)
+stretch_again k s (none that) it e h l = absurd (cc)
+stretch_again k s (number make) it e h l = absurd (cc)
+stretch_again k s (positive make) it e h l = absurd (cc)
+stretch_again k s (count make) it e h l = absurd (cc)
+stretch_again k s (path make) it e h l = absurd (cc)
+stretch_again k s (place make) it e h l = absurd (cc)
+stretch_again k s (numbers make) it e h l = absurd (cc)
 
 written_line : (w : Written) (it : Command) → made w ≡ Some it → HasForm w → IsLine (text_of w) it
 written_line blank it e h = let same : it ≡ command.Empty = cc in (omega arith, same)
@@ -257,6 +293,7 @@ written_line (with_count k n) it e h = count_again k n (row k).1 it refl e h
 written_line (with_path k p) it e h = text_again k p (row k).1 it refl e (path_short k p it e) h
 written_line (with_place k p) it e h = source_again k p (row k).1 it refl e (place_short k p it e) h
 written_line (with_numbers k m n) it e h = numbers_again k m n (row k).1 it refl e h.0 (h.1, h.2)
+written_line (with_stretch k s) it e h = stretch_again k s (row k).1 it refl e h
 
 pub line_again : (it : Command) → HasForm (written it) → IsLine (line_of it) it
 line_again it h = written_line (written it) it (made_again it) h

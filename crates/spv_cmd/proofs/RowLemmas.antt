@@ -9,8 +9,8 @@ use Rattle.spv_cmd.specs.declared.command.Command.{Command}
 use Rattle.spv_line.specs.Words.{words_in, HasFirstWord}
 use Rattle.spv_cmd.specs.Paths.{IsPath}
 use Rattle.spv_cmd.specs.Places.{IsPlace}
-use Rattle.spv_cmd.specs.Grammar.{Arguments, IsOne, IsNumber, IsPositive, IsCount, Means}
-use Rattle.spv_cmd.specs.Grammar.Arguments.{number, positive, count, path, place, numbers}
+use Rattle.spv_cmd.specs.Grammar.{Arguments, IsOne, IsNumber, IsPositive, IsCount, IsStretch, Means}
+use Rattle.spv_cmd.specs.Grammar.Arguments.{number, positive, count, path, place, numbers, stretch}
 use Rattle.spv_cmd.specs.Answers.{Reads}
 use Rattle.spv_cmd.proofs.ReadsLemmas.{reads_err, reads_through}
 
@@ -28,6 +28,9 @@ path_err a make words e r is same h = subst (λ b. Reads (Means b words) r) (sym
 
 pub place_err : (a : Arguments) (make : Option (List ℕ) × ℕ → Command) (words : List (List ℕ)) (e : Fail CmdRefusal) (r : Result Command (Fail CmdRefusal)) → a ≡ place make → IsErrAnd r (λ other. other ≡ e) → Reads (λ p. IsOne (IsPlace p) words) (Err e) → Reads (Means a words) r
 place_err a make words e r is same h = subst (λ b. Reads (Means b words) r) (sym is) (reads_through (λ p. IsOne (IsPlace p) words) (Means (place make) words) e r same (λ lacks d m. lacks m.0 m.2) h)
+
+pub stretch_err : (a : Arguments) (make : ℕ × ℕ → Command) (words : List (List ℕ)) (e : Fail CmdRefusal) (r : Result Command (Fail CmdRefusal)) → a ≡ stretch make → IsErrAnd r (λ other. other ≡ e) → Reads (IsStretch words) (Err e) → Reads (Means a words) r
+stretch_err a make words e r is same h = subst (λ b. Reads (Means b words) r) (sym is) (reads_through (IsStretch words) (Means (stretch make) words) e r same (λ lacks d m. lacks m.0 m.2) h)
 
 -- ---- a number that may be left out
 
@@ -59,3 +62,10 @@ no_numbers make words rest word e lacks c m =
     let other : words ≡ m.3.0 ∷ m.3.1 = m.3.2 in
     let same : m.3.1 ≡ rest = cc in
     lacks m.1 (subst (λ ws. IsPositive ws m.1) same m.3.4)
+
+-- where the words behind the first are no number
+pub no_stretch : (words rest : List (List ℕ)) (word : List ℕ) → words ≡ word ∷ rest → ((n : ℕ) → ¬ IsNumber rest n) → (s : ℕ × ℕ) → ¬ IsStretch words s
+no_stretch words rest word e lacks s h =
+    let other : words ≡ h.1 ∷ h.2 = h.3 in
+    let same : h.2 ≡ rest = cc in
+    lacks s.1 (subst (λ ws. IsNumber ws s.1) same h.5)

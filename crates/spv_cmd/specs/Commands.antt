@@ -10,7 +10,7 @@ use Rattle.spv_cmd.specs.Numbers.{number_of}
 use Rattle.spv_cmd.specs.Paths.{path_of}
 use Rattle.spv_cmd.specs.Places.{place_of}
 use Rattle.spv_cmd.specs.Grammar.{Arguments, row, built, keyword_in, is_built}
-use Rattle.spv_cmd.specs.Grammar.Arguments.{none, number, positive, count, path, place, numbers}
+use Rattle.spv_cmd.specs.Grammar.Arguments.{none, number, positive, count, path, place, numbers, stretch}
 
 -- what one word says; no word, or more than one, says nothing
 abbrev pub said_by_one : {T : Type 0} → (List ℕ → Option T) → List (List ℕ) → Option T
@@ -32,6 +32,13 @@ abbrev pub numbers_of : List (List ℕ) → Option (ℕ × ℕ)
 numbers_of [] = None
 numbers_of (word ∷ words) = option_and_then (λ k. option_map (λ n. (k, n)) (positive_of words)) (number_of word)
 
+abbrev pub ascending : (a b : ℕ) → Option (ℕ × ℕ)
+ascending a b = if nat_lt a b then Some (a, b) else None
+
+abbrev pub stretch_of : List (List ℕ) → Option (ℕ × ℕ)
+stretch_of [] = None
+stretch_of (word ∷ words) = option_and_then (λ a. option_and_then (ascending a) (said_by_one number_of words)) (number_of word)
+
 -- the command that the words after a command's own mean
 abbrev pub meant : Arguments → List (List ℕ) → Option Command
 meant (none it) [] = Some it
@@ -42,6 +49,7 @@ meant (count make) words = option_map make (count_of words)
 meant (path make) words = option_map make (said_by_one path_of words)
 meant (place make) words = option_map make (said_by_one place_of words)
 meant (numbers make) words = option_map (λ p. make p.0 p.1) (numbers_of words)
+meant (stretch make) words = option_map make (stretch_of words)
 
 abbrev pub refused : ℕ → Result Command CmdRefusal
 refused code = Err (record { code = code })

@@ -1,5 +1,5 @@
 -- The grammar of command lines, by rows: a command's word, what its arguments are, and what it means.
-use Rattle.std.specs.Prelude.{◌≡◌, ℕ, ◌≤◌, ◌⊎◌, Bool, List, [], ◌∷◌, length, find, codes, Option, Some, is_some}
+use Rattle.std.specs.Prelude.{◌≡◌, ℕ, ◌<◌, ◌≤◌, ◌⊎◌, Bool, List, [], ◌∷◌, length, find, codes, Option, Some, is_some}
 use Rattle.std.specs.Str.{bytes_eq}
 use Rattle.spv_cmd.specs.declared.keywords.Keyword.{Keyword}
 use Rattle.spv_cmd.specs.declared.keywords.Keyword.TheVariants as the
@@ -24,6 +24,8 @@ pub data Arguments : Type 0 where
   place : (Option (List ℕ) × ℕ → Command) → Arguments
   -- a number, and one of at least 1
   numbers : (ℕ → ℕ → Command) → Arguments
+  -- two numbers, the first below the second
+  stretch : (ℕ × ℕ → Command) → Arguments
 
 -- ---- the rows
 
@@ -59,6 +61,7 @@ row the.Info = (codes "info", none command.Info)
 row the.Tally = (codes "tally", none command.Tally)
 row the.Drop = (codes "drop", number command.DropProbe)
 row the.Halt = (codes "halt", numbers command.Halt)
+row the.Order = (codes "order", stretch command.Order)
 row the.Quit = (codes "quit", none command.Quit)
 
 abbrev pub spelling : Keyword → List ℕ
@@ -71,7 +74,7 @@ abbrev pub built : List Keyword
 built =
     the.Goto ∷ the.Fwd ∷ the.Back ∷ the.Stepi ∷ the.Rstepi ∷ the.Step ∷ the.Next ∷ the.Finish ∷ the.Rstep ∷ the.Rnext ∷ the.Rfinish ∷ the.Continue ∷ the.Rcontinue
     ∷ the.Where ∷ the.Group ∷ the.Focus ∷ the.Bt ∷ the.Frame ∷ the.Locals ∷ the.Globals ∷ the.Print ∷ the.Regs ∷ the.List
-    ∷ the.Break ∷ the.Delete ∷ the.Watch ∷ the.Unwatch ∷ the.Info ∷ the.Tally ∷ the.Drop ∷ the.Halt ∷ the.Quit ∷ []
+    ∷ the.Break ∷ the.Delete ∷ the.Watch ∷ the.Unwatch ∷ the.Info ∷ the.Tally ∷ the.Drop ∷ the.Halt ∷ the.Order ∷ the.Quit ∷ []
 
 -- the keyword among these that a word is
 abbrev pub keyword_in : List Keyword → List ℕ → Option Keyword
@@ -98,6 +101,9 @@ IsCount words n = ((words ≡ []) × (n ≡ 1)) ⊎ IsPositive words n
 abbrev pub AreNumbers : List (List ℕ) → (k n : ℕ) → Type 0
 AreNumbers words k n = (word : List ℕ) × (rest : List (List ℕ)) × (words ≡ word ∷ rest) × (number_of word ≡ Some k) × IsPositive rest n
 
+abbrev pub IsStretch : List (List ℕ) → ℕ × ℕ → Type 0
+IsStretch words s = (s.0 < s.1) × (word : List ℕ) × (rest : List (List ℕ)) × (words ≡ word ∷ rest) × (number_of word ≡ Some s.0) × IsNumber rest s.1
+
 -- with these arguments, the words after the command's own mean this command
 abbrev pub Means : Arguments → List (List ℕ) → Command → Type 0
 Means (none it) words that = (words ≡ []) × (that ≡ it)
@@ -107,6 +113,7 @@ Means (count make) words that = (n : ℕ) × (that ≡ make n) × IsCount words 
 Means (path make) words that = (p : PathText) × (that ≡ make p) × IsOne (IsPath p) words
 Means (place make) words that = (p : Option (List ℕ) × ℕ) × (that ≡ make p) × IsOne (IsPlace p) words
 Means (numbers make) words that = (k n : ℕ) × (that ≡ make k n) × AreNumbers words k n
+Means (stretch make) words that = (s : ℕ × ℕ) × (that ≡ make s) × IsStretch words s
 
 -- the words of a line mean this command: none is the empty command, and else the first is a keyword and the others are
 -- what its row says

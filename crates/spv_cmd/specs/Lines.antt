@@ -1,5 +1,5 @@
 -- The canonical line of a command: one space between its words, numbers without leading zeros, and no number left out.
-use Rattle.std.specs.Prelude.{◌≡◌, ℕ, ◌≤◌, true, List, [], ◌++◌, length, codes, decimal, Option}
+use Rattle.std.specs.Prelude.{◌≡◌, ℕ, ◌<◌, ◌≤◌, true, List, [], ◌++◌, length, codes, decimal, Option}
 use Rattle.spv_cmd.specs.declared.keywords.Keyword.{Keyword}
 use Rattle.spv_cmd.specs.declared.keywords.Keyword.TheVariants as the
 use Rattle.spv_cmd.specs.declared.command.PathText.{PathText}
@@ -18,6 +18,7 @@ pub data Written : Type 0 where
   with_path : Keyword → PathText → Written
   with_place : Keyword → Option (List ℕ) × ℕ → Written
   with_numbers : Keyword → (number count : ℕ) → Written
+  with_stretch : Keyword → ℕ × ℕ → Written
 
 abbrev pub written : Command → Written
 written command.Empty = blank
@@ -52,6 +53,7 @@ written command.Info = alone the.Info
 written command.Tally = alone the.Tally
 written (command.DropProbe n) = with_number the.Drop n
 written (command.Halt k n) = with_numbers the.Halt k n
+written (command.Order s) = with_stretch the.Order s
 written command.Quit = alone the.Quit
 
 abbrev pub text_of : Written → List ℕ
@@ -62,8 +64,9 @@ text_of (with_count keyword n) = spelling keyword ++ (codes " " ++ decimal n)
 text_of (with_path keyword p) = spelling keyword ++ (codes " " ++ path_text p)
 text_of (with_place keyword p) = spelling keyword ++ (codes " " ++ place_text p)
 text_of (with_numbers keyword k n) = spelling keyword ++ (codes " " ++ (decimal k ++ (codes " " ++ decimal n)))
+text_of (with_stretch keyword s) = spelling keyword ++ (codes " " ++ (decimal s.0 ++ (codes " " ++ decimal s.1)))
 
--- a number is of 32 bits, a count at least 1, and paths and places have their forms and leave room for the word
+-- a number is of 32 bits, a count at least 1, a stretch has an event, and paths and places have their forms and leave room for the word
 abbrev pub HasForm : Written → Type 0
 HasForm blank = Unit {0}
 HasForm (alone keyword) = Unit {0}
@@ -72,6 +75,7 @@ HasForm (with_count keyword n) = (1 ≤ n) × (n ≤ 4294967295)
 HasForm (with_path keyword p) = (is_path p ≡ true) × (length (path_text p) ≤ 4090)
 HasForm (with_place keyword p) = (is_place p ≡ true) × (length (place_text p) ≤ 4090)
 HasForm (with_numbers keyword k n) = (k ≤ 4294967295) × (1 ≤ n) × (n ≤ 4294967295)
+HasForm (with_stretch keyword s) = (s.0 < s.1) × (s.1 ≤ 4294967295)
 
 abbrev pub line_of : Command → List ℕ
 line_of it = text_of (written it)

@@ -3,12 +3,12 @@ ghost use Rattle.std.specs.Prelude.{◌≤◌, length};
 ghost use Rattle.spv_line.specs.Words.{words_in};
 ghost use Rattle.spv_cmd.specs.Paths.{IsPath};
 ghost use Rattle.spv_cmd.specs.Places.{IsPlace};
-ghost use Rattle.spv_cmd.specs.Grammar.{IsOne, IsNumber, IsPositive, IsCount, Means};
+ghost use Rattle.spv_cmd.specs.Grammar.{IsOne, IsNumber, IsPositive, IsCount, IsStretch, Means};
 ghost use Rattle.spv_cmd.specs.Grammar.Arguments.{none, numbers};
 ghost use Rattle.spv_cmd.specs.declared.command.Command.TheVariants.{Halt};
 ghost use Rattle.spv_cmd.specs.Answers.{Reads};
 
-use crate::command::{BreakPlace, Command, Count, ValuePath};
+use crate::command::{BreakPlace, Command, Count, Stretch, ValuePath};
 use crate::numbers;
 use spv_base::{CmdRefusal, Fail};
 use spv_line::{next_word, only_word};
@@ -71,6 +71,23 @@ pub fn halt(arguments: &[u8]) -> Result<Command, Fail<CmdRefusal>>
     };
     let n = positive(rest)?;
     Ok(Command::Halt { k, n })
+}
+
+/// Two numbers, the first below the second.
+pub fn stretch(arguments: &[u8]) -> Result<Stretch, Fail<CmdRefusal>>
+    ensures { Reads (IsStretch (words_in arguments.now)) result }
+{
+    let Some((word, rest)) = next_word(arguments) else {
+        return Err(WRONG_ARGUMENTS);
+    };
+    let Some(start) = numbers::number(word) else {
+        return Err(WRONG_ARGUMENTS);
+    };
+    let end = number(rest)?;
+    if start >= end {
+        return Err(WRONG_ARGUMENTS);
+    }
+    Ok(Stretch::new(start, end))
 }
 
 /// A path.

@@ -43,6 +43,53 @@ impl Count {
     }
 }
 
+/// The events of a run from a number on, before a greater one.
+#[derive(Clone, Copy)]
+pub struct Stretch {
+    start: u32,
+    end: u32,
+}
+
+impl Model for Stretch {
+    ghost use Rattle.std.specs.Prelude.{ℕ, ◌<◌};
+
+    ghost Value = { ℕ × ℕ };
+
+    ghost view = { λ s. (s.start, s.end) };
+
+    ghost invariant = { λ s. s.start < s.end };
+
+    ghost inverse = { λ p. record { start = p.0; end = p.1 } };
+}
+
+impl Stretch {
+    ghost use Rattle.std.specs.Prelude.{◌≡◌, ◌<◌, ◌≤◌};
+
+    /// The events from `start` on, before `end`.
+    pub fn new(start: u32, end: u32) -> Stretch
+        requires { start < end }
+        ensures { result ≡ (start, end) }
+    {
+        Stretch { start, end }
+    }
+
+    /// The number of the first event.
+    pub fn start(self) -> u32
+        ensures number { result ≡ self.0 }
+        ensures some { self.0 < self.1 }
+    {
+        self.start
+    }
+
+    /// The number behind that of the last event.
+    pub fn end(self) -> u32
+        ensures number { result ≡ self.1 }
+        ensures range { self.1 ≤ 4294967295 }
+    {
+        self.end
+    }
+}
+
 /// A part of a path: `.member` or `[index]`.
 #[derive(Drop)]
 pub enum PathPart {
@@ -231,6 +278,8 @@ pub enum Command {
     DropProbe(u32),
     /// `halt k n`: stops where the tally of probe k comes to a multiple of n.
     Halt { k: u32, n: Count },
+    /// `order a b`: what the order of the events from a on, before b, is worth.
+    Order(Stretch),
     /// `quit`: ends the session.
     Quit,
 }

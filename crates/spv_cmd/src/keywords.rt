@@ -70,6 +70,8 @@ pub enum Keyword {
     Drop,
     /// `halt`
     Halt,
+    /// `order`
+    Order,
     /// `quit`
     Quit,
 }
@@ -78,7 +80,7 @@ pub enum Keyword {
 type Row = (Keyword, &'static [u8], bool);
 
 /// All of them, in the order above.
-const ROWS: [Row; 32] = [
+const ROWS: [Row; 33] = [
     (Keyword::Goto, b"goto", true),
     (Keyword::Fwd, b"fwd", true),
     (Keyword::Back, b"back", true),
@@ -110,6 +112,7 @@ const ROWS: [Row; 32] = [
     (Keyword::Tally, b"tally", true),
     (Keyword::Drop, b"drop", true),
     (Keyword::Halt, b"halt", true),
+    (Keyword::Order, b"order", true),
     (Keyword::Quit, b"quit", true),
 ];
 

@@ -10,7 +10,7 @@ mod paths;
 mod places;
 mod printing;
 
-pub use command::{BreakPlace, Command, Count, PathPart, PathParts, PathText, ValuePath};
+pub use command::{BreakPlace, Command, Count, PathPart, PathParts, PathText, Stretch, ValuePath};
 pub use keywords::{Keyword, keywords_differ};
 pub use numbers::number;
 pub use parsing::{built_commands_are_commands, parse, parse_built};

@@ -8,7 +8,7 @@ ghost use Rattle.spv_cmd.specs.Commands.{command_of, refused, IsUnknown};
 ghost use Rattle.spv_cmd.specs.Grammar.{row, spelling, is_built, Means, IsLine};
 ghost use Rattle.spv_cmd.specs.Answers.{Reads, IsDue, IsAnswer, IsRefused, IsFirstRefused, IsBlank, IsSplit};
 
-use crate::arguments::{count, halt, none, number, path, place, positive};
+use crate::arguments::{count, halt, none, number, path, place, positive, stretch};
 use crate::command::Command;
 use crate::keywords::{Keyword, find_keyword};
 use spv_base::{CmdRefusal, Fail};
@@ -116,6 +116,7 @@ fn command(alloc: Global, keyword: Keyword, arguments: &[u8]) -> Result<Command,
         Keyword::Tally => none(arguments, Command::Tally),
         Keyword::Drop => Ok(Command::DropProbe(number(arguments)?)),
         Keyword::Halt => halt(arguments),
+        Keyword::Order => Ok(Command::Order(stretch(arguments)?)),
         Keyword::Quit => none(arguments, Command::Quit),
     }
 }

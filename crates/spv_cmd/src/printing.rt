@@ -1,12 +1,14 @@
 //! The canonical line of a command.
-ghost use Rattle.std.specs.Prelude.{◌≡◌, ◌≤◌, ◌++◌, ◌∷◌, true, length, decimal, IfOk, OnOk};
+ghost use Rattle.std.specs.Prelude.{◌≡◌, ◌<◌, ◌≤◌, ◌++◌, ◌∷◌, true, length, decimal, IfOk, OnOk};
 ghost use Rattle.spv_base.specs.Answers.{Answers};
 ghost use Rattle.spv_cmd.specs.Paths.{is_path, path_text, part_text, parts_text};
 ghost use Rattle.spv_cmd.specs.Places.{is_place, place_text};
 ghost use Rattle.spv_cmd.specs.Grammar.{spelling, IsLine};
 ghost use Rattle.spv_cmd.specs.Lines.{written, HasForm, line_of};
 
-use crate::command::{BreakPlace, Command, Count, PathPart, PathParts, PathText, ValuePath};
+use crate::command::{
+    BreakPlace, Command, Count, PathPart, PathParts, PathText, Stretch, ValuePath,
+};
 use crate::keywords::{Keyword, spelling};
 use crate::parsing::parse;
 use spv_base::{CmdRefusal, Fail, NoMemory, Text};
@@ -71,6 +73,7 @@ fn push_command(alloc: Global, text: &mut Vec<u8>, command: &Command) -> Result<
         Command::Tally => push_word(text, Keyword::Tally),
         Command::DropProbe(n) => push_keyword_number(alloc, text, Keyword::Drop, *n),
         Command::Halt { k, n } => push_numbers(alloc, text, Keyword::Halt, *k, *n),
+        Command::Order(stretch) => push_stretch(alloc, text, Keyword::Order, *stretch),
         Command::Quit => push_word(text, Keyword::Quit),
     }
 }
@@ -128,6 +131,23 @@ fn push_numbers(
     push_keyword_number(alloc, text, keyword, number)?;
     text.extend_from_slice(b" ")?;
     push_number(alloc, text, u64::from(count.get()))
+}
+
+/// Appends a keyword, and the two numbers of a stretch.
+fn push_stretch(
+    alloc: Global,
+    text: &mut Vec<u8>,
+    keyword: Keyword,
+    stretch: Stretch,
+) -> Result<(), NoMemory>
+    ensures text { OnOk result (text.new.items ≡ text.old.items ++ (spelling keyword ++ 32 ∷ (decimal stretch.0 ++ 32 ∷ decimal stretch.1))) }
+    ensures some { stretch.0 < stretch.1 }
+    ensures range { stretch.1 ≤ 4294967295 }
+{
+    let end = stretch.end();
+    push_keyword_number(alloc, text, keyword, stretch.start())?;
+    text.extend_from_slice(b" ")?;
+    push_number(alloc, text, u64::from(end))
 }
 
 /// Appends a part of a path.

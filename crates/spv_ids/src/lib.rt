@@ -5,4 +5,4 @@ mod elements;
 mod ids;
 mod texts;
 
-pub use texts::{id_text, type_of};
+pub use texts::{id_text, target_of, type_of};

@@ -28,8 +28,8 @@ pub fn type_of(accepted: &Module, id: u32) -> u32
     accepted.type_of_id(id).unwrap_or(0)
 }
 
-/// The type that it points to.
-fn target_of(accepted: &Module, id: u32) -> u32
+/// The type that it points to; 0 where it points to none.
+pub fn target_of(accepted: &Module, id: u32) -> u32
     ensures { result ≡ spec.target_of accepted.now id }
 {
     match pointee(accepted.types().form(type_of(accepted, id))) {

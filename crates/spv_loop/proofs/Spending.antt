@@ -5,6 +5,8 @@ use Rattle.spv_group.specs.History.{window}
 use Rattle.spv_group.proofs.Exports.{windows_rise}
 use Rattle.spv_session.specs.View.{View, Viewing, undoing_in}
 use Rattle.spv_session.specs.Reply.{is_quit}
+use Rattle.spv_session.specs.Costs.{line_kept, reached}
+use Rattle.spv_session.proofs.Exports.{line_reaches}
 use Rattle.spv_loop.specs.Transcript.{Reply, Cost, view_of, view_after, has_quit, highest, reach, transcript_cost, Reaches, Spends}
 
 -- ---- what is kept
@@ -36,8 +38,8 @@ module _ (reply : Reply) where
   highest_front v [] ys = highest_first v ys
   highest_front v (x ∷ xs) ys =
       let rest = highest_front (view_of reply v x) xs ys in
-      elim (is_quit x) as (λ q. max v.group.position (cond q (view_of reply v x).group.position (highest reply (view_of reply v x) xs))
-      ≤ max v.group.position (cond q (view_of reply v x).group.position (highest reply (view_of reply v x) (xs ++ ys)))) [
+      elim (is_quit x) as (λ q. max (max v.group.position (reached v x)) (cond q (view_of reply v x).group.position (highest reply (view_of reply v x) xs))
+      ≤ max (max v.group.position (reached v x)) (cond q (view_of reply v x).group.position (highest reply (view_of reply v x) (xs ++ ys)))) [
         | true ↦ omega arith
         | false ↦ omega arith
       ]
@@ -49,13 +51,15 @@ module _ (reply : Reply) where
 
   -- after the reply to a line that isn't `quit`
   pub reaches_one : (s t : Viewing) (line : List ℕ) → t.view ≡ view_of reply s.view line → t.view.group ≡ group_at t.view.group.position s.view.group → t.limit ≡ s.limit
-      → t.kept ≤ max s.kept (window_in (undoing_in t)) → is_quit line ≡ false → Reaches reply s t (line ∷ [])
+      → t.kept ≤ max (line_kept s line) (window_in (undoing_in t)) → is_quit line ≡ false → Reaches reply s t (line ∷ [])
   reaches_one s t line view same limit kept go later =
       let here = window_same s t t.view.group.position limit same in
       let there = window_same s t (highest reply t.view later) limit same in
       let first = highest_first t.view later in
-      let highest_is : highest reply s.view (line ∷ later) ≡ max s.view.group.position (highest reply t.view later)
-      = ap (λ q. max s.view.group.position (cond q (view_of reply s.view line).group.position (highest reply (view_of reply s.view line) later))) go ∙ ap (λ (v : View). max s.view.group.position (highest reply v later)) (sym view) in
+      let there_and_back = max s.view.group.position (reached s.view line) in
+      let highest_is : highest reply s.view (line ∷ later) ≡ max there_and_back (highest reply t.view later)
+      = ap (λ q. max there_and_back (cond q (view_of reply s.view line).group.position (highest reply (view_of reply s.view line) later))) go ∙ ap (λ (v : View). max there_and_back (highest reply v later)) (sym view) in
+      let meanwhile = line_reaches s line (highest reply s.view (line ∷ later)) (omega arith) in
       let low : window s.limit s.view.group.program (entries_in s.view.group) t.view.group.position ≤ window s.limit s.view.group.program (entries_in s.view.group) (highest reply s.view (line ∷ later))
       = windows_rise s.limit s.view.group.program (entries_in s.view.group) t.view.group.position (highest reply s.view (line ∷ later)) (omega arith) in
       let high : window s.limit s.view.group.program (entries_in s.view.group) (highest reply t.view later) ≤ window s.limit s.view.group.program (entries_in s.view.group) (highest reply s.view (line ∷ later))
@@ -90,9 +94,10 @@ module _ (reply : Reply) where
     cost_one k v x = elim (is_quit x) as (λ q. cost_of k v x + cond q 0 0 ≡ cost_of k v x) [ true ↦ omega arith | false ↦ omega arith ]
 
     -- the reply to one line
-    pub spends_one : ((j k : ℕ) (v : View) (line : List ℕ) → j ≤ k → cost_of j v line ≤ cost_of k v line) → (s : Viewing) (line : List ℕ) (before after : ℕ) → after ≤ before + cost_of s.kept s.view line → Spends reply cost_of s (line ∷ []) before after
+    pub spends_one : ((j k : ℕ) (v : View) (line : List ℕ) → j ≤ k → cost_of j v line ≤ cost_of k v line) → (s : Viewing) (line : List ℕ) (before after : ℕ) → after ≤ before + cost_of (line_kept s line) s.view line → Spends reply cost_of s (line ∷ []) before after
     spends_one rising s line before after h k l =
-        let rises = rising s.kept k s.view line (omega arith) in
+        let meanwhile = line_reaches s line (highest reply s.view (line ∷ [])) (omega arith) in
+        let rises = rising (line_kept s line) k s.view line (omega arith) in
         let one = cost_one k s.view line in
         omega arith
 

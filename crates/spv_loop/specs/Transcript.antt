@@ -5,6 +5,7 @@ use Rattle.spv_group.specs.Group.{entries_in}
 use Rattle.spv_group.specs.History.{window}
 use Rattle.spv_session.specs.View.{View, Viewing}
 use Rattle.spv_session.specs.Reply.{is_quit}
+use Rattle.spv_session.specs.Costs.{reached}
 
 -- the text of the reply to a line at a view, and the view after it
 abbrev pub Reply : Type 0
@@ -43,10 +44,10 @@ module _ (reply : Reply) where
 
   -- ---- the steps of the replies
 
-  -- the highest of the positions that the views have, to the end of the lines or to the first `quit`
+  -- the highest of the positions that the views have, and of those to which `order` goes, to the end of the lines or to the first `quit`
   abbrev pub highest : View → List (List ℕ) → ℕ
   highest view [] = view.group.position
-  highest view (line ∷ lines) = max view.group.position (if is_quit line then (view_of view line).group.position else highest (view_of view line) lines)
+  highest view (line ∷ lines) = max (max view.group.position (reached view line)) (if is_quit line then (view_of view line).group.position else highest (view_of view line) lines)
 
   -- The least position to which a motion back takes no step, at each of the views: what is kept at the first, or the window of the highest
   -- position.

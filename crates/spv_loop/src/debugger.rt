@@ -1,7 +1,7 @@
 //! What answers lines of input.
 ghost use Rattle.std.specs.Prelude.{◌≡◌, ◌≤◌, ◌+◌, ◌++◌, IfOk, OnOk, max, if◌then◌else◌};
 ghost use Rattle.spv_group.specs.Group.{group_at, window_in};
-ghost use Rattle.spv_session.specs.Costs.{line_cost};
+ghost use Rattle.spv_session.specs.Costs.{line_cost, line_kept};
 ghost use Rattle.spv_session.specs.Reply.{reply, is_quit};
 ghost use Rattle.spv_session.specs.View.{Settings, Viewing, undoing_in};
 ghost use Rattle.spv_session.specs.declared.session.Next.TheVariants as answers;
@@ -38,9 +38,9 @@ pub trait Debugger {
         ensures next { IfOk result (λ next. next ≡ (if is_quit line.now then answers.Quit else answers.Go)) }
         ensures group { (viewing self.new).view.group ≡ group_at (viewing self.new).view.group.position (viewing self.old).view.group }
         ensures limit { (viewing self.new).limit ≡ (viewing self.old).limit }
-        ensures kept { (viewing self.new).kept ≤ max (viewing self.old).kept (window_in (undoing_in (viewing self.new))) }
+        ensures kept { (viewing self.new).kept ≤ max (line_kept (viewing self.old) line.now) (window_in (undoing_in (viewing self.new))) }
         ensures follows { (settings : Settings) → follows settings self.old → follows settings self.new }
         ensures counted { steps.old ≤ steps.new }
         ensures cost { (settings : Settings) → follows settings self.old
-            → steps.new ≤ steps.old + line_cost settings (viewing self.old).kept (viewing self.old).view line.now };
+            → steps.new ≤ steps.old + line_cost settings (line_kept (viewing self.old) line.now) (viewing self.old).view line.now };
 }

@@ -37,7 +37,7 @@ const GROUPS: [(&str, &str, &str); 9] = [
 const PROBES: &str = "probes.runs";
 
 /// The files of calls, in the order of the output.
-const CALLS: [&str; 13] = [
+const CALLS: [&str; 14] = [
     "commands.runs",
     "words.runs",
     "setups.runs",
@@ -51,6 +51,7 @@ const CALLS: [&str; 13] = [
     "traces.runs",
     "variables.runs",
     PROBES,
+    "order.runs",
 ];
 
 /// Says what `debug` writes for a module and some commands, and how it ends.

@@ -1,15 +1,18 @@
 -- The steps of a line, by how many events are kept.
-use Rattle.std.proofs.Common.{◌≤◌, ℕ, ◌≡◌, ◌+◌, ◌-◌, ◌*◌, min, Bool, true, false, cond, List, refl, arith}
+use Rattle.std.proofs.Common.{◌≤◌, ℕ, ◌≡◌, ◌+◌, ◌-◌, ◌*◌, max, min, Bool, true, false, cond, List, refl, arith}
 use Rattle.std.specs.Prelude.{nat_lt, nat_le}
 use Rattle.std.proofs.lemmas.Bool.{ltb-true, ltb-false, leb-true, leb-false}
 use Rattle.spv_cmd.specs.Commands.{command_of}
-use Rattle.spv_group.specs.Group.{Held as Group, end_in}
+use Rattle.spv_group.specs.Group.{Held as Group, end_in, entries_in}
 use Rattle.spv_search.specs.Costs.{forward_cost, backward_cost, return_cost}
-use Rattle.spv_session.specs.Costs.{straight_cost, motion_cost, act_cost, cost_by, line_cost}
+use Rattle.spv_group.proofs.Exports.{windows_rise}
+use Rattle.spv_group.specs.History.{window}
+use Rattle.spv_races.specs.Costs.{order_cost}
+use Rattle.spv_session.specs.Costs.{straight_cost, motion_cost, act_cost, kept_by, line_kept, reached, reached_by, cost_by, line_cost}
 use Rattle.spv_session.specs.Motions.{Motion, straight, forward, backward, hits, target}
-use Rattle.spv_session.specs.Reply.{Act, nothing, quits, shows, asks, goes, walks, act_of, is_over}
+use Rattle.spv_session.specs.Reply.{Act, nothing, quits, shows, asks, goes, walks, orders, act_of, is_over}
 use Rattle.spv_search.specs.Told.{has_probe}
-use Rattle.spv_session.specs.View.{Settings, View, tests_at}
+use Rattle.spv_session.specs.View.{Settings, View, Viewing, tests_at}
 
 -- what is kept further back costs no more
 back_with : (b c : Bool) (j k n x : ℕ) → j ≤ k → nat_lt n j ≡ b → nat_lt n k ≡ c → cond b x 0 ≤ cond c x 0
@@ -17,6 +20,16 @@ back_with true true j k n x h e f = omega arith
 back_with true false j k n x h e f = let below = ltb-true n j e in let above = ltb-false n k f in absurd (omega arith)
 back_with false true j k n x h e f = omega arith
 back_with false false j k n x h e f = omega arith
+
+return_rises : (told : Bool) (j k from to : ℕ) → j ≤ k → return_cost told j from to ≤ return_cost told k from to
+return_rises told j k from to h = back_with (nat_lt to j) (nat_lt to k) j k to (cond told from to) h refl refl
+
+-- an order costs no more where more is kept further back
+pub order_rises : (told : Bool) (j k w x p a b : ℕ) → j ≤ k → w ≤ x → order_cost told j w p a b ≤ order_cost told k x p a b
+order_rises told j k w x p a b h g =
+    let there = return_rises told j k p a h in
+    let back = return_rises told (max j w) (max k x) (max b p) p (omega (arith, h, g)) in
+    omega (arith, there, back)
 
 straight_with : (b : Bool) (x y z : ℕ) → x ≤ y → cond b x z ≤ cond b y z
 straight_with true x y z h = h
@@ -52,9 +65,28 @@ act_rises tests j k v nothing h = omega arith
 act_rises tests j k v quits h = omega arith
 act_rises tests j k v (shows told) h = omega arith
 act_rises tests j k v (asks told) h = omega arith
+act_rises tests j k v (orders a b) h = order_rises (has_probe tests) j k j k v.group.position a b h h
 act_rises tests j k v (goes motion) h = motion_rises tests j k v (motion v) h
 act_rises tests j k v (walks motion) h = walk_rises (is_over v) (motion_cost tests j v (motion v)) (motion_cost tests k v (motion v)) (motion_rises tests j k v (motion v) h)
 
 pub line_rises : (settings : Settings) (j k : ℕ) (v : View) (line : List ℕ) → j ≤ k → line_cost settings j v line ≤ line_cost settings k v line
 unfolding line_cost cost_by
 line_rises settings j k v line h = act_rises (tests_at settings v) j k v (act_of (command_of line)) h
+
+-- ---- what is kept
+
+kept_reaches : (s : Viewing) (a : Act) (n : ℕ) → reached_by s.view a ≤ n → kept_by s a ≤ max s.kept (window s.limit s.view.group.program (entries_in s.view.group) n)
+kept_reaches s nothing n h = omega arith
+kept_reaches s quits n h = omega arith
+kept_reaches s (shows told) n h = omega arith
+kept_reaches s (asks told) n h = omega arith
+kept_reaches s (goes motion) n h = omega arith
+kept_reaches s (walks motion) n h = omega arith
+kept_reaches s (orders a b) n h =
+    let rises = windows_rise s.limit s.view.group.program (entries_in s.view.group) (reached_by s.view (orders a b)) n h in
+    omega (arith, rises)
+
+-- what is kept while a line is answered is kept where the group was as far as it goes then
+pub line_reaches : (s : Viewing) (line : List ℕ) (n : ℕ) → reached s.view line ≤ n → line_kept s line ≤ max s.kept (window s.limit s.view.group.program (entries_in s.view.group) n)
+unfolding reached line_kept
+line_reaches s line n h = kept_reaches s (act_of (command_of line)) n h

@@ -8,4 +8,6 @@ mod SearchLemmas
 mod CauseLemmas
 mod ProbeLemmas
 mod NowLemmas
+mod OrderLemmas
+mod OrderReplyLemmas
 pub mod Exports

@@ -11,7 +11,7 @@ use Rattle.spv_cmd.specs.declared.command.Command.TheVariants as command
 use Rattle.spv_cmd.specs.Commands.{command_of}
 use Rattle.spv_group.proofs.Exports.{range_more}
 use Rattle.spv_dbg.specs.declared.frames.ShownFrame.{ShownFrame}
-use Rattle.spv_session.specs.Reply.{Told, tells, refuses, Act, nothing, quits, shows, asks, goes, walks, act_of, focus_finished, frame_told, frames_told, is_over, lines_told, locals_told, motion_reply, no_source_text, no_such_frame, registers_told, reply_by, refusal_by, line_refusal, told_refusal, told_reply}
+use Rattle.spv_session.specs.Reply.{Told, tells, refuses, Act, nothing, quits, shows, asks, goes, walks, orders, order_told, act_of, focus_finished, frame_told, frames_told, is_over, lines_told, locals_told, motion_reply, no_source_text, no_such_frame, registers_told, reply_by, refusal_by, line_refusal, told_refusal, told_reply}
 use Rattle.spv_session.specs.Shown.{focus_frames}
 use Rattle.spv_session.specs.Texts.{refusal_line}
 use Rattle.spv_session.specs.View.{Settings, View, view_at}
@@ -49,6 +49,7 @@ refused_text tests v nothing code e = absurd (cc)
 refused_text tests v quits code e = absurd (cc)
 refused_text tests v (shows told) code e = refused_told v (told v) code e
 refused_text tests v (asks told) code e = refused_told v (told tests v) code e
+refused_text tests v (orders a b) code e = refused_told v (order_told a b v) code e
 refused_text tests v (goes motion) code e = absurd (cc)
 refused_text tests v (walks motion) code e = refused_walk (is_over v) v (motion_reply tests v (motion v)) code e
 

@@ -1,5 +1,7 @@
 pub mod View
 pub mod Texts
+pub mod Orders
+pub mod OrderTexts
 pub mod Motions
 pub mod Reply
 pub mod Costs

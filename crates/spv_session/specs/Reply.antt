@@ -11,7 +11,7 @@ use Rattle.spv_cmd.specs.Commands.{command_of}
 use Rattle.spv_dbg.specs.declared.frames.ShownFrame.{ShownFrame}
 use Rattle.spv_paths.specs.Paths.{Named}
 use Rattle.spv_paths.specs.Variables.{globals, locals}
-use Rattle.spv_group.specs.Group.{Held as Group, entries_in, invocations_in, state_in, status_of, end_cause_in}
+use Rattle.spv_group.specs.Group.{Held as Group, entries_in, invocations_in, state_in, status_of, end_cause_in, end_in}
 use Rattle.spv_source.specs.Frames.{frame_line}
 use Rattle.spv_source.specs.Windows.{source_lines}
 use Rattle.spv_scopes.specs.Heads.{heads_with}
@@ -25,6 +25,7 @@ use Rattle.spv_search.specs.declared.commands.Forward.TheVariants as on
 use Rattle.spv_search.specs.declared.commands.Backward.TheVariants as back
 use Rattle.spv_session.specs.declared.causes.Hit.{Hit}
 use Rattle.spv_session.specs.Info.{module_words}
+use Rattle.spv_session.specs.OrderTexts.{order_in, order_line}
 use Rattle.spv_session.specs.Motions.{Motion, goto_motion, fwd_motion, back_motion, search_on, search_back, hits, target, is_done, hit_by, stopped_at}
 use Rattle.spv_session.specs.Shown.{focus_frames, innermost, line_file, real_frame, source_text}
 use Rattle.spv_session.specs.Texts.{refusal_line, registers_text, position_line, invocation_line, stop_line, info_line, break_line, deleted_line, watch_line, unwatched_line, tally_line, dropped_line, halt_line}
@@ -60,6 +61,10 @@ no_source_text = 10
 -- of one that asks for a frame of a finished invocation
 abbrev pub focus_finished : ℕ
 focus_finished = 12
+
+-- of one that asks for events behind the end of the run
+abbrev pub past_the_end : ℕ
+past_the_end = 13
 
 -- ---- what is told of a view
 
@@ -100,6 +105,8 @@ pub data Act : Type 0 where
   goes : (View → Motion) → Act
   -- the same, of a focus that isn't finished; else it is refused
   walks : (View → Motion) → Act
+  -- tells what the order is worth of the events from a number on, before another
+  orders : (a b : ℕ) → Act
 
 -- a line for each shown frame of the focus; a finished one has none
 abbrev pub frames_told : View → List ShownFrame → Told
@@ -203,6 +210,11 @@ drop_told k tests v = if is_some (place tests k) then tells (dropped_line k) (wi
 abbrev pub halt_told : (k n : ℕ) → Settings → View → Told
 halt_told k n tests v = if is_some (place tests k) then tells (halt_line k n) (with_halt_of k n v) else refuses no_such_number
 
+-- ---- the order of events
+
+abbrev pub order_told : (a b : ℕ) → View → Told
+order_told a b v = if nat_lt (end_in v.group) b then refuses past_the_end else tells (order_line v.group.program.accepted a b (order_in v.group a b)) v
+
 -- ---- the rows
 
 -- the focus becomes an invocation that exists
@@ -241,6 +253,7 @@ act (command.Unwatch k) = shows (unwatch_told k)
 act command.Tally = asks tally_told
 act (command.DropProbe k) = asks (drop_told k)
 act (command.Halt k n) = asks (halt_told k n)
+act (command.Order s) = orders s.0 s.1
 act command.Quit = quits
 act _ = nothing
 
@@ -271,6 +284,7 @@ reply_by tests v (shows told) = told_reply v (told v)
 reply_by tests v (asks told) = told_reply v (told tests v)
 reply_by tests v (goes motion) = motion_reply tests v (motion v)
 reply_by tests v (walks motion) = if is_over v then told_reply v (refuses focus_finished) else motion_reply tests v (motion v)
+reply_by tests v (orders a b) = told_reply v (order_told a b v)
 reply_by tests v _ = ([], v)
 
 -- by the tests of the probes that are there
@@ -297,6 +311,7 @@ abbrev pub refusal_by : (tests : Settings) → View → Act → Option ℕ
 refusal_by tests v (shows told) = told_refusal (told v)
 refusal_by tests v (asks told) = told_refusal (told tests v)
 refusal_by tests v (walks motion) = if is_over v then Some focus_finished else None
+refusal_by tests v (orders a b) = told_refusal (order_told a b v)
 refusal_by tests v _ = None
 
 unfoldable pub line_refusal : (tests : Settings) → View → List ℕ → Option ℕ

@@ -7,6 +7,7 @@ mod following;
 mod frames;
 mod info;
 mod motions;
+mod orders;
 mod probes;
 mod registers;
 mod searches;

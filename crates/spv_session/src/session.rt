@@ -1,5 +1,5 @@
 //! A kit of probes beside a group, and the replies to lines of input.
-ghost use Rattle.std.specs.Prelude.{◌≡◌, [], ℕ, ◌<◌, ◌≤◌, ◌+◌, ◌++◌, List, All, IfOk, Ok, Some, OnOk, OnErr, map, max, slice_get, vec_len, if◌then◌else◌};
+ghost use Rattle.std.specs.Prelude.{◌≡◌, ◌≢◌, [], ℕ, ◌<◌, ◌≤◌, ◌+◌, ◌++◌, List, All, IfOk, Ok, Some, OnOk, OnErr, map, max, slice_get, vec_len, if◌then◌else◌};
 ghost use Rattle.std.specs.Option.{option_map_or};
 ghost use Rattle.spv_base.specs.Prefix.{IsPrefixOf};
 ghost use Rattle.spv_cmd.specs.Commands.{command_of};
@@ -7,7 +7,7 @@ ghost use Rattle.spv_group.specs.Group.{end_in, group_at, invocations_in, state_
 ghost use Rattle.spv_probe.specs.Kits.{tests_of};
 ghost use Rattle.spv_state.specs.State.{frames_of};
 ghost use Rattle.spv_search.specs.Keys.{shown_in};
-ghost use Rattle.spv_session.specs.Costs.{act_cost, cost_by};
+ghost use Rattle.spv_session.specs.Costs.{act_cost, cost_by, kept_by, line_kept};
 ghost use Rattle.spv_session.specs.Reply.{act_of, does_quit, focus_told, frame_told, frames_told, group_reply, info_reply, invocation_reply, is_quit, line_refusal, line_reply, lines_told, place_reply, refusal_by, registers_told, reply_by, select_told, told_refusal, told_reply};
 ghost use Rattle.spv_session.specs.Shown as spec;
 ghost use Rattle.spv_session.specs.Shown.{focus_frames};
@@ -133,7 +133,7 @@ impl Core {
     }
 
     /// Answers a line, as the session's call of this name says.
-    #[tactic(auto, using(crate::proofs::ReplyLemmas::same_view), unfolding(crate::specs::Reply::line_reply, crate::specs::Reply::is_quit, crate::specs::Reply::line_refusal, crate::specs::Costs::cost_by))]
+    #[tactic(auto, using(crate::proofs::ReplyLemmas::same_view), unfolding(crate::specs::Reply::line_reply, crate::specs::Reply::is_quit, crate::specs::Reply::line_refusal, crate::specs::Costs::cost_by, crate::specs::Costs::line_kept))]
     fn command<L: Ledger>(
         &mut self,
         kit: &mut Kit,
@@ -148,15 +148,15 @@ impl Core {
         ensures front { OnErr result ((text : List ℕ) × (out.new.items ≡ out.old.items ++ text) × IsPrefixOf text (line_reply (tests_of (λ p. (⟦<dyn Probe as Probe>⟧ p.vtable).test p.value) kit.old.boxes.items) self.old.view line.now).0) }
         ensures group { self.new.view.group ≡ group_at self.new.view.group.position self.old.view.group }
         ensures limit { self.new.limit ≡ self.old.limit }
-        ensures kept { self.new.kept ≤ max self.old.kept (window_in (undoing_in self.new)) }
+        ensures kept { self.new.kept ≤ max (line_kept self.old line.now) (window_in (undoing_in self.new)) }
         ensures same { IsEither self.new.view self.old.view (line_reply (tests_of (λ p. (⟦<dyn Probe as Probe>⟧ p.vtable).test p.value) kit.old.boxes.items) self.old.view line.now).1 }
         ensures within { self.new.view.group.position ≤ end_in self.old.view.group }
         ensures refused { (code : ℕ) → line_refusal (tests_of (λ p. (⟦<dyn Probe as Probe>⟧ p.vtable).test p.value) kit.old.boxes.items) self.old.view line.now ≡ Some code
-            → (self.new ≡ self.old) × (kit.new.boxes.items ≡ kit.old.boxes.items) × OnOk result (out.new.items ≡ out.old.items ++ refusal_line code) }
+            → (code ≢ 13 → (self.new ≡ self.old) × (kit.new.boxes.items ≡ kit.old.boxes.items)) × OnOk result (out.new.items ≡ out.old.items ++ refusal_line code) }
         ensures kit { (settings : Settings) → IsKitOf (λ p. (⟦<dyn Probe as Probe>⟧ p.vtable).tally p.value) (λ p. (⟦<dyn Probe as Probe>⟧ p.vtable).test p.value) settings self.old.view kit.old.boxes.items
             → IsKitOf (λ p. (⟦<dyn Probe as Probe>⟧ p.vtable).tally p.value) (λ p. (⟦<dyn Probe as Probe>⟧ p.vtable).test p.value) settings self.new.view kit.new.boxes.items }
         ensures counted { steps.old ≤ steps.new }
-        ensures cost { steps.new ≤ steps.old + cost_by (tests_of (λ p. (⟦<dyn Probe as Probe>⟧ p.vtable).test p.value) kit.old.boxes.items) self.old.kept self.old.view line.now }
+        ensures cost { steps.new ≤ steps.old + cost_by (tests_of (λ p. (⟦<dyn Probe as Probe>⟧ p.vtable).test p.value) kit.old.boxes.items) (line_kept self.old line.now) self.old.view line.now }
     {
         let mut text = Vec::new(self.alloc);
         let command = read(self.alloc, line)?;
@@ -179,14 +179,14 @@ impl Core {
         ensures next { IfOk result (λ next. next ≡ (if does_quit (act_of command.now) then answers.Quit else answers.Go)) }
         ensures group { self.new.view.group ≡ group_at self.new.view.group.position self.old.view.group }
         ensures limit { self.new.limit ≡ self.old.limit }
-        ensures kept { self.new.kept ≤ max self.old.kept (window_in (undoing_in self.new)) }
+        ensures kept { self.new.kept ≤ max (kept_by self.old (act_of command.now)) (window_in (undoing_in self.new)) }
         ensures same { OnErr result (IsEither self.new.view self.old.view (reply_by (tests_of (λ p. (⟦<dyn Probe as Probe>⟧ p.vtable).test p.value) kit.old.boxes.items) self.old.view (act_of command.now)).1) }
         ensures within { self.new.view.group.position ≤ end_in self.old.view.group }
-        ensures refused { (code : ℕ) → refusal_by (tests_of (λ p. (⟦<dyn Probe as Probe>⟧ p.vtable).test p.value) kit.old.boxes.items) self.old.view (act_of command.now) ≡ Some code → (self.new ≡ self.old) × (kit.new.boxes.items ≡ kit.old.boxes.items) }
+        ensures refused { (code : ℕ) → refusal_by (tests_of (λ p. (⟦<dyn Probe as Probe>⟧ p.vtable).test p.value) kit.old.boxes.items) self.old.view (act_of command.now) ≡ Some code → code ≢ 13 → (self.new ≡ self.old) × (kit.new.boxes.items ≡ kit.old.boxes.items) }
         ensures kit { (settings : Settings) → IsKitOf (λ p. (⟦<dyn Probe as Probe>⟧ p.vtable).tally p.value) (λ p. (⟦<dyn Probe as Probe>⟧ p.vtable).test p.value) settings self.old.view kit.old.boxes.items
             → IsKitOf (λ p. (⟦<dyn Probe as Probe>⟧ p.vtable).tally p.value) (λ p. (⟦<dyn Probe as Probe>⟧ p.vtable).test p.value) settings self.new.view kit.new.boxes.items }
         ensures counted { steps.old ≤ steps.new }
-        ensures cost { steps.new ≤ steps.old + act_cost (tests_of (λ p. (⟦<dyn Probe as Probe>⟧ p.vtable).test p.value) kit.old.boxes.items) self.old.kept self.old.view (act_of command.now) }
+        ensures cost { steps.new ≤ steps.old + act_cost (tests_of (λ p. (⟦<dyn Probe as Probe>⟧ p.vtable).test p.value) kit.old.boxes.items) (kept_by self.old (act_of command.now)) self.old.view (act_of command.now) }
     {
         let from = self.group.position();
         match command {
@@ -210,6 +210,7 @@ impl Core {
             Ok(Command::Tally) => self.push_tallies(kit, text)?,
             Ok(Command::DropProbe(number)) => self.drop_probe(kit, *number, text)?,
             Ok(Command::Halt { k, n }) => self.set_halt(kit, *k, *n, text)?,
+            Ok(Command::Order(stretch)) => self.order(kit, *stretch, text, steps)?,
             Ok(Command::Goto(position)) => self.go(kit, Aim::at(*position), text, steps)?,
             Ok(Command::Fwd(count)) => {
                 self.go(kit, Aim::forward(from, count.get()), text, steps)?
@@ -445,11 +446,12 @@ impl Session {
         })
     }
 
-    /// Answers a line: appends the reply. Only a motion takes steps: forth one for each event, and at most one more; back none to a number
-    /// and at most one else, where the events that it looks at are kept. Else it makes events from the start on: those before the number,
-    /// or twice as many as aren't kept; and where a probe is told of them, all before the position, or three times as many as aren't kept
-    /// and one. After want of memory a front of the reply was appended, the group is at some position of its run, and all else of the view is
-    /// the old one's or the reply's.
+    /// Answers a line: appends the reply. Only motions and `order` take steps: forth one for each event, and at most one more; back none to a
+    /// number and at most one else, where the events that it looks at are kept. Else it makes events from the start on: those before the
+    /// number, or twice as many as aren't kept; and where a probe is told of them, all before the position, or three times as many as aren't
+    /// kept and one. `order` goes to its events and back, so it may change how far back events are kept, also where it is refused (C13). After
+    /// want of memory a front of the reply was appended, the group is at some position of its run, and all else of the view is the old one's
+    /// or the reply's.
     ///
     /// The probes follow the run: whatever was answered, each that isn't dropped has its setting, and the count of the events before the
     /// position, with their lines, that it hits.
@@ -466,15 +468,15 @@ impl Session {
         ensures front { OnErr result ((text : List ℕ) × (out.new.items ≡ out.old.items ++ text) × IsPrefixOf text (line_reply (tests_of (λ p. (⟦<dyn Probe as Probe>⟧ p.vtable).test p.value) self.old.kit.boxes.items) self.old.core.view line.now).0) }
         ensures group { self.new.core.view.group ≡ group_at self.new.core.view.group.position self.old.core.view.group }
         ensures limit { self.new.core.limit ≡ self.old.core.limit }
-        ensures kept { self.new.core.kept ≤ max self.old.core.kept (window_in (undoing_in self.new.core)) }
+        ensures kept { self.new.core.kept ≤ max (line_kept self.old.core line.now) (window_in (undoing_in self.new.core)) }
         ensures same { IsEither self.new.core.view self.old.core.view (line_reply (tests_of (λ p. (⟦<dyn Probe as Probe>⟧ p.vtable).test p.value) self.old.kit.boxes.items) self.old.core.view line.now).1 }
         ensures within { self.new.core.view.group.position ≤ end_in self.old.core.view.group }
         ensures refused { (code : ℕ) → line_refusal (tests_of (λ p. (⟦<dyn Probe as Probe>⟧ p.vtable).test p.value) self.old.kit.boxes.items) self.old.core.view line.now ≡ Some code
-            → (self.new.core ≡ self.old.core) × (self.new.kit.boxes.items ≡ self.old.kit.boxes.items) × OnOk result (out.new.items ≡ out.old.items ++ refusal_line code) }
+            → (code ≢ 13 → (self.new.core ≡ self.old.core) × (self.new.kit.boxes.items ≡ self.old.kit.boxes.items)) × OnOk result (out.new.items ≡ out.old.items ++ refusal_line code) }
         ensures follows { (settings : Settings) → IsKitOf (λ p. (⟦<dyn Probe as Probe>⟧ p.vtable).tally p.value) (λ p. (⟦<dyn Probe as Probe>⟧ p.vtable).test p.value) settings self.old.core.view self.old.kit.boxes.items
             → IsKitOf (λ p. (⟦<dyn Probe as Probe>⟧ p.vtable).tally p.value) (λ p. (⟦<dyn Probe as Probe>⟧ p.vtable).test p.value) settings self.new.core.view self.new.kit.boxes.items }
         ensures counted { steps.old ≤ steps.new }
-        ensures cost { steps.new ≤ steps.old + cost_by (tests_of (λ p. (⟦<dyn Probe as Probe>⟧ p.vtable).test p.value) self.old.kit.boxes.items) self.old.core.kept self.old.core.view line.now }
+        ensures cost { steps.new ≤ steps.old + cost_by (tests_of (λ p. (⟦<dyn Probe as Probe>⟧ p.vtable).test p.value) self.old.kit.boxes.items) (line_kept self.old.core line.now) self.old.core.view line.now }
     {
         self.core.command(&mut self.kit, line, out, steps)
     }

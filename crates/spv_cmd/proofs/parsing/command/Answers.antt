@@ -3,7 +3,7 @@ use Rattle.spv_cmd.specs.declared.command.Command.TheVariants as command
 use Rattle.spv_line.specs.Words.{words_in}
 use Rattle.spv_cmd.specs.Answers.{Reads}
 use Rattle.spv_cmd.specs.Grammar.{Means, row}
-use Rattle.spv_cmd.proofs.RowLemmas.{number_err, positive_err, count_err, path_err, place_err}
+use Rattle.spv_cmd.proofs.RowLemmas.{number_err, positive_err, count_err, path_err, place_err, stretch_err}
 use Rattle.spv_cmd.proofs.parsing.command.Goals as goal
 
 pub returns-in_err-number-in-Goto : goal.returns-in_err-number-in-Goto
@@ -47,3 +47,6 @@ returns-in_err-number-in-Drop c = number_err (row c.args.keyword).1 command.Drop
 
 pub returns-in-Halt : goal.returns-in-Halt
 returns-in-Halt c = subst (λ k. Reads (Means (row k).1 (words_in c.args.arguments.now)) c.halt.result) (sym c.in-Halt.is) c.halt.ensures
+
+pub returns-in_err-stretch-in-Order : goal.returns-in_err-stretch-in-Order
+returns-in_err-stretch-in-Order c = stretch_err (row c.args.keyword).1 command.Order (words_in c.args.arguments.now) c.in_err-stretch-in-Order.field-0.0 c.from_residual-in_err-stretch-in-Order.result (ap (λ k. (row k).1) c.in-Order.is) c.from_residual-in_err-stretch-in-Order.ensures.1 c.in_err-stretch-in-Order.ensures

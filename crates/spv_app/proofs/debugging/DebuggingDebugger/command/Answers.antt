@@ -1,6 +1,7 @@
 use Rattle.std.proofs.Common.{◌≡◌, ◌≤◌, ◌+◌, ◌++◌, List, ℕ, subst}
 use Rattle.std.specs.Prelude.{OnOk}
 use Rattle.spv_loop.specs.Sessions.{View}
+use Rattle.spv_session.specs.Costs.{line_kept}
 use Rattle.spv_app.proofs.DebuggingLemmas.{reply_now, cost_now}
 use Rattle.spv_app.proofs.debugging.DebuggingDebugger.command.Goals as goal
 
@@ -14,4 +15,4 @@ returns-clause-view g c settings kit =
 
 pub returns-clause-cost : goal.returns-clause-cost
 returns-clause-cost g c settings kit =
-    subst (λ (n : ℕ). c.command.new.steps ≤ c.args.steps.now + n) (cost_now settings _ c.args.self.now.session.core.kept c.args.self.now.session.core.view c.args.line.now kit.tests) c.command.ensures.cost
+    subst (λ (n : ℕ). c.command.new.steps ≤ c.args.steps.now + n) (cost_now settings _ (line_kept c.args.self.now.session.core c.args.line.now) c.args.self.now.session.core.view c.args.line.now kit.tests) c.command.ensures.cost

@@ -1,0 +1,3 @@
+mod Reorderings
+mod LookLemmas
+mod RunLemmas

@@ -1,0 +1,3 @@
+pub mod Exports
+mod WayLemmas
+mod EventLemmas
