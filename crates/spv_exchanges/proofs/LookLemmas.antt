@@ -1,7 +1,6 @@
 -- States that look alike to invocations: either way round, and all of them alike.
-use Rattle.std.proofs.Common.{◌≡◌, ◌∙◌, ℕ, zero, suc, ◌≤◌, ◌<◌, Bool, true, false, List, [], ◌∷◌, Option, Some, None, slice_get, inl, inr, refl, sym, ap, subst, arith}
+use Rattle.std.proofs.Common.{◌≡◌, ◌∙◌, ℕ, zero, suc, ◌≤◌, ◌<◌, List, [], ◌∷◌, Option, Some, None, slice_get, inl, inr, refl, sym, ap, subst, arith}
 use Rattle.std.specs.Prelude.{◌⊎◌, length, slice_index_or}
-use Rattle.std.specs.List.{Contains}
 use Rattle.std.specs.Option.{option_map}
 use Rattle.std.proofs.lemmas.Bool.{cases_eq, cases_lt}
 use Rattle.std.proofs.Math.Logic.{∥∥₁_elim}
@@ -20,7 +19,7 @@ use Rattle.spv_statuses.specs.Group.{Held as Statuses}
 use Rattle.spv_statuses.specs.declared.invocations.Status.{Status}
 use Rattle.spv_state.specs.Program.{Program}
 use Rattle.spv_state.specs.State.{State}
-use Rattle.spv_touch.specs.Touching.{Due, due_of, touched_of}
+use Rattle.spv_touch.specs.Touching.{touched_of}
 use Rattle.spv_touch.specs.Views.{AreApart, Differ, KeepsOutline, LookAlike, StoreFits, VariablesDiffer, outline}
 use Rattle.spv_touch.proofs.Exports.{loads_alike, same_due, same_value}
 

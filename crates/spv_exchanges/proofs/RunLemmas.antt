@@ -1,9 +1,7 @@
 -- Runs of a program by two schedules, of which one is the other after exchanges of free events.
-use Rattle.std.proofs.Common.{◌≡◌, ◌≢◌, ◌∙◌, ℕ, zero, suc, ◌+◌, ◌-◌, ◌≤◌, ◌<◌, false, List, [], ◌∷◌, length, Option, Some, None, slice_get, inl, inr, refl, sym, ap, subst, arith}
-use Rattle.std.specs.Prelude.{⊤, slice_index_or}
+use Rattle.std.proofs.Common.{◌≡◌, ◌≢◌, ◌∙◌, ℕ, zero, suc, ◌+◌, ◌-◌, ◌≤◌, ◌<◌, false, List, [], ◌∷◌, length, Some, slice_get, inl, inr, refl, sym, ap, subst, arith}
+use Rattle.std.specs.Prelude.{slice_index_or}
 use Rattle.std.specs.List.{AllByRecursion}
-use Rattle.spv_base.specs.declared.happenings.Fault.{Fault}
-use Rattle.spv_base.specs.declared.happenings.Happening.{Happening}
 use Rattle.spv_group.specs.Run.{event, run, state_after}
 use Rattle.spv_machine.specs.Step.{Outcome, Idles, Moves, Faults, step_of}
 use Rattle.spv_order.specs.Exchanges.{exchanged}
