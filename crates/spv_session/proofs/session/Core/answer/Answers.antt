@@ -1,4 +1,4 @@
-use Rattle.std.proofs.Common.{◌≡◌, Ok}
+use Rattle.std.proofs.Common.{◌≡◌, ◌∙◌, Ok, ap}
 use Rattle.spv_cmd.specs.declared.command.Command.TheVariants as command
 use Rattle.spv_probe.specs.Kits.{tests_of}
 use Rattle.spv_session.proofs.ProbeLemmas.{kit_same}
@@ -63,20 +63,24 @@ returns-in_ok-set_halt-in-Ok-Halt-clause-kit g c = λ settings kit.
 
 pub returns-in_ok-push_frames-in-Ok-Bt-clause-view : goal.returns-in_ok-push_frames-in-Ok-Bt-clause-view
 returns-in_ok-push_frames-in-Ok-Bt-clause-view g c =
-    let is : c.args.command.now ≡ Ok command.Bt = cc in
+    let asked : c.in-Ok-Bt.field-0 ≡ command.Bt = rw c.in-Ok-Bt.is at c.in-Ok-Bt.field-0-is in
+    let is : c.args.command.now ≡ Ok command.Bt = c.in-Ok-Bt.is ∙ ap Ok asked in
     bt_keeps (tests_of (λ b. (goal.Probe-dyn g (b.vtable, b.value)).test b.value) c.args.kit.now.boxes.items) c.args.self.now.view c.args.command.now is
 
 pub returns-in_ok-push_registers-in-Ok-Regs-clause-view : goal.returns-in_ok-push_registers-in-Ok-Regs-clause-view
 returns-in_ok-push_registers-in-Ok-Regs-clause-view g c =
-    let is : c.args.command.now ≡ Ok command.Regs = cc in
+    let asked : c.in-Ok-Regs.field-0 ≡ command.Regs = rw c.in-Ok-Regs.is at c.in-Ok-Regs.field-0-is in
+    let is : c.args.command.now ≡ Ok command.Regs = c.in-Ok-Regs.is ∙ ap Ok asked in
     regs_keep (tests_of (λ b. (goal.Probe-dyn g (b.vtable, b.value)).test b.value) c.args.kit.now.boxes.items) c.args.self.now.view c.args.command.now is
 
 pub returns-in_ok-push_lines-in-Ok-List-clause-view : goal.returns-in_ok-push_lines-in-Ok-List-clause-view
 returns-in_ok-push_lines-in-Ok-List-clause-view g c =
-    let is : c.args.command.now ≡ Ok command.List = cc in
+    let asked : c.in-Ok-List.field-0 ≡ command.List = rw c.in-Ok-List.is at c.in-Ok-List.field-0-is in
+    let is : c.args.command.now ≡ Ok command.List = c.in-Ok-List.is ∙ ap Ok asked in
     list_keeps (tests_of (λ b. (goal.Probe-dyn g (b.vtable, b.value)).test b.value) c.args.kit.now.boxes.items) c.args.self.now.view c.args.command.now is
 
 pub returns-in_ok-push_locals-in-Ok-Locals-clause-view : goal.returns-in_ok-push_locals-in-Ok-Locals-clause-view
 returns-in_ok-push_locals-in-Ok-Locals-clause-view g c =
-    let is : c.args.command.now ≡ Ok command.Locals = cc in
+    let asked : c.in-Ok-Locals.field-0 ≡ command.Locals = rw c.in-Ok-Locals.is at c.in-Ok-Locals.field-0-is in
+    let is : c.args.command.now ≡ Ok command.Locals = c.in-Ok-Locals.is ∙ ap Ok asked in
     locals_keep (tests_of (λ b. (goal.Probe-dyn g (b.vtable, b.value)).test b.value) c.args.kit.now.boxes.items) c.args.self.now.view c.args.command.now is
