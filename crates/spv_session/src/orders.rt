@@ -16,12 +16,12 @@ ghost use Rattle.spv_session.specs.Reply.{order_told, told_reply};
 ghost use Rattle.spv_session.specs.Reply.Act.{orders};
 ghost use Rattle.spv_session.specs.View.{undoing_in, view_at};
 
+use crate::following::WithProbes;
 use crate::session::Core;
 use crate::texts::refusal_line;
 use spv_base::{CmdRefusal, NoMemory, Pointer, Probe, Root, Steps};
 use spv_cmd::Stretch;
 use spv_group::Group;
-use spv_hits::WithProbes;
 use spv_ids::target_of;
 use spv_leaves::leaf_path;
 use spv_line::push_number;
