@@ -23,12 +23,12 @@ past_told v a b h = ap (told_by v a b) (lt-ltb (end_in v.group) b h)
 pub found_told : (v : View) (a b : ℕ) (answer : Answer) → a ≤ b → IsOrderOf v.group a b (Some answer) → (told_reply v (order_told a b v)).0 ≡ order_line v.group.program.accepted a b (behind a answer)
 found_told v a b answer l h =
     let same : order_in v.group a b ≡ behind a answer
-    = order_is (doing_in v.group) a b h.1 answer l h.2.count
-    (λ k e at. let is = h.2.each k e at in record { invocation = is.invocation; arrives = is.arrives; reads = is.reads; writes = is.writes }) h.3 in
+    = order_is (doing_in v.group) a b h.1.0 answer l h.1.1.count
+    (λ k e at. let is = h.1.1.each k e at in record { invocation = is.invocation; arrives = is.arrives; reads = is.reads; writes = is.writes }) h.1.2 in
     ap (told_by v a b) (not_below (end_in v.group) b h.0) ∙ ap (order_line v.group.program.accepted a b) same
 
 pub found_among : (g : Group) (a b n : ℕ) (answer : Answer) → b ≤ n → IsOrderOf g a b (Some answer) → IsAmong n answer
-found_among g a b n answer l h = order_among h.1 n answer (omega (arith, h.2.count, l)) h.3
+found_among g a b n answer l h = order_among h.1.0 n answer (omega (arith, h.1.1.count, l)) h.1.2
 
 -- the view stays
 pub order_view : (v : View) (a b : ℕ) → (told_reply v (order_told a b v)).1 ≡ v
