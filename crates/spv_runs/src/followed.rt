@@ -3,6 +3,7 @@ ghost use Rattle.std.specs.Prelude.{◌≡◌, ◌<◌, ◌≤◌, All, IfOk, ve
 
 use crate::limited::LIMIT;
 use spv_app::Debugging;
+use spv_app::limits::SETUP_LIMIT;
 use spv_app::opening::open_limited;
 use spv_base::{MemorySink, MemorySource, NoMemory, Probe, Steps};
 use spv_loop::{Group, run};
@@ -57,13 +58,16 @@ fn replies<L: Ledger>(
     Ok(out.bytes)
 }
 
-/// The same of a module and a setup.
+/// The same of a module and a setup, which has no more bytes than the program reads of one.
 fn replies_of(
     alloc: Global,
     module: Vec<u8>,
     setup: Vec<u8>,
     commands: Vec<u8>,
 ) -> Option<Vec<u8>> {
+    if setup.len() as u64 > SETUP_LIMIT {
+        return None;
+    }
     match open_limited(alloc, module, setup, LIMIT) {
         Ok(group) => replies::<Brand>(alloc, Blank::new(1), group, commands).ok(),
         Err(_) => None,
