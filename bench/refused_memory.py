@@ -57,7 +57,7 @@ SESSIONS = [
     ),
     (
         "breaks, watches and probes", "source-exchange.spv", OF_64,
-        "watch b.v[0]\nbreak 10\ncontinue\nfwd 1\nrcontinue\nbt\nlist\nlocals\nglobals\nregs\ninfo\ntally\nhalt 3 32\ncontinue\nunwatch 1\nwatch i\nrstepi 3\nfinish\nrfinish\n",
+        "watch b.v[0]\nbreak 10\ncontinue\nfwd 1\nrcontinue\nbt\nlist\nlocals\nglobals\nregs\ninfo\ntally\nhalt 3 32\ncontinue\nunwatch 1\nwatch i\nrstepi 3\nfinish\nrfinish\norder 500 700\norder 576 1408\norder 0 2000\n",
     ),
     ("inlined calls", "source-inlined.spv", "spvdbg-setup 1\nrounds 9\n", "next\nrstep\nrstep\nbt\nfinish\nframe 0\nlist\n"),
     ("calls", "source-called.spv", THIRTY, "goto 5\nbt\nframe 1\nregs\nback 3\nfinish\nregs\n"),
