@@ -1,4 +1,4 @@
-use Rattle.std.proofs.Common.{ap, sym}
+use Rattle.std.proofs.Common.{ap}
 use Rattle.spv_session.specs.View.{Viewing}
 use Rattle.spv_session.proofs.ProbeLemmas.{follows_seen}
 use Rattle.spv_session.proofs.session.Core.order.Goals as goal
