@@ -6,7 +6,7 @@
 So many mutants (100,000) of each kind are tried: `modules`, `setups`, `lines` of commands and `words` of the command line, as mutants.py
 draws them. One is always the same for its seed and number. Of every call has to be true:
 
-- it ends by itself, within SECONDS, with a status of the table in docs/MANUAL.md that these inputs can have;
+- it ends by itself, within SECONDS of the processor, with a status of the table in docs/MANUAL.md that these inputs can have;
 - what is written is the one line of the refusal, or whole replies: each has the form of its command, or is a refusal that it can have,
   and C1, C2 and C11 stand exactly where the grammar of lines is broken;
 - called again it writes the same bytes;
@@ -47,6 +47,13 @@ def need(holds, what, *more):
         raise Wrong(" ".join([what] + ["%r" % (it,) for it in more])[:600])
 
 
+def seconds_of(pid):
+    """The seconds of the processor that a process has taken. A clock would stop a program that waits for the processor."""
+    with open("/proc/%d/stat" % pid) as file:
+        fields = file.read().rsplit(")", 1)[1].split()
+    return (int(fields[11]) + int(fields[12])) / os.sysconf("SC_CLK_TCK")
+
+
 class Program:
     """The program in a folder of its own, with the files of a call."""
 
@@ -63,7 +70,14 @@ class Program:
         self.put("commands", commands)
         opened = [(os.POSIX_SPAWN_OPEN, 0, "commands", os.O_RDONLY, 0), (os.POSIX_SPAWN_OPEN, 1, "replies", os.O_WRONLY | os.O_CREAT | os.O_TRUNC, 0o600)]
         pid = os.posix_spawn(self.path, [b"spvdbg"] + words, {}, file_actions=opened + [(os.POSIX_SPAWN_OPEN, 2, "/dev/null", os.O_WRONLY, 0)])
-        signal.signal(signal.SIGALRM, lambda *_: os.kill(pid, signal.SIGKILL))
+
+        def look(*_):
+            if seconds_of(pid) < SECONDS:
+                signal.alarm(SECONDS)
+            else:
+                os.kill(pid, signal.SIGKILL)
+
+        signal.signal(signal.SIGALRM, look)
         signal.alarm(SECONDS)
         _, status = os.waitpid(pid, 0)
         signal.alarm(0)
