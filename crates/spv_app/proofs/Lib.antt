@@ -1,5 +1,4 @@
 mod Openings
-mod DebuggingLemmas
 mod Headlines
 mod Checks
 mod Readings

@@ -14,4 +14,4 @@ pub use checking::Report;
 pub use debug::debug_main;
 pub use debugging::Debugging;
 pub use opening::OpeningRefusal;
-pub use spv_loop::Status;
+pub use spv_loop::{Group, Status, run};

@@ -5,3 +5,4 @@ mod Cuts
 mod Runs
 mod Splits
 mod Offerings
+pub mod Exports

@@ -4,4 +4,4 @@ pub use Rattle.spv_group.specs.Group.{Held, Undoing, first_group}
 pub use Rattle.spv_probe.specs.Kits.{tests_of}
 pub use Rattle.spv_session.specs.View.{IsKitOf, Settings, View, Viewing, first_view, first_viewing, tests_at}
 pub use Rattle.spv_session.specs.Reply.{line_reply, reply}
-pub use Rattle.spv_session.specs.Costs.{cost_by, line_cost}
+pub use Rattle.spv_session.specs.Costs.{cost_by, line_cost, line_kept}

@@ -2,11 +2,10 @@
 ghost use Rattle.std.specs.Prelude.{◌≡◌, ◌<◌, ◌≤◌, All, IfOk, vec_len};
 
 use crate::limited::LIMIT;
-use spv_app::Debugging;
 use spv_app::limits::SETUP_LIMIT;
 use spv_app::opening::open_limited;
+use spv_app::{Debugging, Group, run};
 use spv_base::{MemorySink, MemorySource, NoMemory, Probe, Steps};
-use spv_loop::{Group, run};
 use spv_probe::{Barriers, Lines, Stores};
 use std::alloc::Global;
 use std::io::Write;

@@ -1,9 +1,9 @@
 //! A group with a journal that keeps few marks and entries, moved event by event.
 ghost use Rattle.std.specs.Prelude.{◌≡◌, ◌<◌};
 
+use spv_app::Group;
 use spv_app::opening::open_limited;
 use spv_base::{NoMemory, Steps};
-use spv_group::Group;
 use std::alloc::Global;
 use std::marker::Brand;
 use std::sync::ledger::{Blank, Ledger};

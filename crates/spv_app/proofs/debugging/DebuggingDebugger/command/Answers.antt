@@ -1,8 +1,7 @@
 use Rattle.std.proofs.Common.{◌≡◌, ◌≤◌, ◌+◌, ◌++◌, List, ℕ, subst}
 use Rattle.std.specs.Prelude.{OnOk}
-use Rattle.spv_loop.specs.Sessions.{View}
-use Rattle.spv_session.specs.Costs.{line_kept}
-use Rattle.spv_app.proofs.DebuggingLemmas.{reply_now, cost_now}
+use Rattle.spv_loop.specs.Sessions.{View, line_kept}
+use Rattle.spv_loop.proofs.Exports.{reply_now, cost_now}
 use Rattle.spv_app.proofs.debugging.DebuggingDebugger.command.Goals as goal
 
 pub returns-clause-text : goal.returns-clause-text
