@@ -31,6 +31,18 @@ pub fn exit_code(status: Status) -> ExitCode
     ExitCode::from(status.number())
 }
 
+/// A call for which there was no memory.
+fn out_of_memory() -> Ending
+    ensures status { result.status ≡ Status.NoMemory }
+    ensures code { exit_status result.code ≡ 8 }
+{
+    let status = Status::NoMemory;
+    Ending {
+        status,
+        code: exit_code(status),
+    }
+}
+
 /// A kit of three probes that have counted nothing.
 fn kit_of(
     alloc: Global,
@@ -92,10 +104,7 @@ pub fn end<F: Files, I: Source, K: Sink, L: Ledger>(
         → K.faults out.new ≡ K.faults out.old → result.status ≢ Status.NoMemory
         → exit_status result.code ≡ status_number (make_status (making n)) }
 {
-    let no_memory = Ending {
-        status: Status::NoMemory,
-        code: exit_code(Status::NoMemory),
-    };
+    let no_memory = out_of_memory();
     let Ok(stores) = Box::new(alloc, Stores::new(None)) else {
         return no_memory;
     };
