@@ -1,11 +1,12 @@
 -- Calls that were inlined, from one with a number outward.
-use Rattle.std.proofs.Common.{◌≡◌, ◌⊎◌, ◌∙◌, ℕ, suc, ◌-◌, ◌<◌, ◌≤◌, ◌==◌, Bool, true, false, List, [], ◌∷◌, ◌++◌, length, get_or, Option, Some, None, refl, sym, ap, subst, inl, inr, arith}
+use Rattle.std.proofs.Common.{◌≡◌, ◌⊎◌, ◌∙◌, ℕ, suc, ◌+◌, ◌-◌, ◌<◌, ◌≤◌, ◌==◌, Bool, true, false, List, [], ◌∷◌, ◌++◌, length, get_or, slice_get, Option, Some, None, refl, sym, ap, subst, inl, inr, arith}
 use Rattle.std.specs.Prelude.{reverse, if◌then◌else◌}
 use Rattle.std.proofs.lemmas.Bool.{cases_Bool, eqb-true}
 use Rattle.std.proofs.lemmas.Grind.{common_steps}
 use Rattle.std.proofs.lemmas.List.{get_or-reverse, length-reverse, reverse-reverse}
 use Rattle.spv_base.proofs.Exports.{same_number}
 use Rattle.spv_scopes.specs.declared.calls.Linked.{Linked}
+use Rattle.spv_scopes.specs.declared.places.Place.{Place}
 use Rattle.spv_scopes.specs.Calls.{before, calls_from}
 
 -- no call has a number that is as great as their count
@@ -72,3 +73,21 @@ unrolled calls n x lt is = one_more (reverse calls) n x (rw (length-reverse call
 -- a number that no call has
 pub no_call_at : (calls : List Linked) (n : ℕ) → length calls ≤ n → calls_from (reverse calls) (Some n) ≡ []
 no_call_at calls n le = none_beyond (reverse calls) n (rw (length-reverse calls) le)
+
+-- ---- the one that is so many outward from another
+
+module _ (calls : List Linked) (all : List Place) (number : Option ℕ) (n : ℕ) (before : (j : ℕ) → slice_get (calls_from calls number) j ≡ slice_get all (n + j)) where
+  pub outward_more : (k : Linked) → calls_from calls number ≡ k.place ∷ calls_from calls k.call → (j : ℕ) → slice_get (calls_from calls k.call) j ≡ slice_get all (n + 1 + j)
+  outward_more k here j =
+      let next : n + suc j ≡ n + 1 + j = omega arith in
+      sym (ap (λ l. slice_get l (suc j)) here) ∙ before (suc j) ∙ ap (slice_get all) next
+
+  pub outward_none : (outer : ℕ) → calls_from calls number ≡ [] → n ≤ outer → slice_get all outer ≡ None
+  outward_none outer none le =
+      let there : n + (outer - n) ≡ outer = omega arith in
+      sym (before (outer - n) ∙ ap (slice_get all) there) ∙ ap (λ l. slice_get l (outer - n)) none
+
+  pub outward_is : (outer : ℕ) (k : Linked) → calls_from calls number ≡ k.place ∷ calls_from calls k.call → n ≡ outer → Some k.place ≡ slice_get all outer
+  outward_is outer k here at =
+      let there : n + 0 ≡ outer = omega arith in
+      sym (ap (λ l. slice_get l 0) here) ∙ before 0 ∙ ap (slice_get all) there

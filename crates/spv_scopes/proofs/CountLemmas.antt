@@ -1,9 +1,9 @@
 -- How many calls there are from one outward, and how many frames are shown.
-use Rattle.std.proofs.Common.{◌≡◌, ◌∙◌, ℕ, suc, zero, ◌+◌, ◌-◌, ◌<◌, ◌≤◌, ◌==◌, Bool, true, false, List, [], ◌∷◌, ◌++◌, drop, length, map, Option, Some, None, refl, sym, ap, subst, inl, inr, arith, cond}
+use Rattle.std.proofs.Common.{◌≡◌, ◌∙◌, ℕ, suc, zero, ◌+◌, ◌-◌, ◌<◌, ◌≤◌, ◌==◌, Bool, true, false, List, [], ◌∷◌, ◌++◌, drop, take, length, map, Option, Some, None, refl, sym, ap, subst, inl, inr, arith, cond}
 use Rattle.std.specs.Prelude.{reverse, slice_get, slice_index, option_map, if◌then◌else◌}
-use Rattle.std.specs.Option.{option_and_then}
+use Rattle.std.specs.Option.{option_and_then, option_map_or}
 use Rattle.std.proofs.lemmas.Bool.{cases_lt}
-use Rattle.std.proofs.lemmas.List.{length-append, length-map, length-reverse}
+use Rattle.std.proofs.lemmas.List.{length-append, length-map, length-reverse, take_all}
 use Rattle.spv_base.proofs.Exports.{drop_here, not_same}
 use Rattle.spv_valid.specs.Acceptance.{Accepted}
 use Rattle.spv_dbg.specs.Tables.{Tables}
@@ -12,10 +12,11 @@ use Rattle.spv_frame.specs.Stacks.{top}
 use Rattle.spv_scopes.specs.declared.calls.Linked.{Linked}
 use Rattle.spv_scopes.specs.declared.frames.Real.{Real}
 use Rattle.spv_scopes.specs.Calls.{AreCounted, calls_behind, calls_from, count_in, rank, seen_at}
-use Rattle.spv_scopes.specs.Shown.{count_at, first_frame, frame_at, frames_at, frames_from, line_named, line_shown, outer_frames, plain}
+use Rattle.spv_scopes.specs.Shown.{count_at, first_frame, frame_at, frames_at, frames_from, line_named, line_shown, outer_frames, plain, real_of}
 use Rattle.spv_scopes.specs.Spots.{Spot, Spots, source_line, spot_in}
 use Rattle.spv_scopes.proofs.CallLemmas.{none_beyond, none_of_none}
-use Rattle.spv_scopes.proofs.ShownLemmas.{innermost_is, innermost_none, real_at}
+use Rattle.spv_scopes.proofs.ListLemmas.{get_first, get_second}
+use Rattle.spv_scopes.proofs.ShownLemmas.{below_more, innermost_is, innermost_none}
 
 -- ---- lists of numbers
 
@@ -103,10 +104,39 @@ count_is m t spots r = by_function (spot_in spots r.word)
 pub counted_more : (m : Accepted) (t : Tables) (spots : Spots) (fs : List Frame) (d : ℕ) (f : Frame) (word count old new : ℕ) → slice_get fs d ≡ Some f → word ≡ f.pc → count ≡ count_at spots word
     → old ≡ length (frames_from m t spots (suc d) (drop (suc d) fs)) → new ≡ old + count → new ≡ length (frames_from m t spots d (drop d fs))
 counted_more m t spots fs d f word count old new here word_is count_is_at before more =
-    let one : count ≡ length (frames_at m t spots (real_at d f.plan.function f.pc)) = count_is_at ∙ ap (count_at spots) word_is ∙ sym (count_is m t spots (real_at d f.plan.function f.pc)) in
-    let both = length-append (frames_from m t spots (suc d) (drop (suc d) fs)) (frames_at m t spots (real_at d f.plan.function f.pc)) in
+    let one : count ≡ length (frames_at m t spots (real_of d f)) = count_is_at ∙ ap (count_at spots) word_is ∙ sym (count_is m t spots (real_of d f)) in
+    let both = length-append (frames_from m t spots (suc d) (drop (suc d) fs)) (frames_at m t spots (real_of d f)) in
     let all = sym (ap (λ l. length (frames_from m t spots d l)) (drop_here fs d f here)) in
     more ∙ ap (λ n. n + count) before ∙ ap (λ n. length (frames_from m t spots (suc d) (drop (suc d) fs)) + n) one ∙ sym both ∙ all
+
+-- ---- the frame of a stack with a number
+
+pub numbered_below : (m : Accepted) (t : Tables) (spots : Spots) (fs : List Frame) (depth number left : ℕ) → depth ≡ length fs → left ≡ number
+    → slice_get (frames_from m t spots 0 (take depth fs)) left ≡ slice_get (frames_from m t spots 0 fs) number
+numbered_below m t spots fs depth number left all same =
+    let whole : take depth fs ≡ fs = take_all depth fs (omega arith) in
+    ap (λ l. slice_get (frames_from m t spots 0 l) left) whole ∙ ap (slice_get (frames_from m t spots 0 fs)) same
+
+module _ (m : Accepted) (t : Tables) (spots : Spots) (fs : List Frame) (depth d : ℕ) (next : depth ≡ suc d) (left : ℕ) where
+  -- among those of the calls below a depth, the last of which is this
+  last_call : (call : Option Real) → call ≡ option_map (real_of d) (slice_get fs d)
+      → slice_get (option_map_or (frames_at m t spots) call [] ++ frames_from m t spots 0 (take d fs)) left ≡ slice_get (frames_from m t spots 0 (take depth fs)) left
+  last_call call is = sym (ap (λ l. slice_get l left) (below_more m t spots fs d call is)) ∙ ap (λ n. slice_get (frames_from m t spots 0 (take n fs)) left) (sym next)
+
+  pub numbered_here : (r : Real) (count : ℕ) → Some r ≡ option_map (real_of d) (slice_get fs d) → count ≡ count_at spots r.word → left < count
+      → slice_get (frames_at m t spots r) left ≡ slice_get (frames_from m t spots 0 (take depth fs)) left
+  numbered_here r count is counted few =
+      let all : count ≡ length (frames_at m t spots r) = counted ∙ sym (count_is m t spots r) in
+      sym (get_first (frames_at m t spots r) (frames_from m t spots 0 (take d fs)) left (omega arith)) ∙ last_call (Some r) is
+
+  pub numbered_past : (r : Real) (count : ℕ) → Some r ≡ option_map (real_of d) (slice_get fs d) → count ≡ count_at spots r.word → count ≤ left
+      → slice_get (frames_from m t spots 0 (take d fs)) (left - count) ≡ slice_get (frames_from m t spots 0 (take depth fs)) left
+  numbered_past r count is counted many =
+      let all : count ≡ length (frames_at m t spots r) = counted ∙ sym (count_is m t spots r) in
+      sym (get_second (frames_at m t spots r) (frames_from m t spots 0 (take d fs)) left (left - count) (omega arith)) ∙ last_call (Some r) is
+
+  pub numbered_beyond : None ≡ option_map (real_of d) (slice_get fs d) → slice_get (frames_from m t spots 0 (take d fs)) left ≡ slice_get (frames_from m t spots 0 (take depth fs)) left
+  numbered_beyond is = last_call None is
 
 -- ---- the line of the innermost
 
@@ -134,10 +164,10 @@ pub line_is : (m : Accepted) (t : Tables) (spots : Spots) (fs : List Frame) (pc 
 line_is m t spots fs pc line is here =
     let found = top_with (top fs) pc is in
     let f = found.0 in
-    let r : Real = real_at (length fs - 1) f.plan.function pc in
-    ap (option_map (line_named t)) here ∙ named_line m t r (spot_in spots pc)
-    ∙ ap (option_and_then line_shown) (innermost_is m t spots fs (length fs - 1) f f.plan.function pc (first_frame m t r (spot_in spots pc)) refl found.1 refl found.2 refl)
+    ap (option_map (line_named t)) (here ∙ ap (λ w. source_line (spot_in spots w).place) found.2)
+    ∙ named_line m t (real_of (length fs - 1) f) (spot_in spots f.pc)
+    ∙ sym (ap (option_and_then line_shown) (innermost_is m t spots fs f found.1))
 
 pub no_line : (m : Accepted) (t : Tables) (spots : Spots) (fs : List Frame) (line : Option (ℕ × ℕ)) → option_map (λ (f : Frame). f.pc) (top fs) ≡ None → line ≡ None
     → option_map (line_named t) line ≡ option_and_then line_shown (slice_get (frames_from m t spots 0 fs) 0)
-no_line m t spots fs line is none = ap (option_map (line_named t)) none ∙ ap (option_and_then line_shown) (innermost_none m t spots fs (length fs - 1) refl (top_without (top fs) is))
+no_line m t spots fs line is none = ap (option_map (line_named t)) none ∙ sym (ap (option_and_then line_shown) (innermost_none m t spots fs (top_without (top fs) is)))

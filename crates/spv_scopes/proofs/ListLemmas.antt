@@ -1,5 +1,5 @@
--- Lists from the last element back, with one element more.
-use Rattle.std.proofs.Common.{◌≡◌, ◌∙◌, ℕ, ◌+◌, ◌<◌, List, [], ◌∷◌, length, get_or, take, drop, sym, ap, arith, add-one}
+-- Lists from the last element back, with one element more; and elements of two lists in a row.
+use Rattle.std.proofs.Common.{◌≡◌, ◌∙◌, ℕ, suc, zero, ◌+◌, ◌<◌, List, [], ◌∷◌, ◌++◌, length, get_or, slice_get, take, drop, refl, sym, ap, arith, add-one}
 use Rattle.std.specs.Prelude.{reverse}
 use Rattle.std.proofs.Math.Seq.{take-suc}
 use Rattle.std.proofs.lemmas.List.{drop_more, length-drop, reverse-append}
@@ -18,3 +18,15 @@ back_next xs n x e =
     let next = drop_more xs n x lt in
     let is : x ≡ get_or xs n x = cc in
     back_more xs n x lt is
+
+-- one of the first list
+pub get_first : {X : Type 0} (xs ys : List X) (n : ℕ) → n < length xs → slice_get (xs ++ ys) n ≡ slice_get xs n
+get_first [] ys n lt = absurd (omega arith)
+get_first (x ∷ xs) ys zero lt = refl
+get_first (x ∷ xs) ys (suc n) lt = get_first xs ys n (omega arith)
+
+-- one of the second
+pub get_second : {X : Type 0} (xs ys : List X) (n k : ℕ) → n ≡ length xs + k → slice_get (xs ++ ys) n ≡ slice_get ys k
+get_second [] ys n k e = let same : n ≡ k = omega arith in ap (slice_get ys) same
+get_second (x ∷ xs) ys zero k e = absurd (omega arith)
+get_second (x ∷ xs) ys (suc n) k e = get_second xs ys n k (omega arith)

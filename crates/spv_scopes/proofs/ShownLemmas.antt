@@ -1,7 +1,10 @@
 -- The frames that are shown of a stack, with those of one call more.
-use Rattle.std.proofs.Common.{◌≡◌, ◌≢◌, ◌∙◌, ℕ, suc, ◌+◌, ◌-◌, ◌==◌, true, List, [], ◌∷◌, ◌++◌, append_assoc, length, map, drop, slice_get, Option, Some, None, refl, sym, ap, arith}
-use Rattle.std.specs.Prelude.{reverse}
-use Rattle.spv_base.proofs.Exports.{drop_here, element_at, not_same}
+use Rattle.std.proofs.Common.{◌≡◌, ◌≢◌, ◌∙◌, ℕ, suc, zero, ◌+◌, ◌-◌, ◌==◌, true, List, [], ◌∷◌, ◌++◌, append_assoc, length, append-nil, map, take, slice_get, Option, Some, None, refl, sym, ap, arith}
+use Rattle.std.specs.Prelude.{option_map, reverse}
+use Rattle.std.specs.Option.{option_map_or}
+use Rattle.std.proofs.lemmas.List.{take_all}
+use Rattle.std.proofs.lemmas.Option.{slice_get-map}
+use Rattle.spv_base.proofs.Exports.{element_at, not_same}
 use Rattle.spv_valid.specs.Acceptance.{Accepted}
 use Rattle.spv_dbg.specs.declared.frames.ShownFrame.{ShownFrame}
 use Rattle.spv_dbg.specs.Tables.{Tables}
@@ -10,7 +13,7 @@ use Rattle.spv_scopes.specs.declared.calls.Linked.{Linked}
 use Rattle.spv_scopes.specs.declared.frames.Real.{Real}
 use Rattle.spv_scopes.specs.declared.places.Place.{Place}
 use Rattle.spv_scopes.specs.Calls.{calls_from, seen_at}
-use Rattle.spv_scopes.specs.Shown.{first_at, first_frame, frame_at, frames_at, frames_from, outer_frames}
+use Rattle.spv_scopes.specs.Shown.{first_at, first_frame, frame_at, frames_at, frames_from, outer_frames, real_of}
 use Rattle.spv_scopes.specs.Spots.{Spots, spot_in}
 
 -- a call's frame that is put behind those of the calls in it
@@ -29,12 +32,15 @@ module _ (m : Accepted) (t : Tables) (spots : Spots) (r : Real) (calls : List Li
   all_frames : first_at m t r k.place ∷ outer_frames m t r (seen_at calls k) ≡ frames_at m t spots r
   all_frames = ap (λ s. first_frame m t r s ∷ outer_frames m t r s) is
 
+  outer_none : k.place.function ≡ 0 → outer_frames m t r (seen_at calls k) ≡ []
+  outer_none none = let y : (k.place.function == 0) ≡ true = rw none refl in rw y refl
+
+  outer_some : k.place.function ≢ 0 → outer_frames m t r (seen_at calls k) ≡ map (frame_at m t r) (calls_from (reverse calls) k.call)
+  outer_some some = rw (not_same k.place.function 0 some) refl
+
   -- in no Function
   pub frame_alone : (x : ShownFrame) (old new : List ShownFrame) → k.place.function ≡ 0 → x ≡ first_at m t r k.place → new ≡ old ++ x ∷ [] → new ≡ old ++ frames_at m t spots r
-  frame_alone x old new none x_is put = put ∙ ap (λ f. old ++ f ∷ []) x_is ∙ ap (λ l. old ++ first_at m t r k.place ∷ l) (sym outer) ∙ ap (λ l. old ++ l) all_frames
-    where
-      outer : outer_frames m t r (seen_at calls k) ≡ []
-      outer = let y : (k.place.function == 0) ≡ true = rw none refl in rw y refl
+  frame_alone x old new none x_is put = put ∙ ap (λ f. old ++ f ∷ []) x_is ∙ ap (λ l. old ++ first_at m t r k.place ∷ l) (sym (outer_none none)) ∙ ap (λ l. old ++ l) all_frames
 
   -- in one, with those of the calls around it
   pub frame_inside : (x : ShownFrame) (old mid new : List ShownFrame) → k.place.function ≢ 0 → x ≡ first_at m t r k.place → mid ≡ old ++ x ∷ []
@@ -44,65 +50,73 @@ module _ (m : Accepted) (t : Tables) (spots : Spots) (r : Real) (calls : List Li
       ∙ ap (λ l. l ++ map (frame_at m t r) (calls_from (reverse calls) k.call)) put
       ∙ append_assoc old (x ∷ []) (map (frame_at m t r) (calls_from (reverse calls) k.call))
       ∙ ap (λ f. old ++ f ∷ map (frame_at m t r) (calls_from (reverse calls) k.call)) x_is
-      ∙ ap (λ l. old ++ first_at m t r k.place ∷ l) (sym outer)
+      ∙ ap (λ l. old ++ first_at m t r k.place ∷ l) (sym (outer_some some))
       ∙ ap (λ l. old ++ l) all_frames
-    where
-      outer : outer_frames m t r (seen_at calls k) ≡ map (frame_at m t r) (calls_from (reverse calls) k.call)
-      outer = rw (not_same k.place.function 0 some) refl
+
+  -- ---- the one with a number
+
+  number_in : (number : ℕ) → slice_get (first_at m t r k.place ∷ outer_frames m t r (seen_at calls k)) number ≡ slice_get (frames_at m t spots r) number
+  number_in number = ap (λ l. slice_get l number) all_frames
+
+  pub first_numbered : (x : ShownFrame) (number : ℕ) → number ≡ 0 → x ≡ first_at m t r k.place → Some x ≡ slice_get (frames_at m t spots r) number
+  first_numbered x number none x_is = ap (λ f. Some f) x_is ∙ number_in 0 ∙ ap (slice_get (frames_at m t spots r)) (sym none)
+
+  pub none_numbered : (number outer : ℕ) → number ≡ suc outer → k.place.function ≡ 0 → None ≡ slice_get (frames_at m t spots r) number
+  none_numbered number outer next none =
+      sym (ap (λ l. slice_get l outer) (outer_none none)) ∙ number_in (suc outer) ∙ ap (slice_get (frames_at m t spots r)) (sym next)
+
+  pub outer_numbered : (number outer : ℕ) (place : Option Place) → number ≡ suc outer → k.place.function ≢ 0 → place ≡ slice_get (calls_from (reverse calls) k.call) outer
+      → option_map (frame_at m t r) place ≡ slice_get (frames_at m t spots r) number
+  outer_numbered number outer place next some is_place =
+      ap (option_map (frame_at m t r)) is_place
+      ∙ sym (slice_get-map (frame_at m t r) (calls_from (reverse calls) k.call) outer)
+      ∙ sym (ap (λ l. slice_get l outer) (outer_some some))
+      ∙ number_in (suc outer)
+      ∙ ap (slice_get (frames_at m t spots r)) (sym next)
 
 -- ---- the frames of a stack
 
-abbrev pub real_at : ℕ → ℕ → ℕ → Real
-real_at depth function word = record { depth = depth; function = function; word = word }
+-- those of the calls below a depth, with the call of that depth
+call_more : (m : Accepted) (t : Tables) (spots : Spots) (fs : List Frame) (start d n : ℕ) → n ≡ start + d
+    → frames_from m t spots start (take (suc d) fs) ≡ option_map_or (frames_at m t spots) (option_map (real_of n) (slice_get fs d)) [] ++ frames_from m t spots start (take d fs)
+call_more m t spots [] start zero n at = refl
+call_more m t spots [] start (suc d) n at = refl
+call_more m t spots (f ∷ fs) start zero n at =
+    let here : start ≡ n = omega arith in
+    ap (λ k. frames_at m t spots (real_of k f)) here ∙ sym (append-nil (frames_at m t spots (real_of n f)))
+call_more m t spots (f ∷ fs) start (suc d) n at =
+    let call = option_map_or (frames_at m t spots) (option_map (real_of n) (slice_get fs d)) [] in
+    ap (λ l. l ++ frames_at m t spots (real_of start f)) (call_more m t spots fs (suc start) d n (omega arith))
+    ∙ append_assoc call (frames_from m t spots (suc start) (take d fs)) (frames_at m t spots (real_of start f))
 
-pub frames_more : (m : Accepted) (t : Tables) (spots : Spots) (fs : List Frame) (d : ℕ) (f : Frame) (function word : ℕ) (old new : List ShownFrame) → slice_get fs d ≡ Some f
-    → old ≡ frames_from m t spots (suc d) (drop (suc d) fs) → function ≡ f.plan.function → word ≡ f.pc → new ≡ old ++ frames_at m t spots (real_at d function word)
-    → new ≡ frames_from m t spots d (drop d fs)
-frames_more m t spots fs d f function word old new here before function_is word_is is =
-    is
-    ∙ ap (λ l. l ++ frames_at m t spots (real_at d function word)) before
-    ∙ ap (λ x. frames_from m t spots (suc d) (drop (suc d) fs) ++ frames_at m t spots (real_at d x word)) function_is
-    ∙ ap (λ x. frames_from m t spots (suc d) (drop (suc d) fs) ++ frames_at m t spots (real_at d f.plan.function x)) word_is
-    ∙ sym (ap (frames_from m t spots d) (drop_here fs d f here))
+pub below_more : (m : Accepted) (t : Tables) (spots : Spots) (fs : List Frame) (d : ℕ) (call : Option Real) → call ≡ option_map (real_of d) (slice_get fs d)
+    → frames_from m t spots 0 (take (suc d) fs) ≡ option_map_or (frames_at m t spots) call [] ++ frames_from m t spots 0 (take d fs)
+below_more m t spots fs d call is =
+    let at : d ≡ 0 + d = omega arith in
+    call_more m t spots fs 0 d d at ∙ sym (ap (λ c. option_map_or (frames_at m t spots) c [] ++ frames_from m t spots 0 (take d fs)) is)
+
+-- one call more, where those below it are left
+pub call_put : (m : Accepted) (t : Tables) (spots : Spots) (fs : List Frame) (depth d : ℕ) (call : Option Real) (old new whole : List ShownFrame) → depth ≡ suc d → call ≡ option_map (real_of d) (slice_get fs d)
+    → new ≡ old ++ option_map_or (frames_at m t spots) call [] → old ++ frames_from m t spots 0 (take depth fs) ≡ whole → new ++ frames_from m t spots 0 (take d fs) ≡ whole
+call_put m t spots fs depth d call old new whole next is put h =
+    ap (λ l. l ++ frames_from m t spots 0 (take d fs)) put
+    ∙ append_assoc old (option_map_or (frames_at m t spots) call []) (frames_from m t spots 0 (take d fs))
+    ∙ ap (λ l. old ++ l) (sym (below_more m t spots fs d call is))
+    ∙ ap (λ n. old ++ frames_from m t spots 0 (take n fs)) (sym next)
+    ∙ h
 
 -- ---- the innermost one
 
-some_same : (x y : Frame) → Some x ≡ Some y → x ≡ y
-some_same x y h = cc
-
-append_first : {A : Type 0} (xs ys : List A) (x : A) → slice_get xs 0 ≡ Some x → slice_get (xs ++ ys) 0 ≡ Some x
-append_first [] ys x h = absurd (cc)
-append_first (y ∷ xs) ys x h = h
-
-first_from : (m : Accepted) (t : Tables) (spots : Spots) (fs : List Frame) (d n : ℕ) (f : Frame) → n ≡ length fs - 1 → slice_get fs n ≡ Some f
-    → slice_get (frames_from m t spots d fs) 0 ≡ Some (first_frame m t (real_at (d + n) f.plan.function f.pc) (spot_in spots f.pc))
-first_from m t spots [] d n f last h = absurd (cc)
-first_from m t spots (g ∷ []) d n f last h =
-    let none : n ≡ 0 = omega arith in
-    let here : d + n ≡ d = omega arith in
-    let same : g ≡ f = some_same g f (rw none at h) in
-    rw here (ap (λ (x : Frame). Some (first_frame m t (real_at d x.plan.function x.pc) (spot_in spots x.pc))) same)
-first_from m t spots (g ∷ (k ∷ fs)) d n f last h =
-    let before = n - 1 in
-    let next : n ≡ suc before = omega arith in
-    let counted : suc d + before ≡ d + n = omega arith in
-    append_first (frames_from m t spots (suc d) (k ∷ fs)) (frames_at m t spots (real_at d g.plan.function g.pc)) _
-    (first_from m t spots (k ∷ fs) (suc d) before f (omega arith) (rw next at h) ∙ ap (λ j. Some (first_frame m t (real_at j f.plan.function f.pc) (spot_in spots f.pc))) counted)
-
--- that of the top call
-pub innermost_is : (m : Accepted) (t : Tables) (spots : Spots) (fs : List Frame) (depth : ℕ) (f : Frame) (function word : ℕ) (x : ShownFrame) → depth ≡ length fs - 1 → slice_get fs depth ≡ Some f
-    → function ≡ f.plan.function → word ≡ f.pc → x ≡ first_frame m t (real_at depth function word) (spot_in spots word) → Some x ≡ slice_get (frames_from m t spots 0 fs) 0
-innermost_is m t spots fs depth f function word x top here function_is word_is is =
-    ap (λ y. Some y) is
-    ∙ ap (λ n. Some (first_frame m t (real_at depth n word) (spot_in spots word))) function_is
-    ∙ ap (λ n. Some (first_frame m t (real_at depth f.plan.function n) (spot_in spots n))) word_is
-    ∙ ap (λ n. Some (first_frame m t (real_at n f.plan.function f.pc) (spot_in spots f.pc))) counted
-    ∙ sym (first_from m t spots fs 0 depth f top here)
-  where
-    counted : depth ≡ 0 + depth
-    counted = omega arith
+-- the first of the top call
+pub innermost_is : (m : Accepted) (t : Tables) (spots : Spots) (fs : List Frame) (f : Frame) → slice_get fs (length fs - 1) ≡ Some f
+    → slice_get (frames_from m t spots 0 fs) 0 ≡ Some (first_frame m t (real_of (length fs - 1) f) (spot_in spots f.pc))
+innermost_is m t spots fs f top =
+    let d = length fs - 1 in
+    let whole : take (suc d) fs ≡ fs = take_all (suc d) fs (omega arith) in
+    sym (ap (λ l. slice_get (frames_from m t spots 0 l) 0) whole)
+    ∙ ap (λ l. slice_get l 0) (below_more m t spots fs d (Some (real_of d f)) (sym (ap (option_map (real_of d)) top)))
 
 -- where there is no top call, there is no frame
-pub innermost_none : (m : Accepted) (t : Tables) (spots : Spots) (fs : List Frame) (depth : ℕ) → depth ≡ length fs - 1 → slice_get fs depth ≡ None → None ≡ slice_get (frames_from m t spots 0 fs) 0
-innermost_none m t spots [] depth top none = refl
-innermost_none m t spots (f ∷ fs) depth top none = let found = element_at (f ∷ fs) depth (omega arith) in let some : None ≡ Some found.0 = sym none ∙ found.1 in absurd (cc)
+pub innermost_none : (m : Accepted) (t : Tables) (spots : Spots) (fs : List Frame) → slice_get fs (length fs - 1) ≡ None → slice_get (frames_from m t spots 0 fs) 0 ≡ None
+innermost_none m t spots [] none = refl
+innermost_none m t spots (f ∷ fs) none = let found = element_at (f ∷ fs) (length (f ∷ fs) - 1) (omega arith) in let some : None ≡ Some found.0 = sym none ∙ found.1 in absurd (cc)

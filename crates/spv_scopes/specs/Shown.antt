@@ -1,6 +1,6 @@
 -- The frames that are shown of the calls of an invocation, the innermost first: for each real frame, from the top one on, the Function around
 -- the scope in force, and those of the calls that were inlined around it (NonSemantic.Shader.DebugInfo.100, DebugInlinedAt).
-use Rattle.std.specs.Prelude.{ℕ, suc, ◌==◌, ◌+◌, if◌then◌else◌, List, [], ◌∷◌, ◌++◌, length, map, slice_index, unwrap_or, Option, Some, None}
+use Rattle.std.specs.Prelude.{ℕ, suc, ◌==◌, ◌+◌, if◌then◌else◌, List, [], ◌∷◌, ◌++◌, length, map, slice_index, take, unwrap_or, Option, Some, None}
 use Rattle.std.specs.Option.{option_map_or}
 use Rattle.spv_base.specs.Entries.{reads}
 use Rattle.spv_index.specs.Definitions.{name_of}
@@ -41,6 +41,10 @@ line_shown f = if f.line == 0 then None else Some (f.file, f.line)
 abbrev pub line_named : Tables → ℕ × ℕ → List ℕ × ℕ
 line_named t line = (string_in t line.0, line.1)
 
+-- the real frame of a call at a depth
+abbrev pub real_of : ℕ → Frame → Real
+real_of depth f = record { depth = depth; function = f.plan.function; word = f.pc }
+
 -- how many frames are shown of a real one whose next instruction is at a word
 abbrev pub count_at : Spots → ℕ → ℕ
 count_at spots word = if (spot_in spots word).place.function == 0 then 1 else length (spot_in spots word).calls + 1
@@ -77,7 +81,11 @@ module _ (m : Accepted) (t : Tables) where
   -- those of real frames, of which the first has a depth and the last is the top one
   abbrev pub frames_from : Spots → ℕ → List Frame → List ShownFrame
   frames_from spots depth [] = []
-  frames_from spots depth (f ∷ fs) = frames_from spots (suc depth) fs ++ frames_at spots (record { depth = depth; function = f.plan.function; word = f.pc })
+  frames_from spots depth (f ∷ fs) = frames_from spots (suc depth) fs ++ frames_at spots (real_of depth f)
 
   unfoldable pub shown_of : Spots → List Frame → List ShownFrame
   shown_of spots fs = frames_from spots 0 fs
+
+  -- those of the calls below a depth
+  unfoldable pub shown_below : Spots → ℕ → List Frame → List ShownFrame
+  shown_below spots depth fs = frames_from spots 0 (take depth fs)

@@ -1,5 +1,5 @@
 //! The frames that are shown of one call.
-ghost use Rattle.std.specs.Prelude.{◌≡◌, ◌<◌, ◌++◌, IfOk, IfSome, OnOk, map, reverse};
+ghost use Rattle.std.specs.Prelude.{◌≡◌, ◌<◌, ◌++◌, IfOk, IfSome, OnOk, map, reverse, slice_get};
 ghost use Rattle.spv_scopes.specs.Calls.{before, calls_behind, calls_from, rank};
 ghost use Rattle.spv_scopes.specs.Shown as spec;
 
@@ -66,7 +66,7 @@ fn name_of(
 }
 
 /// The frame of a call at a place.
-fn frame_at(
+pub(crate) fn frame_at(
     alloc: Global,
     module: &Module,
     tables: &DebugTables,
@@ -135,6 +135,17 @@ pub(crate) fn call_with(calls: &[Linked], number: Option<usize>) -> Option<Linke
         place: linked.place,
         call: before(n, linked.call),
     })
+}
+
+/// The place of the call that is so many outward from the one with a number, if there is one.
+pub(crate) fn place_outward(calls: &[Linked], first: Option<usize>, outer: u64) -> Option<Place>
+    ensures { result ≡ slice_get (calls_from (reverse calls.now) first) outer }
+{
+    let mut number = first;
+    for _step in 0..outer {
+        number = call_with(calls, number)?.call;
+    }
+    Some(call_with(calls, number)?.place)
 }
 
 /// Adds the frames of the calls from one with a number outward.

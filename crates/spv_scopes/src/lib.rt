@@ -16,4 +16,4 @@ mod stacks;
 pub use frames::Real;
 pub use lines::Lines;
 pub use places::Place;
-pub use stacks::{innermost, innermost_line, shown, shown_count};
+pub use stacks::{innermost, innermost_line, shown, shown_at, shown_count, shown_of_call};

@@ -1,11 +1,11 @@
 //! The lines, scopes and inlined calls of a module, by the words of its instructions.
-ghost use Rattle.std.specs.Prelude.{◌≡◌, ◌++◌, IfOk, OnOk};
+ghost use Rattle.std.specs.Prelude.{◌≡◌, ◌++◌, IfOk, OnOk, slice_get};
 ghost use Rattle.spv_scopes.specs.Heads.{heads_with, is_head, line_begun};
 ghost use Rattle.spv_scopes.specs.Lines.{lines_of};
 ghost use Rattle.spv_scopes.specs.Shown as shown;
 ghost use Rattle.spv_scopes.specs.Spots.{source_line, spot_in};
 
-use crate::frames::{Real, first_frame};
+use crate::frames::Real;
 use crate::heads::{Heads, heads_of};
 use crate::places::Place;
 use crate::spot_table::SpotTable;
@@ -84,17 +84,18 @@ impl Lines {
         self.spots.count(pc)
     }
 
-    /// The first frame that is shown of a call, at the place of its next instruction.
-    pub fn first_frame(
+    /// The frame with a number that is shown of a call, the innermost being 0. No other is made. In as many steps as its number.
+    pub fn frame(
         &self,
         alloc: Global,
         module: &Module,
         tables: &DebugTables,
         real: Real,
-    ) -> Result<ShownFrame, NoMemory>
-        ensures { IfOk result (λ frame. frame ≡ shown.first_frame module.now tables.now real (spot_in self.now.spots real.word)) }
+        number: u64,
+    ) -> Result<Option<ShownFrame>, NoMemory>
+        ensures { IfOk result (λ frame. frame ≡ slice_get (shown.frames_at module.now tables.now self.now.spots real) number) }
     {
-        first_frame(alloc, module, tables, real, self.place(real.word))
+        self.spots.frame(alloc, module, tables, real, number)
     }
 
     /// Adds the frames that are shown of a call, the innermost first.

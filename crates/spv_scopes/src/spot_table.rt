@@ -1,11 +1,11 @@
 //! Where the instructions of a module stand in the source, by their words.
-ghost use Rattle.std.specs.Prelude.{◌≡◌, ◌++◌, IfOk, OnOk};
+ghost use Rattle.std.specs.Prelude.{◌≡◌, ◌++◌, IfOk, OnOk, slice_get};
 ghost use Rattle.spv_scopes.specs.Calls.{kept_at};
 ghost use Rattle.spv_scopes.specs.Spots as spec;
 ghost use Rattle.spv_scopes.specs.Shown.{count_at, frames_at};
 
 use crate::calls::{Linked, count_in, counts_of};
-use crate::frames::{Real, first_frame, push_calls};
+use crate::frames::{Real, first_frame, frame_at, place_outward, push_calls};
 use crate::places::Place;
 use crate::scopes::scopes_of;
 use crate::spots::spots_of;
@@ -91,6 +91,30 @@ impl SpotTable {
             return 1;
         }
         u64::from(count_in(self.counts.as_slice(), linked.call)) + 1
+    }
+
+    /// The frame with a number that is shown of a call, the innermost being 0. No other is made.
+    pub(crate) fn frame(
+        &self,
+        alloc: Global,
+        module: &Module,
+        tables: &DebugTables,
+        real: Real,
+        number: u64,
+    ) -> Result<Option<ShownFrame>, NoMemory>
+        ensures { IfOk result (λ frame. frame ≡ slice_get (frames_at module.now tables.now self.now real) number) }
+    {
+        let linked = kept_at(&self.spots, real.word);
+        let Some(outer) = number.checked_sub(1) else {
+            return Ok(Some(first_frame(alloc, module, tables, real, linked.place)?));
+        };
+        if linked.place.function == 0 {
+            return Ok(None);
+        }
+        match place_outward(self.calls.as_slice(), linked.call, outer) {
+            Some(place) => Ok(Some(frame_at(alloc, module, tables, real, place)?)),
+            None => Ok(None),
+        }
     }
 
     /// Adds the frames that are shown of a call.

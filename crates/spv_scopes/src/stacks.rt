@@ -1,5 +1,5 @@
 //! The frames that are shown of a stack.
-ghost use Rattle.std.specs.Prelude.{◌≡◌, IfOk, length, option_map, slice_get};
+ghost use Rattle.std.specs.Prelude.{◌≡◌, ◌++◌, IfOk, length, option_map, slice_get, suc};
 ghost use Rattle.std.specs.Option.{option_and_then};
 ghost use Rattle.spv_valid.specs.Acceptance.{Accepted};
 ghost use Rattle.spv_dbg.specs.Tables.{Tables};
@@ -12,6 +12,18 @@ use spv_dbg::{DebugTables, ShownFrame};
 use spv_frame::Stack;
 use spv_valid::Module;
 use std::alloc::Global;
+
+/// The call at a depth of a stack, if there is one.
+fn call_at(stack: &Stack, depth: u32) -> Option<Real>
+    ensures { result ≡ option_map (spec.real_of depth) (slice_get stack.now.frames depth) }
+{
+    let frame = stack.frame(depth)?;
+    Some(Real {
+        depth,
+        function: frame.function(),
+        word: frame.pc(),
+    })
+}
 
 /// The frames of a stack as they are shown, the innermost first. There is no memory for so many that a `u32` doesn't count them.
 #[tactic(auto, unfolding(crate::specs::Shown::shown_of))]
@@ -30,21 +42,46 @@ pub fn shown(
     let mut frames = Vec::new(alloc);
     'frames: while depth > 0 {
         depth -= 1;
-        if let Some(frame) = stack.frame(depth) {
-            let real = Real {
-                depth,
-                function: frame.function(),
-                word: frame.pc(),
-            };
+        if let Some(real) = call_at(stack, depth) {
             lines.push_frames(alloc, module, tables, real, &mut frames)?;
         }
     }
     Ok(frames)
 }
 
+/// The frame with a number that is shown of a stack, the innermost being 0, and none where it has no such frame. No other is made. In as
+/// many steps as the stack has frames and the frame's real one has calls that were inlined, which no clause says. There is no memory for so
+/// many frames that a `u32` doesn't count them.
+#[tactic(auto, unfolding(crate::specs::Shown::shown_of))]
+pub fn shown_at(
+    alloc: Global,
+    module: &Module,
+    tables: &DebugTables,
+    lines: &Lines,
+    stack: &Stack,
+    number: u32,
+) -> Result<Option<ShownFrame>, NoMemory>
+    ensures { IfOk result (λ frame. frame ≡ slice_get (spec.shown_of module.now tables.now lines.now.spots stack.now.frames) number) }
+{
+    let Ok(mut depth) = u32::try_from(stack.depth()) else {
+        return Err(NoMemory);
+    };
+    let mut left = u64::from(number);
+    'frames: while depth > 0 {
+        depth -= 1;
+        if let Some(real) = call_at(stack, depth) {
+            let count = lines.count(real.word);
+            if left < count {
+                return lines.frame(alloc, module, tables, real, left);
+            }
+            left -= count;
+        }
+    }
+    Ok(None)
+}
+
 /// The innermost frame that is shown of a stack, and none where it has no frame. No other is made. There is no memory for so many frames
 /// that a `u32` doesn't count them.
-#[tactic(auto, unfolding(crate::specs::Shown::shown_of))]
 pub fn innermost(
     alloc: Global,
     module: &Module,
@@ -54,19 +91,28 @@ pub fn innermost(
 ) -> Result<Option<ShownFrame>, NoMemory>
     ensures { IfOk result (λ frame. frame ≡ slice_get (spec.shown_of module.now tables.now lines.now.spots stack.now.frames) 0) }
 {
-    let Ok(frames) = u32::try_from(stack.depth()) else {
-        return Err(NoMemory);
+    shown_at(alloc, module, tables, lines, stack, 0)
+}
+
+/// The frames that are shown of the call at a depth of a stack: those that come before the frames of the calls below it.
+#[tactic(auto, unfolding(crate::specs::Shown::shown_below))]
+pub fn shown_of_call(
+    alloc: Global,
+    module: &Module,
+    tables: &DebugTables,
+    lines: &Lines,
+    stack: &Stack,
+    depth: u32,
+) -> Result<Vec<ShownFrame>, NoMemory>
+    ensures { IfOk result (λ frames. spec.shown_below module.now tables.now lines.now.spots (suc depth) stack.now.frames
+        ≡ frames.items ++ spec.shown_below module.now tables.now lines.now.spots depth stack.now.frames) }
+{
+    let mut frames = Vec::new(alloc);
+    let Some(real) = call_at(stack, depth) else {
+        return Ok(frames);
     };
-    let depth = frames.saturating_sub(1);
-    let Some(frame) = stack.frame(depth) else {
-        return Ok(None);
-    };
-    let real = Real {
-        depth,
-        function: frame.function(),
-        word: frame.pc(),
-    };
-    Ok(Some(lines.first_frame(alloc, module, tables, real)?))
+    lines.push_frames(alloc, module, tables, real, &mut frames)?;
+    Ok(frames)
 }
 
 /// How many frames are shown of a stack. None is made. In as many steps as the stack has frames, which no clause says. There is no memory

@@ -1,5 +1,5 @@
 -- What paths name, counted exactly, and the bits that are shown of it.
-use Rattle.std.proofs.Common.{◌≡◌, ◌∙◌, ℕ, ◌+◌, ◌<◌, List, [], ◌∷◌, ◌++◌, Option, Some, Result, Ok, Err, OnOk, ap, arith, slice_get, slice_index_or, zero, suc}
+use Rattle.std.proofs.Common.{◌≡◌, ◌∙◌, ℕ, ◌+◌, ◌<◌, List, [], ◌∷◌, ◌++◌, Option, Some, Result, Ok, Err, OnOk, ap, sym, arith, slice_get, slice_index_or, zero, suc}
 use Rattle.std.specs.List.{flat_map}
 use Rattle.spv_base.specs.declared.causes.CmdRefusal.{CmdRefusal}
 use Rattle.spv_cmd.specs.declared.command.PathPart.{PathPart}
@@ -20,9 +20,10 @@ use Rattle.spv_print.specs.Layouts.{layout_of}
 use Rattle.spv_print.specs.Leaves.{Bits, bits_in, unbound}
 use Rattle.spv_print.specs.Pieces.{pieces_end, text_of}
 use Rattle.spv_group.specs.Group.{state_in}
-use Rattle.spv_session.specs.Reply.{part_told, told_reply}
+use Rattle.spv_stops.specs.Watches.{WatchKey}
+use Rattle.spv_session.specs.Reply.{part_told, told_reply, told_with, watch_in, watch_with}
 use Rattle.spv_search.specs.Keys.{tables_in}
-use Rattle.spv_session.specs.Variables.{focus_calls, line_in, named, named_in, part_text, selected, value_line, variable_line}
+use Rattle.spv_session.specs.Variables.{focus_calls, line_in, named, named_in, part_text, path_line, selected, value_line, variable_line, watch_key}
 use Rattle.spv_session.specs.View.{View}
 
 -- an answer whose numbers are exact
@@ -69,11 +70,26 @@ module _ (v : View) (t : Tables) (m : Memory) (i : ℕ) (s : Stacked) (f : Optio
       ∙ ap (λ l. old ++ l) (same_place (λ (a : Tables) (b : Memory) (c : ℕ) (d : Stacked) (x : Option ShownFrame). flat_map (variable_line a b c d x) ids) t (tables_in v.group) m (state_in v.group).memory i v.focus s (focus_calls v) f h tables memory inv stack frame)
       ∙ ap (λ (l : List ℕ). old ++ flat_map (line_in v h) l) is
 
+  named_same : (name : List ℕ) (parts : List PathPart) → f ≡ selected v → named_in t m i s f name parts ≡ named v name parts
+  named_same name parts frame =
+      same_place (λ (a : Tables) (b : Memory) (c : ℕ) (d : Stacked) (x : Option ShownFrame). named_in a b c d x name parts) t (tables_in v.group) m (state_in v.group).memory i v.focus s (focus_calls v) f (selected v) tables memory inv stack frame
+
+  line_same : (path : PathText) (n : Named) → f ≡ selected v → value_line (path_text path) (part_text t m i s f n) ≡ path_line v path n
+  line_same path n frame =
+      ap (value_line (path_text path)) (same_place (λ (a : Tables) (b : Memory) (c : ℕ) (d : Stacked) (x : Option ShownFrame). part_text a b c d x n) t (tables_in v.group) m (state_in v.group).memory i v.focus s (focus_calls v) f (selected v) tables memory inv stack frame)
+
   -- what a path names
   pub path_told : (path : PathText) (name : List ℕ) (parts : List PathPart) (n : Named) (old new : List ℕ) → f ≡ selected v → Ok n ≡ named_in t m i s f name parts
       → new ≡ old ++ value_line (path_text path) (part_text t m i s f n) → new ≡ old ++ (told_reply v (part_told v path (named v name parts))).0
   path_told path name parts n old new frame is e =
       e
-      ∙ ap (λ l. old ++ value_line (path_text path) l) (same_place (λ (a : Tables) (b : Memory) (c : ℕ) (d : Stacked) (x : Option ShownFrame). part_text a b c d x n) t (tables_in v.group) m (state_in v.group).memory i v.focus s (focus_calls v) f (selected v) tables memory inv stack frame)
-      ∙ ap (λ (r : Result Named CmdRefusal). old ++ (told_reply v (part_told v path r)).0)
-      (is ∙ same_place (λ (a : Tables) (b : Memory) (c : ℕ) (d : Stacked) (x : Option ShownFrame). named_in a b c d x name parts) t (tables_in v.group) m (state_in v.group).memory i v.focus s (focus_calls v) f (selected v) tables memory inv stack frame)
+      ∙ ap (λ l. old ++ l) (line_same path n frame)
+      ∙ ap (λ (r : Result Named CmdRefusal). old ++ (told_reply v (part_told v path r)).0) (is ∙ named_same name parts frame)
+
+  -- what a watch of it looks at, and the line of that
+  pub watch_found : (path : PathText) (name : List ℕ) (parts : List PathPart) (n : Named) (key : WatchKey) (line : List ℕ) → f ≡ selected v → Ok n ≡ named_in t m i s f name parts
+      → key ≡ watch_key v n → line ≡ value_line (path_text path) (part_text t m i s f n) → told_with (watch_in v path) (named v name parts) ≡ watch_with v key line
+  watch_found path name parts n key line frame is key_is line_is =
+      sym (ap (told_with (watch_in v path)) (is ∙ named_same name parts frame))
+      ∙ ap (λ k. watch_with v k (path_line v path n)) (sym key_is)
+      ∙ ap (watch_with v key) (sym (line_is ∙ line_same path n frame))

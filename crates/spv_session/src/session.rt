@@ -6,17 +6,15 @@ ghost use Rattle.spv_cmd.specs.Commands.{command_of};
 ghost use Rattle.spv_group.specs.Group.{end_in, group_at, invocations_in, state_in, window_in};
 ghost use Rattle.spv_probe.specs.Kits.{tests_of};
 ghost use Rattle.spv_state.specs.State.{frames_of};
-ghost use Rattle.spv_search.specs.Keys.{shown_in};
 ghost use Rattle.spv_session.specs.Costs.{act_cost, cost_by, kept_by, line_kept};
-ghost use Rattle.spv_session.specs.Reply.{act_of, does_quit, focus_told, frame_told, frames_told, group_reply, info_reply, invocation_reply, is_quit, line_refusal, line_reply, lines_told, place_reply, refusal_by, registers_told, reply_by, select_told, told_refusal, told_reply};
-ghost use Rattle.spv_session.specs.Shown as spec;
+ghost use Rattle.spv_session.specs.Reply.{act_of, does_quit, focus_told, frame_told, group_reply, info_reply, invocation_reply, is_quit, line_refusal, line_reply, lines_told, place_reply, refusal_by, registers_told, reply_by, select_told, told_refusal, told_reply};
 ghost use Rattle.spv_session.specs.Shown.{focus_frames};
 ghost use Rattle.spv_session.specs.Texts.{refusal_line, registers_text};
 ghost use Rattle.spv_session.specs.View.{IsEither, IsKitOf, Settings, first_viewing, focus_on, undoing_in};
 ghost use Rattle.spv_session.specs.declared.session.Next.TheVariants as answers;
 
 use crate::debug_info::DebugInfo;
-use crate::frames::{FOCUS_FINISHED, NO_SOURCE_TEXT, frame_with, push_frame_lines};
+use crate::frames::NO_SOURCE_TEXT;
 use crate::info::{Info, module_words, push_info};
 use crate::motions::Aim;
 use crate::registers::push_registers;
@@ -26,7 +24,6 @@ use spv_cmd::{Command, parse_built};
 use spv_dbg::ShownFrame;
 use spv_group::Group;
 use spv_probe::Kit;
-use spv_scopes::{innermost, shown};
 use spv_search::{Backward, Forward};
 use spv_source::{frame_line, source_lines};
 use spv_state::laws::top_frames_are_sound;
@@ -268,59 +265,14 @@ impl Core {
         ensures limit { self.new.limit ≡ self.old.limit }
         ensures refused { (code : ℕ) → told_refusal (frame_told (select_told number self.old.view) (focus_frames self.old.view) number) ≡ Some code → self.new ≡ self.old }
     {
-        let frames = self.frames(self.focus)?;
-        match frame_with(frames.as_slice(), number) {
+        match self.focus_frame(number)? {
             Err(refusal) => text.extend_from_slice(refusal_line(refusal))?,
             Ok(frame) => {
-                frame_line(self.alloc, number, frame, text)?;
+                frame_line(self.alloc, number, &frame, text)?;
                 self.frame = number;
             }
         }
         Ok(())
-    }
-
-    /// The frames that are shown of an invocation.
-    pub(crate) fn frames(&self, inv: u32) -> Result<Vec<ShownFrame>, NoMemory>
-        requires { inv < invocations_in self.now.view.group }
-        ensures { IfOk result (λ frames. frames.items ≡ shown_in self.now.view.group inv) }
-    {
-        let module = self.group.module().accepted();
-        let stack = self.group.world().whole().stack(inv);
-        shown(
-            self.alloc,
-            module,
-            &self.info.tables,
-            &self.info.lines,
-            stack,
-        )
-    }
-
-    /// The innermost of them.
-    fn innermost(&self, inv: u32) -> Result<Option<ShownFrame>, NoMemory>
-        requires { inv < invocations_in self.now.view.group }
-        ensures { IfOk result (λ frame. frame ≡ spec.innermost self.now.view.group inv) }
-    {
-        let module = self.group.module().accepted();
-        let stack = self.group.world().whole().stack(inv);
-        innermost(
-            self.alloc,
-            module,
-            &self.info.tables,
-            &self.info.lines,
-            stack,
-        )
-    }
-
-    /// Appends the line of each shown frame of the focus.
-    fn push_frames(&self, text: &mut Vec<u8>) -> Result<(), NoMemory>
-        ensures { OnOk result (text.new.items ≡ text.old.items ++ (told_reply self.now.view (frames_told self.now.view (focus_frames self.now.view))).0) }
-    {
-        let frames = self.frames(self.focus)?;
-        if frames.is_empty() {
-            text.extend_from_slice(refusal_line(FOCUS_FINISHED))?;
-            return Ok(());
-        }
-        push_frame_lines(self.alloc, text, frames.as_slice())
     }
 
     /// Appends the registers of the call that the selected frame is of.
@@ -328,8 +280,7 @@ impl Core {
         ensures { OnOk result (text.new.items ≡ text.old.items
             ++ (told_reply self.now.view (frame_told (registers_told self.now.view) (focus_frames self.now.view) self.now.view.frame)).0) }
     {
-        let frames = self.frames(self.focus)?;
-        match frame_with(frames.as_slice(), self.frame) {
+        match self.focus_frame(self.frame)? {
             Err(refusal) => text.extend_from_slice(refusal_line(refusal))?,
             Ok(frame) => self.push_registers_at(text, frame.depth)?,
         }
@@ -353,10 +304,9 @@ impl Core {
         ensures { OnOk result (text.new.items ≡ text.old.items
             ++ (told_reply self.now.view (frame_told (lines_told self.now.view) (focus_frames self.now.view) self.now.view.frame)).0) }
     {
-        let frames = self.frames(self.focus)?;
-        match frame_with(frames.as_slice(), self.frame) {
+        match self.focus_frame(self.frame)? {
             Err(refusal) => text.extend_from_slice(refusal_line(refusal))?,
-            Ok(frame) => self.push_lines_around(text, frame)?,
+            Ok(frame) => self.push_lines_around(text, &frame)?,
         }
         Ok(())
     }

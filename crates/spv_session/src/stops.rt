@@ -7,7 +7,7 @@ ghost use Rattle.spv_session.specs.Variables.{key_in, named};
 ghost use Rattle.spv_session.specs.Shown.{line_file};
 ghost use Rattle.spv_session.specs.View.{IsEither};
 
-use crate::frames::{NO_SUCH_NAME, frame_at};
+use crate::frames::NO_SUCH_NAME;
 use crate::session::Core;
 use crate::texts::{push_break, push_deleted, push_unwatched, push_watch, refusal_line};
 use spv_base::{CmdRefusal, Fail, NoMemory};
@@ -82,8 +82,8 @@ impl Core {
         ensures limit { self.new.limit ≡ self.old.limit }
         ensures refused { (code : ℕ) → told_refusal (break_told place.now self.old.view) ≡ Some code → self.new ≡ self.old }
     {
-        let frames = self.frames(self.focus)?;
-        match file_for(place, frame_at(frames.as_slice(), self.frame)) {
+        let frame = self.selected()?;
+        match file_for(place, frame.as_ref()) {
             None => Ok(text.extend_from_slice(refusal_line(NO_CODE))?),
             Some(file) => self.add_break_in(file, place.line(), text),
         }
@@ -164,8 +164,8 @@ impl Core {
             (λ watched. told_with (watch_in self.now.view path.now) (named self.now.view name.now parts.now) ≡ watch_with self.now.view watched.key watched.line.items)
             (λ refusal. told_with (watch_in self.now.view path.now) (named self.now.view name.now parts.now) ≡ refuses refusal.code)) }
     {
-        let frames = self.frames(self.focus)?;
-        let frame = frame_at(frames.as_slice(), self.frame);
+        let selected = self.selected()?;
+        let frame = selected.as_ref();
         let sight = self.sight(frame);
         match sight.named(&self.info.variables, name, parts)? {
             Err(refusal) => Ok(Err(refusal)),

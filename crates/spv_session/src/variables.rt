@@ -10,7 +10,7 @@ ghost use Rattle.spv_search.specs.Keys.{tables_in};
 ghost use Rattle.spv_session.specs.Shown.{focus_frames};
 ghost use Rattle.spv_session.specs.Variables.{focus_calls, line_in, named, selected};
 
-use crate::frames::{NO_SUCH_NAME, frame_at, frame_with};
+use crate::frames::NO_SUCH_NAME;
 use crate::session::Core;
 use crate::sights::{Sight, push_id_line};
 use crate::texts::refusal_line;
@@ -46,10 +46,9 @@ impl Core {
         ensures { OnOk result (text.new.items ≡ text.old.items
             ++ (told_reply self.now.view (frame_told (locals_told self.now.view) (focus_frames self.now.view) self.now.view.frame)).0) }
     {
-        let frames = self.frames(self.focus)?;
-        match frame_with(frames.as_slice(), self.frame) {
+        match self.focus_frame(self.frame)? {
             Err(refusal) => text.extend_from_slice(refusal_line(refusal))?,
-            Ok(frame) => self.push_locals_of(text, frame)?,
+            Ok(frame) => self.push_locals_of(text, &frame)?,
         }
         Ok(())
     }
@@ -71,9 +70,8 @@ impl Core {
     pub(crate) fn push_globals(&self, text: &mut Vec<u8>) -> Result<(), NoMemory>
         ensures { OnOk result (text.new.items ≡ text.old.items ++ globals_reply self.now.view) }
     {
-        let frames = self.frames(self.focus)?;
-        let frame = frame_at(frames.as_slice(), self.frame);
-        self.sight(frame)
+        let frame = self.selected()?;
+        self.sight(frame.as_ref())
             .push_variables(self.alloc, text, None, self.info.variables.globals())
     }
 
@@ -81,8 +79,8 @@ impl Core {
     pub(crate) fn push_path(&self, text: &mut Vec<u8>, path: &ValuePath) -> Result<(), NoMemory>
         ensures { OnOk result (text.new.items ≡ text.old.items ++ (told_reply self.now.view (print_told path.now self.now.view)).0) }
     {
-        let frames = self.frames(self.focus)?;
-        let frame = frame_at(frames.as_slice(), self.frame);
+        let selected = self.selected()?;
+        let frame = selected.as_ref();
         match path.text() {
             PathText::Id(id) => self.push_id(text, frame, *id),
             PathText::Name { name, parts } => {
