@@ -6,19 +6,19 @@ use Rattle.std.proofs.lemmas.Bool.{cases_eq, cases_lt}
 use Rattle.std.proofs.Math.Logic.{∥∥₁_elim}
 use Rattle.std.proofs.Props.{props}
 use Rattle.std.specs.Coded.{codes}
-use Rattle.spv_base.specs.contracts.values.Value as value
-use Rattle.spv_base.specs.Variables.{Roots}
-use Rattle.spv_base.specs.declared.values.Pointer.{Pointer}
-use Rattle.spv_base.specs.declared.values.Value.{Value}
-use Rattle.spv_types.specs.Rows.{leaves}
-use Rattle.spv_mem.specs.Memory.{Held as Memory, Levels, load_of}
-use Rattle.spv_frame.specs.Stacks.{Stacked}
+use Rattle.spv_touch.specs.Below.spv_base.specs.contracts.values.Value as value
+use Rattle.spv_touch.specs.Below.spv_base.specs.Variables.{Roots}
+use Rattle.spv_touch.specs.Below.spv_base.specs.declared.values.Pointer.{Pointer}
+use Rattle.spv_touch.specs.Below.spv_base.specs.declared.values.Value.{Value}
+use Rattle.spv_touch.specs.Below.spv_types.specs.Rows.{leaves}
+use Rattle.spv_touch.specs.Below.spv_mem.specs.Memory.{Held as Memory, Levels, load_of}
+use Rattle.spv_touch.specs.Below.spv_frame.specs.Stacks.{Stacked}
 use Rattle.spv_order.specs.Order.{Holds}
 use Rattle.spv_order.specs.declared.events.Leaves.{Leaves}
-use Rattle.spv_statuses.specs.Group.{Held as Statuses}
-use Rattle.spv_statuses.specs.declared.invocations.Status.{Status}
-use Rattle.spv_state.specs.Program.{Program}
-use Rattle.spv_state.specs.State.{State}
+use Rattle.spv_touch.specs.Below.spv_statuses.specs.Group.{Held as Statuses}
+use Rattle.spv_touch.specs.Below.spv_statuses.specs.declared.invocations.Status.{Status}
+use Rattle.spv_touch.specs.Below.spv_state.specs.Program.{Program}
+use Rattle.spv_touch.specs.Below.spv_state.specs.State.{State}
 use Rattle.spv_touch.specs.Touching.{touched_of}
 use Rattle.spv_touch.specs.Views.{AreApart, Differ, KeepsOutline, LookAlike, StoreFits, VariablesDiffer, outline}
 use Rattle.spv_touch.proofs.Exports.{loads_alike, same_due, same_value}

@@ -3,15 +3,15 @@ use Rattle.std.proofs.Common.{◌≡◌, ◌≢◌, ◌∙◌, ℕ, zero, suc, �
 use Rattle.std.specs.Prelude.{slice_index_or}
 use Rattle.std.specs.List.{AllByRecursion}
 use Rattle.spv_group.specs.Run.{event, run, state_after}
-use Rattle.spv_machine.specs.Step.{Outcome, Idles, Moves, Faults, step_of}
+use Rattle.spv_touch.specs.Below.spv_machine.specs.Step.{Outcome, Idles, Moves, Faults, step_of}
 use Rattle.spv_order.specs.Exchanges.{exchanged}
 use Rattle.spv_order.specs.Order.{ConflictOn, Holds}
 use Rattle.spv_order.specs.declared.events.Event.{Event}
 use Rattle.spv_order.specs.declared.events.Leaves.{Leaves}
 use Rattle.spv_exchanges.specs.Stretches.{AreBetween, AreEvents}
-use Rattle.spv_state.specs.Program.{Program}
-use Rattle.spv_state.specs.Start.{start_of}
-use Rattle.spv_state.specs.State.{State}
+use Rattle.spv_touch.specs.Below.spv_state.specs.Program.{Program}
+use Rattle.spv_touch.specs.Below.spv_state.specs.Start.{start_of}
+use Rattle.spv_touch.specs.Below.spv_state.specs.State.{State}
 use Rattle.spv_touch.specs.Touching.{IsEvent, Touching, arrives_of, touched_of}
 use Rattle.spv_touch.specs.Views.{AreApart, LookAlike, StoreFits}
 use Rattle.spv_touch.proofs.Exports.{faults, idles, in_turn, left, made, same_arrival, same_touched, unchanged}

@@ -2,7 +2,7 @@
 use Rattle.std.specs.Prelude.{◌≡◌, ℕ, ◌+◌, ◌-◌, ◌≤◌, List, length, slice_get, slice_index_or, Some}
 use Rattle.std.specs.List.{AllByRecursion}
 use Rattle.spv_order.specs.declared.events.Event.{Event}
-use Rattle.spv_state.specs.Program.{Program}
+use Rattle.spv_touch.specs.Below.spv_state.specs.Program.{Program}
 use Rattle.spv_group.specs.Run.{run}
 use Rattle.spv_touch.specs.Touching.{IsEvent}
 

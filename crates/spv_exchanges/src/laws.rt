@@ -6,9 +6,9 @@ ghost use Rattle.spv_order.specs.Exchanges.{exchanged};
 ghost use Rattle.spv_order.specs.Order.{IsOrder};
 ghost use Rattle.spv_exchanges.specs.Stretches.{AreBetween, AreEvents};
 ghost use Rattle.spv_group.specs.Run.{run};
-ghost use Rattle.spv_state.specs.Program.{Program};
-ghost use Rattle.spv_state.specs.Sound.{IsSound};
-ghost use Rattle.spv_valid.specs.Acceptance.{IsAccepted};
+ghost use Rattle.spv_touch.specs.Below.spv_state.specs.Program.{Program};
+ghost use Rattle.spv_touch.specs.Below.spv_state.specs.Sound.{IsSound};
+ghost use Rattle.spv_touch.specs.Below.spv_valid.specs.Acceptance.{IsAccepted};
 
 use spv_order::laws::free_events_stay_free;
 use spv_touch::laws::stored_values_keep_outlines;

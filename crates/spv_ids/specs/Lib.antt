@@ -1,3 +1,4 @@
 pub mod Ids
 pub mod Texts
 pub mod Typed
+pub mod Below

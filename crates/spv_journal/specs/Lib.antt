@@ -5,3 +5,4 @@ pub mod Undo
 pub mod Entries
 pub mod Held
 pub mod Touches
+pub mod Below

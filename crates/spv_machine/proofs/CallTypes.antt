@@ -18,7 +18,7 @@ use Rattle.spv_index.specs.Operands.{id_operand}
 use Rattle.spv_index.specs.Positions.{stands_of}
 use Rattle.spv_sections.specs.Ids.{has_type, head_of, is_type_id}
 use Rattle.spv_sections.specs.Laws.{IsInOrder}
-use Rattle.spv_types.specs.declared.forms.Form.TheVariants.{Function}
+use Rattle.spv_actions.specs.Below.spv_types.specs.declared.forms.Form.TheVariants.{Function}
 use Rattle.spv_bodies.specs.Bodies.{KeepsBody, KeepsRule}
 use Rattle.spv_bodies.specs.Calls.{KeepsCall, KeepsFunction, callee_form, form_by, function_form}
 use Rattle.spv_bodies.specs.Places.{nowhere}
@@ -28,7 +28,7 @@ use Rattle.spv_bodies.specs.declared.rules.Rule.TheVariants.{Control}
 use Rattle.spv_bodies.specs.declared.rules.ControlRule.TheVariants.{Call, Function as FunctionRule}
 use Rattle.spv_valid.specs.Acceptance.{Accepted, IsAccepted, decoded_in}
 use Rattle.spv_valid.specs.Validity.{IsValid}
-use Rattle.spv_results.specs.Operands.{known}
+use Rattle.spv_actions.specs.Below.spv_results.specs.Operands.{known}
 use Rattle.spv_state.specs.Sound.{StandsIn}
 use Rattle.spv_state.proofs.Exports.{IsKnown, Standing, at_standing, standing}
 use Rattle.spv_sites.proofs.Exports.{IsKept, Runs, each_kept, runs_there}

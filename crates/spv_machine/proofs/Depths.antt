@@ -19,8 +19,8 @@ use Rattle.spv_frame.specs.Frames.{Held as Frame}
 use Rattle.spv_valid.specs.Acceptance.{Accepted, IsAccepted, Passes}
 use Rattle.spv_valid.specs.Validity.{IsValid}
 use Rattle.spv_valid.proofs.Exports.{accepted_passes, flow_is}
-use Rattle.spv_plans.specs.Plans.{functions_in}
-use Rattle.spv_plans.proofs.Exports.{at_contains, contains_at}
+use Rattle.spv_actions.specs.Below.spv_plans.specs.Plans.{functions_in}
+use Rattle.spv_actions.specs.Below.spv_plans.proofs.Exports.{at_contains, contains_at}
 use Rattle.spv_state.specs.Sound.{IsCallOf, IsSoundFrame}
 use Rattle.spv_state.proofs.Exports.{Begun, rooted, IsKnown, known, Standing, at_standing, function_known, standing}
 use Rattle.spv_base.proofs.Exports.{each_at}

@@ -2,7 +2,7 @@
 use Rattle.std.proofs.Common.{◌≡◌, ◌≢◌, ℕ, ◌≤◌, List, [], ◌∷◌, Option, Some, IsSome, length, refl, sym, ap, subst, arith}
 use Rattle.spv_base.specs.declared.instructions.Inst.{Inst}
 use Rattle.spv_base.specs.Variables.{Roots}
-use Rattle.spv_mem.specs.Memory.{Levels}
+use Rattle.spv_actions.specs.Below.spv_mem.specs.Memory.{Levels}
 use Rattle.spv_frame.specs.Frames.{Held as Frame}
 use Rattle.spv_frame.specs.Stacks.{top}
 use Rattle.spv_state.specs.Rooms.{HasLocals}

@@ -6,8 +6,8 @@ use Rattle.spv_base.specs.declared.instructions.Inst.{Inst}
 use Rattle.spv_base.specs.declared.values.Value.{Value, out-Value}
 use Rattle.spv_base.proofs.Exports.{length_change, change_still, change_twice}
 use Rattle.spv_index.specs.Definitions.{result_type}
-use Rattle.spv_types.specs.Rows.{no_roots}
-use Rattle.spv_types.specs.Shapes.{HasShape, pointer_in}
+use Rattle.spv_actions.specs.Below.spv_types.specs.Rows.{no_roots}
+use Rattle.spv_actions.specs.Below.spv_types.specs.Shapes.{HasShape, pointer_in}
 use Rattle.spv_valid.specs.Acceptance.{Accepted}
 use Rattle.spv_frame.specs.Frames.{Held as Frame}
 use Rattle.spv_frame.specs.Stacks.{Stacked, on_top}

@@ -11,9 +11,9 @@ use Rattle.spv_base.specs.declared.values.Value.{Value, Scalar, out-Value, the_l
 use Rattle.spv_base.specs.declared.values.Value.TheOpen.{Value-F}
 use Rattle.spv_base.proofs.Exports.{length_change, change_here, changed_at}
 use Rattle.spv_index.specs.Definitions.{at, result_type}
-use Rattle.spv_types.specs.Rows.{no_roots}
-use Rattle.spv_types.specs.Shapes.{HasShape, pointer_in}
-use Rattle.spv_mem.specs.Memory.{load_of}
+use Rattle.spv_actions.specs.Below.spv_types.specs.Rows.{no_roots}
+use Rattle.spv_actions.specs.Below.spv_types.specs.Shapes.{HasShape, pointer_in}
+use Rattle.spv_actions.specs.Below.spv_mem.specs.Memory.{load_of}
 use Rattle.spv_valid.specs.Acceptance.{Accepted, IsAccepted}
 use Rattle.spv_valid.specs.Validity.{IsValid}
 use Rattle.spv_frame.specs.Frames.{Held as Frame}

@@ -9,8 +9,8 @@ use Rattle.spv_base.specs.declared.values.Value.{Value}
 use Rattle.spv_index.specs.Classes.{sets_of}
 use Rattle.spv_index.specs.Definitions.{at, result_type}
 use Rattle.spv_index.specs.Operands.{id_operand}
-use Rattle.spv_types.specs.Types.{Types}
-use Rattle.spv_mem.specs.Memory.{AreVariables, HasRoom, Levels}
+use Rattle.spv_actions.specs.Below.spv_types.specs.Types.{Types}
+use Rattle.spv_actions.specs.Below.spv_mem.specs.Memory.{AreVariables, HasRoom, Levels}
 use Rattle.spv_valid.specs.Acceptance.{Accepted}
 use Rattle.spv_frame.specs.Frames.{Held as Frame}
 use Rattle.spv_frame.specs.Stacks.{Stacked, top}

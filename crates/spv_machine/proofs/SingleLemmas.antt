@@ -8,7 +8,7 @@ use Rattle.spv_base.specs.declared.instructions.Inst.{Inst}
 use Rattle.spv_base.specs.declared.values.Pointer.{Pointer}
 use Rattle.spv_base.specs.declared.values.Value.{Value}
 use Rattle.spv_ops.specs.Steps.{◌>>=◌}
-use Rattle.spv_types.proofs.Exports.{leaves_scalar}
+use Rattle.spv_actions.specs.Below.spv_types.proofs.Exports.{leaves_scalar}
 use Rattle.spv_frame.specs.Frames.{Held as Frame}
 use Rattle.spv_sites.specs.Atomics.{atomic_row, compared_cell, exchanges, first_of_three, target}
 use Rattle.spv_sites.specs.Effects.{Effect, operand, scalar}

@@ -10,7 +10,7 @@ use Rattle.spv_base.specs.Entries.{change}
 use Rattle.spv_base.specs.Order.{Ascend}
 use Rattle.spv_base.specs.declared.instructions.Inst.{Inst}
 use Rattle.spv_index.specs.Definitions.{at}
-use Rattle.spv_mem.specs.Memory.{Levels}
+use Rattle.spv_actions.specs.Below.spv_mem.specs.Memory.{Levels}
 use Rattle.spv_frame.specs.Frames.{Held as Frame}
 use Rattle.spv_frame.specs.Stacks.{Stacked, top}
 use Rattle.spv_statuses.specs.Group.{first_waiting}

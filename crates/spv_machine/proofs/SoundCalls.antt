@@ -9,9 +9,9 @@ use Rattle.spv_base.specs.Variables.{Roots}
 use Rattle.spv_base.specs.declared.instructions.Inst.{Inst}
 use Rattle.spv_base.proofs.Exports.{length_change, changed_at, snoc_get}
 use Rattle.spv_base.specs.declared.values.Root.TheVariants.{Local}
-use Rattle.spv_types.specs.Types.{Types}
-use Rattle.spv_mem.specs.Memory.{AreVariables, IsMemory, Levels}
-use Rattle.spv_mem.proofs.Exports.{levels_kept}
+use Rattle.spv_actions.specs.Below.spv_types.specs.Types.{Types}
+use Rattle.spv_actions.specs.Below.spv_mem.specs.Memory.{AreVariables, IsMemory, Levels}
+use Rattle.spv_actions.specs.Below.spv_mem.proofs.Exports.{levels_kept}
 use Rattle.spv_frame.specs.Frames.{Held as Frame}
 use Rattle.spv_frame.specs.Stacks.{Stacked, top}
 use Rattle.spv_statuses.specs.declared.invocations.Status.{Status}

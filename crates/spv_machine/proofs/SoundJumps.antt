@@ -35,7 +35,7 @@ use Rattle.spv_machine.specs.Reached.{IsReached}
 use Rattle.spv_machine.specs.Step.{first_of, jump, to_block}
 use Rattle.spv_machine.proofs.SoundControl.{frame_kept, pass_kept}
 use Rattle.spv_machine.proofs.SoundStacks.{frames_are, top_kept}
-use Rattle.spv_plans.proofs.Exports.{block_inside}
+use Rattle.spv_actions.specs.Below.spv_plans.proofs.Exports.{block_inside}
 
 -- ---- where a block begins
 

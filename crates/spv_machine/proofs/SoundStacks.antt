@@ -7,7 +7,7 @@ use Rattle.std.specs.Option.{option_map_or}
 use Rattle.spv_base.specs.Entries.{change}
 use Rattle.spv_base.specs.Variables.{Roots}
 use Rattle.spv_base.proofs.Exports.{length_change, change_here}
-use Rattle.spv_mem.specs.Memory.{Levels}
+use Rattle.spv_actions.specs.Below.spv_mem.specs.Memory.{Levels}
 use Rattle.spv_frame.specs.Frames.{Held as Frame}
 use Rattle.spv_frame.specs.Registers.{Planned}
 use Rattle.spv_frame.specs.Stacks.{Stacked, on_top, top}

@@ -11,9 +11,9 @@ use Rattle.spv_base.specs.declared.values.Root.{Root}
 use Rattle.spv_base.specs.declared.values.Root.TheVariants.{Shared, Private, Local}
 use Rattle.spv_base.specs.declared.values.Value.{Value}
 use Rattle.spv_base.proofs.Exports.{length_change, change_here}
-use Rattle.spv_mem.specs.Memory.{Held as Memory, IsMemory, Levels, roots_in, stored, with_level, with_roots}
-use Rattle.spv_mem.specs.Roots.{put_in}
-use Rattle.spv_mem.proofs.Exports.{stored_kept}
+use Rattle.spv_actions.specs.Below.spv_mem.specs.Memory.{Held as Memory, IsMemory, Levels, roots_in, stored, with_level, with_roots}
+use Rattle.spv_actions.specs.Below.spv_mem.specs.Roots.{put_in}
+use Rattle.spv_actions.specs.Below.spv_mem.proofs.Exports.{stored_kept}
 use Rattle.spv_frame.specs.Frames.{Held as Frame}
 use Rattle.spv_frame.specs.Stacks.{Stacked}
 use Rattle.spv_statuses.specs.declared.invocations.Status.{Status}

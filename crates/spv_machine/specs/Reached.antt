@@ -6,7 +6,7 @@ use Rattle.spv_base.specs.declared.causes.Fail.TheVariants.{Refused, NoMemory}
 use Rattle.spv_base.specs.declared.instructions.Inst.{Inst}
 use Rattle.spv_base.specs.declared.values.Value.{Value, Scalar, out-Value}
 use Rattle.spv_index.specs.Definitions.{at}
-use Rattle.spv_types.specs.Shapes.{pointer_in}
+use Rattle.spv_actions.specs.Below.spv_types.specs.Shapes.{pointer_in}
 use Rattle.spv_frame.specs.Frames.{Held as Frame}
 use Rattle.spv_statuses.specs.declared.invocations.Status.TheVariants.{Ready}
 use Rattle.spv_sites.specs.Effects.{code_of}

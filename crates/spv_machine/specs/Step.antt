@@ -12,9 +12,9 @@ use Rattle.spv_base.specs.declared.values.Root.TheVariants.{Shared, Private, Loc
 use Rattle.spv_base.specs.declared.values.Value.{Value}
 use Rattle.spv_index.specs.Definitions.{at}
 use Rattle.spv_valid.specs.Acceptance.{Accepted}
-use Rattle.spv_mem.specs.Memory.{stored}
+use Rattle.spv_actions.specs.Below.spv_mem.specs.Memory.{stored}
 use Rattle.spv_frame.specs.Frames.{Held as Frame}
-use Rattle.spv_operands.specs.Values.{storage_class}
+use Rattle.spv_actions.specs.Below.spv_operands.specs.Values.{storage_class}
 use Rattle.spv_statuses.specs.Group.{first_waiting, opens_at}
 use Rattle.spv_statuses.specs.declared.invocations.Status.{Status}
 use Rattle.spv_statuses.specs.declared.invocations.Status.TheVariants.{Ready, Arrived, Passed, Finished}

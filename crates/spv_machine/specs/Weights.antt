@@ -5,11 +5,11 @@ use Rattle.spv_base.specs.declared.instructions.Inst.{Inst}
 use Rattle.spv_base.specs.declared.values.Pointer.{Pointer}
 use Rattle.spv_base.specs.declared.values.Value.{Value}
 use Rattle.spv_index.specs.Definitions.{at}
-use Rattle.spv_types.specs.Rows.{leaves}
+use Rattle.spv_actions.specs.Below.spv_types.specs.Rows.{leaves}
 use Rattle.spv_valid.specs.Acceptance.{Accepted}
 use Rattle.spv_effects.specs.Lanes.{lane_of}
 use Rattle.spv_frame.specs.Frames.{Held as Frame}
-use Rattle.spv_operands.specs.Values.{operand_value}
+use Rattle.spv_actions.specs.Below.spv_operands.specs.Values.{operand_value}
 use Rattle.spv_statuses.specs.declared.invocations.Status.{Status}
 use Rattle.spv_statuses.specs.declared.invocations.Status.TheVariants.{Ready, Arrived, Passed, Finished}
 use Rattle.spv_sites.specs.Effects.{Control, Effect, Next, Jump, Enter, Leave, Wait}

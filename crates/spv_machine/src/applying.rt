@@ -5,7 +5,7 @@ ghost use Rattle.std.specs.Option.{option_and_then, option_map};
 ghost use Rattle.spv_base.specs.Entries.{reads};
 ghost use Rattle.spv_base.specs.declared.values.Pointer.{Pointer as Reference};
 ghost use Rattle.spv_index.specs.Definitions.{at};
-ghost use Rattle.spv_mem.specs.Memory.{load_of};
+ghost use Rattle.spv_actions.specs.Below.spv_mem.specs.Memory.{load_of};
 ghost use Rattle.spv_sites.specs.Effects as effects;
 ghost use Rattle.spv_sites.specs.Fits.{ControlFits, ControlRooted, EnterFits, Fits, IsOfType, JumpFits, LeaveFits, ResultFits, ResultRooted, StoreFits};
 ghost use Rattle.spv_sites.specs.Planned.{IsPlain, IsTaken, gained, gone, phi_value, shown, taken};

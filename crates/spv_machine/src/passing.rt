@@ -3,7 +3,7 @@ ghost use Rattle.std.specs.Prelude.{◌≡◌, ◌<◌, ◌+◌, ◌++◌, IsSom
 ghost use Rattle.std.specs.Option.{IsSomeAnd};
 ghost use Rattle.spv_journal.specs.Held.{IsMaking, Records};
 ghost use Rattle.spv_machine.specs.Weights.{events_before};
-ghost use Rattle.spv_plans.specs.Plans.{plans_in};
+ghost use Rattle.spv_actions.specs.Below.spv_plans.specs.Plans.{plans_in};
 ghost use Rattle.spv_state.specs.Events.{pass};
 ghost use Rattle.spv_state.specs.Sound.{IsSoundFrame};
 ghost use Rattle.spv_state.specs.State as state;

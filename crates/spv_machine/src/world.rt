@@ -34,7 +34,7 @@ impl Model for World {
     ghost use Rattle.std.specs.Prelude.{◌≡◌, None};
     ghost use Rattle.std.specs.Coded.{codes};
     ghost use Rattle.spv_base.specs.contracts.values.Value as value;
-    ghost use Rattle.spv_undo.specs.contracts.entries.Entry as entry;
+    ghost use Rattle.spv_journal.specs.Below.spv_undo.specs.contracts.entries.Entry as entry;
     ghost use Rattle.spv_machine.specs.World.{Held, seen};
 
     ghost Value = { Held };

@@ -24,10 +24,10 @@ use Rattle.spv_types.specs.InterfaceBlocks.{nothing}
 use Rattle.spv_types.specs.Rules.{has_runtime, is_block, is_class, is_data, is_input, is_three_words, is_word, keeps_initializer, keeps_pointer, keeps_target}
 use Rattle.spv_types.specs.Types.{Types, form_of}
 use Rattle.spv_types.specs.Typing.{types_in, types_read}
-use Rattle.spv_sections.specs.Sections.{fits_stage, is_line, may_follow, may_stand, order_breach, order_breaches, order_breaches_behind, part_at, part_by, part_of, rank, sections_of}
+use Rattle.spv_valid.specs.Below.spv_sections.specs.Sections.{fits_stage, is_line, may_follow, may_stand, order_breach, order_breaches, order_breaches_behind, part_at, part_by, part_of, rank, sections_of}
 use Rattle.spv_consts.proofs.Exports.{kept_at}
-use Rattle.spv_bodies.specs.Context.{Known, known_of}
-use Rattle.spv_bodies.specs.Memory.{KeepsVariable}
+use Rattle.spv_valid.specs.Below.spv_bodies.specs.Context.{Known, known_of}
+use Rattle.spv_valid.specs.Below.spv_bodies.specs.Memory.{KeepsVariable}
 use Rattle.spv_valid.specs.Acceptance.{Accepted, IsAccepted}
 use Rattle.spv_valid.specs.Meanings.{inside_meanings, meaning_at, meaning_of, outside_meanings}
 use Rattle.spv_valid.specs.Validity.{IsValid}

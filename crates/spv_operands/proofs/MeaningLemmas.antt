@@ -16,7 +16,7 @@ use Rattle.spv_types.specs.Constants.{is_constant}
 use Rattle.spv_valid.specs.Meanings.{inside_meanings, meaning_at, outside_meanings}
 use Rattle.spv_valid.specs.declared.meanings.Meaning.{Meaning}
 use Rattle.spv_valid.specs.declared.meanings.Meaning.TheVariants.{TypeDefinition, Constant, Undefined, ModuleVariable, Variable, Register, Label, Function, Other}
-use Rattle.spv_sections.proofs.Exports.{constant_low}
+use Rattle.spv_valid.specs.Below.spv_sections.proofs.Exports.{constant_low}
 use Rattle.spv_plans.proofs.Exports.{second_false}
 
 -- ---- instructions and where they stand

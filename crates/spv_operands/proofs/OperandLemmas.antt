@@ -26,13 +26,13 @@ use Rattle.spv_consts.specs.Laws.{IsConstantOf}
 use Rattle.spv_consts.specs.Table.{Constants, Row}
 use Rattle.spv_consts.specs.Trees.{tree_of}
 use Rattle.spv_consts.proofs.Exports.{found_of_defining, kept_at, undef_is_sized}
-use Rattle.spv_bodies.specs.declared.rules.MemoryRule.TheVariants.{Undef}
-use Rattle.spv_bodies.specs.declared.rules.Rule.TheVariants.{Memory}
-use Rattle.spv_bodies.specs.Bodies.{KeepsBody, KeepsRule}
-use Rattle.spv_bodies.specs.Context.{Known, known_of}
-use Rattle.spv_bodies.specs.Memory.{KeepsUndef}
-use Rattle.spv_bodies.specs.Places.{Placed}
-use Rattle.spv_bodies.specs.Rules.{memory_rule, rule_of}
+use Rattle.spv_valid.specs.Below.spv_bodies.specs.declared.rules.MemoryRule.TheVariants.{Undef}
+use Rattle.spv_valid.specs.Below.spv_bodies.specs.declared.rules.Rule.TheVariants.{Memory}
+use Rattle.spv_valid.specs.Below.spv_bodies.specs.Bodies.{KeepsBody, KeepsRule}
+use Rattle.spv_valid.specs.Below.spv_bodies.specs.Context.{Known, known_of}
+use Rattle.spv_valid.specs.Below.spv_bodies.specs.Memory.{KeepsUndef}
+use Rattle.spv_valid.specs.Below.spv_bodies.specs.Places.{Placed}
+use Rattle.spv_valid.specs.Below.spv_bodies.specs.Rules.{memory_rule, rule_of}
 use Rattle.spv_mem.specs.Blanks.{blank_of}
 use Rattle.spv_mem.specs.Targets.{may_be_target}
 use Rattle.spv_mem.proofs.Exports.{blank_shape}

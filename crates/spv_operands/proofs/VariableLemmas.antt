@@ -24,16 +24,16 @@ use Rattle.spv_types.specs.Queries.{pointee}
 use Rattle.spv_types.specs.Rules.{has_runtime, is_block, is_class, is_data, keeps_pointer, keeps_rules, keeps_target}
 use Rattle.spv_types.specs.Types.{Types, form_of}
 use Rattle.spv_types.specs.Typing.{defined_form, types_in, types_read}
-use Rattle.spv_sections.specs.Ids.{has_result as results, head_of, is_result}
-use Rattle.spv_sections.specs.Laws.{IsInOrder}
+use Rattle.spv_valid.specs.Below.spv_sections.specs.Ids.{has_result as results, head_of, is_result}
+use Rattle.spv_valid.specs.Below.spv_sections.specs.Laws.{IsInOrder}
 use Rattle.spv_consts.proofs.Exports.{kept_at}
-use Rattle.spv_bodies.specs.declared.rules.MemoryRule.TheVariants.{Variable}
-use Rattle.spv_bodies.specs.declared.rules.Rule.TheVariants.{Memory}
-use Rattle.spv_bodies.specs.Bodies.{KeepsBody, KeepsRule}
-use Rattle.spv_bodies.specs.Context.{Known, known_of}
-use Rattle.spv_bodies.specs.Memory.{KeepsVariable}
-use Rattle.spv_bodies.specs.Places.{Placed}
-use Rattle.spv_bodies.specs.Rules.{memory_rule, rule_of}
+use Rattle.spv_valid.specs.Below.spv_bodies.specs.declared.rules.MemoryRule.TheVariants.{Variable}
+use Rattle.spv_valid.specs.Below.spv_bodies.specs.declared.rules.Rule.TheVariants.{Memory}
+use Rattle.spv_valid.specs.Below.spv_bodies.specs.Bodies.{KeepsBody, KeepsRule}
+use Rattle.spv_valid.specs.Below.spv_bodies.specs.Context.{Known, known_of}
+use Rattle.spv_valid.specs.Below.spv_bodies.specs.Memory.{KeepsVariable}
+use Rattle.spv_valid.specs.Below.spv_bodies.specs.Places.{Placed}
+use Rattle.spv_valid.specs.Below.spv_bodies.specs.Rules.{memory_rule, rule_of}
 use Rattle.spv_mem.specs.Targets.{is_counted, may_be_target}
 use Rattle.spv_valid.specs.Acceptance.{Accepted, IsAccepted, decoded_in}
 use Rattle.spv_valid.specs.Validity.{IsValid}

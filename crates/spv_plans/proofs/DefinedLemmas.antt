@@ -14,8 +14,8 @@ use Rattle.spv_index.specs.Positions.{Stand, in_function, outside, stand_of, sta
 use Rattle.spv_types.specs.Cells.{cells_of}
 use Rattle.spv_types.specs.Queries.{is_pointer, is_void}
 use Rattle.spv_types.specs.Types.{Types, form_of}
-use Rattle.spv_sections.specs.Definitions.{is_id as is_id_below}
-use Rattle.spv_sections.specs.Laws.{IsInOrder}
+use Rattle.spv_valid.specs.Below.spv_sections.specs.Definitions.{is_id as is_id_below}
+use Rattle.spv_valid.specs.Below.spv_sections.specs.Laws.{IsInOrder}
 use Rattle.spv_valid.specs.Acceptance.{Accepted, IsAccepted, decoded_in}
 use Rattle.spv_valid.specs.Meanings.{inside_meanings, meaning_at, meaning_of}
 use Rattle.spv_valid.specs.Validity.{IsValid}

@@ -13,9 +13,9 @@ use Rattle.spv_base.specs.declared.instructions.Inst.{Inst}
 use Rattle.spv_index.specs.Classes.{sets_of}
 use Rattle.spv_index.specs.Positions.{Stand, outside, stands_of}
 use Rattle.spv_types.specs.Cells.{cells_of}
-use Rattle.spv_cfg.specs.Calls.{function_of, functions_of}
-use Rattle.spv_sections.specs.Ids.{is_result}
-use Rattle.spv_sections.specs.Laws.{IsInOrder}
+use Rattle.spv_valid.specs.Below.spv_cfg.specs.Calls.{function_of, functions_of}
+use Rattle.spv_valid.specs.Below.spv_sections.specs.Ids.{is_result}
+use Rattle.spv_valid.specs.Below.spv_sections.specs.Laws.{IsInOrder}
 use Rattle.spv_valid.specs.Acceptance.{Accepted, IsAccepted, decoded_in}
 use Rattle.spv_valid.specs.Validity.{IsValid}
 use Rattle.spv_frame.specs.Functions.{numbered}

@@ -10,7 +10,7 @@ use Rattle.spv_index.specs.declared.positions.Stage.TheVariants.{Outside, Head, 
 use Rattle.spv_index.specs.declared.positions.Position.{Position}
 use Rattle.spv_index.specs.Classes.{class_of}
 use Rattle.spv_index.specs.Positions.{Stand, among_variables, begins, begins_block, in_block, in_function, position_after, stands}
-use Rattle.spv_cfg.proofs.Exports.{IsWhole, whole_parts, stand}
+use Rattle.spv_valid.specs.Below.spv_cfg.proofs.Exports.{IsWhole, whole_parts, stand}
 use Rattle.spv_plans.specs.Members.{is_within, leading, stands_in}
 
 -- ---- behind a function its instructions never come again

@@ -27,15 +27,15 @@ use Rattle.spv_types.specs.Rules.{has_runtime}
 use Rattle.spv_types.specs.Types.{Types, form_of, lengthened, number_of, with_length}
 use Rattle.spv_types.specs.Typing.{types_read}
 use Rattle.spv_types.proofs.Exports.{number_form, number_none, accepted_is}
-use Rattle.spv_cfg.proofs.Exports.{flow_accepted}
-use Rattle.spv_sections.specs.declared.kinds.Wanted.TheVariants.{DeclaredType}
-use Rattle.spv_sections.specs.Definitions.{definitions_from}
-use Rattle.spv_sections.specs.Ids.{has_result as results, head_of, is_result, names, scope_of}
-use Rattle.spv_sections.specs.Laws.{IsInOrder}
-use Rattle.spv_consts.specs.Build.{context_of, start_of, state_of}
-use Rattle.spv_consts.specs.Table.{Constants}
-use Rattle.spv_consts.proofs.Exports.{ends, walk_follows, Differs, before_is_front, differ_before, differ_behind, Follows, follows_start}
-use Rattle.spv_bodies.specs.Context.{known_of}
+use Rattle.spv_valid.specs.Below.spv_cfg.proofs.Exports.{flow_accepted}
+use Rattle.spv_valid.specs.Below.spv_sections.specs.declared.kinds.Wanted.TheVariants.{DeclaredType}
+use Rattle.spv_valid.specs.Below.spv_sections.specs.Definitions.{definitions_from}
+use Rattle.spv_valid.specs.Below.spv_sections.specs.Ids.{has_result as results, head_of, is_result, names, scope_of}
+use Rattle.spv_valid.specs.Below.spv_sections.specs.Laws.{IsInOrder}
+use Rattle.spv_valid.specs.Below.spv_consts.specs.Build.{context_of, start_of, state_of}
+use Rattle.spv_valid.specs.Below.spv_consts.specs.Table.{Constants}
+use Rattle.spv_valid.specs.Below.spv_consts.proofs.Exports.{ends, walk_follows, Differs, before_is_front, differ_before, differ_behind, Follows, follows_start}
+use Rattle.spv_valid.specs.Below.spv_bodies.specs.Context.{known_of}
 use Rattle.spv_valid.specs.Acceptance.{Accepted, IsAccepted, Passes, decoded_in}
 use Rattle.spv_valid.specs.Validity.{IsValid}
 use Rattle.spv_valid.proofs.Exports.{accepted_passes}

@@ -5,7 +5,7 @@ use Rattle.std.proofs.lemmas.List.{drop_all}
 use Rattle.std.specs.List.{AllByRecursion, flat_map}
 use Rattle.std.specs.Option.{option_map}
 use Rattle.spv_base.specs.declared.instructions.Inst.{Inst}
-use Rattle.spv_cfg.specs.Calls.{function_of, functions_of}
+use Rattle.spv_valid.specs.Below.spv_cfg.specs.Calls.{function_of, functions_of}
 use Rattle.spv_valid.specs.Acceptance.{Accepted}
 use Rattle.spv_frame.specs.Registers.{Planned}
 use Rattle.spv_plans.specs.Plans.{IsPlan}

@@ -8,8 +8,8 @@ use Rattle.spv_index.specs.declared.positions.Stage.TheVariants.{Body, Variables
 use Rattle.spv_index.specs.declared.positions.Position.{Position}
 use Rattle.spv_index.specs.Classes.{class_of}
 use Rattle.spv_index.specs.Positions.{Stand, among_variables, begins, in_block, in_function, position_after, stands}
-use Rattle.spv_cfg.specs.Layout.{lacking, layout_breach, unended}
-use Rattle.spv_cfg.proofs.Exports.{IsWhole, stays_inside, whole_parts, not_reported}
+use Rattle.spv_valid.specs.Below.spv_cfg.specs.Layout.{lacking, layout_breach, unended}
+use Rattle.spv_valid.specs.Below.spv_cfg.proofs.Exports.{IsWhole, stays_inside, whole_parts, not_reported}
 use Rattle.spv_plans.specs.Members.{is_stop, is_within, leading, stands_in}
 use Rattle.spv_plans.proofs.MemberLemmas.{block_inside}
 use Rattle.std.proofs.lemmas.Bool.{and_from}

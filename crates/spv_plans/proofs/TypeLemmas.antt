@@ -19,23 +19,23 @@ use Rattle.spv_types.specs.Rules.{is_type, keeps_other, keeps_rules}
 use Rattle.spv_types.specs.Types.{Types, form_of}
 use Rattle.spv_types.specs.Typing.{defined_form, types_in, with_form}
 use Rattle.spv_typing.specs.Rules.{rule_of as lanes_of}
-use Rattle.spv_bodies.specs.declared.rules.Rule.{Rule}
-use Rattle.spv_bodies.specs.declared.rules.Rule.TheVariants.{Lanes}
-use Rattle.spv_bodies.specs.declared.within.Within.{Within}
-use Rattle.spv_bodies.specs.Bodies.{KeepsBody, KeepsRule}
-use Rattle.spv_bodies.specs.Context.{Known}
-use Rattle.spv_bodies.specs.Places.{Placed, nowhere, place, placed, placed_from, within_after}
-use Rattle.spv_bodies.specs.Rules.{atomic_rule, composite_rule, control_rule, memory_rule, other_rule, rule_of}
-use Rattle.spv_sections.specs.declared.definitions.Definition.{Definition}
-use Rattle.spv_sections.specs.declared.ids.Scope.{Scope}
-use Rattle.spv_sections.specs.declared.kinds.Kind.{Kind}
-use Rattle.spv_sections.specs.declared.kinds.Kind.TheVariants.{Computed}
-use Rattle.spv_sections.specs.declared.kinds.Wanted.TheVariants.{DeclaredType}
-use Rattle.spv_sections.specs.Definitions.{definition_at, definitions_from, definitions_of, first}
-use Rattle.spv_sections.specs.Ids.{names, serves}
-use Rattle.spv_sections.specs.Kinds.{fits, is_type as is_type_kind, kind_of, kinds}
-use Rattle.spv_sections.proofs.Exports.{first_read}
-use Rattle.spv_cfg.proofs.Exports.{all_from_test}
+use Rattle.spv_valid.specs.Below.spv_bodies.specs.declared.rules.Rule.{Rule}
+use Rattle.spv_valid.specs.Below.spv_bodies.specs.declared.rules.Rule.TheVariants.{Lanes}
+use Rattle.spv_valid.specs.Below.spv_bodies.specs.declared.within.Within.{Within}
+use Rattle.spv_valid.specs.Below.spv_bodies.specs.Bodies.{KeepsBody, KeepsRule}
+use Rattle.spv_valid.specs.Below.spv_bodies.specs.Context.{Known}
+use Rattle.spv_valid.specs.Below.spv_bodies.specs.Places.{Placed, nowhere, place, placed, placed_from, within_after}
+use Rattle.spv_valid.specs.Below.spv_bodies.specs.Rules.{atomic_rule, composite_rule, control_rule, memory_rule, other_rule, rule_of}
+use Rattle.spv_valid.specs.Below.spv_sections.specs.declared.definitions.Definition.{Definition}
+use Rattle.spv_valid.specs.Below.spv_sections.specs.declared.ids.Scope.{Scope}
+use Rattle.spv_valid.specs.Below.spv_sections.specs.declared.kinds.Kind.{Kind}
+use Rattle.spv_valid.specs.Below.spv_sections.specs.declared.kinds.Kind.TheVariants.{Computed}
+use Rattle.spv_valid.specs.Below.spv_sections.specs.declared.kinds.Wanted.TheVariants.{DeclaredType}
+use Rattle.spv_valid.specs.Below.spv_sections.specs.Definitions.{definition_at, definitions_from, definitions_of, first}
+use Rattle.spv_valid.specs.Below.spv_sections.specs.Ids.{names, serves}
+use Rattle.spv_valid.specs.Below.spv_sections.specs.Kinds.{fits, is_type as is_type_kind, kind_of, kinds}
+use Rattle.spv_valid.specs.Below.spv_sections.proofs.Exports.{first_read}
+use Rattle.spv_valid.specs.Below.spv_cfg.proofs.Exports.{all_from_test}
 
 -- ---- the opcodes of types
 

@@ -5,7 +5,7 @@ use Rattle.std.specs.Option.{option_map_or}
 use Rattle.spv_base.specs.declared.instructions.Inst.{Inst}
 use Rattle.spv_types.specs.Cells.{cells_of}
 use Rattle.spv_types.specs.Types.{Types}
-use Rattle.spv_cfg.specs.Calls.{functions_of}
+use Rattle.spv_valid.specs.Below.spv_cfg.specs.Calls.{functions_of}
 use Rattle.spv_valid.specs.Acceptance.{Accepted}
 use Rattle.spv_frame.specs.declared.slots.Place.{Place}
 use Rattle.spv_frame.specs.declared.slots.Place.TheVariants.{Value, Pointer}

@@ -1,7 +1,7 @@
 //! The plans of the functions of a module.
 ghost use Rattle.std.specs.Prelude.{◌≡◌, IfOk, Some, map, option_map, slice_get};
 ghost use Rattle.std.specs.List.{AllByRecursion};
-ghost use Rattle.spv_cfg.specs.Calls.{functions_of};
+ghost use Rattle.spv_valid.specs.Below.spv_cfg.specs.Calls.{functions_of};
 ghost use Rattle.spv_plans.specs.Plans.{IsPlan, plans_in};
 
 use crate::laws::{functions_have_their_plans, registers_are_counted};

@@ -17,7 +17,7 @@ use Rattle.spv_typing.specs.declared.rules.Rule.TheVariants.{Booleans, Compare, 
 use Rattle.spv_typing.specs.Lanes.{lanes_of, repeated, width_of}
 use Rattle.spv_typing.specs.Laws.{IsTyped}
 use Rattle.spv_typing.specs.Rules.{rule_of}
-use Rattle.spv_bodies.specs.Lanes.{KeepsLanes, types_after}
+use Rattle.spv_valid.specs.Below.spv_bodies.specs.Lanes.{KeepsLanes, types_after}
 use Rattle.spv_valid.specs.Acceptance.{Accepted}
 use Rattle.spv_effects.specs.BinaryOps.{MayMeet, binary_value}
 use Rattle.spv_effects.specs.Lanes.{AreScalars}

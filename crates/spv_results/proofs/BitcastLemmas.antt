@@ -13,7 +13,7 @@ use Rattle.spv_typing.specs.declared.lanes.Element.TheVariants.{Int}
 use Rattle.spv_typing.specs.declared.rules.Rule.TheVariants.{Bitcast}
 use Rattle.spv_typing.specs.Laws.{IsTyped}
 use Rattle.spv_typing.specs.Rules.{rule_of}
-use Rattle.spv_bodies.specs.Lanes.{KeepsLanes, types_after}
+use Rattle.spv_valid.specs.Below.spv_bodies.specs.Lanes.{KeepsLanes, types_after}
 use Rattle.spv_valid.specs.Acceptance.{Accepted}
 use Rattle.spv_effects.specs.Bitcasts.{MayCast, bitcast_value}
 use Rattle.spv_effects.specs.Lanes.{AreScalars}

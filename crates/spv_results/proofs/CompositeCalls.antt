@@ -15,7 +15,7 @@ use Rattle.spv_types.specs.Rows.{HasRow, leaves, no_roots}
 use Rattle.spv_types.specs.Rules.{has_runtime}
 use Rattle.spv_types.specs.Shapes.{HasShape}
 use Rattle.spv_types.specs.Types.{Types, form_of}
-use Rattle.spv_bodies.specs.Composites.{KeepsConstruct, KeepsExtract, KeepsInsert}
+use Rattle.spv_valid.specs.Below.spv_bodies.specs.Composites.{KeepsConstruct, KeepsExtract, KeepsInsert}
 use Rattle.spv_effects.specs.Composites.{joined_value, leaves_in}
 use Rattle.spv_values.specs.Places.{IsRowAt}
 use Rattle.spv_values.proofs.Exports.{row_at}

@@ -25,8 +25,8 @@ use Rattle.spv_effects.specs.Composites.{joined_value, leaves_in}
 use Rattle.spv_effects.specs.LaneTypes.{HasLaneType, scalar_width}
 use Rattle.spv_effects.specs.Lanes.{AreScalars}
 use Rattle.spv_effects.proofs.Exports.{leaves_of_lanes, lanes_shape}
-use Rattle.spv_bodies.specs.Composites.{AreParts, given}
-use Rattle.spv_bodies.specs.Context.{Known, type_in}
+use Rattle.spv_valid.specs.Below.spv_bodies.specs.Composites.{AreParts, given}
+use Rattle.spv_valid.specs.Below.spv_bodies.specs.Context.{Known, type_in}
 use Rattle.spv_results.specs.Results.{constructed}
 use Rattle.spv_results.proofs.VectorTypes.{lanes_are, vector_type}
 

@@ -9,9 +9,9 @@ use Rattle.spv_types.specs.Cells.{cells_of}
 use Rattle.spv_types.specs.Rows.{leaves, no_roots}
 use Rattle.spv_types.specs.Rules.{has_runtime, is_data}
 use Rattle.spv_types.specs.Types.{form_of}
-use Rattle.spv_bodies.specs.Composites.{KeepsCopyObject}
-use Rattle.spv_bodies.specs.Matching.{KeepsCopyLogical}
-use Rattle.spv_bodies.specs.Memory.{KeepsUndef}
+use Rattle.spv_valid.specs.Below.spv_bodies.specs.Composites.{KeepsCopyObject}
+use Rattle.spv_valid.specs.Below.spv_bodies.specs.Matching.{KeepsCopyLogical}
+use Rattle.spv_valid.specs.Below.spv_bodies.specs.Memory.{KeepsUndef}
 use Rattle.spv_mem.specs.Blanks.{blank_of}
 use Rattle.spv_mem.specs.Targets.{Fits, is_open_block, may_be_target}
 use Rattle.spv_mem.proofs.Exports.{blank_shape, is_counted_by}

@@ -18,7 +18,7 @@ use Rattle.spv_typing.specs.declared.lanes.Element.TheVariants.{Int}
 use Rattle.spv_typing.specs.declared.rules.Rule.TheVariants.{Extended}
 use Rattle.spv_typing.specs.Laws.{IsTyped}
 use Rattle.spv_typing.specs.Rules.{rule_of}
-use Rattle.spv_bodies.specs.Lanes.{KeepsLanes, types_after}
+use Rattle.spv_valid.specs.Below.spv_bodies.specs.Lanes.{KeepsLanes, types_after}
 use Rattle.spv_valid.specs.Acceptance.{Accepted}
 use Rattle.spv_effects.specs.ExtendedOps.{MayExtend, extended_value, high_lanes, low_lanes}
 use Rattle.spv_effects.specs.Lanes.{of_lanes}

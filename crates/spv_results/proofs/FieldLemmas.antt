@@ -18,7 +18,7 @@ use Rattle.spv_typing.specs.declared.rules.Rule.TheVariants.{ExtractField, Inser
 use Rattle.spv_typing.specs.Lanes.{lanes_of}
 use Rattle.spv_typing.specs.Laws.{IsTyped, integers}
 use Rattle.spv_typing.specs.Rules.{rule_of}
-use Rattle.spv_bodies.specs.Lanes.{KeepsLanes, types_after}
+use Rattle.spv_valid.specs.Below.spv_bodies.specs.Lanes.{KeepsLanes, types_after}
 use Rattle.spv_valid.specs.Acceptance.{Accepted}
 use Rattle.spv_effects.specs.Fields.{HaveFields, field_value}
 use Rattle.spv_effects.specs.Lanes.{AreScalars, lane_of}

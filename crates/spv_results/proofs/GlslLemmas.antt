@@ -18,8 +18,8 @@ use Rattle.spv_typing.specs.Glsl.{glsl_rule, glsl_rules}
 use Rattle.spv_typing.specs.Lanes.{lanes_of}
 use Rattle.spv_typing.specs.Laws.{IsTyped, integers}
 use Rattle.spv_typing.specs.Rules.{rule_count}
-use Rattle.spv_bodies.specs.Context.{Known}
-use Rattle.spv_bodies.specs.Lanes.{KeepsExtended, count_of, types_after}
+use Rattle.spv_valid.specs.Below.spv_bodies.specs.Context.{Known}
+use Rattle.spv_valid.specs.Below.spv_bodies.specs.Lanes.{KeepsExtended, count_of, types_after}
 use Rattle.spv_valid.specs.Acceptance.{Accepted}
 use Rattle.spv_effects.specs.GlslOps.{MayJoin, glsl_value}
 use Rattle.spv_effects.specs.Lanes.{AreScalars}

@@ -18,7 +18,7 @@ use Rattle.spv_typing.specs.declared.lanes.Element.{Element}
 use Rattle.spv_typing.specs.declared.lanes.Element.TheVariants.{Bool as Boolean, Int}
 use Rattle.spv_typing.specs.declared.lanes.Lanes.{Lanes}
 use Rattle.spv_typing.specs.Lanes.{element_of, form_lanes, lanes_at, lanes_of, repeated, width_of}
-use Rattle.spv_bodies.specs.Context.{type_at}
+use Rattle.spv_valid.specs.Below.spv_bodies.specs.Context.{type_at}
 use Rattle.spv_valid.specs.Acceptance.{Accepted}
 use Rattle.spv_effects.specs.LaneTypes.{HasLaneType, scalar_width}
 use Rattle.spv_effects.specs.Lanes.{AreScalars, of_lanes}

@@ -13,8 +13,8 @@ use Rattle.spv_types.specs.declared.forms.Form.TheVariants.{Void, Bool as Boolea
 use Rattle.spv_types.specs.declared.forms.Member.{Member}
 use Rattle.spv_types.specs.Types.{Types, form_of, in_first, number_of}
 use Rattle.spv_types.specs.Shapes.{HasShape, HasShapeAmong, IsScalar, shape_step}
-use Rattle.spv_bodies.specs.Matching.{Match, Term, form_term, members_term, repeated, term_among}
-use Rattle.spv_bodies.specs.Matching.Term.{Number, Pair}
+use Rattle.spv_valid.specs.Below.spv_bodies.specs.Matching.{Match, Term, form_term, members_term, repeated, term_among}
+use Rattle.spv_valid.specs.Below.spv_bodies.specs.Matching.Term.{Number, Pair}
 
 -- What a term says: as a number, as a type's values, as members' values, and behind an opcode as so many values of a type and as
 -- integers of a width.

@@ -22,8 +22,8 @@ use Rattle.spv_types.specs.Types.{Types, form_of}
 use Rattle.spv_types.proofs.Exports.{many_is, shapes_are_by_forms, cells_by_form}
 use Rattle.spv_mem.proofs.Exports.{part_cons}
 use Rattle.spv_plans.proofs.Exports.{scalar_plain, sized_plain}
-use Rattle.spv_bodies.specs.Composites.{named_type, part}
-use Rattle.spv_bodies.specs.Context.{Known}
+use Rattle.spv_valid.specs.Below.spv_bodies.specs.Composites.{named_type, part}
+use Rattle.spv_valid.specs.Below.spv_bodies.specs.Context.{Known}
 use Rattle.spv_results.specs.Results.{numbers}
 
 -- ---- an index

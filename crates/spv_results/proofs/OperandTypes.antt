@@ -7,7 +7,7 @@ use Rattle.spv_base.specs.declared.instructions.Operand.{Operand}
 use Rattle.spv_index.specs.Operands.{id_in}
 use Rattle.spv_types.specs.declared.forms.Form.{Form}
 use Rattle.spv_types.specs.Types.{Types, form_of}
-use Rattle.spv_bodies.specs.Context.{Known, type_at, type_in, type_of}
+use Rattle.spv_valid.specs.Below.spv_bodies.specs.Context.{Known, type_at, type_in, type_of}
 
 -- a form is that of a type
 pub record HasForm (ts : Types) (o : Option ℕ) (f : Form) : Type 0 where

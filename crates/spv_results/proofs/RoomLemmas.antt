@@ -17,8 +17,8 @@ use Rattle.spv_types.specs.Rules.{has_runtime, is_data, is_sized_data}
 use Rattle.spv_types.specs.Shapes.{HasShape}
 use Rattle.spv_types.specs.Types.{Types, form_of}
 use Rattle.spv_types.proofs.Exports.{shapes_count, lies_within, part_lies, shapes_keep, shape_formed, data_form}
-use Rattle.spv_bodies.specs.Composites.{named_type}
-use Rattle.spv_bodies.specs.Context.{Known}
+use Rattle.spv_valid.specs.Below.spv_bodies.specs.Composites.{named_type}
+use Rattle.spv_valid.specs.Below.spv_bodies.specs.Context.{Known}
 use Rattle.spv_results.specs.Results.{numbers}
 use Rattle.spv_results.proofs.NamedParts.{named_there}
 use Rattle.spv_base.proofs.Exports.{some_at}

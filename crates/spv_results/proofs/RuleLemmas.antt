@@ -4,8 +4,8 @@ use Rattle.spv_base.specs.declared.instructions.Inst.{Inst}
 use Rattle.spv_typing.specs.declared.rules.Rule.{Rule}
 use Rattle.spv_typing.specs.Laws.{IsTyped}
 use Rattle.spv_typing.specs.Rules.{rule_of}
-use Rattle.spv_bodies.specs.Context.{Known}
-use Rattle.spv_bodies.specs.Lanes.{KeepsLanes, types_after}
+use Rattle.spv_valid.specs.Below.spv_bodies.specs.Context.{Known}
+use Rattle.spv_valid.specs.Below.spv_bodies.specs.Lanes.{KeepsLanes, types_after}
 
 -- an instruction that keeps its rule has the types that the rule of its opcode asks
 pub typed_by : (k : Known) (i : Inst) (rule : Rule) → KeepsLanes k i → rule_of i.op ≡ Some rule → IsTyped k.types rule i.ty (types_after k i 0)

@@ -12,8 +12,8 @@ use Rattle.spv_typing.specs.declared.rules.Rule.TheVariants.{Select}
 use Rattle.spv_typing.specs.Lanes.{lanes_at, lanes_of}
 use Rattle.spv_typing.specs.Laws.{IsCondition, IsTyped}
 use Rattle.spv_typing.specs.Rules.{rule_of}
-use Rattle.spv_bodies.specs.Context.{type_at}
-use Rattle.spv_bodies.specs.Lanes.{KeepsLanes, types_after}
+use Rattle.spv_valid.specs.Below.spv_bodies.specs.Context.{type_at}
+use Rattle.spv_valid.specs.Below.spv_bodies.specs.Lanes.{KeepsLanes, types_after}
 use Rattle.spv_valid.specs.Acceptance.{Accepted}
 use Rattle.spv_effects.specs.Selects.{MaySelect, select_value}
 use Rattle.spv_effects.proofs.Exports.{form_keeps_shape, selected_widths}

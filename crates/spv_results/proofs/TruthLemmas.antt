@@ -11,7 +11,7 @@ use Rattle.spv_typing.specs.declared.lanes.Element.TheVariants.{Bool as Boolean}
 use Rattle.spv_typing.specs.declared.rules.Rule.TheVariants.{Reduce}
 use Rattle.spv_typing.specs.Laws.{IsTyped}
 use Rattle.spv_typing.specs.Rules.{rule_of}
-use Rattle.spv_bodies.specs.Lanes.{KeepsLanes, types_after}
+use Rattle.spv_valid.specs.Below.spv_bodies.specs.Lanes.{KeepsLanes, types_after}
 use Rattle.spv_valid.specs.Acceptance.{Accepted}
 use Rattle.spv_effects.specs.Lanes.{of_lanes}
 use Rattle.spv_effects.specs.Truths.{truth_value}

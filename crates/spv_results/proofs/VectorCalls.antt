@@ -15,8 +15,8 @@ use Rattle.spv_types.specs.Rows.{leaves, no_roots}
 use Rattle.spv_types.specs.Rules.{form_has_runtime, has_runtime}
 use Rattle.spv_types.specs.Shapes.{HasShape}
 use Rattle.spv_types.specs.Types.{Types, form_of}
-use Rattle.spv_bodies.specs.Composites.{KeepsExtractDynamic, KeepsInsertDynamic, KeepsShuffle}
-use Rattle.spv_bodies.specs.Context.{IsInteger, form_at, type_at}
+use Rattle.spv_valid.specs.Below.spv_bodies.specs.Composites.{KeepsExtractDynamic, KeepsInsertDynamic, KeepsShuffle}
+use Rattle.spv_valid.specs.Below.spv_bodies.specs.Context.{IsInteger, form_at, type_at}
 use Rattle.spv_effects.specs.LaneTypes.{HasLaneType, IsLaneForm}
 use Rattle.spv_effects.specs.Vectors.{extract_dynamic_value, insert_dynamic_value, shuffle_value}
 use Rattle.spv_valid.specs.Acceptance.{Accepted}

@@ -4,7 +4,7 @@ use Rattle.spv_base.specs.declared.instructions.Inst.{Inst}
 use Rattle.spv_base.specs.declared.values.Value.{Value}
 use Rattle.spv_types.specs.Rows.{no_roots}
 use Rattle.spv_types.specs.Shapes.{HasShape}
-use Rattle.spv_bodies.specs.Context.{Known, known_of, type_at}
+use Rattle.spv_valid.specs.Below.spv_bodies.specs.Context.{Known, known_of, type_at}
 use Rattle.spv_valid.specs.Acceptance.{Accepted}
 
 -- what the rules of bodies ask about

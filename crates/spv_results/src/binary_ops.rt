@@ -1,7 +1,7 @@
 //! The binary operations: arithmetic, shifts, bits, logic and comparisons.
 ghost use Rattle.std.specs.Prelude.{◌≡◌, OnOk, Some, length};
 ghost use Rattle.spv_alu.specs.Binary.{binary_op};
-ghost use Rattle.spv_bodies.specs.Lanes.{KeepsLanes};
+ghost use Rattle.spv_valid.specs.Below.spv_bodies.specs.Lanes.{KeepsLanes};
 ghost use Rattle.spv_effects.specs.BinaryOps.{binary_value};
 ghost use Rattle.spv_results.specs.Operands.{IsOperand, IsResult, known};
 ghost use Rattle.spv_types.specs.Rows.{leaves};

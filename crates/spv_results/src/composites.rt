@@ -3,8 +3,8 @@ ghost use Rattle.std.specs.Prelude.{◌≡◌, ℕ, OnOk, Some, drop, false, if�
 ghost use Rattle.std.specs.Option.{option_map_or};
 ghost use Rattle.spv_base.specs.Parts.{part_at, with_part};
 ghost use Rattle.spv_base.specs.declared.values.Value.{Value, List as Many};
-ghost use Rattle.spv_bodies.specs.Composites.{KeepsConstruct, KeepsExtract, KeepsInsert};
-ghost use Rattle.spv_bodies.specs.Context.{type_at};
+ghost use Rattle.spv_valid.specs.Below.spv_bodies.specs.Composites.{KeepsConstruct, KeepsExtract, KeepsInsert};
+ghost use Rattle.spv_valid.specs.Below.spv_bodies.specs.Context.{type_at};
 ghost use Rattle.spv_effects.specs.Composites.{joined_value, leaves_in};
 ghost use Rattle.spv_results.specs.Operands.{IsOperand, IsResult, known};
 ghost use Rattle.spv_results.specs.Results.{constructed, numbers};

@@ -1,7 +1,7 @@
 //! Copies: OpCopyObject and OpCopyLogical (SPIR-V 1.6 section 3.42.12).
 ghost use Rattle.std.specs.Prelude.{◌≡◌, OnOk, false};
-ghost use Rattle.spv_bodies.specs.Composites.{KeepsCopyObject};
-ghost use Rattle.spv_bodies.specs.Matching.{KeepsCopyLogical};
+ghost use Rattle.spv_valid.specs.Below.spv_bodies.specs.Composites.{KeepsCopyObject};
+ghost use Rattle.spv_valid.specs.Below.spv_bodies.specs.Matching.{KeepsCopyLogical};
 ghost use Rattle.spv_results.specs.Operands.{IsOperand, IsResult, known};
 ghost use Rattle.spv_types.specs.Rules.{has_runtime};
 

@@ -1,7 +1,7 @@
 //! The operations that give a struct of two: OpIAddCarry, OpISubBorrow, OpUMulExtended and OpSMulExtended.
 ghost use Rattle.std.specs.Prelude.{◌≡◌, OnOk, Some};
 ghost use Rattle.spv_alu.specs.Extended.{extended_op};
-ghost use Rattle.spv_bodies.specs.Lanes.{KeepsLanes};
+ghost use Rattle.spv_valid.specs.Below.spv_bodies.specs.Lanes.{KeepsLanes};
 ghost use Rattle.spv_effects.specs.ExtendedOps.{extended_value};
 ghost use Rattle.spv_results.specs.Operands.{IsOperand, IsResult, known};
 

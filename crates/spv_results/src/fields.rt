@@ -2,7 +2,7 @@
 ghost use Rattle.std.specs.Prelude.{◌≡◌, ◌≢◌, OnOk, Some};
 ghost use Rattle.spv_alu.specs.Fields.{field_op};
 ghost use Rattle.spv_alu.specs.declared.field_op.FieldOp.TheVariants.{BitFieldInsert};
-ghost use Rattle.spv_bodies.specs.Lanes.{KeepsLanes};
+ghost use Rattle.spv_valid.specs.Below.spv_bodies.specs.Lanes.{KeepsLanes};
 ghost use Rattle.spv_effects.specs.Fields.{field_value};
 ghost use Rattle.spv_results.specs.Operands.{IsOperand, IsResult, known};
 

@@ -3,7 +3,7 @@
 ghost use Rattle.std.specs.Prelude.{◌≡◌, OnOk, Some, false};
 ghost use Rattle.std.specs.Option.{option_and_then};
 ghost use Rattle.spv_alu.specs.Glsl.{glsl_op};
-ghost use Rattle.spv_bodies.specs.Lanes.{KeepsExtended, count_of};
+ghost use Rattle.spv_valid.specs.Below.spv_bodies.specs.Lanes.{KeepsExtended, count_of};
 ghost use Rattle.spv_effects.specs.GlslOps.{glsl_value};
 ghost use Rattle.spv_index.specs.Classes.{is_debug};
 ghost use Rattle.spv_index.specs.Operands.{literal_operand};

@@ -1,6 +1,6 @@
 //! OpSelect.
 ghost use Rattle.std.specs.Prelude.{◌≡◌, OnOk, false};
-ghost use Rattle.spv_bodies.specs.Lanes.{KeepsLanes};
+ghost use Rattle.spv_valid.specs.Below.spv_bodies.specs.Lanes.{KeepsLanes};
 ghost use Rattle.spv_effects.specs.Selects.{select_value};
 ghost use Rattle.spv_results.specs.Operands.{IsOperand, IsResult, known};
 ghost use Rattle.spv_types.specs.Rules.{has_runtime};

@@ -1,7 +1,7 @@
 //! OpAny and OpAll.
 ghost use Rattle.std.specs.Prelude.{◌≡◌, OnOk, Some};
 ghost use Rattle.spv_alu.specs.Vectors.{vector_op};
-ghost use Rattle.spv_bodies.specs.Lanes.{KeepsLanes};
+ghost use Rattle.spv_valid.specs.Below.spv_bodies.specs.Lanes.{KeepsLanes};
 ghost use Rattle.spv_effects.specs.Truths.{truth_value};
 ghost use Rattle.spv_results.specs.Operands.{IsOperand, IsResult, known};
 

@@ -1,7 +1,7 @@
 //! The unary operations: OpSNegate, OpLogicalNot, OpNot, OpBitReverse, OpBitCount, OpUConvert and OpSConvert.
 ghost use Rattle.std.specs.Prelude.{◌≡◌, OnOk, Some};
 ghost use Rattle.spv_alu.specs.Unary.{unary_op};
-ghost use Rattle.spv_bodies.specs.Lanes.{KeepsLanes};
+ghost use Rattle.spv_valid.specs.Below.spv_bodies.specs.Lanes.{KeepsLanes};
 ghost use Rattle.spv_effects.specs.UnaryOps.{unary_value};
 ghost use Rattle.spv_results.specs.Operands.{IsOperand, IsResult, known};
 ghost use Rattle.spv_results.specs.Results as spec;

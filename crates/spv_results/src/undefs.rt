@@ -1,6 +1,6 @@
 //! OpUndef: a value of which nothing is defined (SPIR-V 1.6 section 3.42.1).
 ghost use Rattle.std.specs.Prelude.{◌≡◌, OnOk};
-ghost use Rattle.spv_bodies.specs.Memory.{KeepsUndef};
+ghost use Rattle.spv_valid.specs.Below.spv_bodies.specs.Memory.{KeepsUndef};
 ghost use Rattle.spv_mem.specs.Blanks.{blank_of};
 ghost use Rattle.spv_results.specs.Operands.{IsResult, known};
 

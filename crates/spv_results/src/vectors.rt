@@ -1,6 +1,6 @@
 //! Components of vectors: OpVectorExtractDynamic, OpVectorInsertDynamic and OpVectorShuffle (SPIR-V 1.6 section 3.42.12).
 ghost use Rattle.std.specs.Prelude.{◌≡◌, ◌<◌, ◌≤◌, OnOk, drop, length};
-ghost use Rattle.spv_bodies.specs.Composites.{KeepsExtractDynamic, KeepsInsertDynamic, KeepsShuffle};
+ghost use Rattle.spv_valid.specs.Below.spv_bodies.specs.Composites.{KeepsExtractDynamic, KeepsInsertDynamic, KeepsShuffle};
 ghost use Rattle.spv_effects.specs.Vectors.{extract_dynamic_value, insert_dynamic_value, shuffle_value};
 ghost use Rattle.spv_results.specs.Operands.{IsOperand, IsResult, known};
 ghost use Rattle.spv_results.specs.Results.{numbers};

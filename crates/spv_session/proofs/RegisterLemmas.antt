@@ -7,13 +7,13 @@ use Rattle.spv_base.specs.Entries.{reads}
 use Rattle.spv_base.specs.declared.values.Pointer.{Pointer}
 use Rattle.spv_base.specs.declared.values.Value.{Value, Ptr}
 use Rattle.spv_frame.specs.Frames.{Held as Frame}
-use Rattle.spv_operands.specs.Shapes.{target_in}
+use Rattle.spv_ids.specs.Below.spv_operands.specs.Shapes.{target_in}
 use Rattle.spv_plans.specs.Plans.{plan_of}
 use Rattle.spv_plans.specs.Registered.{HasPointerType, HasValueType}
 use Rattle.spv_show.specs.Rows.{IsRowOf}
-use Rattle.spv_types.specs.Cells.{cells_of}
-use Rattle.spv_types.specs.Rows.{leaves}
-use Rattle.spv_types.specs.Shapes.{HasShape}
+use Rattle.spv_leaves.specs.Below.spv_types.specs.Cells.{cells_of}
+use Rattle.spv_leaves.specs.Below.spv_types.specs.Rows.{leaves}
+use Rattle.spv_leaves.specs.Below.spv_types.specs.Shapes.{HasShape}
 use Rattle.spv_valid.specs.Acceptance.{Accepted}
 use Rattle.spv_session.specs.Frames.{IsShown}
 use Rattle.spv_ids.specs.Texts.{type_of}

@@ -1,6 +1,6 @@
 -- Frames that can be shown: those of a sound state.
 use Rattle.spv_frame.specs.Frames.{Held as Frame}
-use Rattle.spv_operands.specs.Shapes.{AreShaped}
+use Rattle.spv_ids.specs.Below.spv_operands.specs.Shapes.{AreShaped}
 use Rattle.spv_plans.specs.Registered.{IsOfFunction}
 use Rattle.spv_valid.specs.Acceptance.{Accepted}
 

@@ -7,7 +7,7 @@ use Rattle.spv_group.specs.Group.{Held as Group, entries_in}
 use Rattle.spv_group.specs.Run.{run}
 use Rattle.spv_order.specs.declared.orders.Answer.{Answer}
 use Rattle.spv_order.specs.declared.orders.Answer.TheVariants.{Free, Barrier, Conflict}
-use Rattle.spv_touch.specs.Touching.{arrives_of, touched_of}
+use Rattle.spv_races.specs.Below.spv_touch.specs.Touching.{arrives_of, touched_of}
 use Rattle.spv_leaves.specs.Paths.{leaf_path}
 use Rattle.spv_ids.specs.Texts.{target_of}
 use Rattle.spv_show.specs.Pointers.{pointer_text}

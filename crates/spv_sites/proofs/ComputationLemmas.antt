@@ -7,16 +7,16 @@ use Rattle.std.proofs.lemmas.Bool.{and_parts, eqb-true}
 use Rattle.spv_base.proofs.Exports.{mapped_from, reads_each}
 use Rattle.spv_base.specs.Entries.{reads}
 use Rattle.spv_base.specs.declared.instructions.Inst.{Inst}
-use Rattle.spv_alu.specs.Binary.{binary_op}
-use Rattle.spv_alu.specs.Extended.{extended_op}
-use Rattle.spv_alu.specs.Fields.{field_op}
-use Rattle.spv_alu.specs.Glsl.{glsl_op}
-use Rattle.spv_alu.specs.Unary.{unary_op}
-use Rattle.spv_alu.specs.Vectors.{vector_op}
+use Rattle.spv_state.specs.Below.spv_alu.specs.Binary.{binary_op}
+use Rattle.spv_state.specs.Below.spv_alu.specs.Extended.{extended_op}
+use Rattle.spv_state.specs.Below.spv_alu.specs.Fields.{field_op}
+use Rattle.spv_state.specs.Below.spv_alu.specs.Glsl.{glsl_op}
+use Rattle.spv_state.specs.Below.spv_alu.specs.Unary.{unary_op}
+use Rattle.spv_state.specs.Below.spv_alu.specs.Vectors.{vector_op}
 use Rattle.spv_index.specs.Operands.{literal_operand}
-use Rattle.spv_results.specs.Computations.{by_opcode, computation_of, others}
-use Rattle.spv_results.specs.declared.computations.Computation.{Computation}
-use Rattle.spv_results.specs.declared.computations.Computation.TheVariants.{Undef, Unary, Bitcast, Truth, Binary, Field, Extended, Select, Glsl, ExtractDynamic, InsertDynamic, Shuffle, Construct, Extract, Insert, Copy}
+use Rattle.spv_state.specs.Below.spv_results.specs.Computations.{by_opcode, computation_of, others}
+use Rattle.spv_state.specs.Below.spv_results.specs.declared.computations.Computation.{Computation}
+use Rattle.spv_state.specs.Below.spv_results.specs.declared.computations.Computation.TheVariants.{Undef, Unary, Bitcast, Truth, Binary, Field, Extended, Select, Glsl, ExtractDynamic, InsertDynamic, Shuffle, Construct, Extract, Insert, Copy}
 
 -- ---- tables
 

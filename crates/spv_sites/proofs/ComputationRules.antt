@@ -5,30 +5,30 @@ use Rattle.std.specs.Option.{unwrap_or}
 use Rattle.std.proofs.lemmas.Bool.{and_parts, both_ways, false_from_ne_true, not-true}
 use Rattle.spv_base.specs.Entries.{reads}
 use Rattle.spv_base.specs.declared.instructions.Inst.{Inst}
-use Rattle.spv_alu.specs.Binary.{binary_op, binary_opcodes}
-use Rattle.spv_alu.specs.Extended.{extended_op, extended_opcodes}
-use Rattle.spv_alu.specs.Fields.{field_op, field_opcodes}
-use Rattle.spv_alu.specs.Unary.{unary_op, unary_opcodes}
-use Rattle.spv_alu.specs.Vectors.{vector_op, vector_opcodes}
-use Rattle.spv_alu.specs.declared.binary_op.BinaryOp.{BinaryOp}
-use Rattle.spv_alu.specs.declared.extended_op.ExtendedOp.{ExtendedOp}
-use Rattle.spv_alu.specs.declared.field_op.FieldOp.{FieldOp}
-use Rattle.spv_alu.specs.declared.unary_op.UnaryOp.{UnaryOp}
-use Rattle.spv_alu.specs.declared.vector_op.VectorOp.{VectorOp}
+use Rattle.spv_state.specs.Below.spv_alu.specs.Binary.{binary_op, binary_opcodes}
+use Rattle.spv_state.specs.Below.spv_alu.specs.Extended.{extended_op, extended_opcodes}
+use Rattle.spv_state.specs.Below.spv_alu.specs.Fields.{field_op, field_opcodes}
+use Rattle.spv_state.specs.Below.spv_alu.specs.Unary.{unary_op, unary_opcodes}
+use Rattle.spv_state.specs.Below.spv_alu.specs.Vectors.{vector_op, vector_opcodes}
+use Rattle.spv_state.specs.Below.spv_alu.specs.declared.binary_op.BinaryOp.{BinaryOp}
+use Rattle.spv_state.specs.Below.spv_alu.specs.declared.extended_op.ExtendedOp.{ExtendedOp}
+use Rattle.spv_state.specs.Below.spv_alu.specs.declared.field_op.FieldOp.{FieldOp}
+use Rattle.spv_state.specs.Below.spv_alu.specs.declared.unary_op.UnaryOp.{UnaryOp}
+use Rattle.spv_state.specs.Below.spv_alu.specs.declared.vector_op.VectorOp.{VectorOp}
 use Rattle.spv_index.specs.declared.classes.Class.TheVariants.{Line, Executable}
 use Rattle.spv_index.specs.Classes.{class_of, classes, is_debug, is_executable, is_local, is_terminator, sets_of}
-use Rattle.spv_bodies.specs.Bodies.{KeepsRule}
-use Rattle.spv_bodies.specs.Context.{Known}
-use Rattle.spv_bodies.specs.Lanes.{KeepsLanes}
-use Rattle.spv_bodies.specs.Memory.{KeepsLoad, KeepsStore}
-use Rattle.spv_bodies.specs.Places.{Placed}
-use Rattle.spv_bodies.specs.Rules.{atomic_rule, composite_rule, control_rule, memory_rule, other_rule, rule_of}
-use Rattle.spv_bodies.specs.declared.rules.Rule.{Rule}
-use Rattle.spv_bodies.specs.declared.rules.Rule.TheVariants.{Free, Lanes, Select as SelectRule, Extended as ExtendedRule, Memory, Atomic, Composite, Control}
+use Rattle.spv_valid.specs.Below.spv_bodies.specs.Bodies.{KeepsRule}
+use Rattle.spv_valid.specs.Below.spv_bodies.specs.Context.{Known}
+use Rattle.spv_valid.specs.Below.spv_bodies.specs.Lanes.{KeepsLanes}
+use Rattle.spv_valid.specs.Below.spv_bodies.specs.Memory.{KeepsLoad, KeepsStore}
+use Rattle.spv_valid.specs.Below.spv_bodies.specs.Places.{Placed}
+use Rattle.spv_valid.specs.Below.spv_bodies.specs.Rules.{atomic_rule, composite_rule, control_rule, memory_rule, other_rule, rule_of}
+use Rattle.spv_valid.specs.Below.spv_bodies.specs.declared.rules.Rule.{Rule}
+use Rattle.spv_valid.specs.Below.spv_bodies.specs.declared.rules.Rule.TheVariants.{Free, Lanes, Select as SelectRule, Extended as ExtendedRule, Memory, Atomic, Composite, Control}
 use Rattle.spv_valid.specs.Acceptance.{Accepted}
-use Rattle.spv_results.specs.Operands.{known}
-use Rattle.spv_results.specs.declared.computations.Computation.{Computation}
-use Rattle.spv_results.specs.declared.computations.Computation.TheVariants.{Undef, Unary, Bitcast, Truth, Binary, Field, Extended, Select, Glsl, ExtractDynamic, InsertDynamic, Shuffle, Construct, Extract, Insert, Copy}
+use Rattle.spv_state.specs.Below.spv_results.specs.Operands.{known}
+use Rattle.spv_state.specs.Below.spv_results.specs.declared.computations.Computation.{Computation}
+use Rattle.spv_state.specs.Below.spv_results.specs.declared.computations.Computation.TheVariants.{Undef, Unary, Bitcast, Truth, Binary, Field, Extended, Select, Glsl, ExtractDynamic, InsertDynamic, Shuffle, Construct, Extract, Insert, Copy}
 use Rattle.spv_sites.specs.Kept.{Keeps}
 use Rattle.spv_sites.proofs.ComputationLemmas.{IsComputed, key_passes}
 use Rattle.spv_sites.proofs.RunLemmas.{alone, is_own}

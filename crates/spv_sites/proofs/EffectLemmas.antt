@@ -8,16 +8,16 @@ use Rattle.spv_base.specs.declared.causes.Fail.TheVariants.{Refused, NoMemory}
 use Rattle.spv_base.specs.declared.instructions.Inst.{Inst}
 use Rattle.spv_base.specs.declared.values.Value.{Value, Ptr, out-Value}
 use Rattle.spv_base.specs.declared.values.Value.TheOpen.{Value-F}
-use Rattle.spv_ops.specs.Steps.{◌>>=◌}
-use Rattle.spv_types.specs.Laws.{AreSound}
-use Rattle.spv_types.specs.Shapes.{pointer_in}
+use Rattle.spv_valid.specs.Below.spv_ops.specs.Steps.{◌>>=◌}
+use Rattle.spv_valid.specs.Below.spv_types.specs.Laws.{AreSound}
+use Rattle.spv_valid.specs.Below.spv_types.specs.Shapes.{pointer_in}
 use Rattle.spv_valid.specs.Acceptance.{Accepted}
 use Rattle.spv_operands.proofs.Exports.{data_plain}
 use Rattle.spv_base.proofs.Exports.{none_of, out_pointer, reads_each}
-use Rattle.spv_results.specs.Computations.{computation_of}
-use Rattle.spv_results.specs.Operands.{IsResult}
-use Rattle.spv_results.specs.Results.{result_by, result_of}
-use Rattle.spv_results.specs.declared.computations.Computation.{Computation}
+use Rattle.spv_state.specs.Below.spv_results.specs.Computations.{computation_of}
+use Rattle.spv_state.specs.Below.spv_results.specs.Operands.{IsResult}
+use Rattle.spv_state.specs.Below.spv_results.specs.Results.{result_by, result_of}
+use Rattle.spv_state.specs.Below.spv_results.specs.declared.computations.Computation.{Computation}
 use Rattle.spv_state.specs.Actions.{action_of, atomic_op, action_rows}
 use Rattle.spv_sites.specs.Computing.{compute_effect}
 use Rattle.spv_sites.specs.Effects.{gives}

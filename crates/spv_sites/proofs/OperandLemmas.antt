@@ -15,25 +15,25 @@ use Rattle.spv_base.specs.declared.values.Value.{Value as Whole}
 use Rattle.spv_base.proofs.Exports.{none_of}
 use Rattle.spv_index.specs.Definitions.{result_type}
 use Rattle.spv_index.specs.Operands.{id_operand}
-use Rattle.spv_types.specs.Laws.{AreSound}
-use Rattle.spv_types.specs.Queries.{is_pointer}
-use Rattle.spv_types.specs.Rows.{no_roots}
-use Rattle.spv_types.specs.Shapes.{HasShape}
-use Rattle.spv_types.specs.Types.{Types, form_of}
-use Rattle.spv_bodies.specs.Context.{type_at, type_of}
+use Rattle.spv_valid.specs.Below.spv_types.specs.Laws.{AreSound}
+use Rattle.spv_valid.specs.Below.spv_types.specs.Queries.{is_pointer}
+use Rattle.spv_valid.specs.Below.spv_types.specs.Rows.{no_roots}
+use Rattle.spv_valid.specs.Below.spv_types.specs.Shapes.{HasShape}
+use Rattle.spv_valid.specs.Below.spv_types.specs.Types.{Types, form_of}
+use Rattle.spv_valid.specs.Below.spv_bodies.specs.Context.{type_at, type_of}
 use Rattle.spv_valid.specs.Acceptance.{Accepted, IsAccepted}
 use Rattle.spv_frame.specs.Frames.{Held as Frame}
 use Rattle.spv_frame.specs.Registers.{number_of}
-use Rattle.spv_plans.specs.Plans.{functions_in, plans_in}
-use Rattle.spv_plans.specs.Registered.{IsOfFunction}
-use Rattle.spv_plans.proofs.Exports.{at_contains, contains_at, number_there, number_gets}
+use Rattle.spv_state.specs.Below.spv_plans.specs.Plans.{functions_in, plans_in}
+use Rattle.spv_state.specs.Below.spv_plans.specs.Registered.{IsOfFunction}
+use Rattle.spv_state.specs.Below.spv_plans.proofs.Exports.{at_contains, contains_at, number_there, number_gets}
 use Rattle.spv_operands.specs.Operands.{IsPlain, data_of, pointer_of, shown}
 use Rattle.spv_operands.specs.Shapes.{AreShaped, target_in}
 use Rattle.spv_operands.specs.Values.{value_of}
 use Rattle.spv_operands.specs.declared.operands.Operand.{Operand}
 use Rattle.spv_operands.proofs.Exports.{data_plain}
-use Rattle.spv_results.specs.Operands.{IsOperand, known}
-use Rattle.spv_results.proofs.Exports.{shape_prop}
+use Rattle.spv_state.specs.Below.spv_results.specs.Operands.{IsOperand, known}
+use Rattle.spv_state.specs.Below.spv_results.proofs.Exports.{shape_prop}
 use Rattle.spv_sites.specs.Sites.{IsShaped, IsSite, Site, accepted, is_data, is_data_at, values}
 use Rattle.spv_state.specs.State.{depth_of}
 use Rattle.spv_sites.proofs.SiteLemmas.{frame_sound}

@@ -9,16 +9,16 @@ use Rattle.spv_base.specs.declared.values.Pointer.{Pointer as Reference}
 use Rattle.spv_base.specs.declared.values.Root.{Root}
 use Rattle.spv_base.specs.declared.values.Value.{Value, Ptr, out-Value}
 use Rattle.spv_base.specs.declared.values.Value.TheOpen.{Value-F}
-use Rattle.spv_types.specs.declared.forms.Form.{Form}
-use Rattle.spv_types.specs.declared.forms.Form.TheVariants.{Void, Bool as Boolean, Int, Vector, Array, Runtime, Struct, Pointer, Function}
-use Rattle.spv_types.specs.Laws.{AreSound}
-use Rattle.spv_types.specs.Queries.{is_pointer}
-use Rattle.spv_types.specs.Rows.{no_roots}
-use Rattle.spv_types.specs.Shapes.{HasShape, LeadsTo, pointer_in}
-use Rattle.spv_types.specs.Types.{Types, form_of}
-use Rattle.spv_types.proofs.Exports.{shapes_are_by_forms, pointer_by}
-use Rattle.spv_bodies.specs.Context.{type_at}
-use Rattle.spv_bodies.specs.Matching.{KeepsCopyLogical}
+use Rattle.spv_valid.specs.Below.spv_types.specs.declared.forms.Form.{Form}
+use Rattle.spv_valid.specs.Below.spv_types.specs.declared.forms.Form.TheVariants.{Void, Bool as Boolean, Int, Vector, Array, Runtime, Struct, Pointer, Function}
+use Rattle.spv_valid.specs.Below.spv_types.specs.Laws.{AreSound}
+use Rattle.spv_valid.specs.Below.spv_types.specs.Queries.{is_pointer}
+use Rattle.spv_valid.specs.Below.spv_types.specs.Rows.{no_roots}
+use Rattle.spv_valid.specs.Below.spv_types.specs.Shapes.{HasShape, LeadsTo, pointer_in}
+use Rattle.spv_valid.specs.Below.spv_types.specs.Types.{Types, form_of}
+use Rattle.spv_valid.specs.Below.spv_types.proofs.Exports.{shapes_are_by_forms, pointer_by}
+use Rattle.spv_valid.specs.Below.spv_bodies.specs.Context.{type_at}
+use Rattle.spv_valid.specs.Below.spv_bodies.specs.Matching.{KeepsCopyLogical}
 use Rattle.spv_mem.specs.Memory.{root_value}
 use Rattle.spv_valid.specs.Acceptance.{Accepted}
 use Rattle.spv_operands.specs.Operands.{data_of, pointer_of}
@@ -26,7 +26,7 @@ use Rattle.spv_operands.specs.Shapes.{target_in}
 use Rattle.spv_operands.specs.Values.{pointer_to}
 use Rattle.spv_operands.proofs.Exports.{data_plain}
 use Rattle.spv_base.proofs.Exports.{out_pointer}
-use Rattle.spv_results.specs.Operands.{IsOperand, known}
+use Rattle.spv_state.specs.Below.spv_results.specs.Operands.{IsOperand, known}
 use Rattle.spv_sites.specs.Fits.{LevelFits}
 use Rattle.spv_sites.specs.Kept.{KeepsCopy}
 use Rattle.spv_sites.specs.Sites.{IsShaped, Site, part_of}

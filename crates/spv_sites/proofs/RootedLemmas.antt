@@ -11,13 +11,13 @@ use Rattle.spv_base.specs.declared.values.Value.TheOpen.{Value-F}
 use Rattle.spv_base.specs.Variables.{root_id}
 use Rattle.spv_index.specs.Definitions.{result_type}
 use Rattle.spv_index.specs.Operands.{id_operand}
-use Rattle.spv_types.specs.declared.forms.Form.TheVariants.{Pointer as Pointing}
-use Rattle.spv_types.specs.declared.queries.Pointed.{Pointed}
-use Rattle.spv_types.specs.Laws.{AreSound}
-use Rattle.spv_types.specs.Queries.{pointee}
-use Rattle.spv_types.specs.Shapes.{HasShape, LeadsTo, pointer_in, reached_type}
-use Rattle.spv_types.specs.Types.{form_of}
-use Rattle.spv_bodies.specs.Context.{type_at, type_of}
+use Rattle.spv_valid.specs.Below.spv_types.specs.declared.forms.Form.TheVariants.{Pointer as Pointing}
+use Rattle.spv_valid.specs.Below.spv_types.specs.declared.queries.Pointed.{Pointed}
+use Rattle.spv_valid.specs.Below.spv_types.specs.Laws.{AreSound}
+use Rattle.spv_valid.specs.Below.spv_types.specs.Queries.{pointee}
+use Rattle.spv_valid.specs.Below.spv_types.specs.Shapes.{HasShape, LeadsTo, pointer_in, reached_type}
+use Rattle.spv_valid.specs.Below.spv_types.specs.Types.{form_of}
+use Rattle.spv_valid.specs.Below.spv_bodies.specs.Context.{type_at, type_of}
 use Rattle.spv_frame.specs.Frames.{Held as Frame}
 use Rattle.spv_valid.specs.Acceptance.{Accepted, IsAccepted}
 use Rattle.spv_valid.specs.Validity.{IsValid}
@@ -25,7 +25,7 @@ use Rattle.spv_operands.specs.Operands.{pointer_of}
 use Rattle.spv_operands.specs.Shapes.{target_in}
 use Rattle.spv_operands.specs.Values.{storage_class, value_of}
 use Rattle.spv_operands.proofs.Exports.{IsTarget, target_parts}
-use Rattle.spv_results.specs.Operands.{IsResult, known}
+use Rattle.spv_state.specs.Below.spv_results.specs.Operands.{IsResult, known}
 use Rattle.spv_state.specs.Roots.{IsRoot, IsRooted}
 use Rattle.spv_state.specs.State.{depth_of, frames_of, with_level, with_register}
 use Rattle.spv_base.proofs.Exports.{reads_written}

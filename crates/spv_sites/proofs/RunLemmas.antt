@@ -13,18 +13,18 @@ use Rattle.spv_base.specs.declared.instructions.Inst.{Inst}
 use Rattle.spv_index.specs.Classes.{class_of, is_executable, is_terminator, sets_of}
 use Rattle.spv_index.specs.Definitions.{at, before_functions}
 use Rattle.spv_index.specs.Positions.{Stand, in_block, outside, stands_of}
-use Rattle.spv_cfg.specs.Laws.{HasNext}
-use Rattle.spv_bodies.specs.Bodies.{KeepsBody, KeepsRule, keeps_body}
-use Rattle.spv_bodies.specs.Context.{Known}
-use Rattle.spv_bodies.specs.Places.{Placed, nowhere, place, placed_from, within_after}
-use Rattle.spv_bodies.specs.Rules.{rule_of}
-use Rattle.spv_bodies.specs.declared.rules.Rule.{Rule}
-use Rattle.spv_bodies.specs.declared.rules.Rule.TheVariants.{Free, Lanes, Select, Extended, Memory, Atomic, Composite, Control}
-use Rattle.spv_bodies.specs.declared.within.Within.{Within}
+use Rattle.spv_valid.specs.Below.spv_cfg.specs.Laws.{HasNext}
+use Rattle.spv_valid.specs.Below.spv_bodies.specs.Bodies.{KeepsBody, KeepsRule, keeps_body}
+use Rattle.spv_valid.specs.Below.spv_bodies.specs.Context.{Known}
+use Rattle.spv_valid.specs.Below.spv_bodies.specs.Places.{Placed, nowhere, place, placed_from, within_after}
+use Rattle.spv_valid.specs.Below.spv_bodies.specs.Rules.{rule_of}
+use Rattle.spv_valid.specs.Below.spv_bodies.specs.declared.rules.Rule.{Rule}
+use Rattle.spv_valid.specs.Below.spv_bodies.specs.declared.rules.Rule.TheVariants.{Free, Lanes, Select, Extended, Memory, Atomic, Composite, Control}
+use Rattle.spv_valid.specs.Below.spv_bodies.specs.declared.within.Within.{Within}
 use Rattle.spv_valid.specs.Acceptance.{Accepted, IsAccepted}
 use Rattle.spv_valid.specs.Validity.{IsValid}
-use Rattle.spv_plans.specs.Members.{is_stop, members, stands_in}
-use Rattle.spv_results.specs.Operands.{known}
+use Rattle.spv_state.specs.Below.spv_plans.specs.Members.{is_stop, members, stands_in}
+use Rattle.spv_state.specs.Below.spv_results.specs.Operands.{known}
 use Rattle.spv_sites.proofs.StandLemmas.{HasClass, InBlock, IsFoundIn, each_has_class, each_in_block, each_is_found}
 
 -- ---- rules

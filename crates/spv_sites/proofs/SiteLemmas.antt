@@ -4,15 +4,15 @@ use Rattle.std.proofs.Math.Logic.{∥∥₁_elim, ∥∥₁_map}
 use Rattle.std.proofs.Props.{props}
 use Rattle.std.specs.Option.{option_map_or}
 use Rattle.spv_index.specs.Classes.{sets_of}
-use Rattle.spv_types.specs.Rules.{has_runtime}
-use Rattle.spv_bodies.specs.Bodies.{KeepsBody}
-use Rattle.spv_bodies.specs.Memory.{KeepsLoad, KeepsStore}
+use Rattle.spv_valid.specs.Below.spv_types.specs.Rules.{has_runtime}
+use Rattle.spv_valid.specs.Below.spv_bodies.specs.Bodies.{KeepsBody}
+use Rattle.spv_valid.specs.Below.spv_bodies.specs.Memory.{KeepsLoad, KeepsStore}
 use Rattle.spv_valid.specs.Acceptance.{Accepted, IsAccepted}
 use Rattle.spv_valid.specs.Validity.{IsValid}
 use Rattle.spv_frame.specs.Stacks.{Stacked, top}
-use Rattle.spv_results.specs.Computations.{computation_of}
-use Rattle.spv_results.specs.Operands.{known}
-use Rattle.spv_results.specs.declared.computations.Computation.{Computation}
+use Rattle.spv_state.specs.Below.spv_results.specs.Computations.{computation_of}
+use Rattle.spv_state.specs.Below.spv_results.specs.Operands.{known}
+use Rattle.spv_state.specs.Below.spv_results.specs.declared.computations.Computation.{Computation}
 use Rattle.spv_sites.specs.Effects.{Next}
 use Rattle.spv_sites.specs.Fits.{ControlFits}
 use Rattle.spv_sites.specs.Kept.{Keeps}

@@ -5,8 +5,8 @@ use Rattle.spv_base.specs.declared.values.Pointer.{Pointer}
 use Rattle.spv_base.specs.declared.values.Value.{Value, Ptr, out-Value}
 use Rattle.spv_base.specs.declared.values.Value.TheOpen.{Value-F}
 use Rattle.spv_index.specs.Definitions.{result_type}
-use Rattle.spv_types.specs.Rows.{no_roots}
-use Rattle.spv_types.specs.Shapes.{HasShape}
+use Rattle.spv_valid.specs.Below.spv_types.specs.Rows.{no_roots}
+use Rattle.spv_valid.specs.Below.spv_types.specs.Shapes.{HasShape}
 use Rattle.spv_frame.specs.Frames.{Held as Frame}
 use Rattle.spv_operands.specs.Shapes.{AreShaped, target_in}
 use Rattle.spv_valid.specs.Acceptance.{Accepted}
@@ -15,7 +15,7 @@ use Rattle.spv_state.specs.Sound.{IsSoundFrame, StandsIn}
 use Rattle.spv_state.specs.State.{with_level, with_pc, with_register}
 use Rattle.spv_base.proofs.Exports.{reads_written}
 use Rattle.spv_state.proofs.Exports.{keys_stay}
-use Rattle.spv_types.proofs.Exports.{pointer_by}
+use Rattle.spv_valid.specs.Below.spv_types.proofs.Exports.{pointer_by}
 
 -- ---- a register takes a value or a pointer
 

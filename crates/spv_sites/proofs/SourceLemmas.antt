@@ -12,8 +12,8 @@ use Rattle.spv_valid.specs.Acceptance.{Accepted, IsAccepted}
 use Rattle.spv_frame.specs.Registers.{IsSlotOf, Rooms}
 use Rattle.spv_frame.specs.declared.slots.Slot.{Slot}
 use Rattle.spv_operands.specs.Values.{value_of}
-use Rattle.spv_plans.specs.Plans.{plan_of}
-use Rattle.spv_results.specs.Operands.{IsOperand}
+use Rattle.spv_state.specs.Below.spv_plans.specs.Plans.{plan_of}
+use Rattle.spv_state.specs.Below.spv_results.specs.Operands.{IsOperand}
 use Rattle.spv_state.specs.Predecoded.{IsNamedAt, IsReadAt}
 use Rattle.spv_state.specs.Sources.{IsName, IsSource, id_of, name_of, slot_of}
 use Rattle.spv_state.specs.State.{depth_of}

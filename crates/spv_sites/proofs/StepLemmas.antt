@@ -4,7 +4,7 @@ use Rattle.spv_base.specs.Answers.{Answers}
 use Rattle.spv_base.specs.declared.causes.Fail.{Fail}
 use Rattle.spv_base.specs.declared.causes.Fail.TheVariants.{Refused, NoMemory}
 use Rattle.spv_base.specs.declared.values.Value.{Value}
-use Rattle.spv_ops.specs.Steps.{◌>>=◌}
+use Rattle.spv_valid.specs.Below.spv_ops.specs.Steps.{◌>>=◌}
 use Rattle.spv_sites.specs.Sites.{Finds, Site, due, values}
 use Rattle.spv_sites.specs.Effects.{gives, pointer}
 use Rattle.spv_sites.specs.declared.causes.Cause.{Cause}

@@ -3,8 +3,8 @@ use Rattle.std.proofs.Common.{◌≡◌, ◌∙◌, ℕ, true, Option, Some, Non
 use Rattle.std.specs.Option.{is_some, option_and_then, option_map}
 use Rattle.spv_base.specs.Entries.{reads}
 use Rattle.spv_base.specs.declared.values.Value.{Value}
-use Rattle.spv_consts.specs.Table.{Row}
-use Rattle.spv_consts.specs.Trees.{tree_of}
+use Rattle.spv_valid.specs.Below.spv_consts.specs.Table.{Row}
+use Rattle.spv_valid.specs.Below.spv_consts.specs.Trees.{tree_of}
 use Rattle.spv_index.specs.Operands.{id_operand}
 use Rattle.spv_valid.specs.Acceptance.{Accepted, IsAccepted}
 use Rattle.spv_valid.specs.Meanings.{meaning_of}
@@ -12,7 +12,7 @@ use Rattle.spv_valid.specs.Validity.{IsValid}
 use Rattle.spv_valid.specs.declared.meanings.Meaning.TheVariants.{Constant}
 use Rattle.spv_operands.specs.Values.{value_of}
 use Rattle.spv_operands.proofs.Exports.{constant_value}
-use Rattle.spv_results.proofs.Exports.{sound_types}
+use Rattle.spv_state.specs.Below.spv_results.proofs.Exports.{sound_types}
 use Rattle.spv_state.specs.State.{depth_of}
 use Rattle.spv_sites.specs.Fits.{IsOfType}
 use Rattle.spv_sites.specs.Sites.{IsSite, Site, accepted, value_with, values}

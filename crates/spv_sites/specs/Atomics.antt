@@ -6,9 +6,9 @@ use Rattle.spv_base.specs.Cell.{Cell}
 use Rattle.spv_base.specs.declared.instructions.Inst.{Inst}
 use Rattle.spv_base.specs.declared.values.Pointer.{Pointer}
 use Rattle.spv_base.specs.declared.values.Value.{Value, Scalar}
-use Rattle.spv_ops.specs.Steps.{◌>>=◌}
-use Rattle.spv_alu.specs.Integers.{signed}
-use Rattle.spv_alu.specs.Results.{defined_if, integer}
+use Rattle.spv_valid.specs.Below.spv_ops.specs.Steps.{◌>>=◌}
+use Rattle.spv_state.specs.Below.spv_alu.specs.Integers.{signed}
+use Rattle.spv_state.specs.Below.spv_alu.specs.Results.{defined_if, integer}
 use Rattle.spv_effects.specs.Lanes.{lane_of}
 use Rattle.spv_frame.specs.Frames.{Held as Frame}
 use Rattle.spv_state.specs.Program.{Program}

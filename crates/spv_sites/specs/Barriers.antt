@@ -1,7 +1,7 @@
 -- Barriers (SPIR-V 1.6 section 3.42.20). Where an operand has no value that is looked for first.
 use Rattle.std.specs.Prelude.{ℕ, Result, Ok}
 use Rattle.spv_base.specs.declared.instructions.Inst.{Inst}
-use Rattle.spv_ops.specs.Steps.{◌>>=◌}
+use Rattle.spv_valid.specs.Below.spv_ops.specs.Steps.{◌>>=◌}
 use Rattle.spv_frame.specs.Frames.{Held as Frame}
 use Rattle.spv_state.specs.Program.{Program}
 use Rattle.spv_state.specs.State.{State}

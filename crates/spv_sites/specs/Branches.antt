@@ -4,10 +4,10 @@ use Rattle.std.specs.Option.{option_map, option_map_or, option_or}
 use Rattle.spv_base.specs.Cell.{Cell}
 use Rattle.spv_base.specs.declared.instructions.Inst.{Inst}
 use Rattle.spv_base.specs.declared.values.Value.{Value, out-Value}
-use Rattle.spv_ops.specs.Steps.{◌>>=◌}
+use Rattle.spv_valid.specs.Below.spv_ops.specs.Steps.{◌>>=◌}
 use Rattle.spv_index.specs.Operands.{id_operand}
-use Rattle.spv_types.specs.Shapes.{scalar_in}
-use Rattle.spv_cfg.specs.Branches.{at_width, case_words, cases, selector_width}
+use Rattle.spv_valid.specs.Below.spv_types.specs.Shapes.{scalar_in}
+use Rattle.spv_valid.specs.Below.spv_cfg.specs.Branches.{at_width, case_words, cases, selector_width}
 use Rattle.spv_frame.specs.Frames.{Held as Frame}
 use Rattle.spv_state.specs.Program.{Program}
 use Rattle.spv_state.specs.State.{State, depth_of}

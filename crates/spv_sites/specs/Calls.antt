@@ -2,11 +2,11 @@
 use Rattle.std.specs.Prelude.{ℕ, suc, List, [], ◌∷◌, length, map, filter, Some, Result, Ok, unwrap_or}
 use Rattle.spv_base.specs.declared.instructions.Inst.{Inst}
 use Rattle.spv_base.specs.declared.values.Value.{Value}
-use Rattle.spv_ops.specs.Steps.{◌>>=◌}
+use Rattle.spv_valid.specs.Below.spv_ops.specs.Steps.{◌>>=◌}
 use Rattle.spv_index.specs.Operands.{id_operand}
 use Rattle.spv_frame.specs.Frames.{Held as Frame, fresh}
-use Rattle.spv_plans.specs.Plans.{plan_of}
-use Rattle.spv_plans.specs.Registers.{is_parameter, registers_of}
+use Rattle.spv_state.specs.Below.spv_plans.specs.Plans.{plan_of}
+use Rattle.spv_state.specs.Below.spv_plans.specs.Registers.{is_parameter, registers_of}
 use Rattle.spv_valid.specs.Acceptance.{Accepted}
 use Rattle.spv_state.specs.Events.{passed}
 use Rattle.spv_state.specs.Program.{Program}

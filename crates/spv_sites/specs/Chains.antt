@@ -7,13 +7,13 @@ use Rattle.spv_base.specs.Cell.{Cell}
 use Rattle.spv_base.specs.declared.instructions.Inst.{Inst}
 use Rattle.spv_base.specs.declared.values.Pointer.{Pointer}
 use Rattle.spv_base.specs.declared.values.Value.{Value, Ptr}
-use Rattle.spv_ops.specs.Steps.{◌>>=◌}
-use Rattle.spv_types.specs.Rows.{leaves}
+use Rattle.spv_valid.specs.Below.spv_ops.specs.Steps.{◌>>=◌}
+use Rattle.spv_valid.specs.Below.spv_types.specs.Rows.{leaves}
 use Rattle.spv_mem.specs.Chains.{all_defined, extend, ptr_moved}
 use Rattle.spv_mem.specs.Memory.{Held as Memory}
 use Rattle.spv_frame.specs.Frames.{Held as Frame}
 use Rattle.spv_operands.specs.Values.{operand_value}
-use Rattle.spv_results.specs.Results.{Operands, all_of}
+use Rattle.spv_state.specs.Below.spv_results.specs.Results.{Operands, all_of}
 use Rattle.spv_state.specs.Program.{Program}
 use Rattle.spv_state.specs.State.{State, depth_of}
 use Rattle.spv_sites.specs.Effects.{Effect, gives, operand, pointer, scalar}

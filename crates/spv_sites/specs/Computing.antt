@@ -1,10 +1,10 @@
 -- The instructions that compute (SPIR-V 1.6 sections 3.42.11 to 3.42.15).
 use Rattle.std.specs.Prelude.{ℕ, Result, Ok, ok_or}
 use Rattle.spv_base.specs.declared.instructions.Inst.{Inst}
-use Rattle.spv_ops.specs.Steps.{◌>>=◌}
+use Rattle.spv_valid.specs.Below.spv_ops.specs.Steps.{◌>>=◌}
 use Rattle.spv_frame.specs.Frames.{Held as Frame}
 use Rattle.spv_operands.specs.Values.{operand_value}
-use Rattle.spv_results.specs.Results.{result_of}
+use Rattle.spv_state.specs.Below.spv_results.specs.Results.{result_of}
 use Rattle.spv_state.specs.Program.{Program}
 use Rattle.spv_state.specs.State.{State, depth_of}
 use Rattle.spv_sites.specs.Effects.{Effect, gives}

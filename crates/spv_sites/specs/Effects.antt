@@ -5,9 +5,9 @@ use Rattle.spv_base.specs.Variables.{Roots}
 use Rattle.spv_base.specs.declared.instructions.Inst.{Inst}
 use Rattle.spv_base.specs.declared.values.Pointer.{Pointer}
 use Rattle.spv_base.specs.declared.values.Value.{Value, out-Value}
-use Rattle.spv_ops.specs.Steps.{◌>>=◌}
+use Rattle.spv_valid.specs.Below.spv_ops.specs.Steps.{◌>>=◌}
 use Rattle.spv_effects.specs.Lanes.{lane_of}
-use Rattle.spv_types.specs.Shapes.{pointer_in}
+use Rattle.spv_valid.specs.Below.spv_types.specs.Shapes.{pointer_in}
 use Rattle.spv_mem.specs.Memory.{load_of}
 use Rattle.spv_frame.specs.Frames.{Held as Frame}
 use Rattle.spv_operands.specs.Values.{operand_value}

@@ -9,15 +9,15 @@ use Rattle.spv_base.specs.declared.values.Pointer.{Pointer}
 use Rattle.spv_base.specs.declared.values.Value.{Value, out-Value}
 use Rattle.spv_base.specs.declared.values.Value.TheOpen.{Value-F}
 use Rattle.spv_index.specs.Definitions.{result_type}
-use Rattle.spv_types.specs.Rows.{no_roots}
-use Rattle.spv_types.specs.Shapes.{HasShape, pointer_in}
-use Rattle.spv_cfg.specs.Laws.{IsEntered}
+use Rattle.spv_valid.specs.Below.spv_types.specs.Rows.{no_roots}
+use Rattle.spv_valid.specs.Below.spv_types.specs.Shapes.{HasShape, pointer_in}
+use Rattle.spv_valid.specs.Below.spv_cfg.specs.Laws.{IsEntered}
 use Rattle.spv_mem.specs.Memory.{AreVariables, MayStore, load_of}
 use Rattle.spv_frame.specs.Frames.{Held as Frame}
 use Rattle.spv_operands.specs.Shapes.{target_in}
 use Rattle.spv_valid.specs.Acceptance.{Accepted}
-use Rattle.spv_initial.specs.Start.{variables}
-use Rattle.spv_initial.specs.Variables.{targets_of}
+use Rattle.spv_state.specs.Below.spv_initial.specs.Start.{variables}
+use Rattle.spv_state.specs.Below.spv_initial.specs.Variables.{targets_of}
 use Rattle.spv_state.specs.Program.{Program}
 use Rattle.spv_state.specs.Roots.{IsRoot, IsRooted}
 use Rattle.spv_state.specs.Sound.{HasVariables, IsBarrier, IsCallOf, IsSoundFrame, StandsIn}

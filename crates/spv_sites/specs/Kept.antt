@@ -3,23 +3,23 @@
 use Rattle.std.specs.Prelude.{◌≡◌, ◌⊎◌, false, Some}
 use Rattle.std.specs.Option.{option_and_then}
 use Rattle.spv_base.specs.declared.instructions.Inst.{Inst}
-use Rattle.spv_alu.specs.Binary.{binary_op}
-use Rattle.spv_alu.specs.Extended.{extended_op}
-use Rattle.spv_alu.specs.Fields.{field_op}
-use Rattle.spv_alu.specs.Glsl.{glsl_op}
-use Rattle.spv_alu.specs.Unary.{unary_op}
-use Rattle.spv_alu.specs.Vectors.{vector_op}
+use Rattle.spv_state.specs.Below.spv_alu.specs.Binary.{binary_op}
+use Rattle.spv_state.specs.Below.spv_alu.specs.Extended.{extended_op}
+use Rattle.spv_state.specs.Below.spv_alu.specs.Fields.{field_op}
+use Rattle.spv_state.specs.Below.spv_alu.specs.Glsl.{glsl_op}
+use Rattle.spv_state.specs.Below.spv_alu.specs.Unary.{unary_op}
+use Rattle.spv_state.specs.Below.spv_alu.specs.Vectors.{vector_op}
 use Rattle.spv_index.specs.Classes.{is_debug}
 use Rattle.spv_index.specs.Operands.{literal_operand}
-use Rattle.spv_bodies.specs.Composites.{KeepsConstruct, KeepsCopyObject, KeepsExtract, KeepsExtractDynamic, KeepsInsert, KeepsInsertDynamic, KeepsShuffle}
-use Rattle.spv_bodies.specs.Lanes.{KeepsExtended, KeepsLanes}
-use Rattle.spv_bodies.specs.Matching.{KeepsCopyLogical}
-use Rattle.spv_bodies.specs.Memory.{KeepsUndef}
-use Rattle.spv_bodies.specs.Pointers.{KeepsSelect}
+use Rattle.spv_valid.specs.Below.spv_bodies.specs.Composites.{KeepsConstruct, KeepsCopyObject, KeepsExtract, KeepsExtractDynamic, KeepsInsert, KeepsInsertDynamic, KeepsShuffle}
+use Rattle.spv_valid.specs.Below.spv_bodies.specs.Lanes.{KeepsExtended, KeepsLanes}
+use Rattle.spv_valid.specs.Below.spv_bodies.specs.Matching.{KeepsCopyLogical}
+use Rattle.spv_valid.specs.Below.spv_bodies.specs.Memory.{KeepsUndef}
+use Rattle.spv_valid.specs.Below.spv_bodies.specs.Pointers.{KeepsSelect}
 use Rattle.spv_valid.specs.Acceptance.{Accepted}
-use Rattle.spv_results.specs.Operands.{known}
-use Rattle.spv_results.specs.declared.computations.Computation.{Computation}
-use Rattle.spv_results.specs.declared.computations.Computation.TheVariants.{Undef, Unary, Bitcast, Truth, Binary, Field, Extended, Select, Glsl, ExtractDynamic, InsertDynamic, Shuffle, Construct, Extract, Insert, Copy}
+use Rattle.spv_state.specs.Below.spv_results.specs.Operands.{known}
+use Rattle.spv_state.specs.Below.spv_results.specs.declared.computations.Computation.{Computation}
+use Rattle.spv_state.specs.Below.spv_results.specs.declared.computations.Computation.TheVariants.{Undef, Unary, Bitcast, Truth, Binary, Field, Extended, Select, Glsl, ExtractDynamic, InsertDynamic, Shuffle, Construct, Extract, Insert, Copy}
 
 -- OpCopyObject 83 and OpCopyLogical 400
 abbrev pub KeepsCopy : Accepted → Inst → Type 0

@@ -11,7 +11,7 @@ use Rattle.spv_index.specs.Classes.{class_of, sets_of}
 use Rattle.spv_index.specs.Definitions.{number_of, stands_at}
 use Rattle.spv_index.specs.Operands.{id_in}
 use Rattle.spv_index.specs.Positions.{Stand, stands_of}
-use Rattle.spv_plans.specs.Members.{leading}
+use Rattle.spv_state.specs.Below.spv_plans.specs.Members.{leading}
 use Rattle.spv_frame.specs.Frames.{Held as Frame}
 use Rattle.spv_operands.specs.Values.{value_of}
 use Rattle.spv_valid.specs.Acceptance.{Accepted}

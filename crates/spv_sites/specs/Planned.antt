@@ -7,7 +7,7 @@ use Rattle.spv_base.specs.declared.causes.Fail.TheVariants.{Refused, NoMemory}
 use Rattle.spv_base.specs.declared.instructions.Inst.{Inst}
 use Rattle.spv_base.specs.declared.values.Pointer.{Pointer as Reference}
 use Rattle.spv_base.specs.declared.values.Value.{Value, Ptr, Scalar, out-Value}
-use Rattle.spv_types.specs.Shapes.{pointer_in}
+use Rattle.spv_valid.specs.Below.spv_types.specs.Shapes.{pointer_in}
 use Rattle.spv_mem.specs.Memory.{load_of}
 use Rattle.spv_state.specs.Program.{Program}
 use Rattle.spv_state.specs.State.{State}

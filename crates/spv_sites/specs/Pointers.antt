@@ -1,13 +1,13 @@
 -- Pointers that are compared (SPIR-V 1.6 section 3.42.8, OpPtrEqual and OpPtrNotEqual). Where an operand has no value that is looked for first.
 use Rattle.std.specs.Prelude.{ℕ, ◌==◌, ◌&&◌, not, nat_eq, Bool, false, Result, Ok}
 use Rattle.std.specs.Cmp.Lexicographic.{pointwise}
-use Rattle.spv_alu.specs.Results.{truth}
+use Rattle.spv_state.specs.Below.spv_alu.specs.Results.{truth}
 use Rattle.spv_base.specs.declared.instructions.Inst.{Inst}
 use Rattle.spv_base.specs.declared.values.Pointer.{Pointer}
 use Rattle.spv_base.specs.declared.values.Root.{Root}
 use Rattle.spv_base.specs.declared.values.Root.TheVariants.{Shared, Private, Local}
 use Rattle.spv_base.specs.declared.values.Value.{Scalar}
-use Rattle.spv_ops.specs.Steps.{◌>>=◌}
+use Rattle.spv_valid.specs.Below.spv_ops.specs.Steps.{◌>>=◌}
 use Rattle.spv_frame.specs.Frames.{Held as Frame}
 use Rattle.spv_state.specs.Program.{Program}
 use Rattle.spv_state.specs.State.{State}

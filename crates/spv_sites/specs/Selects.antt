@@ -4,12 +4,12 @@ use Rattle.spv_base.specs.Cell.{Cell}
 use Rattle.spv_base.specs.declared.instructions.Inst.{Inst}
 use Rattle.spv_base.specs.declared.values.Pointer.{Pointer}
 use Rattle.spv_base.specs.declared.values.Value.{Value, out-Value}
-use Rattle.spv_ops.specs.Steps.{◌>>=◌}
+use Rattle.spv_valid.specs.Below.spv_ops.specs.Steps.{◌>>=◌}
 use Rattle.spv_effects.specs.Lanes.{lane_of}
 use Rattle.spv_frame.specs.Frames.{Held as Frame}
 use Rattle.spv_state.specs.Program.{Program}
 use Rattle.spv_state.specs.State.{State}
-use Rattle.spv_types.specs.Shapes.{pointer_in}
+use Rattle.spv_valid.specs.Below.spv_types.specs.Shapes.{pointer_in}
 use Rattle.spv_sites.specs.Computing.{compute_effect}
 use Rattle.spv_sites.specs.Effects.{Effect, gives, operand}
 use Rattle.spv_sites.specs.declared.causes.Cause.{Cause}

@@ -9,22 +9,22 @@ use Rattle.spv_base.specs.declared.causes.Fail.TheVariants.{Refused, NoMemory}
 use Rattle.spv_base.specs.declared.instructions.Inst.{Inst}
 use Rattle.spv_base.specs.declared.values.Pointer.{Pointer as Reference}
 use Rattle.spv_base.specs.declared.values.Value.{Value, Ptr}
-use Rattle.spv_ops.specs.Steps.{◌>>=◌}
+use Rattle.spv_valid.specs.Below.spv_ops.specs.Steps.{◌>>=◌}
 use Rattle.spv_index.specs.Definitions.{at}
-use Rattle.spv_types.specs.Queries.{is_pointer}
-use Rattle.spv_types.specs.Rows.{no_roots}
-use Rattle.spv_types.specs.Shapes.{HasShape, reached_type}
-use Rattle.spv_types.specs.Types.{Types, form_of}
-use Rattle.spv_bodies.specs.Context.{type_at}
+use Rattle.spv_valid.specs.Below.spv_types.specs.Queries.{is_pointer}
+use Rattle.spv_valid.specs.Below.spv_types.specs.Rows.{no_roots}
+use Rattle.spv_valid.specs.Below.spv_types.specs.Shapes.{HasShape, reached_type}
+use Rattle.spv_valid.specs.Below.spv_types.specs.Types.{Types, form_of}
+use Rattle.spv_valid.specs.Below.spv_bodies.specs.Context.{type_at}
 use Rattle.spv_valid.specs.Acceptance.{Accepted}
 use Rattle.spv_frame.specs.Frames.{Held as Frame}
 use Rattle.spv_mem.specs.Memory.{Held as Memory}
 use Rattle.spv_mem.specs.Targets.{is_array_at}
 use Rattle.spv_operands.specs.Shapes.{target_in}
 use Rattle.spv_operands.specs.Values.{operand_value, value_of}
-use Rattle.spv_results.specs.Operands.{IsResult, known}
-use Rattle.spv_results.specs.Results.{result_by}
-use Rattle.spv_results.specs.declared.computations.Computation.{Computation}
+use Rattle.spv_state.specs.Below.spv_results.specs.Operands.{IsResult, known}
+use Rattle.spv_state.specs.Below.spv_results.specs.Results.{result_by}
+use Rattle.spv_state.specs.Below.spv_results.specs.declared.computations.Computation.{Computation}
 use Rattle.spv_sites.specs.Atomics as atomics
 use Rattle.spv_sites.specs.Effects as spec
 use Rattle.spv_sites.specs.Effects.{loaded, pointer}

@@ -2,7 +2,7 @@
 ghost use Rattle.std.specs.Prelude.{◌≡◌, ℕ, ◌<◌, IfOk, IfSome, IsSome, None, OnOk, Some, length, option_map, true};
 ghost use Rattle.std.specs.List.{Contains};
 ghost use Rattle.std.specs.Result.{result_map_both};
-ghost use Rattle.spv_plans.specs.Plans.{functions_in, plan_of};
+ghost use Rattle.spv_state.specs.Below.spv_plans.specs.Plans.{functions_in, plan_of};
 ghost use Rattle.spv_index.specs.Definitions.{at};
 ghost use Rattle.spv_sites.specs.Sites as spec;
 ghost use Rattle.spv_sites.specs.Fits.{IsOfType};
@@ -16,7 +16,7 @@ ghost use Rattle.spv_state.specs.State as state;
 ghost use Rattle.spv_state.specs.State.{State};
 ghost use Rattle.spv_operands.specs.Operands.{IsPlain, pointer_of, referred, shown};
 ghost use Rattle.spv_operands.specs.Values.{pointer_to};
-ghost use Rattle.spv_results.specs.Operands.{IsOperand};
+ghost use Rattle.spv_state.specs.Below.spv_results.specs.Operands.{IsOperand};
 
 use crate::causes::Cause;
 use crate::effects::{Gain, Taken};

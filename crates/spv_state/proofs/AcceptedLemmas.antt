@@ -14,10 +14,10 @@ use Rattle.spv_index.specs.declared.classes.Class.TheVariants.{Label}
 use Rattle.spv_index.specs.Classes.{is_terminator, sets_of}
 use Rattle.spv_index.specs.Definitions.{defining, has_result, is_id, result_type, type_in}
 use Rattle.spv_index.specs.Positions.{Stand, stands_of}
-use Rattle.spv_sections.specs.Laws.{IsInOrder}
-use Rattle.spv_cfg.specs.Executables.{executables_of, followers_of}
-use Rattle.spv_cfg.specs.Flow.{Flow}
-use Rattle.spv_cfg.specs.Laws.{HasNext}
+use Rattle.spv_valid.specs.Below.spv_sections.specs.Laws.{IsInOrder}
+use Rattle.spv_valid.specs.Below.spv_cfg.specs.Executables.{executables_of, followers_of}
+use Rattle.spv_valid.specs.Below.spv_cfg.specs.Flow.{Flow}
+use Rattle.spv_valid.specs.Below.spv_cfg.specs.Laws.{HasNext}
 use Rattle.spv_valid.specs.Acceptance.{Accepted, IsAccepted, Passes, decoded_in}
 use Rattle.spv_valid.specs.Validity.{IsValid}
 use Rattle.spv_valid.proofs.Exports.{accepted_passes, flow_is}

@@ -15,9 +15,9 @@ use Rattle.spv_index.specs.declared.positions.Stage.TheVariants.{Between, Body, 
 use Rattle.spv_index.specs.declared.positions.Position.{Position}
 use Rattle.spv_index.specs.Classes.{class_of, classes, is_debug, is_local, sets_of}
 use Rattle.spv_index.specs.Positions.{Stand, among_variables, begins_block, in_block, in_function, outside, position_after, stands, stands_of}
-use Rattle.spv_sections.specs.Ids.{has_result as results, head_of, is_result}
-use Rattle.spv_cfg.specs.Executables.{executable_of, followers_of, following}
-use Rattle.spv_cfg.proofs.Exports.{all_from_test}
+use Rattle.spv_valid.specs.Below.spv_sections.specs.Ids.{has_result as results, head_of, is_result}
+use Rattle.spv_valid.specs.Below.spv_cfg.specs.Executables.{executable_of, followers_of, following}
+use Rattle.spv_valid.specs.Below.spv_cfg.proofs.Exports.{all_from_test}
 use Rattle.spv_plans.specs.Members.{is_stop}
 use Rattle.spv_plans.proofs.Exports.{block_inside}
 use Rattle.spv_state.proofs.Stands.{IsOne}

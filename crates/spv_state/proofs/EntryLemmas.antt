@@ -15,9 +15,9 @@ use Rattle.spv_index.specs.Definitions.{defining, has_result, is_id}
 use Rattle.spv_index.specs.Positions.{Stand, outside, position_after, stands}
 use Rattle.spv_index.specs.Operands.{id_operand}
 use Rattle.spv_types.specs.Types.{Types, form_of}
-use Rattle.spv_cfg.specs.Calls.{function_of}
-use Rattle.spv_cfg.specs.Flow.{Flow}
-use Rattle.spv_cfg.specs.Laws.{HasDepth}
+use Rattle.spv_valid.specs.Below.spv_cfg.specs.Calls.{function_of}
+use Rattle.spv_valid.specs.Below.spv_cfg.specs.Flow.{Flow}
+use Rattle.spv_valid.specs.Below.spv_cfg.specs.Laws.{HasDepth}
 use Rattle.spv_valid.specs.Acceptance.{Accepted, IsAccepted}
 use Rattle.spv_valid.specs.Entry.{begins_plain, is_plain, is_plain_function}
 use Rattle.spv_valid.specs.Validity.{IsValid}

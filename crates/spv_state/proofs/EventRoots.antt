@@ -33,7 +33,7 @@ use Rattle.spv_state.proofs.AcceptedLemmas.{found_once}
 use Rattle.spv_state.proofs.OperandRoots.{HasFrame, value_root}
 use Rattle.spv_state.proofs.RootLemmas.{ids_last, root_prop, rooted_more}
 use Rattle.spv_state.proofs.Stands.{stand_inst}
-use Rattle.spv_consts.proofs.Exports.{found_of_defining}
+use Rattle.spv_valid.specs.Below.spv_consts.proofs.Exports.{found_of_defining}
 
 -- ---- the register of a value holds no pointer
 

@@ -7,9 +7,9 @@ use Rattle.spv_base.specs.declared.instructions.Inst.{Inst}
 use Rattle.spv_index.specs.Classes.{is_executable, sets_of}
 use Rattle.spv_index.specs.Definitions.{at}
 use Rattle.spv_index.specs.Positions.{Stand, in_block, in_function, stands_of}
-use Rattle.spv_cfg.specs.Calls.{function_of}
-use Rattle.spv_cfg.specs.Executables.{executables_of, followers_of}
-use Rattle.spv_cfg.proofs.Exports.{opcode_of_function}
+use Rattle.spv_valid.specs.Below.spv_cfg.specs.Calls.{function_of}
+use Rattle.spv_valid.specs.Below.spv_cfg.specs.Executables.{executables_of, followers_of}
+use Rattle.spv_valid.specs.Below.spv_cfg.proofs.Exports.{opcode_of_function}
 use Rattle.spv_valid.specs.Acceptance.{Accepted}
 use Rattle.spv_plans.specs.Members.{is_stop, stands_in}
 use Rattle.spv_plans.specs.Plans.{functions_in}

@@ -4,11 +4,11 @@ use Rattle.spv_base.specs.Answers.{after}
 use Rattle.spv_base.specs.declared.causes.SetupRefusal.{SetupRefusal}
 use Rattle.spv_setup.specs.declared.settings.Settings.{Settings}
 use Rattle.spv_setup.specs.Schedule.{Entries, check_moves, schedule_of}
-use Rattle.spv_fit.specs.Cells.{check_cells}
-use Rattle.spv_fit.specs.Fit.{fitted}
-use Rattle.spv_fit.specs.Given.{check_bytes}
-use Rattle.spv_fit.specs.Numbers.{check_numbers}
-use Rattle.spv_fit.proofs.Exports.{schedule_counts as counts}
+use Rattle.spv_initial.specs.Below.spv_fit.specs.Cells.{check_cells}
+use Rattle.spv_initial.specs.Below.spv_fit.specs.Fit.{fitted}
+use Rattle.spv_initial.specs.Below.spv_fit.specs.Given.{check_bytes}
+use Rattle.spv_initial.specs.Below.spv_fit.specs.Numbers.{check_numbers}
+use Rattle.spv_initial.specs.Below.spv_fit.proofs.Exports.{schedule_counts as counts}
 use Rattle.spv_valid.specs.Acceptance.{Accepted, invocations}
 use Rattle.spv_state.specs.Program.{schedule_for}
 

@@ -8,7 +8,7 @@ use Rattle.spv_base.specs.declared.values.Root.{Root}
 use Rattle.spv_base.specs.declared.values.Root.TheVariants as root
 use Rattle.spv_base.specs.declared.values.Value.{Value}
 use Rattle.spv_base.proofs.Exports.{snoc_get}
-use Rattle.spv_consts.specs.Trees.{tree_of}
+use Rattle.spv_valid.specs.Below.spv_consts.specs.Trees.{tree_of}
 use Rattle.spv_frame.specs.Frames.{Held}
 use Rattle.spv_frame.specs.Registers.{IsSlotOf, Planned, ids, number_of}
 use Rattle.spv_index.specs.Definitions.{at, number_at, stands_at}

@@ -29,12 +29,12 @@ use Rattle.spv_setup.specs.declared.settings.Buffer.{Buffer}
 use Rattle.spv_setup.specs.declared.settings.Push.{Push}
 use Rattle.spv_setup.specs.declared.settings.Settings.{Settings}
 use Rattle.spv_setup.specs.Schedule.{check_moves, schedule_of}
-use Rattle.spv_fit.specs.Fit.{fitted}
-use Rattle.spv_fit.specs.Given.{buffer_given, check_bytes, given_at, given_by, given_to, is_bound, lacks_bytes, lowest_short, push_given, short_due, some_lack}
-use Rattle.spv_fit.specs.Numbers.{check_numbers}
+use Rattle.spv_initial.specs.Below.spv_fit.specs.Fit.{fitted}
+use Rattle.spv_initial.specs.Below.spv_fit.specs.Given.{buffer_given, check_bytes, given_at, given_by, given_to, is_bound, lacks_bytes, lowest_short, push_given, short_due, some_lack}
+use Rattle.spv_initial.specs.Below.spv_fit.specs.Numbers.{check_numbers}
 use Rattle.spv_mem.specs.Blanks.{blank_of}
-use Rattle.spv_start.specs.BuiltIns.{Three, built_in, global_id, local_id, value_of_three, word}
-use Rattle.spv_start.specs.declared.built_ins.Invocation.{Invocation}
+use Rattle.spv_initial.specs.Below.spv_start.specs.BuiltIns.{Three, built_in, global_id, local_id, value_of_three, word}
+use Rattle.spv_initial.specs.Below.spv_start.specs.declared.built_ins.Invocation.{Invocation}
 use Rattle.spv_initial.specs.Start.{own_roots, shared_roots, variables}
 use Rattle.spv_initial.specs.Values.{bound, buffer_value, initialized, input_value, invocation_of, of_bytes, of_content, own_value, push_value, shared_value}
 use Rattle.spv_initial.specs.Variables.{declared_as, declared_by, declared_in, may_hold, variable_of}

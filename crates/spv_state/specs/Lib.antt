@@ -10,3 +10,4 @@ pub mod Start
 pub mod Roots
 pub mod Sources
 pub mod Predecoded
+pub mod Below

@@ -5,7 +5,7 @@ use Rattle.spv_base.specs.declared.causes.SetupRefusal.{SetupRefusal}
 use Rattle.spv_base.specs.declared.instructions.Inst.{Inst}
 use Rattle.spv_setup.specs.Schedule.{Entries}
 use Rattle.spv_setup.specs.declared.settings.Settings.{Settings}
-use Rattle.spv_fit.specs.Fit.{fitted}
+use Rattle.spv_initial.specs.Below.spv_fit.specs.Fit.{fitted}
 use Rattle.spv_valid.specs.Acceptance.{Accepted, invocations}
 
 -- what callers see of a module that runs

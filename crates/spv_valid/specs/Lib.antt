@@ -5,3 +5,4 @@ pub mod Modules
 pub mod Breaches
 pub mod Validity
 pub mod Meanings
+pub mod Below

@@ -1,7 +1,7 @@
 use Rattle.std.proofs.Math.Logic.{∥∥₁_elim}
 use Rattle.std.proofs.Props.{props}
 use Rattle.std.specs.Prelude.{slice_index_or}
-use Rattle.spv_valid.specs.Acceptance.{IsAccepted}
+use Rattle.spv_touch.specs.Below.spv_valid.specs.Acceptance.{IsAccepted}
 use Rattle.spv_group.specs.Run.{run}
 use Rattle.spv_exchanges.proofs.LookLemmas.{known_fits}
 use Rattle.spv_exchanges.proofs.RunLemmas.{same_run}

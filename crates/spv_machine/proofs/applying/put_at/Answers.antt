@@ -1,6 +1,6 @@
 use Rattle.std.proofs.Common.{◌≡◌, ◌∙◌, ap, rules, subst, sym}
 use Rattle.spv_base.specs.declared.values.Pointer.{Pointer as Reference}
-use Rattle.spv_mem.specs.Memory.{MayStore}
+use Rattle.spv_actions.specs.Below.spv_mem.specs.Memory.{MayStore}
 use Rattle.spv_sites.specs.Targets.{leading_to}
 use Rattle.spv_machine.proofs.applying.put_at.Goals as goal
 

@@ -1,7 +1,7 @@
 use Rattle.std.proofs.Common.{◌≡◌, ◌∙◌, ℕ, Some, length, ap, subst, sym}
 use Rattle.std.specs.Option.{IsSomeAnd}
-use Rattle.spv_types.specs.Rows.{leaves}
-use Rattle.spv_mem.specs.Memory.{MayStore, load_of}
+use Rattle.spv_actions.specs.Below.spv_types.specs.Rows.{leaves}
+use Rattle.spv_actions.specs.Below.spv_mem.specs.Memory.{MayStore, load_of}
 use Rattle.spv_frame.specs.Registers.{IsSlotOf}
 use Rattle.spv_actions.specs.Cells.{GivesCell, SetsCell, full, whole}
 use Rattle.spv_sites.specs.Fits.{StoreFits}

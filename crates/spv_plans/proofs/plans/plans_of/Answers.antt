@@ -3,7 +3,7 @@ use Rattle.std.proofs.lemmas.Bool.{ne_eqb}
 use Rattle.std.proofs.lemmas.Option.{slice_get_read}
 use Rattle.std.specs.declared.rc.Rc.{Rc}
 use Rattle.spv_base.specs.declared.instructions.Inst.{Inst}
-use Rattle.spv_cfg.specs.Calls.{functions_of}
+use Rattle.spv_valid.specs.Below.spv_cfg.specs.Calls.{functions_of}
 use Rattle.spv_frame.specs.Registers.{Planned}
 use Rattle.spv_frame.specs.declared.plans.Plan.{Plan}
 use Rattle.spv_plans.specs.Plans.{IsPlan, functions_in}

@@ -1,5 +1,5 @@
 use Rattle.std.proofs.Common.{◌∙◌, ap, arith, subst, sym}
-use Rattle.spv_plans.specs.Plans.{plans_in}
+use Rattle.spv_state.specs.Below.spv_plans.specs.Plans.{plans_in}
 use Rattle.spv_valid.specs.Acceptance.{Accepted}
 use Rattle.spv_state.specs.Events.{IsReadable}
 use Rattle.spv_sites.specs.Sites.{IsSite, Site}

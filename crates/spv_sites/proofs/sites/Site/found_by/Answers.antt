@@ -1,7 +1,7 @@
 use Rattle.std.proofs.Common.{◌∙◌, ap, subst, sym}
 use Rattle.spv_valid.specs.Acceptance.{Accepted}
-use Rattle.spv_plans.specs.Plans.{plans_in}
-use Rattle.spv_plans.specs.Registered.{IsOfFunction}
+use Rattle.spv_state.specs.Below.spv_plans.specs.Plans.{plans_in}
+use Rattle.spv_state.specs.Below.spv_plans.specs.Registered.{IsOfFunction}
 use Rattle.spv_operands.specs.Shapes.{AreShaped}
 use Rattle.spv_sites.specs.Sites.{IsSite, Site, accepted}
 use Rattle.spv_sites.proofs.OperandLemmas.{are_shaped, of_function, plans_are}

@@ -1,6 +1,6 @@
 use Rattle.std.proofs.Common.{◌∙◌, ap, subst, sym}
 use Rattle.std.specs.List.{Contains}
-use Rattle.spv_plans.specs.Plans.{functions_in, plans_in}
+use Rattle.spv_state.specs.Below.spv_plans.specs.Plans.{functions_in, plans_in}
 use Rattle.spv_valid.specs.Acceptance.{Accepted}
 use Rattle.spv_sites.specs.Sites.{IsSite, Site}
 use Rattle.spv_sites.proofs.OperandLemmas.{plans_are}

@@ -1,7 +1,7 @@
 use Rattle.std.proofs.Common.{◌≡◌, ℕ, IfSome, Some, subst, sym}
 use Rattle.spv_valid.specs.Acceptance.{Accepted}
 use Rattle.spv_operands.specs.Values.{value_of}
-use Rattle.spv_plans.specs.Registered.{IsOfFunction}
+use Rattle.spv_state.specs.Below.spv_plans.specs.Registered.{IsOfFunction}
 use Rattle.spv_state.specs.Sources.{IsSource, id_of}
 use Rattle.spv_sites.specs.Sites.{IsSite, Site, accepted}
 use Rattle.spv_sites.proofs.SourceLemmas.{read_shapes, read_values, source_lies}

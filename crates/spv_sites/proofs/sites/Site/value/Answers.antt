@@ -1,8 +1,8 @@
 use Rattle.std.proofs.Common.{subst}
-use Rattle.spv_types.specs.Laws.{AreSound}
+use Rattle.spv_valid.specs.Below.spv_types.specs.Laws.{AreSound}
 use Rattle.spv_valid.specs.Acceptance.{Accepted}
 use Rattle.spv_operands.specs.Operands.{shown}
-use Rattle.spv_results.proofs.Exports.{sound_types}
+use Rattle.spv_state.specs.Below.spv_results.proofs.Exports.{sound_types}
 use Rattle.spv_sites.proofs.OperandLemmas.{datum_plain, datum_shape}
 use Rattle.spv_sites.proofs.sites.Site.value.Goals as goal
 
