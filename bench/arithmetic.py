@@ -11,7 +11,7 @@ import atomics as atomic_rows
 import lanes
 
 TOP = os.path.join(os.path.dirname(os.path.abspath(__file__)), "..")
-FOLDER = os.path.join(TOP, "crates", "spv_runs")
+FOLDER = os.path.join(TOP, "crates", "test_runs")
 UNDEFINED = "<undefined>"
 SIGNED = {114, 126, 135, 138, 139, 152, 195, 202}
 SIGNED_GLSL = {5, 7, 39, 42, 45, 74}

@@ -1,7 +1,7 @@
 #!/usr/bin/env python3
 """Runs with barriers before which invocations return, under both versions of setups, and what `debug` has to reply for them.
 
-    bench/barrier_runs.py    makes the modules barriers-*.spv of crates/spv_runs/data/, and says where what stands here by hand differs
+    bench/barrier_runs.py    makes the modules barriers-*.spv of crates/test_runs/data/, and says where what stands here by hand differs
 
 The runs are written by bench/runs.py, into group.runs. Under `barrier finished-count` a barrier opens as soon as all invocations that
 aren't finished stand at it, by the last arrival or by the return of the last one that was missing. What is due is worked out by
@@ -14,7 +14,7 @@ from sessions import Session, Shaped
 from traces import Asked
 
 TOP = os.path.join(os.path.dirname(os.path.abspath(__file__)), "..")
-DATA = os.path.join(TOP, "crates", "spv_runs", "data")
+DATA = os.path.join(TOP, "crates", "test_runs", "data")
 FIRST, SECOND, COUNTED = ("spvdbg-setup 1",), ("spvdbg-setup 2",), ("spvdbg-setup 2", "barrier finished-count")
 VERSIONS = (("version 1", FIRST), ("version 2", SECOND), ("finished-count", COUNTED))
 

@@ -1,7 +1,7 @@
 #!/usr/bin/env python3
 """Calls of the program whose files, input and output fail, or give and take little at a call.
 
-    bench/faults.py         writes data/ and the stored output of crates/spv_rows
+    bench/faults.py         writes data/ and the stored output of crates/test_faults
 
 A row is a line `== WHAT: WORDS`, lines that say what fails and how much is given and taken at a call, the setup behind
 `-- setup`, and the commands behind `-- commands`; what stands behind `-- on and on` is repeated, up to one more byte than the
@@ -12,7 +12,7 @@ import os
 import make
 from listings import TOP
 
-FOLDER = os.path.join(TOP, "crates", "spv_rows")
+FOLDER = os.path.join(TOP, "crates", "test_faults")
 DONE, MODULE, SETUP, FILE, READ, WRITE, LONG, FILE_LONG = 0, 3, 4, 5, 6, 7, 9, 10
 DEBUG, CHECK = "spvdbg debug module.spv module.setup", "spvdbg check module.spv"
 TEN_ROUNDS, REFUSED = "spvdbg-setup 1\nrounds 10\n", "rounds 1\n"

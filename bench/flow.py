@@ -1,7 +1,7 @@
 #!/usr/bin/env python3
 """Modules that branch, and what `debug` has to reply for them, worked out here apart from the program.
 
-    bench/flow.py           makes the modules flow-*.spv of crates/spv_runs/data/
+    bench/flow.py           makes the modules flow-*.spv of crates/test_runs/data/
 
 The runs are written by bench/runs.py. The modules are written below in assembly (for `spirv-as`) or GLSL (for `glslangValidator`, and once more through `spirv-opt -O`).
 `Run` takes the words of a module and runs its one invocation, an event at a time: integers are Python's, cut to their width;
@@ -14,7 +14,7 @@ import tempfile
 from places import Places
 
 TOP = os.path.join(os.path.dirname(os.path.abspath(__file__)), "..")
-DATA = os.path.join(TOP, "crates", "spv_runs", "data")
+DATA = os.path.join(TOP, "crates", "test_runs", "data")
 PASSED = {0, 8, 59, 245, 246, 247, 248, 317}
 SIGNED = {131, 135, 138, 139, 173, 175, 177, 179, 195}
 

@@ -1,7 +1,7 @@
 #!/usr/bin/env python3
 """Runs of whole workgroups, and what `debug` has to show of them, worked out here apart from the program.
 
-    bench/group_runs.py    compiles bench/workgroups/ to modules group-*.spv of crates/spv_runs/data/
+    bench/group_runs.py    compiles bench/workgroups/ to modules group-*.spv of crates/test_runs/data/
 
 The runs are written by bench/runs.py. The shaders are compiled by `glslangValidator` and `glslc -O`. One event is one executable instruction of the invocation that comes next, in
 rounds. A barrier opens where an arrival makes all invocations stand at it. Buffers are lists of words. Opcodes are those of SPIR-V 1.6,
@@ -14,7 +14,7 @@ import atomics
 from places import Places
 
 TOP = os.path.join(os.path.dirname(os.path.abspath(__file__)), "..")
-DATA = os.path.join(TOP, "crates", "spv_runs", "data")
+DATA = os.path.join(TOP, "crates", "test_runs", "data")
 SHADERS = os.path.join(TOP, "bench", "workgroups")
 GLSLANG = ["glslangValidator", "-V", "--target-env", "vulkan1.1"]
 GLSLC = ["glslc", "-O", "--target-env=vulkan1.2"]

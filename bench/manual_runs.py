@@ -1,7 +1,7 @@
 #!/usr/bin/env python3
 """The runs that docs/MANUAL.md speaks of, and what `debug` has to show of them, worked out here apart from the program.
 
-    bench/manual_runs.py    makes modules manual-*.spv of crates/spv_runs/data/ of the shaders of bench/manual/ and of the examples
+    bench/manual_runs.py    makes modules manual-*.spv of crates/test_runs/data/ of the shaders of bench/manual/ and of the examples
 
 The runs are written by bench/runs.py. The shaders are compiled by `glslangValidator` and `glslc`, two of them once more through
 `spirv-opt -O`. An event is one entry of the schedule: one executable instruction of its invocation, or nothing where that one is
@@ -20,7 +20,7 @@ from places import plain
 from variables_told import NO_NAME, UNBOUND, Told, bits_of
 
 TOP = os.path.join(os.path.dirname(os.path.abspath(__file__)), "..")
-DATA = os.path.join(TOP, "crates", "spv_runs", "data")
+DATA = os.path.join(TOP, "crates", "test_runs", "data")
 RUNTIME_ARRAY, UCLAMP = 29, 44
 END = 4000
 

@@ -1,7 +1,7 @@
 #!/usr/bin/env python3
 """Runs of modules that read and write memory, and the registers that `debug` has to show for them, worked out here apart from the program.
 
-    bench/memory_runs.py    compiles bench/shaders/ to the modules memory-*.spv of crates/spv_runs/data/
+    bench/memory_runs.py    compiles bench/shaders/ to the modules memory-*.spv of crates/test_runs/data/
 
 The runs are written by bench/runs.py. The shaders are compiled by `glslangValidator`, `glslc` and `spirv-as`. Here a buffer is a row of bytes in which the Offsets and strides of a
 module say where a part begins, and any other variable is a tree of lists. Opcodes are those of SPIR-V 1.6, section 3.42.
@@ -12,7 +12,7 @@ import subprocess
 from places import Places
 
 TOP = os.path.join(os.path.dirname(os.path.abspath(__file__)), "..")
-DATA = os.path.join(TOP, "crates", "spv_runs", "data")
+DATA = os.path.join(TOP, "crates", "test_runs", "data")
 SHADERS = os.path.join(TOP, "bench", "shaders")
 GLSLANG = ["glslangValidator", "-V", "--target-env", "vulkan1.1"]
 LAID_OUT = ["glslangValidator", "-V", "-g0", "--target-env", "vulkan1.2"]

@@ -1,7 +1,7 @@
 #!/usr/bin/env python3
 """Modules that are checked, and the lines that are due for them.
 
-    bench/modules.py        writes the lists, the listings and the stored output of crates/spv_modules
+    bench/modules.py        writes the lists, the listings and the stored output of crates/test_modules
 
 The compiled modules of data/ are of examples/check; whether one is accepted is what its compiler, the optimizer and the
 profile say. A line of the list `changes` is a module, a word of it and what it becomes, and how many bytes are left. The
@@ -19,7 +19,7 @@ import rules_of_types
 import rules_of_words
 from listings import TOP
 
-FOLDER = os.path.join(TOP, "crates", "spv_modules")
+FOLDER = os.path.join(TOP, "crates", "test_modules")
 DATA = os.path.join(FOLDER, "data")
 WHOLE = 4 * 2**20
 ORDER = ["sections", "ids", "capabilities", "types", "layouts", "operations", "bodies", "blocks", "entry"]

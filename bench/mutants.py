@@ -1,6 +1,6 @@
 """Mutants of what the repository runs: modules, setups, lines of commands and words of the command line, each drawn by a generator.
 
-What is run are the calls of crates/spv_runs/data/*.runs and the examples. A mutant of a module is close to it: an id is exchanged for
+What is run are the calls of crates/test_runs/data/*.runs and the examples. A mutant of a module is close to it: an id is exchanged for
 another one of its kind, an opcode for another one of its form, a literal for one at a limit, an instruction is dropped, doubled or moved,
 or words and bytes are changed as they are, so that many mutants are accepted and run.
 """

@@ -1,7 +1,7 @@
 #!/usr/bin/env python3
 """Sessions that ask whether events may change places (`order`), with what is due for them.
 
-    bench/order_runs.py    makes the modules order-*.spv of crates/spv_runs/data/, and says where what stands here disagrees with itself
+    bench/order_runs.py    makes the modules order-*.spv of crates/test_runs/data/, and says where what stands here disagrees with itself
 
 The runs are written by bench/runs.py. What is due is worked out from what each event of a run by stacks.py reads and writes. And it is held
 against all that can happen: of every stretch of up to six events all reorderings are run that keep the order of each invocation, and the
@@ -17,7 +17,7 @@ from sessions import copied
 from source_runs import BUFFER, C2, file_of as source_file
 
 TOP = os.path.join(os.path.dirname(os.path.abspath(__file__)), "..")
-DATA = os.path.join(TOP, "crates", "spv_runs", "data")
+DATA = os.path.join(TOP, "crates", "test_runs", "data")
 MOST = 6
 PAST = "refused: C13 past the end"
 ARRIVAL, RETURN, LENGTH = 224, 253, 68

@@ -1,7 +1,7 @@
 #!/usr/bin/env python3
 """Runs of modules whose pointers are chosen, moved, compared, returned and taken by phis, and what `debug` has to reply for them.
 
-    bench/pointer_runs.py    makes the modules pointers-*.spv of crates/spv_runs/data/, and says where what stands here by hand differs
+    bench/pointer_runs.py    makes the modules pointers-*.spv of crates/test_runs/data/, and says where what stands here by hand differs
 
 The runs are written by bench/runs.py. The modules are the texts of pointer_modules.py; what is due is worked out by pointers.py.
 """
@@ -14,7 +14,7 @@ from stacks import POINTER, text
 from traces import Asked
 
 TOP = os.path.join(os.path.dirname(os.path.abspath(__file__)), "..")
-DATA = os.path.join(TOP, "crates", "spv_runs", "data")
+DATA = os.path.join(TOP, "crates", "test_runs", "data")
 ROUNDS = 200
 TEXTS = {
     name.lower(): getattr(modules_of, name)

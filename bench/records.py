@@ -12,7 +12,7 @@ import struct
 import values
 from listings import TOP
 
-DATA = os.path.join(TOP, "crates", "spv_modules", "data")
+DATA = os.path.join(TOP, "crates", "test_modules", "data")
 NAMES = [f"{shader}-{form}" for shader in ("loops", "shared", "structs", "widths") for form in ("1.6-gVS", "1.6-gVS-opt", "glslc-g", "glslc-g-opt")]
 SET = b"NonSemantic.Shader.DebugInfo.100"
 TYPES, SCOPES = {0, 2, 3, 4, 5, 6, 7, 8, 9, 10, 108}, {0, 1, 10, 20, 21, 22}

@@ -41,7 +41,7 @@ static int refused(void) { calls++; return at && (calls == at || (stays && calls
 void *malloc(size_t size) { return refused() ? 0 : __libc_malloc(size); }
 void *realloc(void *old, size_t size) { return refused() ? 0 : __libc_realloc(old, size); }
 """
-RUNS = os.path.join(TOP, "crates", "spv_runs", "data")
+RUNS = os.path.join(TOP, "crates", "test_runs", "data")
 THIRTY = "spvdbg-setup 1\nrounds 30\n"
 OF_64 = source_runs.BUFFER + "rounds 30\n"
 # What each session is, its module, setup and commands: events one by one forth and back, phis, barriers, and each kind of command.

@@ -1,7 +1,7 @@
 #!/usr/bin/env python3
 """Calls of the program, and what they write and how they end.
 
-    bench/runs.py           writes the modules, lists and stored output of crates/spv_runs
+    bench/runs.py           writes the modules, lists and stored output of crates/test_runs
 
 A call of a file `*.runs` is a line `== WHAT: MODULE: WORDS`, the text of the setup, and behind `-- commands` the input. The
 transcripts are worked out by hand from the manual, docs/SETUP.md and the standard; the numbers in runs_of_values.py and
@@ -38,7 +38,7 @@ from places import Places
 from sessions import Shaped
 from stops import Debugger
 
-FOLDER = os.path.join(TOP, "crates", "spv_runs")
+FOLDER = os.path.join(TOP, "crates", "test_runs")
 DATA = os.path.join(FOLDER, "data")
 DONE, USAGE, MODULE, SETUP, FILE = 0, 2, 3, 4, 5
 DEBUG = "spvdbg debug module setup"
@@ -458,7 +458,7 @@ def with_word(data, word, number):
 
 def modules():
     """The modules that are other modules with one word changed."""
-    with open(os.path.join(TOP, "crates", "spv_modules", "data", "first.spv"), "rb") as file:
+    with open(os.path.join(TOP, "crates", "test_modules", "data", "first.spv"), "rb") as file:
         first = file.read()
     yield "first.spv", first
     yield "first-big.spv", b"".join(first[n : n + 4][::-1] for n in range(0, len(first), 4))

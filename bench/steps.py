@@ -134,7 +134,7 @@ def called(data, invocations=1):
 
 def compiled():
     """A shader as glslangValidator compiles it, whose loop goes on for as many turns as its buffer says."""
-    with open(os.path.join(TOP, "crates", "spv_runs", "data", "flow-cases.spv"), "rb") as file:
+    with open(os.path.join(TOP, "crates", "test_runs", "data", "flow-cases.spv"), "rb") as file:
         calls = called(file.read())
     with open(os.path.join(calls.folder, "setup"), "w") as file:
         file.write("spvdbg-setup 1\nbuffer 0 0 hex ffffffff%s\nrounds %d\n" % ("00000000" * 4, ENTRIES))

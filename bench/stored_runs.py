@@ -1,5 +1,5 @@
 #!/usr/bin/env python3
-"""Calls a program with the words, setups and inputs of crates/spv_runs/data/*.runs, and compares it with the stored output.
+"""Calls a program with the words, setups and inputs of crates/test_runs/data/*.runs, and compares it with the stored output.
 
     bench/stored_runs.py PROGRAM [FILE.runs..]     all files, where none is named
 
@@ -11,7 +11,7 @@ import subprocess
 import sys
 import tempfile
 
-FOLDER = os.path.join(os.path.dirname(os.path.abspath(__file__)), "..", "crates", "spv_runs")
+FOLDER = os.path.join(os.path.dirname(os.path.abspath(__file__)), "..", "crates", "test_runs")
 DATA = os.path.join(FOLDER, "data")
 
 

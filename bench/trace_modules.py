@@ -1,5 +1,5 @@
 #!/usr/bin/env python3
-"""Compiles the shaders of bench/traces/ to the modules that bench/traces.py reads, four of each, beside them or in crates/spv_runs/data/.
+"""Compiles the shaders of bench/traces/ to the modules that bench/traces.py reads, four of each, beside them or in crates/test_runs/data/.
 
     bench/trace_modules.py          writes NAME-gVS.spv, NAME-gVS-opt.spv, NAME-g.spv and NAME-g-opt.spv of each shader
 
@@ -15,7 +15,7 @@ import tempfile
 from listings import TOP
 
 FOLDER = os.path.join(TOP, "bench", "traces")
-DATA = os.path.join(TOP, "crates", "spv_runs", "data")
+DATA = os.path.join(TOP, "crates", "test_runs", "data")
 NAMES = ["levels", "exchange", "loops", "cases", "parts", "files", "early", "sides", "tallies", "dense", "own"]
 FORMS = ["gVS", "gVS-opt", "g", "g-opt"]
 # The modules of which the gate has whole runs.

@@ -1,4 +1,4 @@
-use Rattle.spv_rows.proofs.calls.call.Given as goal
+use Rattle.test_faults.proofs.calls.call.Given as goal
 
 abbrev pub ghosts-call_counted : goal.ghosts-call_counted
 ghosts-call_counted a = record { name = a.blank.name; parts = a.blank.parts }

@@ -1,4 +1,4 @@
-use Rattle.spv_missing.proofs.main.Given as goal
+use Rattle.test_program.proofs.main.Given as goal
 
 abbrev pub ghosts-run : goal.ghosts-run
 ghosts-run a = record { name = a.blank.name; parts = a.blank.parts }
